@@ -1,21 +1,21 @@
 #!/usr/bin/env python3
-"""Holds days of an office with the program: days.py PROGRAM ROOM [DAY STORE]
+"""Plays days of an office with the program: days.py PROGRAM ROOM [DAY STORE]
 
-Each file days/*.day is asked of `trial`, in one piece and byte by byte, and of `talk` over a new store: each has to print
-the bytes that it has, and the store has to be sound then. With DAY and STORE this one is asked of that store. It prints
-how many days were held, and ends with 1 where something is other than wanted, no day is there, or less than a third have
-other settings than the usual ones. A day has these lines:
+Each file days/*.day is given to `trial`, in one piece and byte by byte, and to `talk` on a new store. Each must print the
+answers of the file, and the store must be sound afterwards. With DAY and STORE only this day is played, on that store. The
+script prints how many days it played. It ends with 1 if a result is wrong, there is no day, or less than a third of the days
+have other settings than the usual ones. A day has these lines:
 
     # what it is about
     with NAME VALUE ..  settings other than country GB, repo 0999, seats 2, daily 3, hands 1, run 2, day 2024-03-01
-    POST PATH BODY      a request; @FILE in place of BODY is a file that lies beside the day; where neither is there, the
-                        text that follows
+    POST PATH BODY      a request; @FILE in place of BODY is a file in the same directory; without either, the body is
+                        the text that follows
     GET PATH
-    200 JSON            its answer; where no JSON is there, the text that follows
+    200 JSON            its answer; without JSON, the text that follows
     | TEXT              a line of a text
-    kept QUERY          what SQLite answers when the store is asked this at the end: the text that follows, a line for each
-                        row, with | between its cells
-    > TEXT, < TEXT      a line that is said or answered, ended by CR LF; after >$ and <$ by LF, after >^ by CR, after >|
+    kept QUERY          a query that SQLite answers on the store at the end; the answer is the text that follows, a line
+                        for each row, with | between its cells
+    > TEXT, < TEXT      a line that is sent or answered, ended by CR LF; after >$ and <$ by LF, after >^ by CR, after >|
                         and <| by nothing
     ends STATUS TEXT    the exit status, if it is not 0, and the line on standard error
 """
@@ -55,13 +55,13 @@ def answer(status, kind, body):
 
 
 def whole(words, said):
-    """Runs the program with an input that comes as it likes; returns status, output and what was told."""
+    """Runs the program with the whole input; returns its status, output and message."""
     done = subprocess.run([PROGRAM, *words], input=said, capture_output=True, timeout=300)
     return done.returncode, done.stdout, done.stderr
 
 
 def by_bytes(words, said):
-    """The same where each read gets one byte: a packet of a socket."""
+    """The same, but each read gets one byte, a packet of a socket."""
     ours, theirs = socket.socketpair(socket.AF_UNIX, socket.SOCK_SEQPACKET)
 
     def feed():
@@ -79,9 +79,9 @@ def by_bytes(words, said):
 
 
 class Day:
-    """What is said to an office, what it answers, and how the program ends.
+    """What is sent to an office, what it answers, and how the program ends.
 
-    Where no line of it is raw, `asked` has each request with its answer, as method, path, body, status and text."""
+    If no line is raw, `asked` has each request with its answer: method, path, body, status and text."""
 
     def __init__(self, name, folder, text):
         self.name, self.folder, self.settings = name, folder, dict(USUAL)
@@ -96,7 +96,7 @@ class Day:
         return cls(file.stem, file.parent, file.read_text())
 
     def read(self, line, *text):
-        """Takes in a line, with the lines of the text that follows it."""
+        """Reads a line, with the lines of the text that follows it."""
         word, _, rest = line.partition(" ")
         lines = "".join(f"{it[2:]}\n" for it in text)
         if word == "with":
@@ -133,7 +133,7 @@ class Day:
             self.answered += rest.encode() + ENDS[word[1:]]
 
     def is_held(self, *words, run=whole):
-        """Whether the program answers as the day has it, and tells where it does not."""
+        """Whether the program answers as the day says; prints the difference if it does not."""
         told, wanted = run(words, self.said), (self.status, self.answered, self.told)
         if told != wanted:
             print(f"WRONG {self.name} by {words[0]}, {run.__name__}: {parted(told, wanted)}")
@@ -158,7 +158,7 @@ class Day:
 
 
 def parted(told, wanted):
-    """Where two ways of ending differ: from some bytes before the first that does."""
+    """Where two results differ, from some bytes before the first difference."""
     place = next((n for n, (a, b) in enumerate(zip(told[1], wanted[1])) if a != b), min(len(told[1]), len(wanted[1])))
     first = max(0, place - 200)
     return f"{told[0]}, {told[1][first:place + 200]}, {told[2]}, wanted {wanted[0]}, {wanted[1][first:place + 200]}, {wanted[2]}"
@@ -172,7 +172,7 @@ def does(day, *words):
 
 
 def is_kept(day, store):
-    """Whether the day is held over a new store, which is sound then and has what the day says."""
+    """Whether the day goes as written on a new store, which then is sound and has what the day says."""
     opened = "--store", store
     made = does(day, "init", *opened, *options(day.settings)) and day.is_held("talk", *opened)
     return made and does(day, "check", *opened) and day.is_kept(store)

@@ -1,16 +1,16 @@
 #!/usr/bin/env python3
-"""Has the disk fail under the program, which goes on: failing.py PROGRAM ROOM [HOW:KEPT ..]
+"""Makes the disk fail while the program goes on: failing.py PROGRAM ROOM [HOW:KEPT ..]
 
-A new office, an import, a session of every command, a migration, and a check and a session over a store whose long log
-comes into the file: each is run with a disk that fails at the first, second, .. call by which the program changes its
-files, until a run meets no failure. So is a server that is asked over three connections. stop.c does it, and says what HOW
-and KEPT are; all pairs are tried where none is named.
+It runs a new office, an import, a session of every command, a migration, a server with three connections, and a check and a
+session on a store whose long log is written into the file. Each is run with a disk that fails at the first, second, .. call
+by which the program changes its files, until a run meets no failure. stop.c makes the failures and explains HOW and KEPT; if
+no pair is named, all are tried.
 
-The program has to end by itself: as without a failure; with `store fault` and 3; or, of a session, with 503 after answers
-that are an undisturbed one's. Then `check` and `talk` open the store on a disk that works. It has to be sound, and to show
-the office after all that was answered as done, and after nothing else but the one command that was told as failed. An
-`init` that failed leaves no file, and is done when it is called again. A line is printed for each of them, and the exit
-status is 1 where something is other than wanted.
+The program must end by itself: as without a failure; with `store fault` and 3; or, in a session, with 503 after the same
+answers as an undisturbed session gives. Then `check` and `talk` open the store on a disk that works. It must be sound, and
+show the office after all commands that were answered as done, and after at most the one more that was reported as failed. An
+`init` that failed leaves no file, and succeeds when it is called again. The script prints a line for each of them, and ends
+with 1 if a result is wrong.
 """
 import contextlib
 import itertools
@@ -89,7 +89,7 @@ def look(store):
 
 
 class Tries:
-    """Runs of one kind over copies of a store, with a disk that fails."""
+    """Runs of one kind on copies of a store, with a disk that fails."""
 
     def __init__(self, name, before, room):
         self.name, self.before, self.room = name, before, room
@@ -102,14 +102,14 @@ class Tries:
         return look(store), answers
 
     def run(self, store, **disk):
-        """How a run ended, and what the store may show then; first what it shows after all that was answered as done."""
+        """How a run ended, and what the store may show then. The first entry is the office after all that was answered as done."""
         raise NotImplementedError
 
     def is_left_well(self, store, ended):
         return True
 
     def fail(self, number, how, kept):
-        """Has the disk fail at a call, and looks; false where no call was left."""
+        """Makes the disk fail at this call, and looks at the store. False if there was no such call."""
         store = copied(self.before, self.room)
         mark = store.parent / "failed"
         ended, may_show = self.run(store, LD_PRELOAD=SHIM, FAIL=str(number), HOW=how, KEPT=kept, FAILED=str(mark))
@@ -158,7 +158,7 @@ class Commands(Tries):
 
 
 class Sessions(Tries):
-    """A session of several requests, of which so many are refused."""
+    """A session of several requests; this many of them are refused."""
 
     def __init__(self, name, before, room, asked, refused=0):
         super().__init__(name, before, room)
@@ -180,7 +180,7 @@ class Sessions(Tries):
 
 
 def ask(port, asked):
-    """Asks over a connection of its own, and gives the answer, or nothing where the connection breaks."""
+    """Asks on a new connection; returns the answer, or nothing if the connection breaks."""
     with contextlib.suppress(OSError), socket.create_connection(("127.0.0.1", port), 20) as it:
         it.sendall(asked)
         it.shutdown(socket.SHUT_WR)
@@ -189,7 +189,7 @@ def ask(port, asked):
 
 
 def serve(store, asked, **disk):
-    """Asks a server over so many connections, and gives its status, its answers, and what it told."""
+    """Asks a server, each request on its own connection; returns its status, answers and message."""
     port = next(PORTS)
     words = ["serve", "--store", store, "--port", str(port), "--connections", str(len(asked))]
     streams = {"stdout": subprocess.PIPE, "stderr": subprocess.PIPE}
@@ -219,8 +219,9 @@ class Servers(Tries):
         return ended, []
 
     def registered(self, answers):
-        """Who may be registered then: first who was by the answers, and who was not or was, where that was told 503. It was
-        not, where anything is answered after. A question that is told 503 shows that the store is shut: nothing is."""
+        """The readers who may be registered then, as a list of possibilities. The first has those who were answered. After a
+        registration that got 503 there is a second, with that reader; an answer to a later request rules it out. A question
+        that gets 503 shows that the store is shut: no later request may be answered."""
         there, maybe, is_shut = (), [], False
         for asked, answer in zip(self.ASKED, answers):
             after = there if asked == READER else (*there, asked)
@@ -249,7 +250,8 @@ def body_of_answer(stream):
 
 
 def registers(store, most):
-    """Registers readers, and is killed after so many, or once the log has come into the file. It gives how many."""
+    """Registers up to this many readers, kills the program, and returns their number. It stops early when the log is written
+    into the file."""
     words, streams = [stopped.PROGRAM, "talk", "--store", store], {"stdin": subprocess.PIPE, "stdout": subprocess.PIPE}
     with subprocess.Popen(words, **streams) as program:
         made, written = 0, set()
@@ -264,7 +266,7 @@ def registers(store, most):
 
 
 def long_log(before, room):
-    """A store whose program was killed, with a log that the next command brings into the file."""
+    """A store whose program was killed, with a log that the next command writes into the file."""
     most = 5000
     made = registers(copied(before, room), most)
     assert made < most
@@ -274,7 +276,7 @@ def long_log(before, room):
 
 
 def all_tries(room):
-    """What is tried, each over the store that one before has left; and apart what has a long log, of very many reads."""
+    """What is tried, each on the store that an earlier one left; and separately what has a long log, which takes many reads."""
     units = room / "units.csv"
     units.write_text(stopped.file_of_units())
     made = Commands("init", room / "none.db", room, *stopped.SETTINGS)

@@ -1,14 +1,14 @@
 #!/usr/bin/env python3
 """Days of offices that are nearly full: filled.py PROGRAM ROOM [NAME ..]
 
-The limits on units, their numbers, containers, tickets, runs and orders are too far to be reached by requests. So `init`
-makes a store, SQLite fills a table up to some rows below its limit, and `check` has to find it sound. Then `talk` is asked
-for the last that there is room for, and for one more, which has to be refused Full, but not before what is looked at first;
-and `check` again. It prints how long each day took, and ends with 1 where something is other than wanted.
+Requests would take too long to reach the limits on units, their numbers, containers, tickets, runs and orders. So `init`
+makes a store, SQLite fills a table up to some rows below its limit, and `check` must find it sound. Then `talk` is asked for
+the last row that there is room for, and for one more. That one must be refused as Full, unless an earlier check refuses it.
+Then comes `check` again. The script prints how long each day took, and ends with 1 if a result is wrong.
 
-Of the orders, of which there may be ten million, the day is held only where it is named: to open 300,000 took a slow build
-of the program more than a minute. An office of acceptance/plain counts what fills it, and does not see it: so
-mutation/rules.py holds these days, that of the orders too, against the plain office."""
+There may be ten million orders, so their day is played only if it is named: a slow build of the program took more than a
+minute to open 300,000. mutation/rules.py plays all these days with the office of acceptance/plain, in which the rows that
+SQLite would write are only counted."""
 import contextlib
 import sqlite3
 import sys
@@ -179,7 +179,7 @@ SQL = {
 
 
 class Counted(dict):
-    """Things by their numbers, behind as many as nobody looks at."""
+    """A dictionary whose length includes `more` things that are not there."""
 
     def __init__(self, more, things=()):
         super().__init__(things)
@@ -193,7 +193,7 @@ class Counted(dict):
 
 
 class CountedList(list):
-    """Containers: the first, and those behind as many as nobody looks at."""
+    """A list of containers with `more` others, which are not there, after the first."""
 
     def __init__(self, more, things=()):
         super().__init__(things)
@@ -214,7 +214,7 @@ class CountedList(list):
 
 
 def fill(office, day):
-    """Fills a plain office as SQL fills a store."""
+    """Fills a plain office, as SQL fills a store."""
     name = day.filled
     if name in ("runs", "orders"):
         head, boxes = b"legacyId,title,publicationStatus,physicalObjectName\n", b"Box 1|Box 2" if name == "orders" else b"Box 1"

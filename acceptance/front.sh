@@ -1,10 +1,10 @@
 #!/usr/bin/env bash
-# A reading room day and a reader's visit, played through the pages in a real browser, and the rules of the front.
+# A day of the reading room and a visit of a reader, played on the pages in a real browser, and the rules of the front.
 #   acceptance/front.sh [PROGRAM]
-# It starts the program and the front of front/server on free ports of 127.0.0.1, and ends them. It wants nginx and haproxy,
-# and for the pages chromium; it installs them from Debian's packages where it may, and says what it leaves out where they
-# cannot be had, which in CI is wrong. Pictures of the pages go to acceptance/front/out, which is not committed.
-# Its last line is `N passed, M failed`; it ends with 0 where all passed.
+# It starts the program and the front of front/server on free ports of 127.0.0.1, and ends them. It needs nginx and haproxy,
+# and chromium for the pages, and tries to install them from Debian's packages. If it cannot, it says what it leaves out; in CI
+# that is wrong. Pictures of the pages go to acceptance/front/out, which is not committed.
+# Its last line is `N passed, M failed`; it ends with 0 if all passed.
 set -euo pipefail
 here=$(cd "$(dirname "$0")" && pwd)
 program=$(realpath "${1:-$here/../crates/record_office/out/record_office}")

@@ -1,10 +1,9 @@
 #!/usr/bin/env python3
 """Kills the program in the middle of imports and of requests: killed.py PROGRAM ROOM [TIMES]
 
-Each of the two is killed TIMES times (50), at some moment of about as long as it takes undisturbed. After each kill
-the store has to open and be sound, an import has to be there whole or not at all, and all that was answered has to be
-there. It prints how often the kill came in the midst, and ends with 1 where something is other than wanted, or where too
-few came in the midst.
+Each of the two is killed TIMES times (50), at a random moment of the time that it takes undisturbed. After each kill the
+store must open and be sound, an import must be there whole or not at all, and all that was answered must be there. The
+script prints how many kills came before the end. It ends with 1 if a result is wrong, or if too few came before the end.
 """
 import os
 import random
@@ -21,7 +20,7 @@ STORE = f"{ROOM}/killed.db"
 SETTINGS = "--country GB --repo 0999 --seats 200 --daily 50 --hands 10 --run 100 --day 2024-03-01".split()
 ROWS = 300
 REQUESTS = 300
-# Some two thirds of the kills come in the midst; where fewer than a tenth do, next to nothing was tried.
+# About two thirds of the kills come before the end. If fewer than a tenth do, next to nothing was tried.
 FEWEST = max(1, TIMES // 10)
 wrong = 0
 
@@ -39,7 +38,7 @@ def want(what, told, wanted):
 
 
 def tops():
-    """How many top units the public sees: one for each file that was taken in."""
+    """How many top units the public sees: one for each file that was imported."""
     status, told = run("talk", "--store", STORE, asked=b"GET /public/fonds HTTP/1.1\r\nHost: x\r\n\r\n")
     want("the list of fonds", (status, told[:15]), (0, b"HTTP/1.1 200 OK"))
     return told.partition(b"\r\n\r\n")[2].count(b"\n")
@@ -59,7 +58,7 @@ def printed():
 
 
 class Kills:
-    """Runs of one kind that are killed, each at some moment of about as long as they take undisturbed."""
+    """Runs of one kind that are killed, each at a random moment of the time that they take undisturbed."""
 
     def __init__(self, words, said=b""):
         begun = time.monotonic()
@@ -67,7 +66,7 @@ class Kills:
         self.seconds, self.told, self.midst = time.monotonic() - begun, printed(), 0
 
     def kill(self, words, said=b""):
-        """Kills one, and gives what it had printed. About a third of them are to end before."""
+        """Kills one, and returns what it had printed. About a third should end before they are killed."""
         program = started(words, said)
         time.sleep(random.random() * self.seconds)
         ended = program.poll() is not None
@@ -79,7 +78,7 @@ class Kills:
 
 
 def import_from(source):
-    """The words of an import of as many rows below a top, all of them new to the office."""
+    """The words of an import of ROWS rows, a top and units below it, all new to the office."""
     with open(f"{ROOM}/file.csv", "w") as it:
         it.write("legacyId,parentId,identifier,title,publicationStatus\n1,,F,Fonds,Published\n")
         it.writelines(f"{n},1,{n},Unit {n},Published\n" for n in range(2, ROWS + 1))
@@ -87,7 +86,7 @@ def import_from(source):
 
 
 def imports():
-    """Kills imports, and gives how many in the midst."""
+    """Kills imports, and returns how many did not reach their end."""
     kills, there = Kills(import_from("undisturbed")), 1
     for turn in range(TIMES):
         told = kills.kill(import_from(f"s{turn}"))
@@ -111,7 +110,7 @@ def is_ticket(number):
 
 
 def requests():
-    """Kills sessions, in each of which readers are registered, and gives how many in the midst."""
+    """Kills sessions that register readers, and returns how many did not reach their end."""
     body = b'{"name":"Ann","until":"2024-12-31"}'
     asked = b"POST /desk/register HTTP/1.1\r\nHost: x\r\nContent-Length: %d\r\n\r\n%s" % (len(body), body) * REQUESTS
     words = ["talk", "--store", STORE]
@@ -124,7 +123,7 @@ def requests():
         last = given + len(tickets)
         want(f"ticket {last}", is_ticket(last), True)
         want(f"ticket {last + 2}", is_ticket(last + 2), False)
-        # the one that was not answered may be there, or not
+        # the registration that was not answered may be there or not
         given = last + is_ticket(last + 1)
     return kills.midst
 

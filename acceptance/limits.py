@@ -1,10 +1,10 @@
 #!/usr/bin/env python3
 """What an office, a file and a connection take at most, and one more: limits.py PROGRAM ROOM
 
-A ticket's permits, the greatest settings, the rows and the bytes of a field, the fields and the bytes of a head, the messages
-of a connection: days that are too long to be written down, made here by their rules in the form that days.py tells. Each is
-asked of `trial` and of `talk` over a new store in ROOM. It prints how many were held, and ends with 1 where something is other
-than wanted."""
+The limits are those on permits of a ticket, settings, rows of a file, bytes of a field, fields and bytes of a head, and messages
+of a connection. Such days are too long to be written down, so they are made here from the rules, in the form that days.py
+describes. Each is given to `trial`, and to `talk` on a new store in ROOM. The script prints how many days it played, and ends
+with 1 if a result is wrong."""
 import sys
 
 import days
@@ -27,12 +27,12 @@ REFUSED = [
 
 
 def head_of(fields):
-    """A question with that many fields, the first of which is Host."""
+    """A question with this many fields; the first is Host."""
     return [*ASKED, *(f"> X-{n}: {n}" for n in range(1, fields)), ">"]
 
 
 def head_as_long(size):
-    """A question whose head has that many bytes, of which a field is filled up: a line's end is as long as its mark here."""
+    """A question whose head has this many bytes; a long field fills it. The mark of a line, `> `, counts for its CR LF."""
     rest = sum(map(len, ASKED)) + len("X: \r\n\r\n")
     return [*ASKED, "> X: " + "x" * (size - rest), ">"]
 
@@ -42,7 +42,7 @@ def answered(question):
 
 
 def permits():
-    """A hundred units, and one more; a later day for one of them; one that is taken back makes room."""
+    """Permits for a hundred units, and one more; a later day for one of them; a permit that is revoked makes room."""
     lines = ["POST /desk/import/a", "| legacyId,identifier,title,publicationStatus"]
     lines += [f"| {n},A{n},Plans,Published" for n in range(1, PERMITS + 2)]
     remarks = ",".join(f'{{"kind":2,"row":{n + 1}}}' for n in range(1, PERMITS + 2))
@@ -65,7 +65,7 @@ def permits():
 
 
 def boxes(number):
-    """A unit in as many boxes, and three readers."""
+    """A unit in this many boxes, and three readers."""
     names = "|".join(f"B{n}" for n in range(1, number + 1))
     lines = ["POST /desk/import/a", "| legacyId,title,publicationStatus,physicalObjectName", f"| 1,Plans,Published,{names}"]
     lines.append('200 {"changed":0,"new":1,"remarks":[{"kind":2,"row":2}],"same":0,"translations":0}')
@@ -79,7 +79,7 @@ def order(ticket, container, answer):
 
 
 def seats():
-    """Two hundred readers sit, from the first seat on; one more does not, until one leaves."""
+    """Two hundred readers take seats, from the first on; one more gets none until one leaves."""
     lines = ["with seats 200 daily 1 hands 1 run 1"]
     for ticket in range(1, 202):
         lines += [f'POST /desk/register {{"name":"Ann","until":"{EVER}"}}', f'200 {{"ticket":{ticket}}}']
@@ -95,7 +95,7 @@ def reader_in(seat):
 
 
 def orders():
-    """Fifty orders of a ticket in a day, cancelled ones too; another ticket and another day have their own."""
+    """Fifty orders of a ticket in a day; cancelled ones count; another ticket and another day have their own fifty."""
     lines = ["with seats 1 daily 50 hands 1 run 1", *boxes(51)]
     for container in range(1, 51):
         lines += order(1, container, f'200 {{"order":{container}}}')
@@ -105,7 +105,7 @@ def orders():
 
 
 def a_run():
-    """A hundred boxes in a run, those of the earliest orders, and in the next what is left."""
+    """A run takes a hundred boxes, those of the earliest orders, and the next run takes the rest."""
     lines = ["with seats 1 daily 50 hands 1 run 100", *boxes(101)]
     for number in range(1, 102):
         lines += order((number + 49) // 50, 102 - number, f'200 {{"order":{number}}}')
@@ -120,7 +120,7 @@ def bad_row(row, cause):
 
 
 def rows():
-    """The last row that a file may have, and one more, of each kind; what else is wrong with that one is told first."""
+    """The last row that a file may have, and one more, of each kind. If that row has another fault too, that fault is reported."""
     blank = ["| ,,,"] * (ROWS - 3)
     first = ["POST /desk/import/a", "| legacyId,culture,title,qubitParentSlug", "| 1,en,Minutes,", *blank]
     remarks = f'[{{"kind":2,"row":2}},{{"kind":2,"row":{ROWS}}}]'
@@ -134,7 +134,7 @@ def rows():
 
 
 def fields():
-    """A field of as many bytes as it may have, in what is read, and one more; what is not read may have more."""
+    """The most bytes that a field may have if it is read, and one more. Fields that are not read may have more."""
     lines, head = [], ["POST /desk/import/a", "| legacyId,culture,title,eventDates,qubitParentSlug,other"]
     most = "é" * (BYTES // 2) + "x"
     same = '200 {"changed":1,"new":0,"remarks":[{"kind":2,"row":2}],"same":0,"translations":0}'
@@ -150,7 +150,7 @@ def fields():
 
 
 def messages():
-    """The last answer that a connection has says that it is closed; what was said after it is not read."""
+    """The last answer of a connection says that it closes; what was sent after the last request is not read."""
     lines = answered(head_of(1)) * (MESSAGES - 1)
     return [*lines, *head_of(1), *NOTHING, "< Connection: close", "<", "<| []", *head_of(1)]
 

@@ -1,20 +1,22 @@
 #!/usr/bin/env python3
-"""Runs the lines of docs/OPERATING.md again and compares their answers, so that the document cannot go stale:
+"""Runs the lines of docs/OPERATING.md and of README.md again and compares their answers, so that they cannot go stale:
 
     acceptance/operating.py [PROGRAM] [--place PLACE] [--shell COMMAND]
 
-In a block of the document a line that begins with `$ ` (or `# `, for root) is a command, as long as its quotes are open it
-goes on, and what follows up to the next one is what it answers, standard error included. `...` stands for any lines. A
-comment right before a block says what the block is:
+In a block of a document, a line that begins with `$ ` (or `# `, for root) is a command. It goes on while its quotes or its
+braces are open. The lines up to the next command are its answer, with standard error. `...` stands for any lines. A comment right before
+a block says what the block is:
 
-    <!-- file NAME -->      it is a file, which is written in every place
+    <!-- file NAME -->      a file, which is written in every place
     <!-- package -->        an office of the installed package: run by packaging/try.sh, as root of a machine of its own
     <!-- hand -->           an office that is set up by hand: the same
-    <!-- elsewhere: .. -->  run by nobody here, for the reason that is told
+    <!-- elsewhere: .. -->  not run here, for the reason given
 
-All other blocks are of the place `here`: a new folder of this machine, with PROGRAM as `record_office` and a free port for each that
-the document names. `--shell` is the command that begins the shell of another place. A `record_office serve` runs on until it is
-ended by a line `kill $!`. Says each line that answers otherwise, which lines it left out, and last `N passed, M failed`.
+All other blocks belong to the place `here`: a new folder of this machine, with PROGRAM as `record_office` and a free port for
+each port of the document. `--shell` is the command that starts the shell of another place. A `record_office serve` runs until a
+line `kill $!` ends it. The lines of README run in a folder of their own with the examples; a blank line does not end a block
+there, since answers have some. Its lines without `$ ` are not run: they prove or build. The script prints each line with another answer, the lines that it left out, and last
+`N passed, M failed`.
 """
 
 import argparse
@@ -32,6 +34,7 @@ import time
 
 TOP = pathlib.Path(__file__).resolve().parent.parent
 DOCUMENT = TOP / "docs" / "OPERATING.md"
+README = TOP / "README.md"
 BUILT = TOP / "crates" / "record_office" / "out" / "record_office"
 PORTS = range(8080, 8100)
 PLACES = ("here", "package", "hand")
@@ -60,15 +63,19 @@ class Block:
 def is_open(command):
     try:
         shlex.split(command, comments=True)
-        return False
     except ValueError:
         return True
+    told = subprocess.run(["bash", "-n", "-c", command], env={**os.environ, "LC_ALL": "C"}, capture_output=True, text=True)
+    return "unexpected end of file" in told.stderr
 
 
-def blocks(text):
-    """The indented blocks, each between blank lines."""
+def blocks(text, have_blank_lines=False):
+    """The indented blocks, each between blank lines, or between lines that are not indented."""
     mark, found, lines, start = "", [], [], 0
-    for number, line in enumerate([*text.splitlines(), ""], 1):
+    for number, line in enumerate([*text.splitlines(), "end" if have_blank_lines else ""], 1):
+        if lines and have_blank_lines and not line.strip():
+            lines.append("")
+            continue
         comment = re.fullmatch(r"\s*<!-- (.*) -->", line)
         if comment:
             mark = comment.group(1)
@@ -77,6 +84,8 @@ def blocks(text):
             lines.append(line)
         elif lines:
             margin = min(len(line) - len(line.lstrip()) for line in lines if line.strip())
+            while not lines[-1]:
+                lines.pop()
             found.append(Block(mark, start, [line[margin:] for line in lines]))
             mark, lines, start = "", [], 0
         elif line.strip():
@@ -85,7 +94,7 @@ def blocks(text):
 
 
 class Shell:
-    """A bash that is given one command after the other; what a command left running goes on."""
+    """A bash that gets one command after the other; what a command left running goes on."""
 
     def __init__(self, words, folder=None, environment=None):
         self.process = subprocess.Popen(
@@ -126,7 +135,7 @@ class Shell:
 
 
 def agrees(said, expected):
-    """Whether the lines are these, where a line `...` stands for any."""
+    """Whether the lines are these; a line `...` stands for any lines."""
     pattern = "\n".join("(?:.*(?:\n.*)*)" if line.strip() == "..." else re.escape(line) for line in expected)
     return re.fullmatch(pattern, "\n".join(line.rstrip() for line in said.splitlines())) is not None
 
@@ -138,7 +147,7 @@ def free_port():
 
 
 def here(program, folder):
-    """The shell of this machine, and what is written otherwise than in the document."""
+    """The shell of this machine, and the texts that replace those of the document."""
     (folder / "bin").mkdir()
     (folder / "bin" / "record_office").symlink_to(program)
     (folder / "office").mkdir()
@@ -148,12 +157,20 @@ def here(program, folder):
     return shell, lambda text: re.sub(r"\b80[89]\d\b", lambda port: ports[port.group()], text)
 
 
+def here_for_readme(program, folder):
+    """The same for README: a folder with the examples."""
+    folder.mkdir()
+    shell, ours = here(program, folder)
+    (folder / "office" / "examples").symlink_to(TOP / "examples")
+    return shell, ours
+
+
 def place_of(block):
     return block.mark if block.mark in PLACES else "here"
 
 
 def run_block(block, shell, ours):
-    """How many lines of it answered as they should, and otherwise."""
+    """How many lines answered as they should, and how many did not."""
     passed = failed = 0
     for number, command, expected in block.commands():
         said = shell.run(ours(command))
@@ -178,6 +195,14 @@ def run(all_blocks, place, shell, ours):
             more, wrong = run_block(block, shell, ours)
             passed, failed = passed + more, failed + wrong
     return passed, failed
+
+
+def run_all(all_blocks, place, shell, ours):
+    """Runs the lines of one place, and ends its shell."""
+    try:
+        return run(all_blocks, place, shell, ours)
+    finally:
+        shell.end()
 
 
 def say_left_out(all_blocks, place):
@@ -205,15 +230,17 @@ def main():
     if lacking:
         sys.exit(f"needs {' and '.join(lacking)}\n0 passed, 1 failed")
     all_blocks = blocks(DOCUMENT.read_text(encoding="utf-8"))
+    passed = failed = 0
     with tempfile.TemporaryDirectory() as folder:
         if words.place == "here":
-            shell, ours = here(words.program.resolve(), pathlib.Path(folder))
+            program, folder = words.program.resolve(), pathlib.Path(folder)
+            readme = blocks(README.read_text(encoding="utf-8"), have_blank_lines=True)
+            passed, failed = run_all(readme, "here", *here_for_readme(program, folder / "readme"))
+            shell, ours = here(program, folder)
         else:
             shell, ours = Shell(shlex.split(words.shell)), lambda text: text
-        try:
-            passed, failed = run(all_blocks, words.place, shell, ours)
-        finally:
-            shell.end()
+        more, wrong = run_all(all_blocks, words.place, shell, ours)
+    passed, failed = passed + more, failed + wrong
     say_left_out(all_blocks, words.place)
     print(f"{passed} passed, {failed} failed")
     sys.exit(1 if failed or not passed else 0)

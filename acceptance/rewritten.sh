@@ -1,10 +1,10 @@
 #!/usr/bin/env bash
-# Offices that SQLite's own tool wrote anew: rewritten.sh PROGRAM
-# VACUUM, VACUUM INTO, .dump into a new file, .backup and REINDEX leave an office an office, be it a new one or one that was migrated:
-# after each `check` says `sound`, the file tells what it told before, a session is answered as by the office that was not touched, a
-# file is taken in, and `check` says `sound` again. So does VACUUM after all of that. ANALYZE adds the table sqlite_stat1, which is none
-# of an office: `store fault`, until it is dropped. The kept file of version 1 is migrated after each of them. It ends with 1 where
-# something is other than wanted.
+# Offices that SQLite's own tool has written again: rewritten.sh PROGRAM
+# A new office and a migrated one go through VACUUM, VACUUM INTO, .dump into a new file, .backup and REINDEX. After each, `check`
+# says `sound`, the file has the same schema and rows, a session is answered as by the untouched office, a file is imported, and
+# `check` says `sound` again. VACUUM follows after all of that. ANALYZE adds the table sqlite_stat1, which no office has: that is a
+# `store fault` until it is dropped. The kept file of version 1 is migrated after each of them. The script ends with 1 if a result
+# is wrong.
 set -euo pipefail
 here=$(cd "$(dirname "$0")" && pwd)
 program=$(realpath "$1")
@@ -20,14 +20,14 @@ same() {
     fi
 }
 
-# says WORDS..: what the program prints and tells, and its status
+# says WORDS..: what the program prints on both streams, and its status
 says() {
     local is=0
     timeout 60 "$program" "$@" >"$room/out" 2>"$room/err" || is=$?
     printf '%s, %s, %s' "$is" "$(cat "$room/out")" "$(cat "$room/err")"
 }
 
-# The ways to write a file anew: each makes NEW of OLD.
+# The ways to write a file again: each makes NEW from OLD.
 ways=(vacuum vacuum_into dump backup reindex)
 vacuum() { cp "$1" "$2" && sqlite3 "$2" VACUUM; }
 vacuum_into() { sqlite3 "$1" "VACUUM INTO '$2'"; }
@@ -69,7 +69,7 @@ begin() {
         timeout 60 "$program" talk --store "$1" | grep -q '200 OK' || same 'its reader' none registered
 }
 
-# An office that was written anew, and again after it was used: each_way OFFICE
+# each_way OFFICE: an office that is written again, used, and written again
 each_way() {
     local way new answers taken
     cp "$1" "$room/plain.db"
@@ -90,7 +90,7 @@ each_way() {
     done
 }
 
-# ANALYZE leaves a table that is none of an office's, and dropping that leaves the office.
+# ANALYZE adds a table that no office has; without it the office is there again.
 analyzed() {
     cp "$room/office.db" "$room/analyzed.db"
     sqlite3 "$room/analyzed.db" ANALYZE
@@ -108,7 +108,7 @@ analyzed() {
     same 'ANALYZE of version 1 undone: the file' "$(told "$room/old_analyzed.db")" "$(told "$room/office.db")"
 }
 
-# The file of version 1, written anew and then migrated: what comes out is what comes of the file itself.
+# The file of version 1, written again and then migrated, gives the same as the file itself.
 migrated() {
     local way new
     for way in "${ways[@]}"; do

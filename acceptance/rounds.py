@@ -1,8 +1,8 @@
 #!/usr/bin/env python3
 """Fifty rounds of every command and every question as one session: rounds.py PROGRAM
 
-Each round takes in a file, has a reader order, sit, be served and leave, and asks for all that it made. Every answer is
-written down here by its rule, none by the program. It ends with 1 where an answer is another, or does not come."""
+Each round imports a file, has a reader order, sit, be served and leave, and asks for all that it made. Every answer is
+computed here from the rules. The script ends with 1 if an answer differs or is missing."""
 import json
 import subprocess
 import sys
@@ -46,7 +46,7 @@ def day_of(round):
 
 
 def in_the_catalogue(round):
-    """What a round does with units. Each of the four rows makes a top, which lacks what a top should have."""
+    """What a round does with units. Each of the four rows makes a top, with a remark: a top should have more elements."""
     unit = 4 * round + 1
     remarks = [{"kind": 2, "row": row} for row in (2, 3, 4, 5)]
     day = day_of(round)
@@ -64,7 +64,7 @@ def in_the_catalogue(round):
 
 
 def at_the_desk(round):
-    """What a round does with a reader and two boxes, of which the second is not wanted after all."""
+    """What a round does with a reader and two boxes; the order for the second is cancelled."""
     unit, ticket = 4 * round + 1, round + 1
     first, second = 2 * round + 1, 2 * round + 2
     return [
@@ -85,7 +85,7 @@ def at_the_desk(round):
 
 
 def questions(round):
-    """What a round asks. Of its four units the second is below the first by now, and the fourth is gone."""
+    """What a round asks. Of its four units the second is now below the first, and the fourth is gone."""
     unit, ticket = 4 * round + 1, round + 1
     tops = [(4 * r + of, name) for r in range(round + 1) for of, name in ((1, "A [-] Plans"), (3, "C [-] Maps"))]
     fonds = "".join(f"{top} GB 0999 {name}\n" for top, name in tops)

@@ -1,22 +1,16 @@
 #!/usr/bin/env bash
-# Tests of the built program over stores in files, by other programs too. rt ci builds it (crates/record_office/out).
+# Tests of the built program on stores in files, also with other programs. rt ci builds it (crates/record_office/out).
 #   acceptance/run.sh [PROGRAM]
-# Here: each exit status, `serve` by curl, a backup after a server that was stopped, a store by sqlite3, what `check` says
-# where sqlite3 changed a row, and the file of version 1 that is kept beside this. days.py: days of an office, over `trial`
-# and over `talk`. limits.py: days at the limits of an office, a file and a connection. filled.py: days of offices that are
-# nearly full. rounds.py: every command and question fifty times in one session. sessions.py: random sessions beside a plain
-# office. ../mutation/rules.py: rules of that office, each of which fails a fixed day when it is turned.
-# ../mutation/faults/init.py: `init` without one of its allocations. migrating.py: a store of version 1 of 2,000 units, made by sqlite3, is migrated and compared. stopped.py:
-# commands that are stopped after each change of their files. failing.py: a disk that fails at each of these changes, under a
-# program that goes on. killed.py: kill -9 in the middle of imports and sessions. sockets.py: the sockets of `serve`: writes, time-outs,
-# answers that close, the port.
-# It ends with 1 where something is other than wanted. What wants curl, sqlite3 or a C compiler is left out, and said,
-# where that is missing and cannot be installed; in CI that too is wrong.
+# This script tests each exit status, `serve` with curl, a backup of a server that was stopped, a store read by sqlite3, what
+# `check` says after sqlite3 changed a row, and the kept file of version 1. Then it calls the other scripts; README.md says what
+# each of them shows.
+# It ends with 1 if a result is wrong. If curl, sqlite3 or a C compiler is missing and cannot be installed, it leaves out the
+# tests that need it and says so; in CI that is wrong too.
 set -euo pipefail
 here=$(cd "$(dirname "$0")" && pwd)
 program=$(realpath "${1:-$here/../crates/record_office/out/record_office}")
 room=$(mktemp -d)
-# a stop of the program leaves the same on any file system; here no sync waits for a disk
+# what a stopped program leaves is the same on any file system; in /dev/shm no sync waits for a disk
 fast=$([ -w /dev/shm ] && mktemp -d -p /dev/shm || mktemp -d)
 trap 'rm -r "$room" "$fast"' EXIT
 settings=(--country GB --repo 0999 --seats 2 --daily 3 --hands 1 --run 2 --day 2024-03-01)
@@ -31,7 +25,7 @@ same() {
     fi
 }
 
-# wants WHAT STATUS PRINTED TOLD WORDS..: the program, with these words and the caller's standard input
+# wants WHAT STATUS PRINTED TOLD WORDS..: runs the program with these words and the caller's standard input
 wants() {
     local what=$1 status=$2 printed=$3 told=$4 is=0
     shift 4
@@ -54,7 +48,7 @@ printf '%s\n' 'legacyId,parentId,identifier,title,levelOfDescription,publication
 taken='{"changed":0,"new":2,"remarks":[{"kind":2,"row":2}],"same":0,"translations":0}'
 again='{"changed":0,"new":0,"remarks":[{"kind":2,"row":2}],"same":2,"translations":0}'
 
-# A store from its making on, and how commands end.
+# A new store, and how each command on it ends.
 one_store() {
     local import=(import --store "$store" --source a)
     wants 'a store that is not there' 3 '' 'file fault' check --store "$store" </dev/null
@@ -75,7 +69,7 @@ one_store() {
     wants 'a session that is cut' 3 "$answer" 'cut' talk --store "$store" <"$room/cut"
 }
 
-# Of two faults the first is told: of file, store and port.
+# If there are two faults, the first is reported: file, then store, then port.
 which_fault_first() {
     local zeros=(import --store "$room/zeros.db" --source a) none=(import --store "$room/none.db" --source a)
     wants 'no file for no store' 3 '' 'file fault' "${zeros[@]}" "$room/none.csv" </dev/null
@@ -85,7 +79,7 @@ which_fault_first() {
     wants 'a session with no store' 3 '' 'store fault' talk --store "$room/zeros.db" </dev/null
 }
 
-# Words that say no settings: of an option that stands twice clap takes neither, so each stands once.
+# Wrong settings. clap refuses an option that is given twice, so each is given once.
 bad_settings() {
     local none=(init --store "$room/no.db" --country GB --repo 0999 --daily 3 --hands 1 --run 2)
     wants 'a setting beyond its limits' 2 '' 'bad settings' "${none[@]}" --seats 201 --day 2024-03-01 </dev/null
@@ -115,8 +109,8 @@ with socket.create_connection(("127.0.0.1", int(sys.argv[1])), 10) as it:
 END
 }
 
-# Five connections: two that break, and three by curl: kept alive, HEAD, a body after 100 Continue, 404 and 409. What
-# the broken ones began to ask for is not done: the next ticket is the first.
+# Five connections: two that break, and three by curl: kept alive, HEAD, a body after 100 Continue, 404 and 409. The
+# requests of the broken ones are not carried out: the next ticket is the first.
 served() {
     local port=$((20000 + RANDOM % 20000)) serving
     cp "$store" "$room/second.db"
@@ -149,7 +143,7 @@ served() {
     served_again "$port"
 }
 
-# begins STORE PORT CONNECTIONS: a server, which is $serving, once it has said that it listens
+# begins STORE PORT CONNECTIONS: starts a server, $serving, and waits until it says that it listens
 begins() {
     timeout 60 "$program" serve --store "$1" --port "$2" --connections "$3" >"$room/served" 2>"$room/err" &
     serving=$!
@@ -160,7 +154,7 @@ begins() {
     same 'what a server says' "$(cat "$room/served" "$room/err")" "listening $2"
 }
 
-# served_again PORT: a service manager begins the server again, right after its end, on the same port.
+# served_again PORT: starts a server again on the same port right after its end, as a service manager does.
 served_again() {
     local serving
     begins "$store" "$1" 1
@@ -168,7 +162,7 @@ served_again() {
     wait "$serving" || same 'the second end of serve' "$?" 0
 }
 
-# registers STORE TICKET NAME: a server that registers a reader, and is stopped as a service manager stops it
+# registers STORE TICKET NAME: starts a server, registers a reader, and stops it as a service manager does
 registers() {
     local port=$((20000 + RANDOM % 20000)) serving is=0
     begins "$1" "$port" 9
@@ -179,14 +173,14 @@ registers() {
     same 'a server that is stopped' "$is" 143
 }
 
-# readers STORE: the names that have the first two tickets
+# readers STORE: the names on the first two tickets
 readers() {
     printf 'GET /desk/readers/%d HTTP/1.1\r\nHost: x\r\n\r\n' 1 2 |
         timeout 60 "$program" talk --store "$1" | grep -o '"name":"[A-Z]*"' | cut -d '"' -f 4 | xargs
 }
 
-# A server that is stopped leaves the newest changes in the log alone. `check` brings them into the file, which then is the
-# whole office; going back to it takes the log of what came later away.
+# A server that is stopped leaves the newest changes only in the log. `check` writes them into the file, which then holds the
+# whole office. To go back to a copy of that file, one also removes the log of the later changes.
 backed_up() {
     local kept=$room/kept.db
     wants 'an office to be backed up' 0 '' '' init --store "$kept" "${settings[@]}" </dev/null
@@ -206,7 +200,7 @@ backed_up() {
     same 'who is in the backup' "$(readers "$kept")" ANN
 }
 
-# What sqlite3 finds in the file: nothing wrong, and a branch by its numbers.
+# sqlite3 finds nothing wrong in the file, and reads a branch by its numbers.
 read_by_sqlite() {
     same 'integrity_check' "$(sqlite3 "$store" 'PRAGMA integrity_check')" ok
     same 'foreign_key_check' "$(sqlite3 "$store" 'PRAGMA foreign_key_check')" ''
@@ -214,7 +208,7 @@ read_by_sqlite() {
         WHERE top.id = 1 AND below.lft BETWEEN top.lft AND top.rgt ORDER BY below.lft')" $'1|1|4\n2|2|3'
 }
 
-# A file of SQLite's that is no office: no command takes it.
+# No command takes an SQLite file that is not an office.
 other_tables() {
     local other=$room/other.db
     sqlite3 "$other" 'CREATE TABLE unit (id INTEGER PRIMARY KEY); INSERT INTO unit VALUES (1)'
@@ -225,7 +219,7 @@ other_tables() {
     same 'tables of another still' "$(sqlite3 "$other" .dump | grep -c 'unit')" 2
 }
 
-# What `check` says where a statement of sqlite3 has changed the store of a day.
+# What `check` says after a statement of sqlite3 has changed the store of a day.
 changed_by_sqlite() {
     local day=$here/days/with_a_reader.day verdict statement status
     wants 'a store to be changed' 0 '' '' init --store "$room/day.db" "${settings[@]}" </dev/null
@@ -239,7 +233,7 @@ changed_by_sqlite() {
     done <"$here/changed.txt"
 }
 
-# The file of version 1: no command takes it but `migrate`, once.
+# No command takes the file of version 1, except `migrate`, once.
 an_old_store() {
     local old=$room/old.db
     cp "$here/version1.db" "$old"
@@ -272,7 +266,7 @@ compare_migrated() {
     done
 }
 
-# A file of version 1 that is no sound office's: `migrate` leaves it as it is.
+# `migrate` leaves a file of version 1 as it is if its office is not sound.
 an_unsound_old_store() {
     local old=$room/unsound.db was
     cp "$here/version1.db" "$old"

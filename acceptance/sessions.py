@@ -1,15 +1,14 @@
 #!/usr/bin/env python3
-"""Holds random sessions of the program against a plain office: sessions.py PROGRAM [FIRST [COUNT]]
+"""Compares random sessions of the program with a plain office: sessions.py PROGRAM [FIRST [COUNT]]
 
-Each session, of 200 where no number is named, is made by a seed of its own, from 0 or FIRST on, and by those of seeds.txt,
-which once found something. The seed chooses the settings, what rows may say, and how often each command comes: seventy
-commands, so chosen that many are accepted and most refusals come, and after each of them three questions. Some sessions
-begin with a chain of units, with a ticket that has a hundred permits, or with a file that is no text. `trial` is asked, and
-has to answer to the byte as acceptance/plain does.
+Each of COUNT sessions (200) has its own seed, from FIRST (0) on. The sessions of the seeds in seeds.txt come too. A seed
+chooses the settings, what rows may say, and how often each command comes. A session has seventy commands, chosen so that many
+are accepted and most refusals come, and three questions after each. Some sessions begin with a chain of units, with a ticket
+that has a hundred permits, or with a file that is not text. `trial` must answer to the byte as acceptance/plain does.
 
-It prints how many sessions were so, how often each command was accepted or refused, and how often each refusal, cause,
-remark, state of a container and kind of permit came. It ends with 1 where a session was not so, with the first answer that
-was other, and where of a hundred sessions or more something came less often than LEAST tells."""
+The script prints how many sessions were equal, how often each command was accepted or refused, and how often each refusal,
+cause, remark, state of a container and kind of permit came. It ends with 1 and the first different answer if a session
+differs, and also if, in a hundred sessions or more, something came less often than LEAST says."""
 import collections
 import json
 import random
@@ -57,7 +56,7 @@ count = collections.Counter()
 
 
 class Session:
-    """What is said in a session, with what a plain office answers."""
+    """The requests of a session, with the answers of a plain office."""
 
     def __init__(self, seed):
         self.random = random.Random(seed)
@@ -70,7 +69,7 @@ class Session:
         self.said = [it for _ in range(COMMANDS + len(self.first)) for it in self.some()]
 
     def some_settings(self):
-        """The usual settings in one session of three, others in the others."""
+        """The usual settings in one session of three, random ones in the others."""
         if self.happens(0.35):
             return dict(days.USUAL)
         chosen = {"seats": SEATS, "daily": DAILY, "hands": HANDS, "run": RUN, "country": ["GB", "DE"], "repo": ["0999", "x/1"]}
@@ -108,12 +107,12 @@ class Session:
         return self.random.random() < chance
 
     def one_of(self, pool, among):
-        """One of a pool, seldom another number."""
+        """One of a pool; sometimes any other number."""
         pool = list(pool)
         return self.random.choice(pool) if pool and self.happens(0.9) else self.random.randint(0, among + 1)
 
     def some(self):
-        """A command and three questions, each with its bytes and what has to be answered."""
+        """A command and three questions, each with its bytes and its answer."""
         path, body = self.first.pop(0) if self.first else self.command()
         body, seen = body if isinstance(body, bytes) else body.encode(), Seen(self.office)
         status, told = self.office.post(path, body)
@@ -165,7 +164,7 @@ class Session:
         return "".join(line + self.random.choice(["\n", "\r\n"]) for line in lines)
 
     def same_again(self, source):
-        """A file that has units as they are, now and then with their boxes the other way round."""
+        """A file with units as they are, sometimes with their boxes in the reverse order."""
         units = [it for it in self.office.units.values() if it.source == source]
         elements = {columns[0]: number for number, _, columns in plain.ELEMENTS if columns[0] in COLUMNS}
         lines = [",".join([*elements, "legacyId", *plain.BOX])]
@@ -185,7 +184,7 @@ class Session:
         return self.one_of(range(1, len(self.office.containers) + 1), len(self.office.containers))
 
     def unit(self):
-        """A unit, often of a path to what lies in a container that is out."""
+        """A unit; often one above something that lies in a container that is out."""
         out = self.office.out()
         lying = self.office.contents(self.random.choice(list(out))) if out and self.happens(0.5) else []
         if lying:
@@ -193,7 +192,7 @@ class Session:
         return self.one_of(self.office.units, self.office.next)
 
     def withheld_unit(self):
-        """A unit, where there is one a draft or a closed one."""
+        """A unit; a draft or a closed one if there is any."""
         units = [n for n, it in self.office.units.items() if it.draft or self.office.is_closed(n)]
         return self.one_of(units or self.office.units, self.office.next)
 
@@ -214,7 +213,8 @@ class Session:
         return "orders", {"ticket": ticket, "container": container}
 
     def issue(self):
-        """An issue to who is first at a container at the desk, or what that one lacks, or what brings one there."""
+        """An issue to the first reader who waits for a container at the desk; or what that reader lacks for it; or, if no such
+        container is there, what brings one."""
         office = self.office
         ready = [it for it, place in office.places.items() if place == "desk" and office.queue(it)]
         if not ready and self.happens(0.9):
@@ -309,7 +309,7 @@ class Session:
     }
 
     def command(self):
-        """The path and the body of a command: a file where there are no units, then a reader where there is none."""
+        """The path and the body of a command: an import if there are no units, then a registration if there is no reader."""
         first = Session.import_file if not self.office.units else Session.register if not self.office.readers else None
         word, members = (first or self.random.choices(list(self.OFTEN), self.weights)[0])(self)
         path = f"/public/{word}" if word == "orders" else f"/desk/{word}"
@@ -327,7 +327,7 @@ class Session:
 
 
 class Seen:
-    """Counts what came, by what the office was before a command and is after it."""
+    """Counts what came, from the office before and after each command."""
 
     def __init__(self, office):
         self.permits = dict(office.permits)
@@ -366,7 +366,7 @@ class Seen:
 
 
 def is_held(program, seed):
-    """Whether the program answers a session as the plain office does, and tells where it does not."""
+    """Whether the program answers a session as the plain office does; prints the difference if it does not."""
     session = Session(seed)
     said = b"".join(it for _, _, it, _ in session.said)
     words = [program, "trial", *days.options(session.settings)]
@@ -381,7 +381,7 @@ def is_held(program, seed):
 
 
 def wanted_counts():
-    """What has to come: its name, and how often it came."""
+    """What must come: its name, and how often it came."""
     kinds = {"refusal": range(1, 29), "cause": CAUSES, "remark": [1, 2], "container": STATES, "permit": PERMITS}
     return {f"{name} {it}": count.pop((name, it), 0) for name, pool in kinds.items() for it in pool}
 

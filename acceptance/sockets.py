@@ -1,11 +1,16 @@
 #!/usr/bin/env python3
 """Asks a server over its sockets: sockets.py PROGRAM [PORT]
 
-How many writes an answer takes (by strace, where that is there), how long 1,000 requests take on one connection, by Python and by
-curl; that an answer that closes reaches a client that has sent more than is read, and that one that goes on sending a little, or is
-silent, then holds nobody up for more than LAST seconds; that clients that send nothing, stop inside a message or read nothing are
-left after PATIENCE seconds, and what they began is not done; that nobody connects once the last connection is taken, nor to another
-address of this machine. It takes some 90 seconds, nearly all of them waiting, and ends with 1 where something is other than wanted."""
+It tests:
+
+  - how many writes an answer takes, if strace is there, and how long 1,000 requests take on one connection, by Python and curl;
+  - that an answer that closes reaches a client that has sent more than is read, and that a client that then goes on sending a
+    little, or is silent, delays nobody for more than LAST seconds;
+  - that the server leaves clients that send nothing, stop inside a message or read nothing after PATIENCE seconds, and does not
+    carry out what they began;
+  - that nobody can connect after the last connection is taken, nor to another address of this machine.
+
+It takes some 90 seconds, nearly all of them waiting, and ends with 1 if a result is wrong."""
 import contextlib
 import os
 import re
@@ -40,14 +45,14 @@ def same(what, found, wanted):
 
 
 def rows(count):
-    """A file of one fonds and units below it, whose aid has some 1,000 bytes for each."""
+    """A file of one fonds and units below it; the aid has some 1,000 bytes for each unit."""
     head = "legacyId,parentId,identifier,title,levelOfDescription,publicationStatus\n"
     first = "1,,HUL,Hull Dock Company,Fonds,Published\n"
     return head + first + "".join(f"{it},1,{it},{'Minutes ' * 120},Series,Published\n" for it in range(2, count + 2))
 
 
 class Server:
-    """A server of so many connections over a new office."""
+    """A server for this many connections, with a new office."""
 
     def __init__(self, program, port, connections, units=1):
         self.room = tempfile.TemporaryDirectory()
@@ -158,7 +163,7 @@ def writes(program, port):
 
 
 def not_lost(program, port):
-    """An answer that closes, where the client has sent much more than is read."""
+    """An answer that closes, to a client that has sent much more than is read."""
     with Server(program, port, 6) as server:
         for more in (0, 1, 100_000, 4_000_000, 8_388_608):
             with server.client() as client:
@@ -222,7 +227,7 @@ def unread(program, port):
             client.connect((HERE, port))
             client.sendall(AID * 20)
             taken, _ = asked(server, "read nothing")
-            # a write that moved some bytes in its time is followed by another, so more than one may have to end
+            # after a write that moved some bytes in its time there is another write, so more than one may time out
             same(f"read nothing: left after {PATIENCE} seconds or more", PATIENCE - 1 < taken < 10 * PATIENCE, True)
         server.ends_well("the end after a client that reads nothing")
 
@@ -236,7 +241,7 @@ def refused(address, port):
 
 
 def nobody_else(program, port):
-    """No other address of this machine is listened on, and none at all once the last connection is taken."""
+    """The server listens on no other address of this machine, and on none after the last connection is taken."""
     with Server(program, port, 1) as server:
         for address in ("127.0.0.2", *others()):
             same(f"another address, {'of the loop' if address == '127.0.0.2' else 'of a card'}", refused(address, port), True)
@@ -247,7 +252,7 @@ def nobody_else(program, port):
 
 
 def others():
-    """The machine's other addresses, where it has a card."""
+    """The machine's other addresses, if it has a network card."""
     with contextlib.suppress(OSError):
         found = {it[4][0] for it in socket.getaddrinfo(socket.gethostname(), None, socket.AF_INET)}
         return sorted(it for it in found if not it.startswith("127."))

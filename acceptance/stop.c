@@ -56,7 +56,7 @@ static void note(int file, off_t at, const void *bytes, size_t length) {
   changes[listed++] = it;
 }
 
-/* What was changed in a file is on the disk, but for what is lost. What came behind that stays in the list. */
+/* The changes of a file are on the disk, except lost ones. Changes after a lost one stay in the list. */
 static void synced(int file) {
   size_t left = 0;
   int has_lost = 0;
@@ -95,7 +95,7 @@ static void resize(int file, off_t size) {
   if (REAL(ftruncate)(file, size)) abort();
 }
 
-/* Makes as much of the n-th change again as is kept. */
+/* Makes the part of the n-th change that is kept again. */
 static void again(size_t n, const char *kept) {
   struct change it = changes[n];
   if (it.state == ON_DISK) kept = "all";
@@ -125,7 +125,7 @@ static void called(void) {
   kill(getpid(), SIGKILL);
 }
 
-/* The program has ended by itself, its disk having failed. */
+/* The program has ended by itself after its disk failed. */
 __attribute__((destructor)) static void ended(void) {
   if (getenv("FAIL")) lose_all_but(getenv("KEPT"));
 }
@@ -137,7 +137,7 @@ static void tell_failed(void) {
 
 enum outcome { GOES_WELL, IS_HALF_DONE, IS_DONE_AND_FAILS, FAILS };
 
-/* What comes of the next call that changes a file or syncs it. */
+/* What happens to the next call that changes a file or syncs it. */
 static enum outcome next_outcome(int grows) {
   const char *fail = getenv("FAIL"), *how = getenv("HOW");
   if (!fail || !strcmp(how, "unread")) return GOES_WELL;

@@ -2,12 +2,11 @@
 """Stops the program after each call by which it changes its files: stopped.py PROGRAM ROOM [KEPT ..]
 
 A new office, an import, a closure, a move, an order, a run, an issue, a return and a migration are each stopped after
-their first, second, .. such call, until a run ends by itself. stop.c does it, loaded before the C library, and leaves
-the files as each of KEPT says: whole, as when the program is killed, or without some of what no sync had brought to
-the disk, as when the power goes. Then `check` opens the store. Its tables have to be those before the command or those
-after it, and those after it where the command was answered. What a stopped `init` leaves may also be no office, which
-`check` tells as a store fault. A line is printed for each command, and the exit status is 1 where something is other
-than wanted.
+their first, second, .. such call, until a run ends by itself. stop.c, loaded before the C library, stops them and leaves the
+files as KEPT says: whole, as when the program is killed, or without some of the unsynced data, as when the power fails. Then
+`check` opens the store. Its tables must be those before the command or those after it; if the command was answered, those
+after it. What a stopped `init` leaves may also be no office, which `check` reports as a store fault. The script prints a line
+for each command, and ends with 1 if a result is wrong.
 """
 import itertools
 import os
@@ -29,7 +28,7 @@ UNITS = 40
 
 
 class Command(NamedTuple):
-    """What is done to a store: the words without the store, the input, and whether it is stopped too."""
+    """A command on a store: its words without the store, its input, and a name if it is stopped."""
 
     words: list
     asked: bytes = b""
@@ -37,7 +36,7 @@ class Command(NamedTuple):
 
 
 def file_of_units():
-    """A fonds and what lies right below it, each in a box of its own."""
+    """A fonds and its children, each in a box of its own."""
     header = "legacyId,parentId,identifier,title,levelOfDescription,publicationStatus,scopeAndContent"
     rows = ["1,,HUL,Hull Dock Company,Fonds,Published,Papers of the locks and basins,"]
     text = "Plans and letters. " * 9
@@ -51,7 +50,7 @@ def post(path, body, name=""):
 
 
 def day(units):
-    """The commands of a day, each over the store that the one before has left. Those with a name are stopped."""
+    """The commands of a day, each on the store that the one before has left. Those with a name are stopped."""
     return [
         Command(["init", *SETTINGS], name="init"),
         Command(["import", "--source", "a", str(units)], name="import"),
@@ -76,7 +75,7 @@ def copied(store, room):
 
 
 def perform(command, store, **environment):
-    """Has the program do a command on a store, and gives its exit status, what it printed and what it told."""
+    """Runs a command of the program on a store; returns its status, output and message."""
     words = [PROGRAM, command.words[0], "--store", str(store), *command.words[1:]]
     how = {"input": command.asked, "capture_output": True, "timeout": 120}
     done = subprocess.run(words, env={**os.environ, **environment}, **how)
@@ -84,7 +83,7 @@ def perform(command, store, **environment):
 
 
 def look(store):
-    """What `check` says of a store, and all its tables as sqlite3 reads them then."""
+    """What `check` says of a store, and all its tables as sqlite3 then reads them."""
     status, said, told = perform(Command(["check"]), store)
     if status == 3:
         return status, told, None
@@ -93,7 +92,7 @@ def look(store):
 
 
 class Stops:
-    """A command that is stopped over copies of a store, and what came of it."""
+    """A command that is stopped on copies of a store, and the results."""
 
     def __init__(self, command, before, shim, room):
         self.command, self.before, self.shim, self.room = command, before, shim, room
@@ -103,7 +102,7 @@ class Stops:
         self.counts, self.wrong = Counter(), []
 
     def place(self, seen, answered):
-        """Where a store that was stopped stands, or nothing where it is no such place."""
+        """Which of the allowed states a stopped store is in, or nothing."""
         if seen == self.left:
             return "answered" if answered else "after"
         if answered:
@@ -113,7 +112,7 @@ class Stops:
         return "no office" if seen == UNMADE and self.command.name == "init" else None
 
     def stop(self, number, kept):
-        """Stops the command after so many calls and looks; false where it ended by itself."""
+        """Stops the command after this many calls and looks at the store. False if it ended by itself."""
         store = copied(self.before, self.room)
         status, answer, _ = perform(self.command, store, LD_PRELOAD=self.shim, STOP=str(number), KEPT=kept)
         seen = look(store)
@@ -144,7 +143,7 @@ def built_shim(room):
 
 
 def all_commands(shim, room):
-    """The named commands of a day, and the migration of the store of version 1 that is kept beside this."""
+    """The named commands of a day, and the migration of the store of version 1 in this directory."""
     units, store, commands = room / "units.csv", room / "none.db", []
     units.write_text(file_of_units())
     for command in day(units):

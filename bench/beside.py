@@ -1,15 +1,15 @@
 #!/usr/bin/env python3
-"""Runs the same load on the built program and on another program of the same words, each over `talk` and a file of its
-own, and prints tables of markdown with the ratio of what they took:
+"""Runs the same load on the built program and on another program with the same command line, each by `talk` on a file of its
+own, and prints tables of markdown with the ratios of their times:
 
     bench/beside.py [--program PROGRAM] [--room FOLDER] [--cpu N] OTHER [UNITS ..]
 
-UNITS is 2000, 20000, 60000 or 200000; without words the last three. Offices are made as real ones are: files of 20,000
+UNITS is 2000, 20000, 60000 or 200000; by default the last three. Offices are made as real ones are: from files of 20,000
 rows that come by POST, parents first, so that numbers do not rise along the walk, and then some branches are moved.
-Requests go to one program, then the same to the other, one after another: each waits for the answer before. Times are
-the mean of an answer, of the processor and by the clock. The ratios and the growth are of processor time, which tells most on
-a busy machine; the last column has the ratio by the clock. --cpu binds both programs to one processor. With several sizes
-a last table tells how many times as long an answer takes in the largest office as in the smallest.
+Requests go to one program, then the same to the other; each request waits for the answer to the one before. Times are means
+for one answer, of the processor and by the clock. The ratios and the growth are of processor time, which says most on a busy
+machine; the last column has the ratio by the clock. --cpu binds both programs to one processor. With several sizes, a last
+table says how many times as long an answer takes in the largest office as in the smallest.
 """
 import argparse
 import datetime
@@ -27,7 +27,7 @@ FIRST_DAY = datetime.date(2024, 3, 1)
 
 
 class Took:
-    """What something took in the mean: seconds of the processor and by the clock."""
+    """The mean of what something took: seconds of the processor and by the clock."""
 
     def __init__(self, processor, wall):
         self.processor, self.wall = processor, wall
@@ -100,7 +100,7 @@ def file_of(archive, file, room):
 
 
 def take_in(bench, archive, room):
-    """Brings all files, the first again as the last, and moves some branches to other files."""
+    """Sends all files, the first one again at the end, and moves some branches to tops of other files."""
     names = {0: "a file into nothing", 2: "the third file"}
     for file in range(archive.files):
         request = [file_of(archive, file, room)]
@@ -166,7 +166,7 @@ def placings(bench, archive):
 
 
 def beside(ours, other, room, units):
-    """Both programs in offices of so many units, and what ours took."""
+    """Both programs with offices of this many units, and what ours took."""
     archive = Archive(units)
     print(f"\n### {units:,} units, {time.strftime('%Y-%m-%d %H:%M')}, load {os.getloadavg()[0]:.1f}\n")
     with tempfile.TemporaryDirectory(dir=room) as folder:

@@ -3,9 +3,9 @@
 compare_preview.py FILES SEED PLAIN PROGRAM [WORD ..]
 
 PLAIN is the plain program as rustc built it. PROGRAM and its words read a file from standard input and
-write its finding aids, as `record_office preview --country GB --repo 0999` does. Of a file with a fault
-the row and the cause are compared. A file on which they differ is kept beside this script. It ends with 1 where
-they differ, or where no file had finding aids.
+write its finding aids, as `record_office preview --country GB --repo 0999` does. For a file with a fault,
+the row and the cause are compared. A file on which they differ is kept next to this script. The script ends
+with 1 if they differ, or if no file had finding aids.
 """
 
 import pathlib
@@ -28,7 +28,7 @@ TEXTS = ["", "", "a", "Minutes", " Maps ", "a b", 'say "x"', "one\ntwo", "one\r\
 
 
 def field(text, wild=0):
-    """The text as a field of a CSV file: quoted where it has to be, and now and then oddly."""
+    """The text as a field of a CSV file: quoted if necessary, and sometimes oddly."""
     if random.random() < wild / 4:
         return random.choice(['"' + text, text + '"', f'"{text}"tail', f'{text}"x"', text])
     if random.random() < 0.15 or re.search('[,"\r\n]', text):
@@ -49,7 +49,7 @@ def header():
 
 
 class Made:
-    """What the rows of a file share: how often each oddity comes, and the ids so far."""
+    """What the rows of a file share: how often each oddity comes, and the ids that were used."""
 
     def __init__(self):
         self.wild = random.choice([0, 0, 0.01, 0.05])

@@ -3,11 +3,12 @@
 
     bench/front.py [--program PROGRAM] [--room DIRECTORY] [--port FIRST] [--store STORE] [UNITS]
 
-UNITS is 2000, 20000 (without a word) or 200000. STORE is a store of so many units that is there already: it is copied. Eight clients
-with kept connections ask for pages of units one after the other: without a stop, while the program ends after every 10,000
-answers of its only connection, and while it is killed; with limits by address taken out, since all clients have one. An answer other than 200 is
-lost. Then readers are registered at the desk beside eight such clients and a kill: all tickets have to be there, each once.
-The program has to be idle otherwise; needs nginx and HAProxy. Where anything is lost this ends with 1.
+UNITS is 2000, 20000 (the default) or 200000. STORE is an existing store of this many units, which is copied. Eight clients with
+kept connections ask for pages of units one after the other: undisturbed, while the program ends after every 10,000 answers of
+its only connection, and while it is killed. The limits by address are taken out, since all clients have the same address. An
+answer other than 200 counts as lost. Then readers are registered at the desk, next to eight such clients and a kill: all
+tickets must be there, each once. Nothing else may use the program. The script needs nginx and HAProxy, and ends with 1 if
+anything is lost.
 """
 
 import argparse
@@ -35,7 +36,7 @@ LOST = []
 
 
 class Client(threading.Thread):
-    """Asks for these paths, one after the other, over a connection that it keeps."""
+    """Asks for these paths, one after the other, on a connection that it keeps."""
 
     def __init__(self, port, paths, headers=None):
         super().__init__(daemon=True)
@@ -63,7 +64,7 @@ def pages(units, client, many):
 
 
 def crowd(office, units, many, beside=None):
-    """Eight clients, and what is done beside them; gives what they took."""
+    """Runs eight clients, and something else meanwhile; returns what the clients took."""
     clients = [Client(office.ports["readers"], pages(units, n, many)) for n in range(CLIENTS)]
     began = time.perf_counter()
     for client in clients:
@@ -114,7 +115,7 @@ def kills(office, units, many):
 
 
 class Desk:
-    """Registers readers at the desk, one after the other. What is uncertain is looked up, as OPERATING says, not given again."""
+    """Registers readers at the desk, one after the other. An uncertain command is looked up, as OPERATING says, not sent again."""
 
     def __init__(self, office, many):
         self.office, self.many = office, many
@@ -160,7 +161,7 @@ class Desk:
 
 
 def slow(office, units):
-    """What a page takes beside a client that sends a part of a file to the desk, and then nothing."""
+    """What a page takes while a client has sent a part of a file to the desk, and then sends nothing."""
     with socket.create_connection(("127.0.0.1", office.ports["desk"])) as held:
         lines = "".join(f"{name}: {value}\r\n" for name, value in AUTH.items())
         held.sendall(f"POST /desk/import/a HTTP/1.1\r\nHost: 127.0.0.1\r\n{lines}Content-Length: 1048576\r\n\r\nx".encode())

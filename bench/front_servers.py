@@ -19,7 +19,7 @@ fastcgi_temp_path tmp/f; uwsgi_temp_path tmp/u; scgi_temp_path tmp/s; include %s
 
 
 class Office:
-    """An office of this program over this store. Its changes are pairs of texts of the configuration."""
+    """An office with this program and this store; `changes` are pairs of texts to replace in the configuration."""
 
     def __init__(self, program, store, folder, first, connections=10000, changes=(), site="nginx.conf"):
         self.program, self.store, self.folder = pathlib.Path(program).resolve(), store, pathlib.Path(folder).resolve()
@@ -55,7 +55,7 @@ class Office:
             return subprocess.Popen([name, *map(str, words)], stdout=subprocess.DEVNULL, stderr=told, cwd=self.folder)
 
     def serve(self):
-        """Begins the program again whenever it ends, as a service manager does."""
+        """Starts the program again whenever it ends, as a service manager does."""
         words = [self.program, "serve", "--store", self.store, "--port", str(self.ports["program"]), "--connections", str(self.connections)]
         while self.running:
             with open(self.folder / "program.err", "a", encoding="utf-8") as told:
@@ -74,7 +74,7 @@ class Office:
         (self.folder / "staff").write_text(f"{PASSWORD[0]}:{hashed.stdout}")
 
     def placed(self, text):
-        """A file of the front with this folder's paths and these ports, and nothing else of it changed but what is asked for."""
+        """A file of the front with this folder's paths, these ports and the given changes; the rest stays."""
         for old, new in self.changes:
             text = text.replace(old, new)
         text = text.replace("/etc/record-office", str(self.folder)).replace("/usr/share/record-office/front", str(TOP / "front"))

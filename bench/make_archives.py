@@ -26,7 +26,7 @@ def text(words):
 
 
 def place(number, depths):
-    """The parent of a row and its depth, where the rows above in its fonds have these depths."""
+    """The parent of a row and its depth; `depths` has those of the rows before it in its fonds."""
     if not depths:
         return "", 1
     above = len(depths) - 1

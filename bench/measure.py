@@ -3,16 +3,16 @@
 
     bench/measure.py [--program PROGRAM] [--room DIRECTORY] [UNITS ..]
 
-UNITS is 200 (a try of this script alone), 2000 (a hundred of each request, not a thousand), 20000 or 200000, without
-words the last two. The store is made in a new folder of DIRECTORY, that of temporary files where none is named: on a
-real disk each command waits for it, in /dev/shm none does. Files have 340 bytes a row, five elements, a box for two
-units, and nine units below each unit that has any.
+UNITS is 200 (only to try this script), 2000 (with a hundred of each request instead of a thousand), 20000 or 200000; by
+default the last two. The store is made in a new folder of DIRECTORY, by default that of temporary files. On a real disk each
+command waits for the disk, in /dev/shm none does. Files have 340 bytes a row, five elements, a box for two units, and nine
+units below each unit that has any.
 
-Wall and processor are seconds, the latter of the user and the system. An import opens the store first: what a session
-without requests takes, right before it, is told beside it and taken off for the goal. Requests come through a pipe, all
-at once, after one small question: seconds are counted from its answer to the last, so the opening is not in them, nor
-is the end of the session. Memory is the greatest of the process, the opening in it. Every answer has to be a 200, and
-every import has to tell how many units were new or the same: otherwise this ends with 1.
+Wall and processor are seconds; the latter are of user and system. An import opens the store first. What a session without
+requests takes right before it is printed next to it, and subtracted for the goal. Requests come through a pipe, all at once,
+after one small question. Seconds are counted from its answer to the last one, so they include neither the opening nor the end
+of the session. Memory is the maximum of the process, with the opening. Every answer must be a 200, and every import must
+report the right number of new or same units; otherwise the script ends with 1.
 """
 import argparse
 import json
@@ -44,10 +44,10 @@ TICKS = os.sysconf("SC_CLK_TCK")
 
 
 class Archive:
-    """The catalogue of an office of so many units: files of at most 20,000 rows, and a hundred tops in all, if not fewer.
+    """The catalogue of an office of this many units: files of at most 20,000 rows, and at most a hundred tops in all.
 
-    The places of a file count from 0. Its tops come first, and the unit at place p has below it those at the nine
-    places from tops + 9p on. Units get their numbers in the order of the rows, two after another share a box.
+    The places of a file count from 0. Its tops come first. The children of the unit at place p are at the nine places
+    from tops + 9p on. Units get their numbers in the order of the rows, and two neighbours share a box.
     """
 
     def __init__(self, units):
@@ -76,7 +76,7 @@ class Archive:
             it.writelines(self.row(file, place) for place in range(self.rows))
 
     def spread(self, nth, count, first, end):
-        """The nth of so many units, spread over those that stand in any file at the places from the first to the end."""
+        """The nth of `count` units, spread over the places from `first` to `end` of all files."""
         each = end - first
         file, place = divmod(nth * self.files * each // count, each)
         return file * self.rows + first + place + 1
@@ -85,7 +85,7 @@ class Archive:
         return self.spread(nth, count, 0, self.rows)
 
     def unit_with_nine_below(self, nth, count):
-        """A unit with nine below it, which have none."""
+        """A unit with nine children, which have none."""
         first = -(-(self.with_some_below - self.tops) // BELOW)
         return self.spread(nth, count, first, (self.rows - self.tops) // BELOW)
 
@@ -93,7 +93,7 @@ class Archive:
         return self.spread(nth, count, self.with_some_below, self.rows)
 
     def leaf_on_the_shelf(self, nth, count):
-        """A unit with none below it, in a box that nobody orders."""
+        """A unit without children, in a box that nobody orders."""
         unit = self.leaf(nth, count)
         return unit if self.box_of(unit) % self.boxes_apart != 1 else unit - 2
 
@@ -116,13 +116,13 @@ def fail(what):
 
 
 class Program:
-    """The program on one store."""
+    """The program with one store."""
 
     def __init__(self, program, room):
         self.program, self.room, self.store = program, room, f"{room}/office.db"
 
     def spent(self, words, status=0):
-        """Runs the program without input, which has to end with this status, and gives what it took and what it printed."""
+        """Runs the program without input; it must end with this status. Returns what it took and what it printed."""
         times = f"{self.room}/times"
         start = time.perf_counter()
         done = subprocess.run(
@@ -151,7 +151,7 @@ class Program:
         return spent
 
     def import_file(self, archive, file, told):
-        """Takes in a file, all of whose rows have to be `told`: `new` or `same`."""
+        """Imports a file; all of its rows must be reported as `told`, which is `new` or `same`."""
         name = f"{self.room}/rows.csv"
         archive.write(file, name)
         spent, said = self.spent(["import", "--store", self.store, "--source", f"s{file}", name])
@@ -192,7 +192,7 @@ class Session:
         self.running.stdin.flush()
 
     def take_answer(self):
-        """Reads an answer, which has to be a 200."""
+        """Reads an answer, which must be a 200."""
         answers = self.running.stdout
         status = answers.readline()
         length = 0
@@ -220,7 +220,7 @@ class Session:
             return it.read()
 
     def processor(self):
-        """Seconds of the user and the system, the twelfth and thirteenth words behind the name."""
+        """Seconds of user and system: the twelfth and thirteenth words after the name."""
         words = self.told("stat").rpartition(")")[2].split()
         return (int(words[11]) + int(words[12])) / TICKS
 
@@ -242,7 +242,7 @@ def seconds(value):
 
 
 def judged(spent, goal):
-    """The goal, and whether it was missed."""
+    """The goal, and whether it is missed."""
     if goal is None:
         return ""
     return seconds(goal) if spent <= goal else f"{seconds(goal)}: {spent / goal:.1f} times"
@@ -253,7 +253,7 @@ def say(*cells):
 
 
 def say_command(what, spent, opening, goal):
-    """A line for a command, whose goal is without the opening, where it has one in it."""
+    """A line for a command. The goal does not include the opening of the store."""
     within = seconds(opening.wall) if opening else ""
     alone = spent.wall - (opening.wall if opening else 0)
     memory = f"{spent.memory / 1e6:.0f} MB"
@@ -266,7 +266,7 @@ def tell_import(program, archive, file, told, what, goal):
 
 
 def fill(program, archive):
-    """Takes in all files, and says what the first, the same again and the last took."""
+    """Imports all files, and prints what the first, the first again and the last took."""
     rows = f"{archive.rows:,} rows"
     tell_import(program, archive, 0, "new", f"import of {rows} into nothing", 0.7)
     tell_import(program, archive, 0, "same", "the same again", 0.5)
@@ -297,7 +297,7 @@ def questions(archive):
 
 
 def desk(archive):
-    """A reading room's day, up to where all boxes are out that were ordered."""
+    """A day of the reading room, until all ordered boxes are out."""
     count = archive.requests
     readers = range(1, count // IN_HANDS + 1)
     yield "registrations", None, [post("/desk/register", name=f"Reader {n}", until="2024-12-31") for n in readers]
@@ -311,7 +311,7 @@ def desk(archive):
 def judged_changes(archive):
     """Changes of the catalogue while boxes are out, and then their return."""
     count = archive.requests // 5
-    # twice as many units are spread, of which the one half become drafts and the other half are closed
+    # twice as many units are spread: one half of them become drafts, the other half are closed
     units = [archive.leaf_on_the_shelf(n, 2 * count) for n in range(2 * count)]
     beside = f"beside {archive.requests:,} containers out"
     drafts = [post("/desk/status", unit=unit, status="draft", branch=False) for unit in units[::2]]
@@ -322,7 +322,7 @@ def judged_changes(archive):
 
 
 def placings(archive):
-    """Moves and removals of units that have none below them, spread over all."""
+    """Moves and removals of units without children, spread over all."""
     count = archive.requests // 10
     units = [archive.leaf(n, 2 * count) for n in range(2 * count)]
     front = [(unit - 1) // archive.rows * archive.rows + archive.tops for unit in units]

@@ -1,7 +1,7 @@
 #!/usr/bin/env bash
 # Measures the calls of a crate: bench/measure.sh desk, forests, tables, reading_room (the desk's tables), or office
-# (commands and questions in a file: bench/measure.sh office [2000|20000|200000|growth ..], without a word 20000).
-# The program is built beside a copy of the crates, so that nothing is left behind here.
+# (commands and questions in a file: bench/measure.sh office [2000|20000|200000|growth ..], by default 20000).
+# The program is built next to a copy of the crates, so nothing is left behind here.
 set -euo pipefail
 top=$(cd "$(dirname "$0")/.." && pwd)
 case "${1:-}" in
@@ -20,7 +20,7 @@ cp -r "$top/crates" "$copy/crates"
 { cat "$top/crates.txt"; echo "measured: $needs"; } > "$copy/crates.txt"
 mkdir -p "$copy/crates/measured/src"
 cp "$top/bench/$1.rattle" "$copy/crates/measured/src/main.rt"
-# The gate takes no .antt outside the crates, so a program's proofs are named .proof here.
+# The gate accepts no .antt file outside the crates, so the proofs of a program are named .proof here.
 if [ -d "$top/bench/$1" ]; then
     cp -r "$top/bench/$1/." "$copy/crates/measured/"
     find "$copy/crates/measured/proofs" -name '*.proof' | while read -r file; do mv "$file" "${file%.proof}.antt"; done

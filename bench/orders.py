@@ -3,15 +3,15 @@
 
     bench/orders.py [--program PROGRAM] [--room DIRECTORY] [ORDERS ..]
 
-First `reader` of a ticket that has placed 1, 10, 100 and 1,000 orders before, all cancelled, beside one that waits: the mean of 9,000
-questions in one session, and beside it that of 9,000 questions for what is out, which find nothing here: the difference is the
-answer's own.
+First, `reader` for a ticket with one order that waits and 1, 10, 100 or 1,000 earlier ones, all cancelled: the mean of 9,000
+questions in one session. Next to it is the mean of 9,000 questions for what is out, which find nothing here. The difference is
+what the answer itself takes.
 
-Then one request each with a body of 8 MiB, to a program that holds an empty office: how much memory its body takes, as a multiple.
+Then, requests with a body of 8 MiB to a program with an empty office: how many times its size each body takes in memory.
 
-Then, for each of ORDERS (100000 and 1000000 without a word, 10000000 takes some minutes), `check` of an office of that many orders of
-100,000 tickets for 10,000 boxes, each brought by a line of a run of a hundred. Its rows are written by Python's own SQLite. Processor
-seconds and memory, the greatest of the process, stand beside those of the same office without orders.
+Then, for each of ORDERS (by default 100000 and 1000000; 10000000 takes some minutes), `check` of an office with this many orders of
+100,000 tickets for 10,000 boxes, each fetched by a line of a run of a hundred. Python's own SQLite writes the rows. Processor
+seconds and the maximum memory of the process are printed next to those of the same office without orders.
 """
 import argparse
 import datetime
@@ -27,13 +27,13 @@ from measure import BUILT, Program, Session, fail, get, post, say
 
 UNITS, TICKETS, IN_A_RUN = 20000, 100000, 100
 TODAY = 19783  # the first of March 2024
-QUESTIONS = 9000  # of the 10,000 messages of a session
+QUESTIONS = 9000  # a session has at most 10,000 messages
 A_DAY = 50
 MIB_8 = 8 * 1024 * 1024
 
 
 def write_orders(store, orders):
-    """Orders that are done, with the runs that brought them."""
+    """Orders that are done, with the runs that fetched them."""
     at = sqlite3.connect(store, isolation_level=None)
     at.execute("PRAGMA journal_mode = OFF")
     at.execute("PRAGMA synchronous = OFF")
@@ -43,7 +43,7 @@ def write_orders(store, orders):
     at.execute("BEGIN")
     at.execute(f"{numbers} INSERT INTO reader (ticket, name, until) SELECT i + 1, 'Reader ' || i, ? FROM n", (TICKETS, TODAY + 300))
     if orders:
-        # a ticket's n-th order is of its n-th day: no more than one a day
+        # the n-th order of a ticket is of its n-th day, so there is at most one a day
         at.execute(
             f"{numbers} INSERT INTO orders (id, ticket, container, day, state)"
             " SELECT i + 1, i % ? + 1, i % ? + 1, ? - i / ?, 3 FROM n",
@@ -82,7 +82,7 @@ def check_orders(program, archive, counts):
 
 
 def placed(ticket, before, order, day):
-    """The requests of a ticket's orders, of which all but the last are cancelled, and the number and the day of the last."""
+    """Requests for orders of a ticket, all but the last cancelled; and the number and the day of the last."""
     asked = []
     for nth in range(before + 1):
         if nth % A_DAY == 0:

@@ -1,7 +1,7 @@
 #!/bin/bash
-# Measures `preview` at 5,000, 10,000 and 20,000 rows with all 26 elements, beside the plain program.
-# bench/preview.sh [PROGRAM WORD ..]: what reads a file from standard input and writes its finding
-# aids; without words the program of this repository, once it is built.
+# Measures `preview` of 5,000, 10,000 and 20,000 rows with all 26 elements, next to the plain program.
+# bench/preview.sh [PROGRAM WORD ..]: a program that reads a file from standard input and writes its
+# finding aids; by default the built program of this repository.
 # Of five runs it prints the least processor time and wall time, and the greatest memory.
 set -euo pipefail
 here=$(cd "$(dirname "$0")" && pwd)
@@ -12,7 +12,7 @@ if [ $# -eq 0 ]; then
 fi
 rustc --edition 2024 -O "$here/plain_preview.rs" -o "$room/plain"
 
-# The least seconds of the processor and of the clock, and the greatest memory, of five runs.
+# The least seconds of the processor and by the clock, and the greatest memory, of five runs.
 least() {
     for _ in 1 2 3 4 5; do
         /usr/bin/time -o "$room/times" -a -f '%U %S %e %M' "$@" <"$room/file.csv" >"$room/out"

@@ -3,8 +3,8 @@
 
     bench/statements.py [UNITS ..]
 
-It follows the calls of `nested_sets` and `catalogue_store` on numbers in memory, so it has to be changed with them. The three
-statements of each question for its transaction and the office's own row are left out, and the moves of branches.
+It repeats the calls of `nested_sets` and `catalogue_store` on numbers in memory, so it must be changed when they are. It leaves out
+the three statements of each question for its transaction and the row of the office, and the moves of branches.
 """
 import sys
 
@@ -44,7 +44,7 @@ class Places:
                 self.last[unit] = number
 
     def search(self, unit):
-        """What the search for the row right above takes: statements, and rows that are looked over."""
+        """What the search for the parent takes: statements, and rows that they read."""
         statements = rows = 0
         elder, younger, before, few = unit, unit, self.first[unit], FEW
         while True:
@@ -65,7 +65,7 @@ class Places:
             before, few = start, 2 * few
 
     def path(self, unit):
-        """The same for a whole path, and how many units are on it."""
+        """The same for a whole path, and the number of its units."""
         statements, rows, depth = 1, 0, 0
         while unit is not None:
             more, looked_over = self.search(unit)

@@ -1,11 +1,11 @@
 #!/usr/bin/env python3
-"""Measures pages of units that stand among many side by side, with the built program over an office in a file:
+"""Measures pages of units with many siblings, with the built program on an office in a file:
 
     bench/wide.py [--program PROGRAM] [--room DIRECTORY] [EACH]
 
-One fonds has five series, and each of these so many files right below it, 3998 where no number is named (then 19,996 units
-in one import). For some places among the files it prints the milliseconds of a page by the clock and of the processor, the
-mean of fifty requests of one session, the opening not in them. Every answer has to be a 200.
+One fonds has five series, and each of these has EACH files right below it (3998, which makes 19,996 units in one import). For some
+places among the files the script prints the milliseconds that a page takes by the clock and of the processor: the mean of fifty
+requests of one session, without the opening. Every answer must be a 200.
 """
 import argparse
 import os

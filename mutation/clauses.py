@@ -1,12 +1,14 @@
 #!/usr/bin/env python3
-"""Compares what two trees promise: every public clause and every definition of the one has to stand in the other.
+"""Compares what two trees promise: every public clause and every definition of the old tree must be in the new one.
 
     mutation/clauses.py OLD_TREE NEW_TREE [--names FILE] [--new] [--why]
 
 Public clauses are the ensures and requires of public functions, of the methods of traits and of the impls of traits, the
-ghost members of traits and impls, and the invariants of public types; the names that can be imported from a crate (its
-`pub use`, and what stands in its public modules) are held against each other, too. Definitions are all lines of crates/*/specs but imports and comments. White space and comments count for nothing, nor does the module of a crate in which something
-stands; the crate, the owner (a trait or a type) and the name of the function do.
+ghost members of traits and impls, and the invariants of public types. The names that can be imported from a crate (its
+`pub use`, and the items of its public modules) are compared too. Definitions are all lines of crates/*/specs except imports
+and comments; the fields of a record, the cases of a type and the members of a section (`module _ .. where`) are compared one
+by one. White space, comments and the module within a crate make no difference; the crate, the owner (a trait or a type) and
+the name of the function do.
 
 FILE (without it: mutation/names.txt beside this script) has the names that changed, one a line:
 
@@ -15,11 +17,20 @@ FILE (without it: mutation/names.txt beside this script) has the names that chan
     spec CRATE OLD NEW        a file of the old crate's specs
     word OLD NEW [CRATE ..]   an identifier, in all old crates or in these
     file CRATE NAME NEW       a file of the old crate's src or specs that went to the crate NEW by itself
-    changed CRATE NAME ..: WHY    functions and definitions, by their new names, that say something else since, and why
+    above CRATE OLD NEW USER ..   each field of the record OLD must be one of the record NEW, too; a clause of the crates
+                              USER may cite NEW in place of OLD
+    changed CRATE KEY ..: WHY     what says something else since, by its new names, and why; the new tree must still have
+                              something new under each of these keys, and of clauses as many
+    gone CRATE KEY ..: WHY        what the new tree has no more, and why
 
-It prints what is lost without a reason, how much is lost with one, and how many clauses and definitions are new (with
---new: which; with --why: what is lost with a reason, and the reason). It ends with 1 where something is lost without a
-reason, and where a reason has nothing to explain.
+A key is FUNCTION.LABEL for a clause (TYPE::FUNCTION.LABEL for a method; without a label: FUNCTION.ensures or
+FUNCTION.requires), FUNCTION.fn for a public function itself, NAME.importable for a name that can be imported, TYPE::NAME.ghost
+for a ghost member, NAME for a definition, RECORD.FIELD and TYPE.CASE for a part of one, and FILE.section for the head of a
+section in a file of specs.
+
+The script prints what is lost without a reason, how much is lost with one, and how many clauses and definitions are new (with
+--new: which; with --why: what is lost with a reason, and the reason). It ends with 1 if something is lost without a reason,
+or if a reason explains nothing.
 """
 import argparse
 import collections
@@ -35,17 +46,19 @@ CLOSE = {"(": ")", "[": "]", "{": "}"}
 
 
 class Names:
-    """The names that changed. Of the new tree itself none did."""
+    """The names that changed; none for the new tree itself."""
 
     def __init__(self, file=None):
         self.crates, self.modules, self.specs, self.words, self.files = {}, {}, {}, {}, {}
-        self.reasons = {}
+        self.reasons, self.above = {}, []
         for line in open(file, encoding="utf-8") if file else []:
             kind, *rest = line.split("#")[0].split() or [""]
-            if kind == "changed":
+            if kind in ("changed", "gone"):
                 what, _, why = line.partition(": ")
-                crate, *names = what.split()[1:]
-                self.reasons.update({(crate, name): why.strip() for name in names})
+                crate, *keys = what.split()[1:]
+                self.reasons.update({(crate, key): (kind, why.strip()) for key in keys})
+            elif kind == "above":
+                self.above.append((*rest[:3], rest[3:]))
             elif kind == "crate":
                 self.crates[rest[0]] = rest[1]
             elif kind in ("module", "spec", "file"):
@@ -112,7 +125,7 @@ class Source:
         self.items, self.note = tokens(text), note
 
     def walk(self, at=0, end=None, owner="", open_to_all=False):
-        """owner: the impl, trait or type around; open_to_all: whether each function in it is public, as a trait's."""
+        """owner: the impl, trait or type around; open_to_all: whether each function in it is public, as in a trait."""
         end = len(self.items) if end is None else end
         begin = at
         while at < end:
@@ -138,7 +151,7 @@ class Source:
                 begin = at if it == ";" else begin
 
     def inside(self, kind, head, name, stop, owner):
-        """What stands in the block of an item; the index after it."""
+        """The content of the block of an item; the index after it."""
         if stop >= len(self.items) or self.items[stop] != "{":
             return stop + 1
         after = block_end(self.items, stop)
@@ -163,7 +176,7 @@ class Source:
         return stop + 1
 
     def function(self, begin, at, owner, open_to_all):
-        """Notes a function's clauses where it is public; the index after it."""
+        """Notes the clauses of a function if it is public; the index after it."""
         public = open_to_all or is_public(self.items[begin:at])
         at = bare(self.items, at + 1)
         name = self.items[at]
@@ -184,25 +197,71 @@ class Source:
 
 
 def is_public(head):
-    """Whether the last words before an item are such as make it public."""
+    """Whether the last words before an item make it public."""
     words = "".join(head).replace("pub(", "pub (")
     return bool(re.search(r"\bpub\s+(?:const\s+|unsafe\s+|extern\s+)*$", words + " "))
 
 
-def definitions(text):
-    """The lines of a file of specs, each with the deeper lines after it."""
-    lines = []
+def nested(text):
+    """The lines of a file of specs without comments: each with its list of deeper lines."""
+    top = []
+    open_ones = [(-1, top)]
     for line in text.split("\n"):
-        line = re.sub(r"(^|\s)--(\s.*)?$", "", line)
-        if line[:1].isspace() and lines and line.strip():
-            lines[-1] += " " + " ".join(line.split())
-        elif line.strip():
-            lines.append(" ".join(line.split()))
-    return [it for it in lines if not it.startswith(("use ", "pub use ", "pub mod ", "mod "))]
+        line = re.sub(r"(^|\s)--(\s.*)?$", "", line).rstrip()
+        if not line:
+            continue
+        deep = len(line) - len(line.lstrip())
+        while open_ones[-1][0] >= deep:
+            open_ones.pop()
+        inner = []
+        open_ones[-1][1].append((" ".join(line.split()), inner))
+        open_ones.append((deep, inner))
+    return top
+
+
+def whole(line, inner):
+    return " ".join([line, *(whole(*it) for it in inner)])
+
+
+def definitions(text):
+    """The definitions of a file of specs, and the parts of records, types and sections: each with its key and its text."""
+    return list(parts(nested(text)))
+
+
+def parts(lines, about=""):
+    for line, inner in lines:
+        if line.startswith(("use ", "pub use ", "pub mod ", "mod ")):
+            continue
+        name = name_of(line)
+        if line.startswith("module "):
+            head, below = split_head(line, inner)
+            yield "section", head
+            yield from parts(below)
+        elif not about and re.match(r"((pub|opaque|unfoldable) )*(record|data) ", line):
+            head, below = split_head(line, inner)
+            yield name, head
+            yield from parts(below, name)
+        else:
+            yield f"{about}.{name}" if about else name, whole(line, inner)
+
+
+def split_head(line, inner):
+    """The head of a record, a type or a section, up to `where`, and the lines below it."""
+    head, below = [line], list(inner)
+    while below and not head[-1].endswith("where"):
+        text, deeper = below.pop(0)
+        head.append(text)
+        below = [*deeper, *below]
+    return " ".join(head), below
+
+
+def name_of(line):
+    """The name that a line of specs defines."""
+    return re.sub(r"^((abbrev|pub|opaque|record|data|unfoldable) )*", "", line).split()[0].split(".")[0]
 
 
 def importable(text, is_open):
-    """The names that a file passes on, and those of its own public items where its module is public."""
+    """The names that a file passes on, and those of its own public items if its module is public."""
     for path in re.findall(r"^pub use ([^;]+);", text, re.M):
         for name in re.sub(r"^.*::\{?|\}$", "", " ".join(path.split())).split(","):
             if name.strip():
@@ -234,18 +293,49 @@ def promises(tree, names):
             for name in importable(text, re.search(rf"^pub mod {file};", root, re.M)):
                 found[names.crate(crate, file), "importable", names.text(name, crate), ""] = 1
         for file, text in texts(f"{tree}/crates/{crate}/specs", ".antt"):
-            for line in definitions(text):
-                at = names.crate(crate, file)
-                found[at, "specs", names.specs.get((crate, file), file), names.text(line, crate)] += 1
+            at, spec = names.crate(crate, file), names.specs.get((crate, file), file)
+            for key, line in definitions(text):
+                key = f"{spec}.section" if key == "section" else names.text(key, crate)
+                found[at, "specs", key, names.text(line, crate)] += 1
+    for crate, lower, upper, _ in names.above:
+        for (at, owner, key, line), count in list(found.items()):
+            if at == crate and owner == "specs" and key.startswith(f"{lower}."):
+                found[at, owner, upper + key.removeprefix(lower), line] += count
     return found
 
 
-def subject(owner, name, text):
-    """The function or definition that a line is about."""
-    if owner != "specs":
+def key_of(owner, name, text):
+    """What a reason names: see the top."""
+    if owner == "specs":
         return name
-    text = re.sub(r"^((abbrev|pub|opaque|record|data|unfoldable) )*", "", text)
-    return text.split()[0].split(".")[0]
+    if owner == "importable":
+        return f"{name}.importable"
+    kind, *rest = text.split()
+    label = rest[0] if kind in ("ensures", "requires") and rest[0] != "{" else kind
+    holder = re.sub(r"<[^<>]*>", "", owner).split()
+    return f"{holder[-1]}::{name}.{label}" if holder else f"{name}.{label}"
+
+
+def keyed(counted):
+    """The lines by crate and key, each as often as it counts."""
+    found = collections.defaultdict(list)
+    for (crate, owner, name, text), count in sorted(counted.items()):
+        found[crate, key_of(owner, name, text)] += [(owner, name, text)] * count
+    return found
+
+
+def cited_above(lost, more, above):
+    """Takes out the clauses that cite a record with more fields in place of another; how many."""
+    taken = 0
+    for _, lower, upper, users in above:
+        for line, count in list(lost.items()):
+            crate, owner, name, text = line
+            now = crate, owner, name, re.sub(rf"\b{lower}\b", upper, text)
+            if crate in users and owner != "specs" and now != line and more[now] >= count:
+                lost[line] -= count
+                more[now] -= count
+                taken += count
+    return taken
 
 
 def main():
@@ -259,22 +349,31 @@ def main():
     names = Names(given.names)
     old, new = promises(given.old, names), promises(given.new, Names())
     lost, more = old - new, new - old
-    explained, bare_losses = collections.Counter(), 0
-    for (crate, owner, name, text), count in sorted(lost.items()):
-        about = crate, subject(owner, name, text)
-        if about in names.reasons:
-            explained[about] += count
-            if given.why:
-                print(f"changed {crate} | {owner} | {name} | {text}\n    {names.reasons[about]}")
+    cited = cited_above(lost, more, names.above)
+    lost, more, there = +lost, +more, keyed(new)
+    stands = keyed(more)
+    explained, bare_losses = 0, 0
+    gone = keyed(lost)
+    for (crate, key), lines in gone.items():
+        kind, why = names.reasons.get((crate, key), ("", ""))
+        is_clause = lines[0][0] not in ("specs", "importable")
+        enough = len(lines) if is_clause else 1
+        if kind == "gone" and (crate, key) not in there or kind == "changed" and len(stands[crate, key]) >= enough:
+            explained += len(lines)
+            for it in lines if given.why else []:
+                print(f"{kind} {crate} | {key} | {' | '.join(it)}\n    {why}")
         else:
-            bare_losses += count
-            print(f"LOST {crate} | {owner} | {name} | {text}")
-    for crate, name in sorted(names.reasons.keys() - explained.keys()):
-        print(f"NOT LOST {crate} | {name}: a reason that explains nothing")
+            bare_losses += len(lines)
+            for it in lines:
+                print(f"LOST {crate} | {key} | {' | '.join(it)}")
+    idle = sorted(names.reasons.keys() - gone.keys())
+    for crate, key in idle:
+        print(f"NOT LOST {crate} | {key}: a reason that explains nothing")
     for crate, owner, name, text in sorted(more) if given.show else []:
         print(f"new {crate} | {owner} | {name} | {text}")
-    print(f"{old.total()} before, {new.total()} after, {bare_losses} lost, {explained.total()} changed with a reason, {more.total()} new")
-    return 1 if bare_losses or names.reasons.keys() - explained.keys() or not old else 0
+    print(f"{old.total()} before, {new.total()} after, {bare_losses} lost, {explained} changed or gone with a reason, "
+          f"{cited} cite a record with more fields, {more.total()} new")
+    return 1 if bare_losses or idle or not old else 0
 
 
 if __name__ == "__main__":

@@ -1,23 +1,23 @@
-"""Tries edits that the prover has to refuse, many of different functions in one check of a copy of the crate.
+#!/usr/bin/env python3
+"""Tries edits that the prover must refuse; one check of a copy of the crate tries many, each in another function.
 
   edits.py [--gate] [--over] [--jobs N] [--said FOLDER] [CRATE | CRATE/EDIT ..]
   edits.py --dry
 
 An edit is a file of mutation/edits/CRATE (with --gate: of crates/CRATE/must-fail), written as `rt ci` reads it: lines
-`file: PATH`, `old: TEXT`, `new: TEXT`. It counts as refused where the check says of the edited function itself that
-it is not proved, for a goal of its own: of a caller it only says that it calls such a function. A round takes one
-edit a function, and none whose text another of the round changes. What a round did not refuse is tried by itself, so
-nothing is hidden by the other edits. An edit outside any function (a constant, a definition) is always tried by
-itself, and is refused where any function or lemma of the crate is.
+`file: PATH`, `old: TEXT`, `new: TEXT`. It counts as refused if the check does not prove the edited function for a goal of
+its own; of a caller it only says that it calls such a function. A round takes one edit for each function, and none whose
+text another edit of the round changes. What a round did not refuse is tried again by itself, so no edit hides another. An
+edit outside any function (a constant, a definition) is always tried by itself, and is refused if any function or lemma of
+the crate is.
 
-The copy stands over the work that `rt check` kept in out/, so check the crate first. With --over each check is
-mutation/check.sh's, over the libraries that are there: no walk over what they were made from, which takes minutes in the
-upper crates. Verdicts: `refused`, `PROVED` (the contracts let the wrong body through), `unreadable` (its text is gone,
-or what it makes does not compile). The last line has the counts; the exit status is 1 where one is proved or
-unreadable, or none was tried.
+The copy uses the work that `rt check` kept in out/, so check the crate first. With --over, mutation/check.sh checks over
+the libraries that are there and does not test whether they are current; that saves minutes in the upper crates. Verdicts:
+`refused`, `PROVED` (the contracts let the wrong body through), `unreadable` (its text is gone, or the result does not
+compile). The last line has the counts; the exit status is 1 if one is proved or unreadable, or if none was tried.
 
-With --dry nothing is checked: of all edits, inside the gate and outside it, it prints those whose old text does not
-stand exactly once in its file, or whose crate is not there, and ends with 1 where there is one.
+With --dry nothing is checked. Of all edits, inside the gate and outside it, the script prints those whose old text does not
+occur exactly once in its file, or whose crate is not there, and ends with 1 if there is one.
 """
 
 import argparse
@@ -40,7 +40,7 @@ UNREAD = re.compile(r"^(?:\./)?((?:src|specs)/\S+?):\d+:\d+: (error.*)$", re.M)
 
 
 class Function:
-    """A function of a file of src/: its module's path, the type of its impl (or none), its name, where it stands."""
+    """A function of a file of src/: the path of its module, the type of its impl (or none), its name and its place."""
 
     def __init__(self, crate, path, text, at):
         inside = os.path.splitext(path)[0].split("/")[1:]
@@ -57,7 +57,7 @@ class Function:
 
 
 class Edit:
-    """An edit's changes, the functions that they stand in, and what was found of it."""
+    """The changes of an edit, the functions in which they are, and its verdict."""
 
     def __init__(self, file, crate, folder):
         self.name, self.why, self.verdict = os.path.basename(file)[: -len(".edit")], "", ""
@@ -105,7 +105,7 @@ class Edit:
 
 
 def applied(edits, folder):
-    """The texts with all of these edits, by path; or none where one edit's text is no longer there once."""
+    """The texts with all of these edits, by path; or none if the text of an edit no longer occurs once."""
     texts = {}
     for path, old, new in [change for edit in edits for change in edit.changes]:
         if path not in texts:
@@ -117,7 +117,7 @@ def applied(edits, folder):
 
 
 def round_of(edits, folder):
-    """As many of the edits as go together, taken in their order."""
+    """As many of the edits as fit together, in their order."""
     taken = []
     for edit in edits:
         if not taken or not (edit.alone() or taken[0].alone()):
@@ -127,7 +127,7 @@ def round_of(edits, folder):
 
 
 class Bench:
-    """A copy of a crate, over the work that its last check kept, and of what it stands on."""
+    """A copy of a crate and of what it depends on, with the work that its last check kept."""
 
     def __init__(self, crate, room, words, said):
         self.crate, self.said, self.folder = crate, said, f"{room}/crates/{crate}"
@@ -152,7 +152,7 @@ class Bench:
             shutil.copy(f"{TOP}/HANDLES", room)
 
     def check(self, edits):
-        """What the check says of the crate with these edits; the texts are as they were when it returns."""
+        """The output of a check of the crate with these edits; afterwards the texts are as they were."""
         texts = applied(edits, self.folder)
         before = {path: open(f"{self.folder}/{path}", encoding="utf-8").read() for path in texts}
         try:
@@ -176,13 +176,13 @@ class Bench:
 
 
 def own_failures(said):
-    """The names that are not proved on their own account."""
+    """The names that are not proved for a goal of their own."""
     lines = [(at[1], at[2]) for at in TOLD.finditer(said)]
     return [name for name, what in lines if FAILED.match(what) and not OF_OTHERS.match(what)]
 
 
 def only_names(edit, said):
-    """Whether the edited functions fail only since a proof file names what the edit took away: that shows little."""
+    """Whether the edited functions fail only because a proof file names what the edit took away: that shows little."""
     places = "|".join(it.name for it in edit.functions if it)
     told = re.findall(rf"^.*proofs/\S*\b(?:{places})\b\S*: error.*$", said, re.M)
     goals = any(re.search(rf"^note: {path}:", said, re.M) for path, _, _ in edit.changes)
@@ -190,7 +190,7 @@ def only_names(edit, said):
 
 
 def judge(edit, said):
-    """Sets the edit's verdict by what was said."""
+    """Sets the verdict of an edit from the output of a check."""
     if not TOLD.search(said) or any(path in [it[0] for it in edit.changes] for path, _ in UNREAD.findall(said)):
         why = UNREAD.search(said)
         return edit.fault(why[0] if why else said.strip().split("\n")[-1])
@@ -206,7 +206,7 @@ def judge(edit, said):
 
 
 def try_edits(bench, edits):
-    """Gives each edit its verdict: rounds of many, then each that no round refused by itself."""
+    """Gives each edit its verdict: first rounds of many, then by itself each that no round refused."""
     queue, again = [it for it in edits if not it.verdict], []
     while queue:
         taken = round_of(queue, bench.folder)
@@ -225,7 +225,7 @@ def files_of(folder):
 
 
 def dry():
-    """Prints the edits that cannot be applied; 1 where there is one."""
+    """Prints the edits that cannot be applied; 1 if there is one."""
     folders = [(f"crates/{it}/must-fail", it) for it in sorted(os.listdir(f"{TOP}/crates"))]
     folders += [(f"mutation/edits/{it}", it) for it in sorted(os.listdir(f"{TOP}/mutation/edits"))]
     number = faults = 0

@@ -1,16 +1,16 @@
 #!/usr/bin/env python3
-"""Turns the rules of the plain office, one at a time: each has to be refused by a fixed day. mutation/rules.py [WORD ..]
+"""Changes the rules of the plain office, one at a time: a fixed day must refuse each change. mutation/rules.py [WORD ..]
 
-The rules are the modules of acceptance/plain, but for tables.py and __init__.py. Each is turned at each of its places, as
-turning.py tells, and as rules_told.py tells by hand. All fixed days of the rules are replayed: those of acceptance/days that
-have no raw line, those of limits.py, and those of filled.py, over an office that is nearly full. What raw lines say (heads,
-lengths, methods, how a connection ends) is the program's alone. First the rules as they are have to answer each day as it is
-written.
+The rules are the modules of acceptance/plain, except tables.py and __init__.py. A *turn* is a wrong rule: turning.py makes
+them at each place of the modules, and rules_told.py lists more. All fixed days of the rules are replayed: those of
+acceptance/days without raw lines, those of limits.py, and those of filled.py, on an office that is nearly full. What raw lines
+say (heads, lengths, methods, how a connection ends) concerns the program alone. First the unchanged rules must answer each day
+as it is written.
 
-A day fails where an answer is another, or none. Of those days that call the turned function the shortest are tried first,
-and the first that fails is named. A turn that means the same is listed in rules_same.py, with the reason: it has to pass.
-A turn of a table that cannot be read is none. With words only those turns are tried whose names have one of them. Two run at
-a time. The last line is `N passed, M failed`; it ends with 1 where one failed."""
+A day fails if an answer differs or is missing. Of the days that call the changed function the shortest are tried first, and
+the first that fails is named. Turns that mean the same are listed in rules_same.py, with the reason: they must pass. A turn
+that leaves a table unreadable does not count. With words, only turns whose names have one of them are tried. Two run at a time. The
+last line is `N passed, M failed`; the script ends with 1 if one failed."""
 import ast
 import importlib.util
 import itertools
@@ -203,7 +203,7 @@ def ended(running):
 
 
 class Trial:
-    """What came of the turns."""
+    """The results of the turns."""
 
     def __init__(self, words):
         self.words = words
@@ -231,7 +231,7 @@ class Trial:
         print(f"{word} | {name}", flush=True)
 
     def ends(self):
-        """Tells what is listed and is no turn, and the sums."""
+        """Prints what is listed but is no turn, and the sums."""
         if not self.words:
             for name in sorted(rules_same.SAME.keys() - self.same):
                 self.failed += 1
@@ -246,7 +246,7 @@ def all_days():
 
 
 def is_reached(function, called):
-    """Whether a turn can be seen where these functions are called; a long day may call all, and a table is in no function."""
+    """Whether a day that calls these functions can notice a turn. A long day may call all, and a table is in no function."""
     return called is None or "." not in function or function in called
 
 

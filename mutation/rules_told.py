@@ -1,4 +1,4 @@
-"""Wrong rules that are told by hand: a name, the module, the text that stands once in it, and the wrong one."""
+"""Wrong rules, written by hand: a name, the module, a text that occurs once in it, and the wrong text."""
 
 GATE = "refuse(21, not self.is_open(container, ticket), container=container)"
 DEEP = "        refuse(25, len(self.path(parent)) + self.height(unit) > DEEPEST)\n"

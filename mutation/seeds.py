@@ -1,10 +1,10 @@
 #!/usr/bin/env python3
 """Looks for random sessions that find wrong rules: mutation/seeds.py [FIRST [COUNT]]
 
-Makes the sessions of acceptance/sessions.py of COUNT seeds from FIRST on, 0 to 199 where nothing is named, by the rules as
-they are, and asks each of an office by each wrong rule of rules_told.py. It prints for each rule the first two seeds whose
-sessions are answered otherwise. What is found by few goes into acceptance/seeds.txt, which sessions.py always asks. A change
-of what a seed makes there is followed by a look for seeds again. No part of CI: it takes some minutes."""
+Makes the sessions of acceptance/sessions.py for COUNT seeds (200) from FIRST (0) on, by the right rules, and replays each with
+each wrong rule of rules_told.py. For each rule it prints the first two seeds whose sessions are answered differently. If few
+seeds find a rule, add one to acceptance/seeds.txt, which sessions.py always uses. After a change of what a seed makes, look for
+seeds again. CI does not run this script: it takes some minutes."""
 import itertools
 import sys
 
@@ -14,7 +14,7 @@ import sessions
 
 
 def replayed(plain, settings, said):
-    """Whether an office answers a session as it was made."""
+    """Whether an office answers a session as it was written."""
     office = plain.Office(**settings)
     try:
         for path, body, _, wanted in said:
@@ -27,7 +27,7 @@ def replayed(plain, settings, said):
 
 
 def found(made, module, old, new):
-    """The seeds of sessions that are answered otherwise by a wrong rule."""
+    """The seeds of sessions that a wrong rule answers differently."""
     text = rules.TEXTS[module].replace(old, new)
     plain = rules.plain_of({**rules.COMPILED, module: compile(text, f"<plain {module}>", "exec")})
     return (seed for seed, settings, said in made if not replayed(plain, settings, said))

@@ -1,9 +1,9 @@
-"""Many turned definitions in one check: each stands in copies of the modules that rest on it, beside the others.
+"""Many changed definitions in one check, each in its own copies of the modules that depend on it.
 
-A case is a turned text of one module of specs/, and the proof files that are asked. All modules between the two are
-copied into a crate of the check's own, below a name of the case: those that rest on the turned module, and that the asked
-files rest on. The others are taken from the libraries that are there. So no case touches another, no library is built
-again, and the check starts once for many cases."""
+A case is a changed text of one module of specs/, and the proof files that must fail. All modules between the two are copied
+into a crate for this check, under the name of the case: those that depend on the changed module, and on which the proof files
+depend. The others come from the libraries that are there. So no case touches another, no library is built again, and the
+check starts once for many cases."""
 
 import os
 import re
@@ -19,7 +19,7 @@ OF_PROOFS = ("Answers.antt", "Invariants.antt", "Proof.antt")
 
 
 class Modules:
-    """The modules of the specs and proofs of a repository's crates, by name: where each stands, and what it names."""
+    """The modules of the specs and proofs of the crates, by name: the file of each, and what it names."""
 
     def __init__(self, top):
         self.top, self.path, self.text = top, {}, {}
@@ -43,7 +43,7 @@ class Modules:
         self.text[name] = NODE.sub("", open(path, encoding="utf-8").read())
 
     def longest(self, word):
-        """The module that a whole name begins with, or none."""
+        """The module with which a whole name begins, or none."""
         while word.count(".") > 2:
             if word in self.path:
                 return word
@@ -63,7 +63,7 @@ class Modules:
         return seen
 
     def between(self, turned, asked):
-        """The modules that rest on the turned one and that the asked ones rest on, all of these among them."""
+        """The modules that depend on the changed one and on which the asked ones depend, with both."""
         above = self.reach([turned], self.users)
         return {turned} | above & self.reach([it for it in asked if it in above], self.names)
 
@@ -79,7 +79,7 @@ def flat(name):
 
 
 class Bench:
-    """A crate of the check's own in a folder, over the libraries of a repository."""
+    """A crate for one check in a folder, over the libraries of a repository."""
 
     def __init__(self, modules, folder, over, top_crate):
         self.modules, self.folder, self.over, self.top_crate = modules, folder, over, top_crate
@@ -94,7 +94,7 @@ class Bench:
             out.write(text)
 
     def add(self, case, turned, text, asked):
-        """Writes the copies of a case; the number of them."""
+        """Writes the copies of a case; returns their number."""
         copies = self.modules.between(turned, asked)
         inside = {"specs": [], "proofs": []}
         for name in sorted(copies):
@@ -134,7 +134,7 @@ class Bench:
         return words
 
     def check(self):
-        """What the check says: of each case its errors, as (kind, module, place, text); or none where it did not end."""
+        """The errors of each case, as (kind, module, place, text); or none if the check did not end."""
         for kind in ("specs", "proofs"):
             self.write(f"{kind}/Lib.antt", "".join(f"pub mod {it}\n" for it in self.cases))
         project = f"{KIT}/rattle/logic/antt-project.json"

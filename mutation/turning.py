@@ -1,9 +1,9 @@
-"""Turns a module of Python one place at a time: turns(module, text) gives a name for each turn, with what makes it.
+"""Changes a module of Python at one place at a time: turns(module, text) gives each change (a *turn*) and its name.
 
-A check or an effect is left out, or a later check comes before it; a comparison is off by one or turned; an operand of
-`and` and `or`, a condition of a list, a key of a reply or of a table is left out; a number is one more, a text another one;
-an effect is done to the next thing; a member of a reply is wrong. A name has the function, and what stands there before and
-after, and no number of a line."""
+A check or an effect is left out, or a later check comes before it; a comparison is off by one or reversed; an operand of
+`and` and `or`, a condition of a list, a key of a reply or of a table is left out; a number is one more, a text is another; an
+effect is done to the next thing; a member of a reply is wrong. A name has the function and the text before and after, but no
+line number."""
 import ast
 import collections
 import re
@@ -48,7 +48,7 @@ def called(name, *words):
     return ast.Call(func=ast.Name(id=name, ctx=ast.Load()), args=list(words), keywords=[])
 
 
-# ---- what may stand in the place of an expression
+# ---- what may replace an expression
 
 
 def of_compare(node):
@@ -163,11 +163,11 @@ EXPRESSIONS = {
 }
 
 
-# ---- what may stand in the place of a list of statements
+# ---- what may replace a list of statements
 
 
 def of_statements(body):
-    """Other lists of statements, each with the words that tell what was done."""
+    """Other lists of statements, each with words for what was done."""
     for n, it in enumerate(body):
         rest = body[:n], body[n + 1 :]
         if is_effect(it) or isinstance(it, ast.Return) and n + 1 < len(body):
@@ -185,7 +185,7 @@ def said(node):
 
 
 def places(tree):
-    """Each node with the name of its function and the statement that it stands in; those of docstrings left out."""
+    """Each node with the name of its function and its statement, except those of docstrings."""
 
     def below(node, function, statement):
         for field, value in ast.iter_fields(node):
@@ -216,7 +216,7 @@ def put(node, field, place, value):
 
 
 def is_fixed(node, statement):
-    """What is no rule: imports, what a type is, and names by which modules know each other."""
+    """What is not a rule: imports, types, and names by which modules know each other."""
     fixed = isinstance(statement, (ast.Import, ast.ImportFrom, ast.AnnAssign, ast.ClassDef, ast.FunctionDef))
     return fixed or isinstance(statement, ast.Assign) and said(statement.targets[0]) == "__all__"
 
@@ -226,7 +226,7 @@ def shortened(text, size=90):
 
 
 def turns(module, text):
-    """Each turn: its name, its function, and two functions, of which the first makes it and the second takes it back."""
+    """Each turn: its name, its function, and two functions, one that makes it and one that undoes it."""
     tree, names = ast.parse(text), collections.Counter()
     for function, words, make, back in [*turned_expressions(tree), *turned_statements(tree)]:
         name = f"{module}{function}: {words}"

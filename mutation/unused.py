@@ -3,16 +3,17 @@
 
   mutation/unused.py [--fix] [--fix-imports]
 
-Run it anywhere in the repository. It prints three lists, a line each with file and line, and ends with 1 where
-one is left that the table EXPLAINED has no reason for.
+Run it anywhere in the repository. It prints three lists, each entry with file and line, and ends with 1 if an entry
+is left for which the table EXPLAINED has no reason, or if an entry of that table explains nothing any more.
 
   1  An item of specs/ or proofs/ is named if a contract, a body, an answer to a goal or another named item
-     names it. Answers and Invariants stand for their goals, so their public items are always named, and so are
-     the worked rows of proofs/Worked*.antt, each a theorem for itself. Private functions and constants of src/ are named if any other line of the repository has their name.
-  2  Two items are copies if they say the same but for their own name, and their names lead to the same items. An
-     abbreviation of one line counts for none: it is a short name, as for the columns of one statement, and two
+     names it. Answers and Invariants are the proofs of goals, so their public items always count as named, and so do
+     the worked rows of proofs/Worked*.antt, each a theorem by itself. Private functions and constants of src/ are
+     named if any other line of the repository has their name.
+  2  Two items are copies if they are the same except for their own name, and their names lead to the same items. An
+     abbreviation of one line does not count: it is a short name, as for the columns of a statement, and two
      statements may have the same columns.
-  3  An import is used if an item that stays has its name; of an operator, each of its parts.
+  3  An import is used if an item that stays has its name; for an operator, each of its parts.
 
 --fix deletes the items of list 1 from specs/ and proofs/ with the comment above each, the imports of list 3, and
 files that are empty then, with their `mod` lines; it repeats that until nothing changes. --fix-imports deletes the
@@ -23,13 +24,13 @@ import sys
 
 import unused_read as reader
 
-# What stays though nothing names it, or though it stands elsewhere: a path, or a path and a name, each with its reason.
+# What stays although nothing names it, or although it is elsewhere too: a path, or a path and a name, with the reason.
 EXPLAINED = {
     ('crates/catalogue_core/proofs/DistinctLists.antt', 'all_so'):
         'atom_csv has it for itself: no crate below it has lemmas on lists',
     ('crates/store_tests/proofs/Going.antt', 'went_on'):
         'hierarchy_tests has it, too: the two crates of tests stand beside each other',
-    # Short lemmas that a crate far below has for its own proofs. To share one, it would have to become public there.
+    # Short lemmas that a lower crate has for its own proofs. To be shared, they would have to become public there.
     ('crates/refinement/proofs/BranchesApart.antt', 'housed_more'): 'of catalogue_core, by recursion on the units above',
     ('crates/refinement/proofs/HoldingRows.antt', 'greater'): 'of office_tables, on numbers in cells',
     ('crates/nested_sets/proofs/SpanTests.antt', 'not_before'): 'of catalogue_statements, on numbers in cells',
@@ -39,12 +40,15 @@ EXPLAINED = {
     ('crates/tree_core/proofs/Whole.antt', 'behind_all'): 'nested_sets has it, too, for spans',
 }
 
-# Names of Rust that a file may import for their methods: a trait is used where no line has its name.
+# The entries of that table for which something was found.
+EXPLAINING = set()
+
+# Names of Rust that a file may import for their methods: a trait can be used although no line has its name.
 PLAIN_TYPES = {'AllocError', 'Global', 'Vec', 'Box', 'String', 'Ordering', 'PhantomData', 'Infallible', 'Duration'}
 
 
 class Found:
-    """What is named in the repository as it stands, and what is not."""
+    """What is named in the repository, and what is not."""
 
     def __init__(self, repository):
         self.all = repository
@@ -60,7 +64,7 @@ class Found:
     def follow(self):
         for file in self.all.files.values():
             for item in file.items:
-                # a worked row is a theorem that stands for itself
+                # a worked row is a theorem by itself
                 if file.goals and item.is_public or file.kind == 'proofs' and file.name.startswith('Worked'):
                     self.mark(item)
         for code in self.all.codes:
@@ -138,7 +142,7 @@ def unused_imports(repository, gone):
 
 
 def passed_names(repository, gone):
-    """The names that other files ask a file for, though another file has them."""
+    """The names that other files import from a file although another file has them."""
     asked = set()
 
     def ask(path, name, seen=()):
@@ -244,7 +248,7 @@ def is_short_name(item):
 
 
 def copies(repository, gone):
-    """Groups of items that say the same but for their own name."""
+    """Groups of items that are the same except for their own name."""
     groups = {}
     for file in repository.files.values():
         if file.goals:
@@ -270,7 +274,9 @@ def copies(repository, gone):
 
 
 def is_explained(path, name=None):
-    return path in EXPLAINED or (path, name) in EXPLAINED
+    there = [it for it in (path, (path, name)) if it in EXPLAINED]
+    EXPLAINING.update(there)
+    return bool(there)
 
 
 def without_lines(path, gone, changed):
@@ -289,7 +295,7 @@ def without_lines(path, gone, changed):
 
 
 def fix_sections(file, gone):
-    """The heads of sections of which nothing stays."""
+    """The heads of sections that become empty."""
     heads = set()
     for other in file.others:
         if not other.text.lstrip().startswith('module '):
@@ -413,6 +419,9 @@ def main():
     for code, first, _, _, names in unused_code_imports(repository):
         left += 1
         print(f'{code.path}:{first + 1}: unused import of {", ".join(n[1] for n in names)}')
+    for entry in [it for it in EXPLAINED if it not in EXPLAINING]:
+        left += 1
+        print(f'EXPLAINED has a reason for {entry}, which is neither unnamed nor a copy')
     print(f'left={left}')
     sys.exit(1 if left else 0)
 

@@ -24,7 +24,7 @@ def read(path):
 
 
 def without_comments(text, mark):
-    """A text without what stands behind the mark of a comment, line by line."""
+    """A text without comments, line by line."""
     kept = []
     for line in text.split('\n'):
         at = re.search(rf'(?:^|(?<=\s)){mark}', line)
@@ -62,7 +62,7 @@ class Import:
                 self.names.append((there.strip('«»'), (here or there).strip().strip('«»')))
 
     def here(self):
-        """What the file calls the module that it imports whole."""
+        """The name by which the file calls the module that it imports whole."""
         return self.alias or self.path[-1]
 
     def line(self, start, end, kept):
@@ -96,7 +96,7 @@ class File:
         self.goals = self.name in ('Answers', 'Invariants', 'Proof') and self.kind == 'proofs'
 
     def fill(self, start, end, indent, around):
-        """Finds the items of these lines that stand at this indentation."""
+        """Finds the items of these lines that have this indentation."""
         at, comment = start, None
         while at < end:
             line = self.lines[at]
@@ -113,7 +113,7 @@ class File:
             at = self.take(first, at, last, indent, around)
 
     def end_of(self, at, end, indent):
-        """The line behind a logical line: what follows it further in belongs to it."""
+        """The index after a logical line; deeper lines that follow belong to it."""
         last = at + 1
         ahead = last
         while ahead < end:

@@ -1,19 +1,18 @@
 #!/usr/bin/env python3
-"""Turns the rules of the model, one definition at a time: each has to be refused by a worked row or a law.
+"""Changes the rules of the model, one definition at a time: a worked row or a law must refuse each change.
 
   wrong_rules.py [--jobs N] [--cases N] [--over CHECKOUT] [--log FILE] [--keep FOLDER] [WORD ..]
   wrong_rules.py --dry [WORD ..]
 
-The rules are those of wrong_rules_told.py; with WORD those whose label has one of the words. Each is turned in copies of
-the modules between it and the worked rows, or the law, that stand beside it (side_by_side.py); where none stands beside it,
-all worked rows are asked, and then all laws. Only what the same copies prove with nothing turned counts. The libraries are
-those of --over, or of this checkout: those in crates/*/out/rlib, as `rt check` and `rt ci` leave them.
+The changes are those of wrong_rules_told.py; with WORD, those whose label has one of the words. Each is made in copies of the
+modules between the definition and the worked rows or the law that are named for it (side_by_side.py). If none is named, all
+worked rows are tried, and then all laws. Only what the same copies prove without the change counts. The libraries are those in
+crates/*/out/rlib of --over, or of this checkout, as `rt check` and `rt ci` leave them.
 
-A line says of each rule that it is `refused`, with the rows or lemmas that fail; `LET THROUGH`; `unreadable`, where the
-wrong text does not read; `not applied`, where the old text does not stand once in its file; or `no verdict`. With --log
-these lines are added to FILE, and rules that FILE has as refused are passed over. --jobs checks go on at once, each of
---cases rules. The last line has the counts; it ends with 1 where a rule was not refused. With --dry it only looks for the
-old texts."""
+A line says for each rule that it is `refused`, with the rows or lemmas that fail; `LET THROUGH`; `unreadable`, if the wrong
+text does not parse; `not applied`, if the old text does not occur once in its file; or `no verdict`. With --log these lines
+are added to FILE, and rules that are refused in FILE are skipped. --jobs checks run at once, each of --cases rules. The last
+line has the counts; the script ends with 1 if a rule was not refused. With --dry it only looks for the old texts."""
 
 import argparse
 import os
@@ -34,7 +33,7 @@ OF_CAUSES = re.compile(r"state_encoding|office_tables|/(Desk|Catalogue)Causes\.a
 
 
 class Rule:
-    """A wrong rule, the modules that are asked, and what was found of it."""
+    """A wrong rule, the modules that must refuse it, and its verdict."""
 
     def __init__(self, modules, label, file, old, new, named=None):
         self.label, self.module, self.verdict, self.why = label, modules.of_path(file), "", ""
@@ -45,7 +44,7 @@ class Rule:
         self.text = modules.text[self.module].replace(old, readable(new, text), 1)
 
     def asked(self, modules, what):
-        """The modules that are asked: what stands beside it, else all rows; all rows; or all laws."""
+        """The modules that are tried: what is named for the rule, else all rows; all rows; or all laws."""
         if what == "laws":
             return tuple(all_laws(modules, self.crate))
         if what == "beside" and self.named:
@@ -57,7 +56,7 @@ class Rule:
 
 
 def readable(new, text):
-    """The new text, with its truth values by their whole names where the file imports none."""
+    """The new text; truth values have their whole names if the file does not import them."""
     imports = "\n".join(it for it in text.split("\n") if it.startswith("use "))
     for word in ("true", "false"):
         if not re.search(rf"\b{word}\b", imports):
@@ -66,7 +65,7 @@ def readable(new, text):
 
 
 def of_function(name):
-    """The modules of the lemmas by which a function's rows or its law are proved."""
+    """The modules of the lemmas that prove the rows of a function, or its law."""
     crate, *path = name.split("::")
     text = open(f"{TOP}/crates/{crate}/proofs/{'/'.join(path)}/Answers.antt", encoding="utf-8").read()
     named = re.findall(r"^use (Rattle\.(?:\w+\.)+)(?:\{| as )", text.replace(" as ", ". as "), re.M)
@@ -74,7 +73,7 @@ def of_function(name):
 
 
 def all_laws(modules, crate):
-    """The modules of the lemmas of every law of a crate and of those that it stands on."""
+    """The modules of the lemmas of every law of a crate and of the crates that it depends on."""
     found = []
     for it in ["catalogue_core", "desk_core", "office_core", *(["state_encoding"] if crate == "state_encoding" else [])]:
         for folder, _, files in os.walk(f"{TOP}/crates/{it}/proofs"):
@@ -91,7 +90,7 @@ class Run:
         self.modules, self.given, self.room, self.clean = modules, given, room, {}
 
     def check(self, number, crate, cases):
-        """What one check says of some cases (name, module, text, asked)."""
+        """The output of one check for some cases (name, module, text, asked)."""
         bench = side_by_side.Bench(self.modules, f"{self.room}/{number}", self.given.over, crate)
         for case in cases:
             bench.add(*case)
@@ -104,7 +103,7 @@ class Run:
         return told or {}
 
     def ask(self, rules, what):
-        """Gives each rule a verdict by what is asked."""
+        """Gives each rule a verdict from the modules that are tried."""
         asked = [rule.asked(self.modules, what) for rule in rules]
         grounds = [(rule.crate, rule.module, it) for rule, it in zip(rules, asked)]
         unturned = [it for it in dict.fromkeys(grounds) if it not in self.clean]
@@ -120,7 +119,7 @@ class Run:
             list(pool.map(lambda it: self.part(f"{sign}{it[0]}", *it[1]), enumerate(parts)))
 
     def part(self, sign, crate, cases):
-        """One check of some cases: what is proved with nothing turned, or the verdicts of rules."""
+        """One check of some cases: what is proved without a change, or the verdicts of rules."""
         names = [f"{sign}_{n}" for n in range(len(cases))]
         told = self.check(sign, crate, [(name, *it[2:]) for name, it in zip(names, cases)])
         for name, (rule, _, module, _, asked) in zip(names, cases):

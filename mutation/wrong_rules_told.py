@@ -1,9 +1,9 @@
-"""Wrong rules: a label, the file, the text that stands once in it, the wrong one, and, where it stands beside, the function
-whose worked rows, or whose law, refuses it. Where none stands beside a rule all worked rows are tried."""
+"""Wrong rules: a label, the file, a text that occurs once in it, the wrong text, and the function whose worked rows, or whose
+law, refuse it. If no function is named, all worked rows are tried."""
 I='crates/isad_core/specs/'; A='crates/atom_csv/specs/'; O='crates/office_core/specs/'; C='crates/catalogue_core/specs/'; R='crates/state_encoding/specs/'; T='crates/office_tables/specs/'; D='crates/desk_core/specs/'
 W='office_core::worked::worked_'; L='office_core::laws::'; M='office_core::laws_of_rules::'; S='state_encoding::worked::worked_'; K='catalogue_core::laws::'
 def gated(command):
-    """A gated command that is refused for another reason where something is out, and where something would be withheld."""
+    """A gated command that is refused for another reason: if something is out, or if something would be withheld."""
     name=command.split()[0]; gate=f"    ∷ gate (after s (command.{command}))\n"
     return [(f'{name} refused where something is out',O+'Rules.antt',gate,'    ∷ when (list_any (is_out s) (containers s)) StillIssued\n'+gate,M+'readers_keep_what_they_have'),
     (f'{name} tells StillIssued in place of WithReader',O+'Rules.antt',gate,f"    ∷ when (is_some (kept (after s (command.{command})))) StillIssued\n",M+'readers_keep_what_they_have')]
@@ -104,10 +104,10 @@ WRONG=[
 ('depth counts the first of the trees alone',C+'Moves.antt','max (1 + height children) (height others)','1 + height children',W+'rows'),
 ('Move to an unknown parent',O+'Rules.antt','    ∷ unless (has_place has_id parent s.catalogue.forest) UnknownUnit\n','',W+'rows'),
 ('Remove tells one',O+'Rules.antt','done.Remove (length (branch (has_id u) s.catalogue.forest))','done.Remove 1',W+'rows'),
-('own boxes do not hide those above',C+'Housing.antt','own_or (box ∷ boxes) above = box ∷ boxes','own_or (box ∷ boxes) above = above',W+'rows'),
-('only own boxes count',C+'Housing.antt','own_or [] above = above','own_or [] above = []',W+'rows'),
-('an empty box is open',C+'Housing.antt','is_some_there (contents f box) && list_all','true && list_all',W+'rows'),
-('a box is open where something in it is',C+'Housing.antt','list_all (λ path. not','list_any (λ path. not',W+'rows'),
+('own boxes do not hide those above',C+'ContainerContents.antt','own_or (box ∷ boxes) above = box ∷ boxes','own_or (box ∷ boxes) above = above',W+'rows'),
+('only own boxes count',C+'ContainerContents.antt','own_or [] above = above','own_or [] above = []',W+'rows'),
+('an empty box is open',C+'ContainerContents.antt','is_some_there (contents f box) && list_all','true && list_all',W+'rows'),
+('a box is open where something in it is',C+'ContainerContents.antt','list_all (λ path. not','list_any (λ path. not',W+'rows'),
 ('a closure lasts to its day',C+'Units.antt','int_lt today until','Rattle.std.specs.Prelude.int_le today until',W+'rows'),
 # import
 ('an import may bring a unit too many',C+'Intake.antt','nat_lt most_units (size c.forest)','nat_lt (most_units + 1) (size c.forest)',M+'limits_are_these'),
@@ -120,7 +120,7 @@ WRONG=[
 ('no remark on levels',O+'ImportReply.antt','remark_if (is_level_above (rank_of unit.values.level) (rank_of parent.values.level)) (LevelTooHigh row)','[]',W+'rows'),
 ('a level beside its own is remarked on',O+'ImportReply.antt','is_level_above (Some rank) (Some other) = nat_lt rank other','is_level_above (Some rank) (Some other) = not (nat_lt other rank)',W+'rows'),
 ('no remark on tops',O+'ImportReply.antt','remark_if (lacks_essential top.values) (LacksEssential row)','[]',W+'imports'),
-('a status comes with the file',C+'Merging.antt','    then record unit { values','    then record unit { draft = not unit.draft; values',W+'imports'),
+('a status comes with the file',C+'CatalogueMerge.antt','    then record unit { values','    then record unit { draft = not unit.draft; values',W+'imports'),
 # rows of doubtful origin: the desk's causes
 ('tickets in any numbers',D+'DeskCauses.antt','are_numbered_from (λ (row : ReaderRow). row.ticket) 1 d.readers &&','Rattle.std.specs.Prelude.true &&',S+'desk_causes'),
 ('a reader with any name',D+'DeskCauses.antt','is_name row.name && is_day_number row.until','is_day_number row.until',S+'desk_causes'),
@@ -151,19 +151,19 @@ WRONG=[
 ('hands without a limit',R+'Causes.antt','nat_le (held s ticket) s.settings.hands && opens','Rattle.std.specs.Prelude.true && opens',S+'desk_causes'),
 ('closed to its holder',R+'Causes.antt','(nat_le (held s ticket) s.settings.hands && opens s ticket c)','(nat_le (held s ticket) s.settings.hands)',S+'desk_causes'),
 # numbers
-('an import renumbers the old containers',C+'Merging.antt','distinct (containers ++ flat_map (λ row. row.values.boxes) rows)','distinct (flat_map (λ row. row.values.boxes) rows ++ containers)',W+'rows'),
+('an import renumbers the old containers',C+'CatalogueMerge.antt','distinct (containers ++ flat_map (λ row. row.values.boxes) rows)','distinct (flat_map (λ row. row.values.boxes) rows ++ containers)',W+'rows'),
 ('a new reader is put first',O+'Rules.antt','readers = s.readers ++ record { name = name; until = until } ∷ []','readers = record { name = name; until = until } ∷ s.readers',W+'shown_rows'),
 ('a new run is put first',O+'Rules.antt','runs = s.runs ++ next_run s ∷ []','runs = next_run s ∷ s.runs',W+'shown_rows'),
 ('a new order is put first',O+'Rules.antt','orders = s.orders ++ record { ticket = t; container = c; day = s.day } ∷ []','orders = record { ticket = t; container = c; day = s.day } ∷ s.orders',W+'rows'),
 ('tickets begin at 0',O+'Rules.antt','done.Register (suc (length s.readers))','done.Register (length s.readers)',W+'rows'),
 ('runs begin at 0',O+'Rules.antt','done.Run (suc (length s.runs))','done.Run (length s.runs)',W+'rows'),
-('unit numbers begin at 0',C+'Merging.antt','containers = []; next = 1','containers = []; next = 0',W+'imports'),
+('unit numbers begin at 0',C+'CatalogueMerge.antt','containers = []; next = 1','containers = []; next = 0',W+'imports'),
 ('Remove gives a number back',C+'Moves.antt','record c { forest = cut (has_id id) c.forest }','record c { forest = cut (has_id id) c.forest; next = Rattle.std.specs.Prelude.cond (Rattle.std.specs.Prelude.nat_eq (Rattle.std.specs.Prelude.suc id) c.next) id c.next }',W+'shown_rows'),
-('an import leaves a number out',C+'Merging.antt','next = s.next + length new;','next = s.next + length new + 1;',W+'imports'),
-('a permit opens only what its own unit closes',C+'Housing.antt','(λ (unit : Unit). permitted unit.id) false path','(λ (unit : Unit). permitted unit.id && is_closed day unit) false path',W+'rows'),
-('containers are counted from 0 on pages',C+'Merging.antt','if is_same c b then Some 1 else option_map suc (number_in rest b)','if is_same c b then Some 0 else option_map suc (number_in rest b)',W+'answers'),
+('an import leaves a number out',C+'CatalogueMerge.antt','next = s.next + length new;','next = s.next + length new + 1;',W+'imports'),
+('a permit opens only what its own unit closes',C+'ContainerContents.antt','(λ (unit : Unit). permitted unit.id) false path','(λ (unit : Unit). permitted unit.id && is_closed day unit) false path',W+'rows'),
+('containers are counted from 0 on pages',C+'CatalogueMerge.antt','if is_same c b then Some 1 else option_map suc (number_in rest b)','if is_same c b then Some 0 else option_map suc (number_in rest b)',W+'answers'),
 ('a ticket is renewed to another name',O+'Rules.antt','renewed until (r ∷ rs) (suc zero) = record r { until = until } ∷ rs','renewed until (r ∷ rs) (suc zero) = record { name = []; until = until } ∷ rs',W+'shown_rows'),
-('a known unit moves to another source',C+'Merging.antt','then record unit { values = unwrap_or','then record unit { legacy = unit.source; values = unwrap_or',W+'imports'),
+('a known unit moves to another source',C+'CatalogueMerge.antt','then record unit { values = unwrap_or','then record unit { legacy = unit.source; values = unwrap_or',W+'imports'),
 # what is shown
 ('closed units are shown whole',O+'Queries.antt','public_of s.day s.catalogue.forest','public_of (Rattle.std.specs.Prelude.pos 4000000) s.catalogue.forest',W+'answers'),
 ('every element is found above',C+'Pages.antt','cond (is_found_above element) (nearest_value element higher) None','nearest_value element higher',W+'answers'),
@@ -174,17 +174,17 @@ WRONG=[
 ('an aid below a unit forgets those above',C+'Pages.antt','(above_last (path (is_numbered u) f)) 0','[] 0',W+'answers'),
 ('ended orders are listed',O+'Queries.antt','is_by s t o && (waits s o || is_out_now s o)','is_by s t o',W+'answers'),
 ('keys of an import in another order',O+'Json.antt','((codes "changed", count changed)\n    ∷ (codes "new", count new)','((codes "new", count new)\n    ∷ (codes "changed", count changed)',W+'answers'),
-('the public is told of drafts',C+'Publishing.antt','public (λ unit. unit.draft) (is_closed today) f','public (λ unit. Rattle.std.specs.Prelude.false) (is_closed today) f',W+'answers'),
-('closed units are told, with all below them',C+'Publishing.antt','(λ unit. unit.draft) (is_closed today) f','(λ unit. unit.draft) (λ unit. Rattle.std.specs.Prelude.false) f',W+'answers'),
-('a closed unit is told whole',C+'Publishing.antt','if closed then stub_of unit unit.until else','if closed then Told unit.id unit.values else',W+'answers'),
-('closed units are hidden',C+'Publishing.antt','public (λ unit. unit.draft) (is_closed today) f','public (λ unit. Rattle.std.specs.Prelude.cond unit.draft Rattle.std.specs.Prelude.true (is_closed today unit)) (is_closed today) f',W+'answers'),
+('the public is told of drafts',C+'PublicForest.antt','public (λ unit. unit.draft) (is_closed today) f','public (λ unit. Rattle.std.specs.Prelude.false) (is_closed today) f',W+'answers'),
+('closed units are told, with all below them',C+'PublicForest.antt','(λ unit. unit.draft) (is_closed today) f','(λ unit. unit.draft) (λ unit. Rattle.std.specs.Prelude.false) f',W+'answers'),
+('a closed unit is told whole',C+'PublicForest.antt','if closed then stub_of unit unit.until else','if closed then Told unit.id unit.values else',W+'answers'),
+('closed units are hidden',C+'PublicForest.antt','public (λ unit. unit.draft) (is_closed today) f','public (λ unit. Rattle.std.specs.Prelude.cond unit.draft Rattle.std.specs.Prelude.true (is_closed today unit)) (is_closed today) f',W+'answers'),
 ('a page has the boxes of all units above',C+'Pages.antt','boxes_or press from (box ∷ boxes) further = page_boxes press from (box ∷ boxes)','boxes_or press from (box ∷ boxes) further = page_boxes press from (box ∷ boxes) ++ further',W+'shown_rows'),
 ('what is found above has the code of a unit further up',C+'Pages.antt','(record { code = code_of press.at.country press.at.repo (above ++ identifier_of (Told id values) ∷ []); values','(record { code = code_of press.at.country press.at.repo above; values',W+'answers'),
 ('units on a page have no code but their own',C+'Pages.antt','below = side_by_side press (map identifier_of way) children;','below = side_by_side press [] children;',W+'answers'),
 # rows of doubtful origin: the catalogue's causes
 ('rows of another version',R+'Causes.antt','nat_eq row.version (version_number version) && (is_country','Rattle.std.specs.Prelude.true && (is_country',S+'catalogue_causes'),
 ('an office of any country',R+'Causes.antt','is_country row.country','Rattle.std.specs.Prelude.true',S+'catalogue_causes'),
-('an office of 201 seats',R+'Causes.antt','is_between 1 200 row.seats','is_between 1 201 row.seats',S+'catalogue_causes'),
+('an office of 201 seats',R+'Causes.antt','is_between 1 most_seats row.seats','is_between 1 201 row.seats',S+'catalogue_causes'),
 ('an office on no day',R+'Causes.antt','(is_day_number row.day &&','(Rattle.std.specs.Prelude.true &&',S+'catalogue_causes'),
 ('a next unit past the last',R+'Causes.antt','is_between 1 (most_unit_numbers + 1) row.next_unit','nat_le 1 row.next_unit',S+'catalogue_causes'),
 ('links with a fault',C+'CatalogueCauses.antt','list_all is_good_link links && not (is_some (link_fault links))','list_all is_good_link links',S+'catalogue_causes'),
@@ -218,7 +218,7 @@ WRONG=[
 ('units that cannot be read',R+'CellCauses.antt','∷ has_unread read_unit (db tables.unit.tree)','∷ false',S+'cell_causes'),
 ('spans that cannot be read',R+'CellCauses.antt','∷ places_are_unread version db','∷ places_are_unread Rattle.tree_core.specs.Versions.Links db',S+'cell_causes'),
 ('lines that cannot be read',R+'CellCauses.antt','∷ runs_are_unread db','∷ has_unread Rattle.office_tables.specs.DeskCells.read_run (db tables.run.tree)',S+'cell_causes'),
-# what a rule nearly says: the rows of WorkedDesk, WorkedCatalogue and WorkedShown
+# rules that are nearly right: the rows of WorkedDesk, WorkedCatalogue and WorkedShown
 ('Renew renews ticket 1',O+'Rules.antt','renewed until s.readers t','renewed until s.readers 1',W+'desk_rows'),
 ('Register refuses a day that is past',O+'Rules.antt','unless (is_name name) BadName\n','unless (is_name name) BadName\n    ∷ when (int_lt until s.day) BadName\n',W+'desk_rows'),
 ('Run looks at the last day of the ticket',O+'State.antt','opens s order.ticket order.container))','opens s order.ticket order.container && not (is_expired s order.ticket)))',W+'desk_rows'),
@@ -231,15 +231,15 @@ WRONG=[
 ('a branch counts what changed alone',O+'Rules.antt','done.SetStatus (length (chosen whole u s.catalogue))','done.SetStatus (length (filter (λ (unit : Rattle.catalogue_core.specs.Units.Unit). list_any (λ id. has_id id unit) (chosen whole u s.catalogue) && cond draft (not unit.draft) unit.draft) (Rattle.tree_core.specs.Forest.nodes s.catalogue.forest)))',W+'rows'),
 ('Move goes before the other tops',C+'Moves.antt','move_last has_id id parent c.forest','(λ (f : Forest Unit). Rattle.std.specs.Prelude.cond (Rattle.std.specs.Prelude.is_some parent) (move_last has_id id parent f) (Rattle.tree_core.specs.Forest.join (tree (has_id id) f) (cut (has_id id) f))) c.forest',W+'rows'),
 ('Move goes before the other children',C+'Moves.antt','record c { forest = move_last has_id id parent c.forest }','record c { forest = put_first parent (tree (has_id id) c.forest) (cut (has_id id) c.forest) }\n  where\n    put_first : Option ℕ → Forest Unit → Forest Unit → Forest Unit\n    put_first None g f = Rattle.tree_core.specs.Forest.join f g\n    put_first (Some p) g Empty = Empty\n    put_first (Some p) g (Node unit children others) =\n        Node unit (Rattle.std.specs.Prelude.cond (has_id p unit) (Rattle.tree_core.specs.Forest.join g children) (put_first (Some p) g children)) (put_first (Some p) g others)',W+'catalogue_rows'),
-('a file changes the units of other sources',C+'Merging.antt','if bytes_eq unit.source source','if bytes_eq unit.source unit.source',W+'imports'),
-('new children stand before the old ones',C+'Merging.antt','join (grown source new children) (new_units source (Some unit.id) new)','join (new_units source (Some unit.id) new) (grown source new children)',W+'imports'),
-('new tops stand before the old ones',C+'Merging.antt','join (grown source new (each (revised source rows) f)) (new_units source None new)','join (new_units source None new) (grown source new (each (revised source rows) f))',W+'catalogue_rows'),
-('a known row without its parent is faulty',C+'Merging.antt','or_first (faults_below s.forest source [] new)','or_first (faults_below s.forest source [] rows)',W+'catalogue_rows'),
+('a file changes the units of other sources',C+'CatalogueMerge.antt','if bytes_eq unit.source source','if bytes_eq unit.source unit.source',W+'imports'),
+('new children stand before the old ones',C+'CatalogueMerge.antt','join (grown source new children) (new_units source (Some unit.id) new)','join (new_units source (Some unit.id) new) (grown source new children)',W+'imports'),
+('new tops stand before the old ones',C+'CatalogueMerge.antt','join (grown source new (each (revised source rows) f)) (new_units source None new)','join (new_units source None new) (grown source new (each (revised source rows) f))',W+'catalogue_rows'),
+('a known row without its parent is faulty',C+'CatalogueMerge.antt','or_first (faults_below s.forest source [] new)','or_first (faults_below s.forest source [] rows)',W+'catalogue_rows'),
 ('containers in another order are the same',C+'Intake.antt','pointwise is_same_box a.boxes b.boxes','(Rattle.std.specs.List.list_all (λ x. Rattle.std.specs.List.list_any (is_same_box x) b.boxes) a.boxes && Rattle.std.specs.List.list_all (λ x. Rattle.std.specs.List.list_any (is_same_box x) a.boxes) b.boxes)',W+'catalogue_rows'),
 ('levels are held against the top',O+'ImportReply.antt','remark_on row (first ∷ parent ∷ unit ∷ path) = remark_on row (parent ∷ unit ∷ path)','remark_on row (first ∷ parent ∷ unit ∷ path) = remark_on row (first ∷ unit ∷ path)',W+'imports'),
-('a closed unit has no aid of its own',O+'Queries.antt','cond (has (is_numbered u) f) (Text','cond (has (λ (unit : PublicUnit). is_numbered u unit && Rattle.std.specs.Prelude.nat_eq (Rattle.std.specs.Prelude.length (Rattle.isad_core.specs.Printed.heading [] (Rattle.catalogue_core.specs.Aids.shown_unit press.at press.containers [] 0 unit).body)) 1) f) (Text',W+'shown_rows'),
-('closed tops are left out',C+'Pages.antt','(side_by_side press [] f)','(Rattle.std.specs.Prelude.filter (λ (top : ℕ × Shown). Rattle.std.specs.Prelude.nat_eq (Rattle.std.specs.Prelude.length (Rattle.isad_core.specs.Printed.heading [] top.1.body)) 1) (side_by_side press [] f))',W+'shown_rows'),
-('closed children are left off a page',C+'Pages.antt','below = side_by_side press (map identifier_of way) children;','below = Rattle.std.specs.Prelude.filter (λ (child : ℕ × Shown). Rattle.std.specs.Prelude.nat_eq (Rattle.std.specs.Prelude.length (Rattle.isad_core.specs.Printed.heading [] child.1.body)) 1) (side_by_side press (map identifier_of way) children);',W+'shown_rows'),
+('a closed unit has no aid of its own',O+'Queries.antt','cond (has (is_numbered u) f) (Text','cond (has (λ (unit : PublicUnit). is_numbered u unit && Rattle.std.specs.Prelude.nat_eq (Rattle.std.specs.Prelude.length (Rattle.isad_core.specs.PrintedDescriptions.heading [] (Rattle.catalogue_core.specs.Aids.shown_unit press.at press.containers [] 0 unit).body)) 1) f) (Text',W+'shown_rows'),
+('closed tops are left out',C+'Pages.antt','(side_by_side press [] f)','(Rattle.std.specs.Prelude.filter (λ (top : ℕ × Shown). Rattle.std.specs.Prelude.nat_eq (Rattle.std.specs.Prelude.length (Rattle.isad_core.specs.PrintedDescriptions.heading [] top.1.body)) 1) (side_by_side press [] f))',W+'shown_rows'),
+('closed children are left off a page',C+'Pages.antt','below = side_by_side press (map identifier_of way) children;','below = Rattle.std.specs.Prelude.filter (λ (child : ℕ × Shown). Rattle.std.specs.Prelude.nat_eq (Rattle.std.specs.Prelude.length (Rattle.isad_core.specs.PrintedDescriptions.heading [] child.1.body)) 1) (side_by_side press (map identifier_of way) children);',W+'shown_rows'),
 ('a page lists its children backwards',C+'Pages.antt','below = side_by_side press (map identifier_of way) children;','below = Rattle.std.specs.Prelude.reverse (side_by_side press (map identifier_of way) children);',W+'shown_rows'),
 ('the slip of an older run has the date of today',O+'Queries.antt','slip n run.day','slip n s.day',W+'shown_rows'),
 ('the slip of an older run has the number of the last',O+'Queries.antt','slip n run.day','slip (length s.runs) run.day',W+'shown_rows'),
@@ -247,7 +247,7 @@ WRONG=[
 ('the orders of a reader are shown backwards',O+'Queries.antt','filter_map (order_json s) (live_orders s t)','Rattle.std.specs.Prelude.reverse (filter_map (order_json s) (live_orders s t))',W+'shown_rows'),
 ('IssuedNow tells one alone',O+'Queries.antt','filter_map (issued_json s) (containers s)','Rattle.std.specs.Prelude.take 1 (filter_map (issued_json s) (containers s))',W+'shown_rows'),
 ('expired permits are not told',O+'Queries.antt','map permit_json (s.permits t)','map permit_json (filter (λ (permit : Permit). Rattle.std.specs.Prelude.int_le s.day permit.until) (s.permits t))',W+'shown_rows'),
-# of two checks that hold, which is told
+# of two checks that hold, which one is reported
 ('Move tells WithReader before TooDeep',O+'Rules.antt','    ∷ when (nat_lt most_deep (depth_after u parent s.catalogue.forest)) TooDeep\n    ∷ gate (after s (command.Move u parent))\n','    ∷ gate (after s (command.Move u parent))\n    ∷ when (nat_lt most_deep (depth_after u parent s.catalogue.forest)) TooDeep\n',W+'imports'),
 ('Move tells TooDeep before IntoItself',O+'Rules.antt','    ∷ when (is_into_itself u parent s.catalogue.forest) IntoItself\n    ∷ when (nat_lt most_deep (depth_after u parent s.catalogue.forest)) TooDeep\n','    ∷ when (nat_lt most_deep (depth_after u parent s.catalogue.forest)) TooDeep\n    ∷ when (is_into_itself u parent s.catalogue.forest) IntoItself\n',W+'rows'),
 ('Permit tells Full before UnknownUnit',O+'Rules.antt','    ∷ unless (has_unit s.catalogue.forest u) UnknownUnit\n    ∷ when (not (has_permit s t u) && nat_le most_permits (length (s.permits t))) Full\n','    ∷ when (not (has_permit s t u) && nat_le most_permits (length (s.permits t))) Full\n    ∷ unless (has_unit s.catalogue.forest u) UnknownUnit\n',W+'checks'),
@@ -269,7 +269,7 @@ WRONG=[
 ('Return tells NotIssued before UnknownContainer',O+'Rules.antt','    unless (is_container s c) UnknownContainer\n    ∷ unless (is_out s c) NotIssued\n','    unless (is_out s c) NotIssued\n    ∷ unless (is_container s c) UnknownContainer\n',W+'rows'),
 ('Cancel tells OrderNotWaiting before UnknownOrder',O+'Rules.antt','    unless (is_some (container_of s o)) UnknownOrder\n    ∷ unless (waits s o) OrderNotWaiting\n','    unless (waits s o) OrderNotWaiting\n    ∷ unless (is_some (container_of s o)) UnknownOrder\n',W+'rows'),
 ('Import tells BadFile before BadName',O+'Rules.antt','    unless (is_source source) BadName\n    ∷ bad_file (taken s source file)\n','    bad_file (taken s source file)\n    ∷ unless (is_source source) BadName\n',W+'checks'),
-# a ticket that has expired, where nothing depends on it
+# a ticket that has expired, if nothing depends on it
 ('the gate asks nothing for a holder whose ticket has expired',O+'Rules.antt','not (opens s order.ticket c)','(not (is_expired s order.ticket) && not (opens s order.ticket c))',W+'desk_rows'),
 ('the gate refuses for a holder whose ticket has expired',O+'Rules.antt','not (opens s order.ticket c)','cond (is_expired s order.ticket) true (not (opens s order.ticket c))',W+'desk_rows'),
 ('Return refused where the ticket has expired',O+'Rules.antt','    ∷ unless (is_out s c) NotIssued\n','    ∷ unless (is_out s c) NotIssued\n    ∷ when (some_and (λ o. some_and (λ order. is_expired s order.ticket) (numbered s.orders o)) (order_out (s.place c))) NotIssued\n',W+'desk_rows'),
@@ -295,11 +295,11 @@ WRONG=[
 ('seats capped at 2',O+'State.antt','seats = replicate settings.seats None;','seats = replicate (cond (nat_lt 2 settings.seats) 2 settings.seats) None;',W+'settings'),
 ('seats capped at 199',O+'State.antt','seats = replicate settings.seats None;','seats = replicate (cond (nat_lt 199 settings.seats) 199 settings.seats) None;',W+'settings'),
 ('a new day makes two seats',O+'Rules.antt','seats = replicate s.settings.seats None }','seats = replicate 2 None }',L+'desk_stays_sound'),
-('settings: 201 seats',O+'Soundness.antt','is_between 1 200 settings.seats','is_between 1 201 settings.seats',M+'limits_are_these'),
-('settings: 51 orders a day',O+'Soundness.antt','is_between 1 50 settings.daily','is_between 1 51 settings.daily',M+'limits_are_these'),
-('settings: 11 in hand',O+'Soundness.antt','is_between 1 10 settings.hands','is_between 1 11 settings.hands',M+'limits_are_these'),
-('settings: runs of 99 at most',O+'Soundness.antt','is_between 1 100 settings.run_size','is_between 1 99 settings.run_size',M+'limits_are_these'),
-('settings: none in a run',O+'Soundness.antt','is_between 1 100 settings.run_size','is_between 0 100 settings.run_size',M+'limits_are_these'),
+('settings: 201 seats',O+'Soundness.antt','is_between 1 most_seats settings.seats','is_between 1 201 settings.seats',M+'limits_are_these'),
+('settings: 51 orders a day',O+'Soundness.antt','is_between 1 most_daily settings.daily','is_between 1 51 settings.daily',M+'limits_are_these'),
+('settings: 11 in hand',O+'Soundness.antt','is_between 1 most_hands settings.hands','is_between 1 11 settings.hands',M+'limits_are_these'),
+('settings: runs of 99 at most',O+'Soundness.antt','is_between 1 most_run_size settings.run_size','is_between 1 99 settings.run_size',M+'limits_are_these'),
+('settings: none in a run',O+'Soundness.antt','is_between 1 most_run_size settings.run_size','is_between 0 most_run_size settings.run_size',M+'limits_are_these'),
 # limits
 ('one ticket too few',O+'Rules.antt','nat_le most_tickets (length s.readers)','nat_le most_tickets (suc (length s.readers))',M+'limits_are_these'),
 ('a ticket more than the last',O+'Rules.antt','nat_le most_tickets (length s.readers)','nat_lt most_tickets (length s.readers)',M+'limits_are_these'),
@@ -312,9 +312,9 @@ WRONG=[
 ('one container of an office too few',C+'Intake.antt','nat_lt most_containers (length c.containers)','Rattle.std.specs.Prelude.nat_le most_containers (length c.containers)',M+'limits_are_these'),
 ('a permit for 99 others is the last',O+'Rules.antt','nat_le most_permits (length (s.permits t))','nat_le most_permits (suc (length (s.permits t)))',M+'limits_are_these'),
 *[rule for name,number in (('most_units',200000),('most_unit_numbers',100000000),('most_deep',64),('most_bytes',65535),('most_containers',100000),('most_tickets',1000000),('most_permits',100),('most_orders',10000000),('most_runs',1000000)) for rule in limit(name,number)],
-('a row more than the last',A+'FileOf.antt','nat_lt 20001 row','nat_lt 20002 row',M+'limits_are_these'),
-('one row too few',A+'FileOf.antt','nat_lt 20001 row','nat_lt 20000 row',M+'limits_are_these'),
-# the gate, and nothing else in its place
+('a row more than the last',A+'FileContents.antt','nat_lt 20001 row','nat_lt 20002 row',M+'limits_are_these'),
+('one row too few',A+'FileContents.antt','nat_lt 20001 row','nat_lt 20000 row',M+'limits_are_these'),
+# the gate, and nothing else instead of it
 *[rule for command in ('Import source file','SetStatus u draft whole','SetClosure u until','Move u parent','Remove u','Revoke t u') for rule in gated(command)],
 # remarks
 ('a level without a rank is passed over',O+'ImportReply.antt','remark_on row (first ∷ parent ∷ unit ∷ path) = remark_on row (parent ∷ unit ∷ path)','remark_on row (first ∷ parent ∷ unit ∷ []) =\n    remark_if (is_level_above (rank_of unit.values.level) (either (rank_of parent.values.level) (rank_of first.values.level))) (LevelTooHigh row)\n  where\n    either : Option ℕ → Option ℕ → Option ℕ\n    either None above = above\n    either (Some rank) above = Some rank\nremark_on row (first ∷ parent ∷ unit ∷ next ∷ path) = remark_on row (parent ∷ unit ∷ next ∷ path)',W+'imports'),
@@ -338,22 +338,22 @@ WRONG=[
 ('each known row counts as changed',C+'Intake.antt','is_known f source row && not (is_same f source row)','is_known f source row',W+'imports'),
 ('each row counts as new',C+'Intake.antt','is_new f source row = not (is_known f source row)','is_new f source row = Rattle.std.specs.Prelude.true',W+'imports'),
 # new units
-('a new unit below a draft is a draft',C+'Merging.antt','Node unit (join (grown source new children) (new_units source (Some unit.id) new)) (grown source new others)','Node unit (join (grown source new children) (each (λ (below : Unit). record below { draft = if unit.draft then unit.draft else below.draft }) (new_units source (Some unit.id) new))) (grown source new others)',W+'imports'),
-('a new unit below a closed one is closed',C+'Merging.antt','Node unit (join (grown source new children) (new_units source (Some unit.id) new)) (grown source new others)','Node unit (join (grown source new children) (each (λ (below : Unit). record below { until = unit.until }) (new_units source (Some unit.id) new))) (grown source new others)',W+'imports'),
-('new units have the other status',C+'Merging.antt','draft = not new.row.published;','draft = new.row.published;',W+'imports'),
-('new units are published',C+'Merging.antt','draft = not new.row.published;','draft = Rattle.std.specs.Prelude.false;',W+'imports'),
-('new units are drafts',C+'Merging.antt','draft = not new.row.published;','draft = Rattle.std.specs.Prelude.true;',W+'imports'),
-('a missing parent is cause 12',C+'Merging.antt','cause_at None = Some 11','cause_at None = Some 12',W+'rows'),
-('64 units deep is too deep',C+'Merging.antt','if nat_lt most_deep depth then','if Rattle.std.specs.Prelude.nat_le most_deep depth then',W+'rows'),
-('65 units deep is not too deep',C+'Merging.antt','if nat_lt most_deep depth then','if nat_lt (suc most_deep) depth then',W+'rows'),
-('a unit below a catalogued one lies as deep as it',C+'Merging.antt','(length (path (is_from source parent) f) + 1)','(length (path (is_from source parent) f))',L+'imports_keep_the_catalogue'),
-('the last fault is told',C+'Merging.antt','or_first (fault ∷ rest) value = Err fault','or_first (fault ∷ []) value = Err fault\nor_first (fault ∷ next ∷ rest) value = or_first (next ∷ rest) value','catalogue_core::laws_of_rows::rows_one_by_one'),
+('a new unit below a draft is a draft',C+'CatalogueMerge.antt','Node unit (join (grown source new children) (new_units source (Some unit.id) new)) (grown source new others)','Node unit (join (grown source new children) (each (λ (below : Unit). record below { draft = if unit.draft then unit.draft else below.draft }) (new_units source (Some unit.id) new))) (grown source new others)',W+'imports'),
+('a new unit below a closed one is closed',C+'CatalogueMerge.antt','Node unit (join (grown source new children) (new_units source (Some unit.id) new)) (grown source new others)','Node unit (join (grown source new children) (each (λ (below : Unit). record below { until = unit.until }) (new_units source (Some unit.id) new))) (grown source new others)',W+'imports'),
+('new units have the other status',C+'CatalogueMerge.antt','draft = not new.row.published;','draft = new.row.published;',W+'imports'),
+('new units are published',C+'CatalogueMerge.antt','draft = not new.row.published;','draft = Rattle.std.specs.Prelude.false;',W+'imports'),
+('new units are drafts',C+'CatalogueMerge.antt','draft = not new.row.published;','draft = Rattle.std.specs.Prelude.true;',W+'imports'),
+('a missing parent is cause 12',C+'CatalogueMerge.antt','cause_at None = Some 11','cause_at None = Some 12',W+'rows'),
+('64 units deep is too deep',C+'CatalogueMerge.antt','if nat_lt most_deep depth then','if Rattle.std.specs.Prelude.nat_le most_deep depth then',W+'rows'),
+('65 units deep is not too deep',C+'CatalogueMerge.antt','if nat_lt most_deep depth then','if nat_lt (suc most_deep) depth then',W+'rows'),
+('a unit below a catalogued one lies as deep as it',C+'CatalogueMerge.antt','(length (path (is_from source parent) f) + 1)','(length (path (is_from source parent) f))',L+'imports_keep_the_catalogue'),
+('the last fault is told',C+'CatalogueMerge.antt','or_first (fault ∷ rest) value = Err fault','or_first (fault ∷ []) value = Err fault\nor_first (fault ∷ next ∷ rest) value = or_first (next ∷ rest) value','catalogue_core::laws_of_rows::rows_one_by_one'),
 # closures and statuses
 ('a closure that is past is not kept',O+'Rules.antt','catalogue = with_closure u until s.catalogue }','catalogue = with_closure u (cond (Rattle.catalogue_core.specs.Units.is_later s.day until) until None) s.catalogue }',W+'imports'),
 ('a closure that is past changes nothing',O+'Rules.antt','catalogue = with_closure u until s.catalogue }','catalogue = cond (Rattle.catalogue_core.specs.Units.is_later s.day until) (with_closure u until s.catalogue) (cond (is_some until) s.catalogue (with_closure u until s.catalogue)) }',W+'imports'),
 ('a status is set the other way',C+'Statuses.antt','record u { draft = draft }','record u { draft = if draft then Rattle.std.specs.Prelude.false else Rattle.std.specs.Prelude.true }',W+'rows'),
-('drafts do not withhold',C+'Housing.antt','is_withheld (λ (unit : Unit). unit.draft) (is_closed day)','is_withheld (λ (unit : Unit). false) (is_closed day)',K+'told_where_not_withheld'),
-('closures do not withhold',C+'Housing.antt','is_withheld (λ (unit : Unit). unit.draft) (is_closed day)','is_withheld (λ (unit : Unit). unit.draft) (λ (unit : Unit). false)',K+'told_where_not_withheld'),
+('drafts do not withhold',C+'ContainerContents.antt','is_withheld (λ (unit : Unit). unit.draft) (is_closed day)','is_withheld (λ (unit : Unit). false) (is_closed day)',K+'told_where_not_withheld'),
+('closures do not withhold',C+'ContainerContents.antt','is_withheld (λ (unit : Unit). unit.draft) (is_closed day)','is_withheld (λ (unit : Unit). unit.draft) (λ (unit : Unit). false)',K+'told_where_not_withheld'),
 # what is shown
 ('a value is found at the farthest unit',C+'Pages.antt','    or_else (Some text) further = Some (element, text, Some unit.code)\n','    or_else (Some text) (Some line) = Some line\n    or_else (Some text) None = Some (element, text, Some unit.code)\n',K+'values_are_of_the_nearest'),
 ('containers are found at the farthest unit',C+'Pages.antt','boxes_or press (Some unit.code) unit.values.boxes (nearest_boxes press higher)','last_or (nearest_boxes press higher)\n  where\n    last_or : List PageBox → List PageBox\n    last_or [] = page_boxes press (Some unit.code) unit.values.boxes\n    last_or (box ∷ boxes) = box ∷ boxes',K+'pages_tell_the_housing'),
@@ -398,7 +398,7 @@ WRONG=[
 ('a bad file tells its row as its cause',O+'Json.antt','(codes "cause", count cause)','(codes "cause", count row)',W+'texts'),
 ('a refusal without its name',O+'Json.antt','fields ((codes "code", count (number_of why)) ∷ (codes "refused", string (name_of why)) ∷ [])','fields ((codes "code", count (number_of why)) ∷ [])',W+'texts'),
 ('a permit is told without its day',O+'Queries.antt','fields ((codes "unit", count permit.unit) ∷ (codes "until", date permit.until) ∷ [])','fields ((codes "unit", count permit.unit) ∷ [])',W+'answers'),
-# what a command tells and does
+# what a command reports and does
 ('OpenDay tells the day before',O+'Rules.antt','told s (command.OpenDay day) = done.OpenDay day','told s (command.OpenDay day) = done.OpenDay s.day',W+'rows'),
 ('OpenDay keeps the day',O+'Rules.antt','record s { day = day; seats =','record s { seats =',W+'rows'),
 ('SetClosure tells unit 1',O+'Rules.antt','done.SetClosure u','done.SetClosure 1',W+'desk_rows'),
@@ -538,22 +538,22 @@ does_nothing('(command.Revoke t u)','record s { permits = put s.permits t (revok
 ('a slip tells the order as the ticket',O+'Queries.antt','ticket = line.ticket;','ticket = line.order;',W+'shown_rows'),
 ('every slip is of the first run',O+'Queries.antt','run_answer s n (numbered s.runs n)','run_answer s n (numbered s.runs 1)',W+'shown_rows'),
 # how a file is merged
-('no row is known',C+'Merging.antt','is_known f source row = has (is_from source row.legacy) f','is_known f source row = has (is_from [] row.legacy) f',W+'imports'),
-('rows of a file are as deep as their parents',C+'Merging.antt','if has_legacy parent row then option_map suc (depth_under f source row.parent above)','if has_legacy parent row then depth_under f source row.parent above',W+'rows'),
-('a parent has to be catalogued before',C+'Merging.antt','++ faults_below f source (row ∷ above) rest','++ faults_below f source above rest',W+'rows'),
-('a fault of a place tells its cause as its row',C+'Merging.antt','(λ cause. (row.row, cause))','(λ cause. (cause, row.row))',W+'rows'),
-('a parent in the file has the number after it',C+'Merging.antt','if has_legacy legacy row then Some (n - 1) else','if has_legacy legacy row then Some n else',W+'imports'),
-('all new units have one number',C+'Merging.antt','∷ numbered_from f source (n + 1) (row ∷ above) rest','∷ numbered_from f source n (row ∷ above) rest',W+'imports'),
-('of new units side by side the first alone comes',C+'Merging.antt','then Node new (branches (Some new.id) rest) (branches parent rest)','then Node new (branches (Some new.id) rest) Empty',W+'imports'),
-('a new unit comes without those below it',C+'Merging.antt','then Node new (branches (Some new.id) rest) (branches parent rest)','then Node new Empty (branches parent rest)',W+'imports'),
-('a new unit has its number as its source',C+'Merging.antt','  source = source;\n','  source = new.row.legacy;\n',W+'imports'),
-('a new unit has its source as its number',C+'Merging.antt','  legacy = new.row.legacy;\n','  legacy = source;\n',W+'imports'),
-('new units are closed',C+'Merging.antt','  until = None;\n','  until = Some (Rattle.std.specs.Prelude.pos 30000);\n',W+'imports'),
-('known rows come again',C+'Merging.antt','from_new (filter (λ row. not (is_known s.forest source row)) rows)\n','from_new rows\n',W+'catalogue_rows'),
+('no row is known',C+'CatalogueMerge.antt','is_known f source row = has (is_from source row.legacy) f','is_known f source row = has (is_from [] row.legacy) f',W+'imports'),
+('rows of a file are as deep as their parents',C+'CatalogueMerge.antt','if has_legacy parent row then option_map suc (depth_under f source row.parent above)','if has_legacy parent row then depth_under f source row.parent above',W+'rows'),
+('a parent has to be catalogued before',C+'CatalogueMerge.antt','++ faults_below f source (row ∷ above) rest','++ faults_below f source above rest',W+'rows'),
+('a fault of a place tells its cause as its row',C+'CatalogueMerge.antt','(λ cause. (row.row, cause))','(λ cause. (cause, row.row))',W+'rows'),
+('a parent in the file has the number after it',C+'CatalogueMerge.antt','if has_legacy legacy row then Some (n - 1) else','if has_legacy legacy row then Some n else',W+'imports'),
+('all new units have one number',C+'CatalogueMerge.antt','∷ numbered_from f source (n + 1) (row ∷ above) rest','∷ numbered_from f source n (row ∷ above) rest',W+'imports'),
+('of new units side by side the first alone comes',C+'CatalogueMerge.antt','then Node new (branches (Some new.id) rest) (branches parent rest)','then Node new (branches (Some new.id) rest) Empty',W+'imports'),
+('a new unit comes without those below it',C+'CatalogueMerge.antt','then Node new (branches (Some new.id) rest) (branches parent rest)','then Node new Empty (branches parent rest)',W+'imports'),
+('a new unit has its number as its source',C+'CatalogueMerge.antt','  source = source;\n','  source = new.row.legacy;\n',W+'imports'),
+('a new unit has its source as its number',C+'CatalogueMerge.antt','  legacy = new.row.legacy;\n','  legacy = source;\n',W+'imports'),
+('new units are closed',C+'CatalogueMerge.antt','  until = None;\n','  until = Some (Rattle.std.specs.Prelude.pos 30000);\n',W+'imports'),
+('known rows come again',C+'CatalogueMerge.antt','from_new (filter (λ row. not (is_known s.forest source row)) rows)\n','from_new rows\n',W+'catalogue_rows'),
 ('a row is held against a unit with its number as its source',C+'Intake.antt','unit_of f source row = find (is_from source row.legacy) (nodes f)','unit_of f source row = find (is_from row.legacy row.legacy) (nodes f)',W+'imports'),
-# who may see what lies where
-('what lies below has nothing above it',C+'Housing.antt','(paths_below (above ++ unit ∷ []) children ++','(paths_below above children ++',W+'rows'),
-('units below lie in no container',C+'Housing.antt','(above ++ unit ∷ []) ∷ (paths_below (above ++ unit ∷ []) children ++ paths_below above others)','(above ++ unit ∷ []) ∷ paths_below above others',W+'rows'),
+# who may see which unit
+('what lies below has nothing above it',C+'ContainerContents.antt','(paths_below (above ++ unit ∷ []) children ++','(paths_below above children ++',W+'rows'),
+('units below lie in no container',C+'ContainerContents.antt','(above ++ unit ∷ []) ∷ (paths_below (above ++ unit ∷ []) children ++ paths_below above others)','(above ++ unit ∷ []) ∷ paths_below above others',W+'rows'),
 # codes, and who is shown
 ('units on a page have the codes of tops',C+'Pages.antt','(number_of unit, shown_unit press.at press.containers (above ++ identifier_of unit ∷ []) 0 unit)','(number_of unit, shown_unit press.at press.containers (identifier_of unit ∷ []) 0 unit)',W+'answers'),
 ('one top is told',C+'Pages.antt','    ∷ side_by_side press above others\n','    ∷ []\n',W+'answers'),
@@ -580,7 +580,7 @@ does_nothing('(command.Revoke t u)','record s { permits = put s.permits t (revok
 ('orders that cannot be read',R+'CellCauses.antt','∷ has_unread read_order (db tables.orders.tree)','∷ false',S+'cell_causes'),
 ('holdings that cannot be read',R+'CellCauses.antt','∷ has_unread read_holding (db tables.holding.tree)','∷ false',S+'cell_causes'),
 ]
-# These would mean the same, so no row can refuse them:
+# These mean the same, so no row can refuse them:
 # - a place as high as may be: places without a gap are no higher than there are rows
 # - a link to any parent: one that no unit can have is no place either
 # - an order that is out with a container at the desk: then its own holding is missing

@@ -3,7 +3,7 @@
 #
 #     packaging/deb.sh PROGRAM [OUT]
 #
-# OUT is the folder that the package goes to, without a word this one's `out`. DEBFULLNAME and DEBEMAIL name who makes it.
+# OUT is the folder for the package, by default packaging/out. DEBFULLNAME and DEBEMAIL name the maintainer.
 set -euo pipefail
 top=$(cd "$(dirname "$0")/.." && pwd)
 [ $# -ge 1 ] && [ -x "$1" ] || { echo "usage: packaging/deb.sh PROGRAM [OUT]" >&2; exit 2; }
@@ -24,7 +24,7 @@ place() {
     install -m "$mode" "$@" "$folder"
 }
 
-# The C library's version that the program asks for: the greatest of those that its symbols name.
+# The version of the C library that the program needs: the highest that its symbols name.
 needed_libc() {
     objdump -T "$1" | grep -o 'GLIBC_[0-9.]*' | cut -d_ -f2 | sort -Vu | tail -1
 }

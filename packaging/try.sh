@@ -1,12 +1,12 @@
 #!/usr/bin/env bash
-# Makes the package, asks lintian, installs it on a clean Debian root, boots systemd there in namespaces of its own, runs an
-# office by the lines of OPERATING, upgrades, removes and purges it, and says what it did:
+# Makes the package, calls lintian, installs the package on a clean Debian root, boots systemd there in namespaces of its own,
+# runs an office by the lines of OPERATING, upgrades, removes and purges the package, and prints each result:
 #
 #     packaging/try.sh PROGRAM [ROOT.tar]
 #
-# ROOT.tar is the clean root, which is made where it is not there (some two minutes). Needs root, mmdebstrap, lintian and the
-# network for Debian's packages; nothing outside its folder is changed but a control group of its own, which it takes away.
-# Its last line is `N passed, M failed`; where systemd cannot be begun here it says so, and that counts as failed.
+# ROOT.tar is the clean root; the script makes it if it does not exist (some two minutes). It needs root, mmdebstrap, lintian and
+# the network for Debian's packages. It changes nothing outside its folder except a control group of its own, which it removes.
+# Its last line is `N passed, M failed`; if systemd cannot be started, it says so and counts that as failed.
 set -euo pipefail
 here=$(cd "$(dirname "$0")" && pwd)
 [ $# -ge 1 ] || { echo "usage: packaging/try.sh PROGRAM [ROOT.tar]" >&2; exit 2; }
@@ -29,7 +29,7 @@ ends() {
 }
 trap ends EXIT
 
-# is WHAT STATUS: counts one thing that was tried
+# is WHAT STATUS: prints and counts the result of one check
 is() {
     if [ "$2" = 0 ]; then
         passed=$((passed + 1))
@@ -72,7 +72,7 @@ install >"$room/install" 2>&1 && is "apt installs the package, with nginx and HA
     is "apt installs the package, with nginx and HAProxy, on a clean root" 1
 }
 
-# systemd as the first process of its own namespaces, in a control group of its own, with a network of loopback alone
+# systemd as the first process of its own namespaces, in a control group of its own, with only loopback as network
 boot() {
     mkdir "$group"
     setsid bash -c "echo \$\$ >'$group/cgroup.procs'; exec unshare -mpfCn --kill-child bash -c '
@@ -90,7 +90,7 @@ boot() {
     return 1
 }
 
-# inside COMMAND ..: runs it there, and counts what it says
+# inside COMMAND ..: runs it there, and counts the results that it prints
 inside() {
     nsenter -t "$booted" -m -p -n -C "$@" >"$room/inside" 2>&1 || true
     cat "$room/inside"
@@ -98,7 +98,7 @@ inside() {
     failed=$((failed + $(grep -c '^FAILED: ' "$room/inside" || true)))
 }
 
-# operating PLACE FOLDER: the lines of OPERATING that are of this place
+# operating PLACE FOLDER: runs the lines of OPERATING that are meant for this place
 operating() {
     local how=0
     "$here/../acceptance/operating.py" --place "$1" --shell "nsenter -t $booted -m -p -n -C bash -c 'cd $2 && exec bash'" >"$room/lines" || how=$?

@@ -1,19 +1,19 @@
 #!/usr/bin/env bash
-# Called by try.sh inside its booted root: `before` an office is made by the lines of OPERATING, and `after` that, when it tries the
-# front's rules and a kill, and upgrades, removes and purges the package.
+# try.sh calls this inside its booted root: with `before`, before the lines of OPERATING make an office, and with `after`, after that.
+# `after` checks the front's rules and a kill, and upgrades, removes and purges the package.
 set -uo pipefail
 office=/var/lib/record-office/office.db
 readers=http://127.0.0.1:8080
 desk=http://127.0.0.1:8081
 
-# is WHAT COMMAND ..: whether the command ends with 0
+# is WHAT COMMAND ..: checks that the command ends with 0
 is() {
     local what=$1
     shift
     if "$@" >/tmp/out 2>&1; then echo "passed: $what"; else echo "FAILED: $what: $(tail -3 /tmp/out)"; fi
 }
 
-# same WHAT SAID EXPECTED
+# same WHAT FOUND EXPECTED: checks that the two are equal
 same() {
     if [ "$2" = "$3" ]; then echo "passed: $1"; else echo "FAILED: $1: '$2' is not '$3'"; fi
 }

@@ -99,7 +99,7 @@ class Page:
         return got["result"].get("value")
 
     def wait(self, condition, seconds=60):
-        """Until the condition holds. While another page comes there is none to ask, and the question is put again."""
+        """Waits until the condition holds. While another page loads there is none to ask, so it asks again."""
         end = time.time() + seconds
         while time.time() < end:
             try:
@@ -112,7 +112,7 @@ class Page:
         raise AssertionError(f"not within {seconds} s: {condition}\n--- the page shows:\n{self.text()}")
 
     def open(self, site, hash_, condition="document.querySelector('main h1')"):
-        """Loads a page of the site anew: what stands behind the `?` is another each time, and nothing looks at it."""
+        """Loads a page of the site again: the text after `?` differs each time, and nothing reads it."""
         self.opened += 1
         self.call("Page.bringToFront")
         self.call("Page.navigate", url=f"{site}/?{self.opened}#{hash_}")
@@ -146,7 +146,7 @@ class Page:
         self.js(f"[...document.querySelectorAll('summary, button, a')].find((one) => one.textContent.startsWith({json.dumps(words)})).click()")
 
     def second_click(self, button):
-        """What the second click of two does on this button, wherever the first one was."""
+        """Sends the second click of two to this button, wherever the first one was."""
         self.js("window.clicked = false; document.addEventListener('click', () => { window.clicked = true; }, { once: true, capture: true })")
         end = time.time() + 60
         while not self.js("window.clicked"):  # a page that moves just then takes none
@@ -162,7 +162,7 @@ class Page:
         self.key(key)
 
     def scan(self, digits):
-        """What a barcode reader sends: digits one after the other, and Enter."""
+        """Sends what a barcode reader sends: digits one after the other, and Enter."""
         self.digits(digits)
         self.key("Enter")
 

@@ -218,7 +218,7 @@ class Day:
         self.checks.check("a reader who has containers keeps the seat", True)
 
     def takes_back(self):
-        """One after the other by scanning alone; nothing that is held down or scanned twice does harm."""
+        """Several commands by scanning alone; a key that is held down or a second scan does no harm."""
         box = self.container("Box 1")
         page = self.at("/counter")
         page.js("[...document.querySelectorAll('.card')][1].querySelector('input').focus()")
@@ -351,7 +351,7 @@ class Day:
         self.shot(page, "desk-today")
 
     def keyboard(self):
-        """From the top of the page by Tab, letters and Enter alone: a reader's card is opened, and its ticket renewed."""
+        """Opens a reader's card and renews the ticket, from the top of the page, only with Tab, letters and Enter."""
         page = self.at("/")
         self.visit.tab_to(page, "Readers")
         page.key("Enter")
@@ -417,7 +417,7 @@ class Day:
         self.page.press("Register", "Register a reader")
 
     def every_form_is_held(self):
-        """Each command's form is shut by a 503, and opened by looking alone."""
+        """A 503 shuts the form of each command; only looking opens it."""
         plans, box = str(self.unit("plans")), self.container("Box 2")
         for hash_, card, fields, button, route in (
                 ("/counter", "Issue", {"Ticket": "1", "Container": box}, "Issue", "issue"),
@@ -450,7 +450,7 @@ class Day:
         self.checks.check(f"{hash_} {button} is held, shows where to look, and opens", "Look before you repeat it." not in page.text())
 
     def second_clicks(self):
-        """The second click of two gives no command, also where another button has come to stand below the pointer."""
+        """The second click of two gives no command, even if another button has appeared below the pointer."""
         first, second = (self.asks.done("/public/orders", ticket=2, container=int(self.container(name)))["order"] for name in ("Box 2", "Roll 7"))
         page = self.at("/readers/2")
         page.press(f"Cancel order {first}")

@@ -33,7 +33,7 @@ SETTINGS = ("--country", "GB", "--repo", "0999", "--seats", "12", "--daily", "8"
             "--day", "2024-03-01")
 DESK_NAME = "desk.example.org"
 
-# What stands around the configuration of ours in a system's nginx.
+# The configuration of a system's nginx around ours.
 NGINX = """daemon off; pid nginx.pid; error_log nginx.log warn; user {user}; worker_processes 1;
 events {{ worker_connections 1000; }}
 http {{ include {mime}; access_log off; client_body_temp_path tmp/body; proxy_temp_path tmp/proxy;
@@ -43,7 +43,7 @@ include office.conf; }}
 
 
 def free_ports(many, first=20000, last=20999):
-    """So many ports of 127.0.0.1 that nobody listens on, from any place on: two runs at a time seldom meet."""
+    """Free ports of 127.0.0.1, from a random place on, so that two runs at a time seldom collide."""
     found, begin = [], random.randrange(first, last + 1)
     for port in [*range(begin, last + 1), *range(first, begin)]:
         with socket.socket() as probe, contextlib.suppress(OSError):
@@ -141,7 +141,7 @@ class Office:
 
     @contextlib.contextmanager
     def without_program(self):
-        """Within it the program is not there, and its port is closed."""
+        """A context in which the program is away and its port is closed."""
         self.waiting.clear()
         self.serving.kill()
         self.serving.wait(20)
@@ -156,7 +156,7 @@ class Office:
         self.processes.append(subprocess.Popen(words, cwd=self.folder, stdout=log, stderr=log, env={**os.environ, "PATH": path}))
 
     def _keep(self):
-        """Begins the program again whenever it ends, as a service manager does."""
+        """Starts the program again whenever it ends, as a service manager does."""
         env = {**os.environ, **({"LD_PRELOAD": str(self.preload)} if self.preload else {})}
         words = [self.program, "serve", "--store", self.store, "--port", str(self.ports["8090"]), "--connections", str(self.connections)]
         while self.running:

@@ -44,7 +44,7 @@ class Refusals:
         self.checks.same("each cause of a bad file has its words", [int(one) for one in causes], list(range(1, 13)))
 
     def readers_words(self):
-        """A reader is never shown a number of the house, whatever the refusal is."""
+        """A reader never sees the number of a refusal."""
         told = self.page.js("import('/shared/refusals.js').then((told) => Array.from({length: 30}, (_, code) =>"
                             " told.readerWords({ok: false, kind: 'refused', code, refused: 'X'}).join(' ')))")
         self.checks.check("readers are told in words alone", all(re.fullmatch(r"[A-Z][^0-9{}]+\.", text) for text in told), told)

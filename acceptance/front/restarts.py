@@ -28,7 +28,7 @@ class Client(threading.Thread):
 
     @staticmethod
     def answer(connection, method, path, body, headers):
-        """What is answered. Who asks more often than the front allows an address is told so, and asks again."""
+        """Returns the answer. If the front says that this address asks too often, it asks again."""
         while True:
             connection.request(method, path, body, headers)
             answer = connection.getresponse()

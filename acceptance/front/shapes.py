@@ -1,4 +1,4 @@
-"""How the pages stand on a phone, a desk and a screen at 200 %, and what a screen reader finds on them."""
+"""How the pages look on a phone, a desk and a screen at 200 %, and what a screen reader finds on them."""
 
 WIDTHS = (320, 640, 1280)  # 640 is 1,280 at 200 %
 

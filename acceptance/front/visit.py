@@ -77,7 +77,7 @@ class Visit:
         return line.split(" ", 1)[0]
 
     def way(self):
-        """Found from the tops down for a unit that was come to directly, and kept on the way down."""
+        """The way down to a unit: searched from the tops if the unit was opened directly, and kept on the way down."""
         top = self.number_of("Hull Dock Company", "HUL")
         series = int(top) + 1
         page = self.at(f"/unit/{int(top) + 4}")

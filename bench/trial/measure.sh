@@ -1,6 +1,6 @@
 #!/usr/bin/env bash
-# Measures `record_office trial` on the sessions of requests.py, once it is built:
-# bench/trial/measure.sh [WHAT N ..], without words on those of docs/FIGURES.md.
+# Measures the built `record_office trial` on the sessions of requests.py:
+# bench/trial/measure.sh [WHAT N ..], by default on those of docs/FIGURES.md.
 # Of three runs it prints the least processor time and wall time and the greatest memory, and what was answered.
 set -euo pipefail
 here=$(cd "$(dirname "$0")" && pwd)

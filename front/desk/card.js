@@ -27,7 +27,7 @@ export async function cardPage(ticket) {
   ] };
 }
 
-/** Whether there is such a ticket; where the office does not answer, there may be. */
+/** Whether there is such a ticket; true if the office does not answer. */
 async function show(view) {
   const reader = await routes.reader(view.ticket);
   const permits = await routes.permits(view.ticket);
@@ -37,7 +37,7 @@ async function show(view) {
   return reader.kind !== 'missing';
 }
 
-/** The card is shown anew after each command, and what was said stays. */
+/** The card is shown again after each command, and the message stays. */
 async function after(view, ...sentence) {
   await show(view);
   return said(...sentence);
@@ -62,7 +62,7 @@ function cancelForm(view, order) {
   });
 }
 
-/** A button in a row of a table. The row goes with what is done, so that is told above the tables. */
+/** A button in a row of a table. The command removes the row, so its result is shown above the tables. */
 function rowForm(view, { key, button, what, send, sentence, look }) {
   return commandForm({
     key, button: [`${button} `, el('span', { class: 'unseen' }, what)], kind: 'plain small',

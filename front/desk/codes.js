@@ -1,20 +1,20 @@
-// Reference codes of containers, as the public finding aids have them: an aid names a container below the unit that lies
-// in it. Reading all aids of a large office takes a while, so it is done when somebody asks for it, and kept in this page.
+// Reference codes of containers, from the public finding aids: an aid names a container below the unit that lies in it.
+// Reading all aids of a large office takes a while, so it is done when somebody asks for it, and kept in this page.
 
 import { aid, fonds } from '../shared/routes.js';
 import { containersOfAid, readFonds, readHead } from '../shared/texts.js';
 
 const known = new Map();
-const SHOWN = 3; // so many codes of a container are shown
+const SHOWN = 3; // the most codes of a container that are shown
 
-/** The codes of the units that name this container; of one whose head line is not certain, the whole line. */
+/** The codes of the units that name this container, or whole head lines, if their parts are not certain. */
 export function codesOf(container) {
   const heads = known.get(String(container)) ?? [];
   const codes = heads.slice(0, SHOWN).map((head) => readHead(head)?.code ?? head);
   return heads.length > SHOWN ? [...codes, `and ${heads.length - SHOWN} more`] : codes;
 }
 
-/** Reads the aids of all fonds, where one of these containers is not known yet. How many are not known then. */
+/** Reads the aids of all fonds if one of these containers is not known yet. Returns how many are still not known. */
 export async function findCodes(containers) {
   const missing = () => containers.filter((container) => !known.has(String(container))).length;
   const answer = missing() > 0 ? await fonds() : { ok: false };

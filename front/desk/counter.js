@@ -1,5 +1,5 @@
-// The counter: issuing, taking back, seats, and where a container is. Each form takes numbers alone, so that a keyboard
-// or a barcode reader that sends Enter serves for all of it.
+// The counter: issuing, taking back, seats, and where a container is. Each form takes only numbers, so a keyboard
+// or a barcode reader that sends Enter is enough.
 
 import { el } from '../shared/dom.js';
 import { numberField } from '../shared/fields.js';
@@ -13,7 +13,7 @@ import { boxLink, readerLink } from './names.js';
 import { card, lookUp, problem, said } from './parts.js';
 import { showReader } from './reader_at_counter.js';
 
-const KEPT = 12; // so many containers that came back are listed
+const KEPT = 12; // the most containers that are listed after they came back
 const UNKNOWN_SEAT = 'The office did not say whether the seat was given. Press the button again, which does no harm: nobody gets two seats.';
 
 export function counterPage() {
@@ -29,7 +29,7 @@ export function counterPage() {
   return { title: 'Counter', focus: input, content: [el('h1', {}, 'Counter'), counter] };
 }
 
-/** What a barcode reader sends while a button or a link has the focus goes to the first field of that card. */
+/** What a barcode reader sends while a button or a link has the focus goes to the first field of the same card. */
 function digitsGoTo(event) {
   const isPressed = event.target.closest('button, a') !== null;
   if (!isPressed || !/^[0-9]$/.test(event.key) || event.ctrlKey || event.altKey || event.metaKey) return;
@@ -70,7 +70,7 @@ function moveOn(input, next, then) {
   input.addEventListener('change', () => then(numberOf(input.value)));
 }
 
-/** After a refusal the focus is on what has to be typed otherwise. */
+/** After a refusal the focus is on the field that must be changed. */
 function focusOfIssue(form, answer) {
   const { ticket, container } = form.elements;
   const button = answer?.code === 10 ? form.querySelector('.note button') : null;
@@ -96,7 +96,7 @@ function seatButton(ticket, again) {
   return place;
 }
 
-/** A reader who has a seat already is not given another, so nothing is held here: the same once more does no harm. */
+/** A reader who has a seat gets no other, so this form is never held: sending it again does no harm. */
 async function seat(ticket, give, place, again) {
   if (give.getAttribute('aria-disabled') === 'true') return;
   give.setAttribute('aria-disabled', 'true');

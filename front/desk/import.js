@@ -8,7 +8,7 @@ import { importFile, LARGEST_FILE } from '../shared/routes.js';
 import { onceMore } from './looks.js';
 import { card, heldContainer } from './parts.js';
 
-const SHOWN = 200; // so many remarks are listed
+const SHOWN = 200; // the most remarks that are listed
 
 export function importPage() {
   return { title: 'Import', content: [

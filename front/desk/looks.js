@@ -1,16 +1,16 @@
-// Where to look after an answer that leaves open whether a command was done. Each promises what is so now, or null
-// where that cannot be had.
+// Where to look after an answer that leaves open whether a command was done. Each function promises the present state, or
+// null if it cannot be read.
 
 import { lastNumber } from '../shared/asking.js';
 import { el, words } from '../shared/dom.js';
 import { permits, queue, reader, slip, unit } from '../shared/routes.js';
 import { newestTicket, readerLink } from './names.js';
 
-const NEWEST = 5; // so many tickets are listed
+const NEWEST = 5; // the most tickets that are listed
 
 const line = (...children) => el('p', {}, ...children);
 
-/** A question whose answer is missing is an answer too: there is no such thing. */
+/** `missing` is an answer too: there is no such thing. */
 async function shown(promised, show, missing) {
   const answer = await promised;
   if (answer.ok) return show(answer.value);
@@ -47,7 +47,7 @@ export async function lookAtNewestRun() {
     el('pre', { class: 'page' }, answer.value)] : null;
 }
 
-/** Where no question tells it, the same once more does, and does no harm. */
+/** If no question can show it, giving the command again shows it and does no harm. */
 export const onceMore = (sign) => async () => line(`No page can show this. Open the form and do the same once more, which does no harm: ${sign}`);
 
 function placeOf(box) {

@@ -1,5 +1,5 @@
-// Names beside numbers. The program answers one card and one container at a time; what is asked once is kept in this
-// page. That does no harm: a ticket keeps its name, and a container too.
+// Names beside numbers. The program answers one card and one container at a time; each answer is kept in this page. That
+// does no harm: tickets and containers keep their names.
 
 import { el, link, words } from '../shared/dom.js';
 import { queue, reader } from '../shared/routes.js';
@@ -33,7 +33,7 @@ function named(hash, number, promised) {
   return whole;
 }
 
-/** The newest ticket's number, 0 where there is none, null where the office does not answer. */
+/** The newest ticket's number, 0 if there is none, null if the office does not answer. */
 export async function newestTicket() {
   const known = Math.max(0, ...readers.keys());
   const later = await lastNumber((number) => card(known + number));

@@ -13,7 +13,7 @@ export const said = (...children) => el('p', {}, el('strong', {}, ...children));
 
 let last = 0;
 
-/** A part of a page with its heading, by which a screen reader finds it. */
+/** A part of a page with its heading, so that a screen reader can find it. */
 export function card(title, ...children) {
   const id = `card-${++last}`;
   return el('section', { class: 'card', 'aria-labelledby': id }, el('h2', { id }, title), children);
@@ -30,7 +30,7 @@ export function heldContainer(answer) {
   return answer.code === 21 ? el('p', {}, 'Its page at the counter: ', containerLink(answer.container), '.') : null;
 }
 
-/** A form that looks something up by its number: it changes nothing, so it may be sent as often as one likes. */
+/** A form that looks something up by its number: it changes nothing, so it may be sent any number of times. */
 export function lookUp(field, button, then) {
   const form = el('form', { class: 'look' }, field,
     el('p', { class: 'buttons' }, el('button', { type: 'submit', class: 'plain' }, button)));

@@ -24,7 +24,7 @@ export function permitForm(unit) {
   });
 }
 
-/** Who has a permit for this very unit. A permit is on a reader's card, so each card is asked. */
+/** Who has a permit for exactly this unit. Permits are on the readers' cards, so every card is asked for. */
 export function permitList(unit) {
   const told = el('p', { class: 'told', role: 'status' });
   const list = el('div', {});

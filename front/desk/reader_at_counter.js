@@ -1,4 +1,4 @@
-// Who stands at the counter: the name, the seat, what is in hand, and what lies ready at the desk.
+// The reader at the counter: the name, the seat, the containers in hand, and those that are ready at the desk.
 
 import { el, words } from '../shared/dom.js';
 import { queue, reader } from '../shared/routes.js';
@@ -32,7 +32,7 @@ async function summary({ name, seat, until, orders }) {
 
 const listed = (orders) => orders.flatMap(({ container }, place) => [place > 0 ? '; ' : '', boxLink(container)]);
 
-/** The orders whose container lies at the desk and whose reader is the first who waits. */
+/** The orders whose container is at the desk and whose reader is the first who waits. */
 async function readyFor(orders) {
   const waiting = orders.filter((order) => order.state === 'waiting');
   const boxes = await Promise.all(waiting.map(({ container }) => queue(container)));

@@ -12,8 +12,8 @@ import { knownReaders, newestTicket, readCards, readerLink } from './names.js';
 import { card, said } from './parts.js';
 
 const PLAIN = { ł: 'l', ø: 'o', đ: 'd', ð: 'd', þ: 'th', ß: 'ss', æ: 'ae', œ: 'oe', ı: 'i' };
-const SHOWN = 50; // so many readers are listed
-const MOST = 20000; // so many cards are asked for without being asked to go on
+const SHOWN = 50; // the most readers that are listed
+const MOST = 20000; // the most cards that are asked for before somebody must say to go on
 
 export function readersPage() {
   const field = textField('who', 'Name or ticket number', { maxlength: 100, hint: 'Any part of the name will do.' });
@@ -69,14 +69,14 @@ function showFound(who, told, found, end) {
     tickets.length > SHOWN ? el('p', {}, `And ${tickets.length - SHOWN} more: type more of the name.`) : '']));
 }
 
-/** Every word that was typed stands in the name, whatever its case and its accents. */
+/** The readers whose names have every word that was typed, whatever its case and accents. */
 function matching(who) {
   const parts = folded(who).split(/\s+/).filter(Boolean);
   return [...knownReaders()].filter(([, name]) => parts.every((part) => folded(name).includes(part)))
     .sort((a, b) => a[1].localeCompare(b[1]) || a[0] - b[0]);
 }
 
-/** Letters without their marks; some letters have no mark that could be taken away. */
+/** Letters without accents. For some letters, which have no separate accent, PLAIN has the replacement. */
 const folded = (text) => text.normalize('NFD').replace(/\p{M}/gu, '').toLowerCase().replace(/[łøđðþßæœı]/g, (letter) => PLAIN[letter]);
 
 function registerForm() {

@@ -9,7 +9,7 @@ import { onceMore } from './looks.js';
 import { heldContainer, said } from './parts.js';
 import { isSure, STAYED } from './sure.js';
 
-const SHOWN = 12; // so many units are named
+const SHOWN = 12; // the most units that are named
 
 export function removeForm(unit, refresh) {
   return commandForm({

@@ -10,7 +10,7 @@ import { fetchRun, slip } from '../shared/routes.js';
 import { lookAtNewestRun } from './looks.js';
 import { card, lookUp, runLink } from './parts.js';
 
-const LATEST = 8; // so many runs are listed
+const LATEST = 8; // the most runs that are listed
 
 export async function runsPage() {
   const newest = await lastNumber(slip);

@@ -1,9 +1,9 @@
-// A question before what cannot be taken back. The answer that changes nothing has the focus.
+// A question before a command that cannot be undone. The answer that changes nothing has the focus.
 
 import { el } from '../shared/dom.js';
 import { stopSecondClick } from '../shared/form.js';
 
-/** An answer of the form's own where somebody thought better of it. */
+/** The form's own answer if somebody decides not to go on. */
 export const STAYED = { ok: false, kind: 'stayed' };
 
 export function isSure({ title, content, stay, go, kind = '' }) {

@@ -35,7 +35,7 @@ function dayForm() {
   });
 }
 
-/** A day cannot be closed again, so one that is not today by the clock is asked about. */
+/** The opening of a day cannot be undone, so the page asks before it opens a day that is not today by the clock. */
 async function askFirst(day) {
   const today = dayOfThisComputer();
   if (day === today) return null;
@@ -47,7 +47,7 @@ async function askFirst(day) {
   return await isSure(question) ? null : STAYED;
 }
 
-/** What the clock of this computer says, as a suggestion: the office itself reads no clock. */
+/** The day by the clock of this computer, as a suggestion: the office itself reads no clock. */
 function dayOfThisComputer() {
   const now = new Date();
   const two = (number) => String(number).padStart(2, '0');
@@ -60,7 +60,7 @@ function opened({ day }) {
   return said(`${day} is open.`);
 }
 
-/** The program does not tell which day is open; this browser knows only what was opened in it. */
+/** The program does not say which day is open; this browser knows only the days that were opened in it. */
 function lastDay() {
   const day = localStorage.getItem(KEPT);
   return el('p', { class: 'last-day quiet' },

@@ -1,4 +1,4 @@
-// What waits: every order that waits or is out, gathered from the readers' cards, with where its container is.
+// Every order that waits, gathered from the readers' cards, with the place of its container.
 
 import { count, el, printButton, table } from '../shared/dom.js';
 import { askEach } from '../shared/asking.js';
@@ -6,7 +6,7 @@ import { queue, reader } from '../shared/routes.js';
 import { boxLink, newestTicket, readerLink } from './names.js';
 import { card } from './parts.js';
 
-const FEW = 200; // so many cards are asked for at once, without a press of a button
+const FEW = 200; // up to so many cards are asked for without a press of the button
 
 export function waitingList() {
   const told = el('p', { class: 'told', role: 'status' });
@@ -36,7 +36,7 @@ async function gatherNow(told, list, most) {
   list.replaceChildren(...(orders.length === 0 ? [] : [waitingTable(orders, places), el('p', {}, printButton('Print this list'))]));
 }
 
-/** null where a card was not answered: a list that lacks some would mislead. */
+/** null if a card was not answered: an incomplete list would mislead. */
 async function waitingOrders(newest, told) {
   const orders = [];
   let done = 0;

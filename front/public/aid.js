@@ -1,4 +1,4 @@
-// The finding aid of a unit: line by line as the program tells it, to read, search and print.
+// The finding aid of a unit, line by line as the program answers it, to read, search and print.
 
 import { el, link, printButton } from '../shared/dom.js';
 import { aid } from '../shared/routes.js';
@@ -6,8 +6,8 @@ import { readAid } from '../shared/texts.js';
 import { searchForm } from './search.js';
 import { trouble } from './trouble.js';
 
-const BLOCK = 200; // so many lines are laid out together, once they come near the screen
-const LARGE = 5000; // from so many lines on they are laid out so
+const BLOCK = 200; // lines that are laid out together, once they come near the screen
+const LARGE = 5000; // an aid with more lines is laid out in blocks
 
 export async function aidPage(number) {
   const answer = await aid(number);
@@ -23,7 +23,7 @@ export async function aidPage(number) {
   ] };
 }
 
-/** A unit's head line is a heading, by which a screen reader can go from unit to unit. */
+/** A unit's head line is a heading, so that a screen reader can go from unit to unit. */
 function row({ text, depth, isHead }) {
   const tag = isHead ? `h${Math.min(depth + 2, 6)}` : 'p';
   const node = el(tag, { dir: 'auto', class: isHead ? 'unit' : null, 'data-depth': depth }, text);

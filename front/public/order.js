@@ -1,4 +1,4 @@
-// The order of a container, with the number of one's ticket.
+// The order of a container, with the number of the reader's ticket.
 
 import { el, words } from '../shared/dom.js';
 import { numberField } from '../shared/fields.js';

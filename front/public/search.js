@@ -1,4 +1,4 @@
-// A search in the lines of a finding aid: every place is marked, and one after the other is shown and told.
+// A search in the lines of a finding aid: every match is marked, and the matches are shown and announced one after another.
 
 import { count, el } from '../shared/dom.js';
 import { textField } from '../shared/fields.js';
@@ -23,7 +23,7 @@ function stepButton(state, text, by) {
   return el('button', { type: 'button', class: 'plain', hidden: true, click: () => step(state, by) }, text);
 }
 
-/** The same words again go on to the next place. */
+/** The same words again lead to the next match. */
 function search(state, words) {
   if (words === state.words && state.marks.length > 0) return step(state, 1);
   clear(state);
@@ -34,7 +34,7 @@ function search(state, words) {
   state.told.textContent = words === '' ? '' : `“${words}” is not in this finding aid.`;
 }
 
-/** Upper and lower case are alike, and a space stands for any white space. */
+/** Upper and lower case are alike, and a space matches any white space. */
 function patternOf(words) {
   const plain = words.replace(/[\^$\\.*+?()[\]{}|/]/g, '\\$&').replace(/\s+/g, '\\s+');
   return new RegExp(plain, 'giu');

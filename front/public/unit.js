@@ -47,7 +47,7 @@ function description(page) {
   });
 }
 
-/** What the head line has of the elements, where its parts are certain. A blank one is `-` there. */
+/** The elements in the head line, if its parts are certain. A blank one is `-` there. */
 function headElements(head) {
   const parts = readHead(head);
   if (!parts) return [];
@@ -62,7 +62,7 @@ function entry({ number, name, text, mark }) {
     el('dd', {}, marked(text, mark)));
 }
 
-/** The text to the letter; where it was found above, the mark that says so is set more quietly. */
+/** The text unchanged; the mark of a text that was found above is less prominent. */
 function marked(text, mark) {
   return [words(text), mark && words(mark, 'span', { class: 'from' })];
 }

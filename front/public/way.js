@@ -1,13 +1,13 @@
-// The way down to a unit. A unit's page tells what is right below it and not what is above. So what is above is known
-// from the pages that were seen; for a unit that was come to directly it is looked for from the tops down, along the
-// reference codes, and taken only where a page really names the unit.
+// The way down to a unit. A unit's page shows what is right below it and not what is above. So what is above is known
+// from the pages that were seen. If a reader comes to a unit directly, it is searched for from the tops down, along the
+// reference codes, and taken only if a page really names the unit.
 
 import { el, link } from '../shared/dom.js';
 import { headLine } from '../shared/heads.js';
 import { fonds, unit } from '../shared/routes.js';
 import { isCodeAbove, readFonds, readHead, readPage } from '../shared/texts.js';
 
-const QUESTIONS = 40; // so many pages are asked for at most
+const QUESTIONS = 40; // the most pages that are asked for
 const DEEPEST = 64;
 
 const above = new Map();
@@ -53,7 +53,7 @@ async function findWay(number, head) {
   if (!tops.has(number)) await searchBelow(list, number, head, { left: QUESTIONS });
 }
 
-/** units: what stands beside each other. Whether the unit was found below one of them. */
+/** units: siblings. Whether the unit was found below one of them. */
 async function searchBelow(units, number, head, budget) {
   for (const one of units.filter(({ number: its, rest }) => its && mayBeAbove(rest, head))) {
     if (budget.left-- <= 0) return true;

@@ -3,7 +3,7 @@
 
 const AT_ONCE = 4;
 
-/** The greatest number from 1 on that is there, or 0: `ask(number)` promises an answer of routes.js. Null: no answer. */
+/** The highest number from 1 on that exists, or 0; null if there was no answer. `ask(number)` promises an answer of routes.js. */
 export async function lastNumber(ask) {
   let low = 0;
   for (let step = 1; ; step *= 2) {
@@ -14,7 +14,7 @@ export async function lastNumber(ask) {
   }
 }
 
-/** low is there (or 0), high is not. */
+/** low exists (or is 0), high does not. */
 async function between(ask, low, high) {
   if (high - low === 1) return low;
   const middle = Math.floor((low + high) / 2);
@@ -29,7 +29,7 @@ async function isThere(ask, number) {
   return answer.kind === 'missing' ? false : null;
 }
 
-/** Asks for each number, and tells each answer as it comes. Ends early where `tell` returns false. */
+/** Asks for each number, and calls `tell` with each answer as it comes. Ends early if `tell` returns false. */
 export async function askEach(numbers, ask, tell) {
   let next = 0;
   let goesOn = true;

@@ -13,7 +13,7 @@ function put(node, name, value) {
   else node.setAttribute(name, value === true ? '' : String(value));
 }
 
-/** A text of the office's: its own direction of writing, its own spaces, never cut. */
+/** A text of the office, with its own direction of writing and its own spaces, never shortened. */
 export function words(text, tag = 'span', attributes = {}) {
   return el(tag, { dir: 'auto', ...attributes, class: `words ${attributes.class ?? ''}`.trim() }, text);
 }
@@ -22,7 +22,7 @@ export function link(hash, ...children) {
   return el('a', { href: hash }, ...children);
 }
 
-/** A table that scrolls by itself where a screen is too narrow for it. */
+/** A table that scrolls by itself if the screen is too narrow for it. */
 export function table(caption, heads, rows) {
   return el('div', { class: 'wide', role: 'group', tabindex: 0, 'aria-label': caption }, el('table', {},
     el('caption', {}, caption),

@@ -1,4 +1,4 @@
-// The fields of forms: each is one row with its label, its input and, where it has one, its hint.
+// The fields of forms: each is one row with its label, its input and, if it has one, its hint.
 
 import { el } from './dom.js';
 import { TYPED } from './numbers.js';

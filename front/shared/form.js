@@ -5,14 +5,14 @@
 import { el } from './dom.js';
 import { heldValues, keepHeld, releaseHeld } from './held.js';
 
-const PAUSE = 600; // milliseconds after an answer in which the same once more is taken for a slip of the hand
+const PAUSE = 600; // milliseconds after an answer in which a repeated command counts as a mistake
 
 /**
- * key: a name of the form's own; fields: rows of fields.js; button: its words; kind: its class;
+ * key: a name that only this form has; fields: rows of fields.js; button: its words; kind: its class;
  * before(values): promises null to go on, or an answer that ends it; send(values): promises an answer of routes.js;
- * done(value, values): promises what to show where it was done;
- * explain(answer): two sentences where it was not; help(answer, values, again): more to show then, where `again` sends the same;
- * look(values): promises what tells whether it was done, or null where that cannot be had now;
+ * done(value, values): promises what to show if it was done;
+ * explain(answer): two sentences if it was not; help(answer, values, again): more to show then; `again` sends the same;
+ * look(values): promises what shows whether it was done, or null if that cannot be read now;
  * focus(form, answer): what gets the focus after an answer (null after success);
  * harmless: giving the command twice does no harm, so the form is never held.
  */
@@ -34,13 +34,13 @@ function stopHeldKey(event) {
 
 let answered = -PAUSE; // when a command was answered last, whichever form gave it
 
-/** The second of two clicks gives no command: neither the same again, nor that of a button which has come to stand there. */
+/** The second of two clicks gives no command: neither the same again, nor that of a button that has appeared there. */
 export function stopSecondClick(event) {
   const isSecond = event.detail > 1 || (event.detail > 0 && performance.now() < answered + PAUSE);
   if (isSecond) event.preventDefault();
 }
 
-/** A barcode that is read while the form waits goes nowhere, and whoever read it has to know. */
+/** A barcode that is scanned while the form waits is not taken, and the clerk must see that. */
 function noteMissed(event, state) {
   if (state.busy && /^[0-9]$/.test(event.key)) state.missed = true;
 }
@@ -88,7 +88,7 @@ function end(state) {
   shut(state, false);
 }
 
-/** While a form is shut its fields take nothing: what a barcode reader types would join what stands there. */
+/** While a form is shut its fields take nothing: what a barcode reader types would be added to what is there. */
 function shut(state, isShut) {
   state.busy = isShut;
   state.press.setAttribute('aria-disabled', String(isShut));
@@ -112,7 +112,7 @@ function fail(state, answer, values) {
   else selectFirst(state.form);
 }
 
-/** For whoever has seen to what was refused: the same values are no slip of the hand then. */
+/** For somebody who has removed the cause of a refusal and sends the same values on purpose. */
 function sendAgain(state) {
   state.last = '';
   state.form.requestSubmit();
@@ -132,7 +132,7 @@ function resume(state) {
   hold(state, { ok: false, kind: 'uncertain' }, values);
 }
 
-/** A list of choices takes its value as one field does; a file cannot be put back. */
+/** A list of choices takes a value as other fields do; a file cannot be put back. */
 function putBack(field, value) {
   if (!field || field.type === 'file') return;
   if (field.type === 'checkbox') field.checked = true;

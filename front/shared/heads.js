@@ -1,4 +1,4 @@
-// A head line on the page: its letters as they come, and its parts told apart where they are certain.
+// A head line on the page: its text unchanged, and its parts marked if they are certain.
 
 import { el, words } from './dom.js';
 import { readHead } from './texts.js';

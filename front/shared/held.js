@@ -8,7 +8,7 @@ export function keepHeld(key, values) {
   sessionStorage.setItem(PREFIX + key, JSON.stringify(plain));
 }
 
-/** The values that were sent, or null where the form is not held. */
+/** The values that were sent, or null if the form is not held. */
 export function heldValues(key) {
   const kept = sessionStorage.getItem(PREFIX + key);
   return kept === null ? null : JSON.parse(kept);

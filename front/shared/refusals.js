@@ -108,7 +108,7 @@ const READER_OTHERS = {
     'Please send it once more: if it was taken, you will be told that you have ordered this container already.'],
 };
 
-/** What an answer that is no success means at the desk, and what to do. `command` is what was asked, where it matters. */
+/** What an unsuccessful answer means at the desk, and what to do. `command` is the command, if it matters. */
 export function deskWords(answer, command) {
   if (answer.kind !== 'refused') return OTHERS[answer.kind];
   const [means, todo] = AFTER[command]?.[answer.code] ?? DESK[answer.code]
@@ -116,7 +116,7 @@ export function deskWords(answer, command) {
   return [means + detail(answer), todo];
 }
 
-/** The same for a reader, without the words of the house. */
+/** The same for a reader, without the terms of the staff. */
 export function readerWords(answer) {
   if (answer.kind !== 'refused') return READER_OTHERS[answer.kind];
   return READER[answer.code] ?? ['Your order was not taken.', 'Please ask at the desk.'];

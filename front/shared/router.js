@@ -2,7 +2,7 @@
 
 import { el } from './dom.js';
 
-/** pages: [pattern, page]; a page is given what the pattern caught and promises { title, content, focus, shown }. */
+/** pages: [pattern, page]; a page gets what the pattern matched and promises { title, content, focus, shown }. */
 export function start(pages, site) {
   const main = document.querySelector('main');
   const show = () => turnTo(main, pages, site);
@@ -13,7 +13,7 @@ export function start(pages, site) {
   return show();
 }
 
-/** Shows a page, also where it is the one that is shown. */
+/** Shows a page, even if it is already shown. */
 export function go(hash) {
   if (location.hash === hash) showAgain();
   else location.hash = hash;
@@ -69,7 +69,7 @@ function markCurrent() {
   }
 }
 
-/** The place on the page is kept with its entry in the history, for when the reader comes back. */
+/** The position on the page is kept in the history entry, for when the reader comes back. */
 function keepPlace() {
   clearTimeout(later);
   later = setTimeout(() => history.replaceState({ place: Math.round(window.scrollY) }, ''), 150);

@@ -6,7 +6,7 @@
 //   { ok: false, kind: 'barred' | 'often' }      the front server did not pass it on (401, 403, 421; 429)
 //   { ok: false, kind: 'unsent' }                the front server could not give it to the program
 //   { ok: false, kind: 'silent' }                a question that was not answered
-//   { ok: false, kind: 'uncertain' }             a command of which nobody here can tell whether it was done
+//   { ok: false, kind: 'uncertain' }             a command, and nobody here knows whether it was done
 
 export const LARGEST_FILE = 8 * 1024 * 1024;
 
@@ -71,5 +71,5 @@ const KINDS = {
   411: 'unread', 413: 'large', 421: 'barred', 429: 'often', 501: 'unread',
 };
 
-/** The front server's own 503 says that the program never had the request; the program's says {"error":"busy"}. */
+/** The front server's own 503 says that the program never received the request; the program's says {"error":"busy"}. */
 const isUnsent = (body) => body.includes('"not reached"');

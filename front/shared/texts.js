@@ -1,5 +1,5 @@
-// Reads the program's texts line by line, and never guesses. A line feed ends a line and stands nowhere else; a
-// value may hold anything besides. So a line is known by how it begins, and the rest of it is shown as it is.
+// Reads the program's texts line by line, and never guesses. A line feed always ends a line; a value may hold anything
+// else. So a line is recognised by its beginning, and the rest of it is shown as it is.
 
 /** The areas of ISAD(G), second edition, and its elements that a line may have. */
 export const AREAS = {
@@ -47,7 +47,7 @@ export function readFonds(text) {
 
 /**
  * A head line in its parts: `CODE [LEVEL] TITLE`. Code, level and title may hold brackets themselves. So it is cut only
- * where one cut is possible: where ` [` stands in it once and `] ` once, the one before the other.
+ * if one cut is possible: if ` [` and `] ` each occur in it once, in this order.
  */
 export function readHead(head) {
   const open = placesOf(' [', head);
@@ -92,12 +92,12 @@ export function containersOfAid(text) {
   return found;
 }
 
-/** Whether a head line ends as a closed unit's does. A title may read so too: tell nothing of the unit by it. */
+/** Whether a head line ends like that of a closed unit. A title may end like that too, so this proves nothing about the unit. */
 export function endsAsClosed(head) {
   return /\] closed until \d{4}-\d\d-\d\d$/.test(head);
 }
 
-/** The lines of a slip: the last three of each are numbers, whatever stands before them. */
+/** The lines of a slip. Each ends with three numbers, whatever comes before them. */
 export function readSlip(text) {
   return linesOf(text).slice(1).flatMap((line) => {
     const found = / +([0-9]+) +([0-9]+) +([0-9]+)$/.exec(line);
@@ -128,9 +128,9 @@ function numbered(line, before, after) {
 }
 
 /**
- * Cuts ` (from CODE)` off the end, where CODE begins the head line as the code of a unit above does, and where only
- * one such cut is possible. A value may still end so by itself. So the mark is kept to the letter, to be shown in its
- * place and only more quietly.
+ * Cuts ` (from CODE)` off the end if CODE begins the head line as the code of a unit above does, and if only one such cut
+ * is possible. A value may still end like that by itself. So the mark is kept unchanged, and is shown in its place, only
+ * less prominently.
  */
 function splitMark(text, head) {
   const cuts = placesOf(' (from ', text).filter((at) => isCodeAbove(text.slice(at + 7, -1), head));

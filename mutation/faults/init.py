@@ -1,9 +1,9 @@
 #!/usr/bin/env python3
 """Refuses each allocation of `init` in turn, or every k-th: mutation/faults/init.py PROGRAM ROOM [K]
 
-Where `init` fails, neither the file nor its log is there afterwards; where it does without the allocation, the office is
-there and sound. shim.c is loaded before the C library. It prints how the runs ended, and ends with 1 where something is
-other than wanted, or where none failed that had made its file."""
+If `init` fails, neither the file nor its log is there afterwards. If it succeeds without the allocation, the office is there
+and sound. shim.c is loaded before the C library. The script prints how the runs ended. It ends with 1 if a result is wrong, or
+if no run failed after it had made its file."""
 import os
 import subprocess
 import sys
@@ -23,12 +23,12 @@ def perform(*words, **more):
 
 
 class Inits:
-    """An `init` of one file, again and again, each without one of its allocations."""
+    """Runs of `init` for one file, each without one of its allocations."""
 
     def __init__(self, room):
         self.shim, self.store = f"{room}/shim.so", f"{room}/office.db"
         subprocess.run(["cc", "-shared", "-fPIC", "-O2", "-o", self.shim, HERE / "shim.c", "-ldl"], check=True)
-        # the second finds the file there: so many are made before a file is
+        # the second run finds the file there, so it makes only the allocations before a file is made
         self.last, self.before = self.allocations(), self.allocations()
         self.remove()
 

@@ -1,8 +1,8 @@
 #!/usr/bin/env bash
 # Refuses each allocation, and fails, interrupts or shortens each read and write of previews in turn: run.sh [PROGRAM]
-# Each run has to end with the fault that is due, or as it does undisturbed; equal endings are counted (a sum and a length
-# stand for what is printed). shim.c is loaded before the C library. It ends with 1 where one ends otherwise, or where
-# there was nothing to disturb. First: cd crates/record_office && rt run
+# Each run must end with the right fault, or as it does undisturbed. Equal endings are counted; a checksum and a length stand
+# for the output. shim.c is loaded before the C library. The script ends with 1 if a run ends in another way, or if there was
+# nothing to disturb. First: cd crates/record_office && rt run
 set -euo pipefail
 top=$(cd "$(dirname "$0")/../.." && pwd)
 program=$(realpath "${1:-$top/crates/record_office/out/record_office}")
@@ -13,7 +13,7 @@ cc -shared -fPIC -O2 -o "$room/shim.so" "$top/mutation/faults/shim.c" -ldl
 nothing=$(cksum </dev/null)
 wrong=0
 
-# ending HOW INPUT WORD ..: how the program ends that the shim disturbs so
+# ending HOW INPUT WORD ..: how the program ends when the shim disturbs it like this
 ending() {
     local how=$1 input=$2 status=0
     shift 2
@@ -21,7 +21,7 @@ ending() {
     echo "status $status, out $(cksum <"$room/out"), err $(tr '\n' '~' <"$room/err")"
 }
 
-# each NAME CALLS FAULT HOW INPUT WORD ..: a run for each call of that kind, disturbed so
+# each NAME CALLS FAULT HOW INPUT WORD ..: a run for each call of this kind, which is disturbed
 each() {
     local name=$1 calls=$2 fault=$3 how=$4 input=$5 count whole
     shift 5

@@ -1,10 +1,10 @@
 #!/usr/bin/env python3
 """Refuses each allocation of a session of two requests in turn: mutation/faults/session.py [PROGRAM]
 
-The built program opens an office in a file and talks: two readers are registered. Whatever allocation is refused after
-the opening, there are right answers, then at most one 503 with which the session is closed; and the file has the readers
-that were answered, no other. shim.c is loaded before the C library. It ends with 1 where something is other than wanted,
-or where the session made no allocation."""
+The built program opens an office in a file, and two readers are registered by `talk`. Whichever allocation is refused after
+the opening, the session has right answers, then at most one 503 that closes it; and the file has exactly the readers that were
+answered. shim.c is loaded before the C library. The script ends with 1 if a result is wrong, or if the session made no
+allocation."""
 import contextlib
 import os
 import shutil
@@ -35,7 +35,7 @@ def talk(program, store, session=SESSION, **more):
 
 
 def answered(said):
-    """How many requests were answered, or none where something else was said."""
+    """How many requests were answered, or None if the output is something else."""
     for count in (2, 1, 0):
         whole = "".join(ANSWERS[:count])
         if said in (whole, whole + BUSY):
@@ -49,7 +49,7 @@ def readers(store):
 
 
 def ending(program, store, shim, number):
-    """How the session ended whose allocation of this number is refused; and whether that is as wanted."""
+    """How the session ended without the allocation of this number, and whether that is right."""
     ended = talk(program, store, LD_PRELOAD=shim, FA=number)
     answers, said = ended.stdout.decode(), ended.stderr.decode().strip()
     count, busy, kept = answered(answers), answers.endswith(BUSY), readers(store)
@@ -62,7 +62,7 @@ def ending(program, store, shim, number):
 
 
 def allocations(program, first, store, shim, session):
-    """How many allocations a session makes, the opening with it."""
+    """How many allocations a session makes, with the opening."""
     shutil.copy(first, store)
     counted = talk(program, store, session, LD_PRELOAD=shim, SHOW=1).stderr.decode()
     return int(counted.split("allocs=")[1].split()[0])

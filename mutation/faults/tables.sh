@@ -1,7 +1,7 @@
 #!/usr/bin/env bash
-# Refuses each allocation of each test of the tables in turn, and counts how the tests end: tables.sh [TESTS [EACH
-# [NAME ..]]], where TESTS is a program of tests, and with EACH=k every k-th is refused. shim.c is loaded before the C
-# library. First: cd crates/store_tests && rt test
+# Refuses each allocation of each test of the tables in turn, and counts how the tests end: tables.sh [TESTS [K [NAME ..]]]
+# TESTS is a program of tests; with K every K-th allocation is refused. shim.c is loaded before the C library.
+# First: cd crates/store_tests && rt test
 set -euo pipefail
 top=$(cd "$(dirname "$0")/../.." && pwd)
 tests=${1:-"$top/crates/store_tests/out/store_tests_tests"}

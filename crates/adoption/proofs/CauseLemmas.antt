@@ -17,8 +17,8 @@ use Rattle.integrity_checks.specs.PlaceChecks.{places_are_doubtful}
 use Rattle.state_encoding.specs.Causes.{around, first_held, day_is_broken}
 use Rattle.row_decoding.specs.TableRows.{places_are_unread}
 use Rattle.state_encoding.specs.CellCauses.{rows_in, cell_cause}
-use Rattle.state_encoding.specs.Reading.{OfficeRows}
-use Rattle.adoption.specs.DeskChecked.{AreOfOffice, catalogue_cell_cause, of_desk}
+use Rattle.state_encoding.specs.OfficeRows.{OfficeRows}
+use Rattle.adoption.specs.DeskCheck.{AreOfOffice, catalogue_cell_cause, of_desk}
 use Rattle.adoption.proofs.DeskChecked.{told_alike}
 use Rattle.adoption.specs.Causes.{CatalogueChecksTellTheCause, HasNoEarlierCause}
 use Rattle.adoption.specs.OwnRows.{office_is_doubtful, own_of, own_row_of}

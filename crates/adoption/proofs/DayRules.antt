@@ -9,17 +9,17 @@ use Rattle.tree_core.specs.Forest.{Forest}
 use Rattle.tree_core.specs.Versions.{Version}
 use Rattle.state_encoding.specs.Causes.{day_is_broken}
 use Rattle.state_encoding.specs.CellCauses.{rows_in}
-use Rattle.adoption.specs.Looking.{Looks}
+use Rattle.adoption.specs.ReadOnlyCalls.{Looks}
 use Rattle.office_tables.specs.Calls.{Answers}
 use Rattle.office_tables.specs.Faults.{FaultsHaveCause}
 use Rattle.office_tables.specs.Step.{InTransaction, LeavesUnchanged}
 use Rattle.office_tables.specs.declared.fault.StoreFault.{StoreFault}
 use Rattle.office_tables.proofs.Calls.{early}
 use Rattle.refinement.specs.DayRules.{breaks_day_rules}
-use Rattle.refinement.specs.Judging.{CanBeJudged, RepresentsWhole}
+use Rattle.refinement.specs.AccessConditions.{CanBeJudged, RepresentsWhole}
 use Rattle.refinement.proofs.Tellings.{looked_crash}
 use Rattle.adoption.specs.Catalogue.{said}
-use Rattle.adoption.specs.Found.{AreGoodTables}
+use Rattle.adoption.specs.SoundTables.{AreGoodTables}
 use Rattle.adoption.specs.Tables.{GoodTablesShowTheirState}
 use Rattle.adoption.specs.Causes.{HasNoEarlierCause}
 use Rattle.adoption.specs.OwnRows.{own_row_of}

@@ -19,12 +19,12 @@ use Rattle.office_tables.proofs.CellTexts.{from_first}
 use Rattle.state_encoding.specs.Causes.{first_held, office_is_bad, around, day_is_broken}
 use Rattle.row_decoding.specs.TableRows.{by, places_are_unread}
 use Rattle.state_encoding.specs.CellCauses.{rows_in}
-use Rattle.state_encoding.specs.Reading.{OfficeRows}
+use Rattle.state_encoding.specs.OfficeRows.{OfficeRows}
 use Rattle.state_encoding.proofs.Judging.{none_held}
 use Rattle.integrity_checks.specs.DeskChecks.{around_in, is_numbered, cause_of, registration_is_doubtful, orders_are_doubtful, holdings_are_doubtful, runs_are_doubtful, doubt_of_desk}
 use Rattle.row_decoding.specs.Readings.{read_number}
 use Rattle.integrity_checks.specs.declared.desk_doubt.DeskDoubt.TheVariants.{Readers, Orders, Holdings, Runs}
-use Rattle.adoption.specs.DeskChecked.{of_desk, DeskChecksTellTheCause}
+use Rattle.adoption.specs.DeskCheck.{of_desk, DeskChecksTellTheCause}
 
 -- ---- which units and containers there are
 

@@ -4,7 +4,7 @@ use Rattle.sqlite.specs.State.{State}
 use Rattle.office_tables.specs.Step.{LeavesUnchanged}
 use Rattle.office_tables.specs.declared.fault.StoreFault.{StoreFault}
 use Rattle.office_tables.proofs.Calls.{cut_after, cut_then, looks_then}
-use Rattle.adoption.specs.Looking.{Looks}
+use Rattle.adoption.specs.ReadOnlyCalls.{Looks}
 
 pub looked_well : {X : Type 0} (a b : State) (x : X) → LeavesUnchanged a b → Looks a b (Ok x)
 looked_well a b x one = record { crash = one.goes.on.crash; looks = one; cut = tt }

@@ -17,19 +17,19 @@ use Rattle.isad_core.specs.declared.values.BoxKey.{BoxKey}
 use Rattle.desk_core.specs.DeskRows.{ReaderRow, SeatRow, OrderRow, HoldingRow, RunRow}
 use Rattle.catalogue_core.specs.Units.{Unit}
 use Rattle.catalogue_statements.specs.Rows.{unit_row, container_row, counted_from}
-use Rattle.catalogue_statements.specs.Represents.{RepresentsLinkRows}
+use Rattle.catalogue_statements.specs.Representation.{RepresentsLinkRows}
 use Rattle.catalogue_statements.proofs.Numbered.{counted_rises as boxes_rise}
 use Rattle.office_core.specs.State.{State}
-use Rattle.office_tables.specs.Numbered.{HasNumbered}
+use Rattle.office_tables.specs.RowNumbers.{HasNumbered}
 use Rattle.office_tables.specs.Order.{Rises}
 use Rattle.office_tables.specs.Permits.{permit_cells}
 use Rattle.office_tables.specs.RowCells.{element_cells, housing_cells, link_cells, span_cells, reader_cells, seat_cells, order_cells, holding_cells, run_cells, run_line_cells}
 use Rattle.office_tables.specs.Schema as tables
 use Rattle.office_tables.specs.Schema.{schema}
 use Rattle.office_tables.proofs.numbered.Counted.{counted_rises}
-use Rattle.state_encoding.specs.Reading.{tables as tables_of}
-use Rattle.refinement.specs.Represents.{RepresentsState}
-use Rattle.nested_sets.specs.Represents.{RepresentsSpanRows}
+use Rattle.state_encoding.specs.OfficeRows.{tables as tables_of}
+use Rattle.refinement.specs.Representation.{RepresentsState}
+use Rattle.nested_sets.specs.Representation.{RepresentsSpanRows}
 use Rattle.adoption.specs.OrderedTables.{StandsInOrder, StandInOrder}
 use Rattle.adoption.specs.OwnTables.{ShownTablesStandInOrder}
 

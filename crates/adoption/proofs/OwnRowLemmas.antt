@@ -39,7 +39,7 @@ use Rattle.office_core.specs.Words.{first}
 use Rattle.office_tables.specs.Cells.{has_unread, number_in, whole_in, text_in, from}
 use Rattle.office_tables.specs.CatalogueCells.{read_office}
 use Rattle.office_tables.specs.Faults.{fault_of, IsUnlimited, HasCause}
-use Rattle.office_tables.specs.Meaning.{Means}
+use Rattle.office_tables.specs.StatementMeaning.{Means}
 use Rattle.office_tables.specs.Schema.{schema, office}
 use Rattle.office_tables.proofs.Causes.{read_cause, none_refuse, sums_nothing}
 use Rattle.office_tables.proofs.CellTexts.{from_first}

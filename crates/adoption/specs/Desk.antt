@@ -1,12 +1,13 @@
--- Tables of any origin show the desk that their rows say, where there is no cause against them but for the rules of the day.
+-- Tables of any origin represent the desk that their rows describe, if no cause holds for them, except perhaps for the
+-- rules of the day.
 use Rattle.sqlite.specs.Effect.{Database}
 use Rattle.tree_core.specs.Versions.{Version}
 use Rattle.desk_core.specs.DeskCauses.{MeetsDeskKeys}
-use Rattle.desk_store.specs.Represents.{RepresentsDesk}
+use Rattle.desk_store.specs.Representation.{RepresentsDesk}
 use Rattle.state_encoding.specs.CellCauses.{rows_in}
-use Rattle.adoption.specs.Found.{AreGoodTables}
+use Rattle.adoption.specs.SoundTables.{AreGoodTables}
 
--- the rows of the desk have their keys, and its tables show the desk of these rows
+-- the rows of the desk have their keys, and its tables represent the desk of these rows
 pub record RepresentsItsDesk (version : Version) (db : Database) : Type 0 where
   pub keys : MeetsDeskKeys (rows_in version db.trees).desk
   pub represents : RepresentsDesk db.trees (rows_in version db.trees).desk

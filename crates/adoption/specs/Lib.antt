@@ -1,13 +1,13 @@
-pub mod Looking
-pub mod DeskChecked
+pub mod ReadOnlyCalls
+pub mod DeskCheck
 pub mod OrderedTables
-pub mod Found
+pub mod SoundTables
 pub mod Catalogue
 pub mod Desk
 pub mod Tables
 pub mod OwnTables
 pub mod Versions
 pub mod Verdicts
-pub mod Plain
+pub mod PlainSchemas
 pub mod OwnRows
 pub mod Causes

@@ -1,2 +1,2 @@
--- What is asked of tables that are opened, beside what SQL itself tells of them.
+-- What opening requires of tables, in addition to what SQL itself guarantees.
 pub use Rattle.row_completeness.specs.OrderedRows.{StandsInOrder, StandInOrder}

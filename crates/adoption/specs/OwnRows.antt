@@ -1,12 +1,12 @@
--- The office's own row, of tables of any origin: whether it can be read and is such as an office of the version has, and what it
--- then tells.
+-- The office's own row in tables of any origin: whether it can be read and an office of the version can have it, and
+-- what it then contains.
 use Rattle.std.specs.Prelude.{◌≡◌, ℕ, ◌+◌, Bool, false, not, ◌&&◌, ◌||◌, cond, List, [], ◌∷◌, length, Option, Some, None, nat_eq}
 use Rattle.std.specs.Option.{option_map_or}
 use Rattle.sqlite.specs.declared.types.Value.TheVariants.{Null}
 use Rattle.sqlite.specs.Order.{Row, column}
 use Rattle.sqlite.specs.Tree.{Trees}
 use Rattle.isad_core.specs.Days.{is_day_number}
-use Rattle.isad_core.specs.Limits.{most_unit_numbers}
+use Rattle.isad_core.specs.Limits.{most_daily, most_hands, most_run_size, most_seats, most_unit_numbers}
 use Rattle.isad_core.specs.Words.{is_between}
 use Rattle.tree_core.specs.Versions.{Version}
 use Rattle.catalogue_core.specs.CatalogueRows.{OfficeRow}
@@ -19,12 +19,12 @@ use Rattle.state_encoding.specs.CellCauses.{rows_in}
 use Rattle.adoption.specs.declared.own_row.Numbers.{Numbers}
 use Rattle.adoption.specs.declared.own_row.OwnRow.{OwnRow}
 
--- some row of the office cannot be read, or it is such as no office has
+-- some row of the office cannot be read, or no office has such a row
 abbrev pub office_is_doubtful : Version → Trees → Bool
 office_is_doubtful version db =
     has_unread read_office (db tables.office.tree) || not (is_good_office version (rows_in version db).office)
 
--- what it tells the checks of the other tables
+-- what the checks of the other tables need from it
 abbrev pub own_of : OfficeRow → OwnRow
 own_of row = record {
   limits = record { seats = row.seats; daily = row.daily; hands = row.hands; run = row.run_size };
@@ -32,13 +32,13 @@ own_of row = record {
   next_unit = row.next_unit;
 }
 
--- the same of tables: nothing, where the row is doubtful
+-- the same for tables: none if the row is doubtful
 abbrev pub own_row_of : Version → Trees → Option OwnRow
 own_row_of version db = cond (office_is_doubtful version db) None (Some (own_of (rows_in version db).office))
 
 -- ---- as it is read: its numbers, and then its texts
 
--- the cells that the query shows, put back to their places in the table's row
+-- the cells that the query shows, put back in their places in the table's row
 abbrev pub office_cells_back : Row → Row
 office_cells_back cells =
     column cells 0 ∷ Null ∷ column cells 1 ∷ column cells 8 ∷ column cells 9 ∷ column cells 2 ∷ column cells 3 ∷ column cells 4 ∷ column cells 5
@@ -59,8 +59,8 @@ numbers_said cells =
 
 abbrev pub are_good_numbers : ℕ → Numbers → Bool
 are_good_numbers version n =
-    nat_eq n.version version && (is_between 1 200 n.seats && (is_between 1 50 n.daily && (is_between 1 10 n.hands
-    && (is_between 1 100 n.run_size && (is_day_number n.day && is_between 1 (most_unit_numbers + 1) n.next_unit)))))
+    nat_eq n.version version && (is_between 1 most_seats n.seats && (is_between 1 most_daily n.daily && (is_between 1 most_hands n.hands
+    && (is_between 1 most_run_size n.run_size && (is_day_number n.day && is_between 1 (most_unit_numbers + 1) n.next_unit)))))
 
 abbrev pub own_from : Numbers → OwnRow
 own_from n = record {
@@ -73,7 +73,7 @@ abbrev pub are_good_texts : Row → Bool
 are_good_texts cells =
     option_map_or is_country (text_in (column cells 8)) false && option_map_or is_repository (text_in (column cells 9)) false
 
--- its numbers, where it has the texts of an office
+-- its numbers, if it has the texts of an office
 abbrev pub numbers_told : Row → Option Numbers
 numbers_told cells = from (numbers_said cells) (λ n. cond (are_good_texts cells) (Some n) None)
 
@@ -82,7 +82,7 @@ own_judged version told = from told (λ n. cond (are_good_numbers version n) (So
 
 -- ---- as it is gathered
 
--- so many rows were taken; and if that was one, this is what it tells
+-- `count` rows were taken; and if that was one, `told` is what it contains
 pub record AreOwnRows (rows : List Row) (count : ℕ) (told : Option Numbers) : Type 0 where
   pub counted : count ≡ length rows
   pub is : (cells : Row) → rows ≡ cells ∷ [] → told ≡ numbers_told cells

@@ -1,4 +1,4 @@
--- Tables of any origin show the state that their rows say.
+-- Tables of any origin represent the state that their rows describe.
 use Rattle.std.specs.Prelude.{◌≡◌, ℕ, false}
 use Rattle.sqlite.specs.Effect.{Database}
 use Rattle.sqlite.specs.Tree.{Trees}
@@ -9,28 +9,28 @@ use Rattle.office_core.specs.SoundDesk.{AreFiled, AreGoodOrders, AreGoodSeats, A
 use Rattle.office_core.specs.SoundOffice.{IsSoundOffice, AreTexts}
 use Rattle.office_core.specs.Soundness.{ArePermitsOfUnits}
 use Rattle.office_core.specs.State.{State, is_container}
-use Rattle.state_encoding.specs.DeskJudged.{AreGoodDeskDays}
-use Rattle.state_encoding.specs.Judged.{IsSoundCatalogue}
-use Rattle.refinement.specs.Judging.{CanBeJudged}
-use Rattle.refinement.specs.Represents.{RepresentsState}
+use Rattle.state_encoding.specs.DeskSoundness.{AreGoodDeskDays}
+use Rattle.state_encoding.specs.RowSoundness.{IsSoundCatalogue}
+use Rattle.refinement.specs.AccessConditions.{CanBeJudged}
+use Rattle.refinement.specs.Representation.{RepresentsState}
 use Rattle.adoption.specs.Catalogue.{said}
-use Rattle.adoption.specs.Found.{AreGoodTables, AreSoundTables}
+use Rattle.adoption.specs.SoundTables.{AreGoodTables, AreSoundTables}
 
 -- ---- without a cause
 
--- the state that the rows say is sound, and the tables show it
+-- the state that the rows describe is sound, and the tables represent it
 pub record RepresentsItsState (places : Trees → Forest ℕ → Type 0) (version : Version) (db : Database) : Type 0 where
   pub sound : IsSoundOffice (said version db)
   pub represents : RepresentsState places version db (said version db)
 
--- tables without a cause against them show the sound state that their rows say
+-- tables for which no cause holds represent the sound state that their rows describe
 abbrev pub SoundTablesShowTheirState : (Trees → Forest ℕ → Type 0) → Version → Database → Type 0
 SoundTablesShowTheirState places version db = AreSoundTables version db → RepresentsItsState places version db
 
--- ---- but for the rules of the day
+-- ---- except for the rules of the day
 
--- A sound state, but for the rules of the day: who has a container may have no seat, have more than fills the hands, or may
--- not see what lies in it.
+-- A state that is sound except for the rules of the day: the holder of a container may have no seat, may have more
+-- containers than the settings allow, or may not be allowed to see what is in it.
 pub record IsSoundButForTheDay (s : State) : Type 0 where
   pub catalogue : IsSoundCatalogue s
   pub days : AreGoodDeskDays s
@@ -44,13 +44,13 @@ pub record IsSoundButForTheDay (s : State) : Type 0 where
   pub units : ArePermitsOfUnits s
   pub texts : AreTexts s
 
--- The state that the rows say is sound but for the rules of the day, it can be told of it who may see what, and the tables
--- show it.
+-- The state that the rows describe is sound except for the rules of the day, it determines who may see what, and the
+-- tables represent it.
 pub record RepresentsAGoodState (places : Trees → Forest ℕ → Type 0) (version : Version) (db : Database) : Type 0 where
   pub sound : IsSoundButForTheDay (said version db)
   pub judged : CanBeJudged (said version db)
   pub represents : RepresentsState places version db (said version db)
 
--- tables with none of the causes 1 to 9 against them show the state that their rows say
+-- tables for which none of the causes 1 to 9 holds represent the state that their rows describe
 abbrev pub GoodTablesShowTheirState : (Trees → Forest ℕ → Type 0) → Version → Database → Type 0
 GoodTablesShowTheirState places version db = AreGoodTables version db → RepresentsAGoodState places version db

@@ -1,5 +1,5 @@
--- What tables of any origin are, where they are to be an office's of one version. The first that holds is told: no office, the
--- other version, other tables, or the least cause that holds of the rows.
+-- What tables of any origin are, judged as those of an office of one version. The verdict is the first that holds: no
+-- office, the other version, other tables, or the least cause that holds for the rows.
 use Rattle.std.specs.Prelude.{◌≡◌, ◌≢◌, ℕ, ◌&&◌, cond, nat_eq, Option, Some, None}
 use Rattle.sqlite.specs.Effect.{Database}
 use Rattle.tree_core.specs.Versions.{Version, Links, Spans}
@@ -31,7 +31,7 @@ IsVerdict version db verdict.Sound = AreOurs version db × (StandInOrder db → 
 
 -- ---- by the version alone
 
--- what it makes of tables that were to be of the version with the first number, and tell the second
+-- the verdict on tables that were expected to have the version with the first number, and have the second
 abbrev pub verdict_of_version : ℕ → Option ℕ → Option Verdict
 verdict_of_version own None = None
 verdict_of_version own (Some told) =

@@ -1,4 +1,4 @@
--- Which version tables of any origin tell, where they are asked by SQL.
+-- Which version tables of any origin have, according to a query.
 use Rattle.std.specs.Prelude.{◌≡◌, ◌≢◌, ◌⊎◌, ℕ, pos, List, [], ◌∷◌, length, codes, Option, Some, None, Ok, Err, Vec}
 use Rattle.std.specs.declared.alloc.Global.{Global}
 use Rattle.sqlite.specs.declared.error.Error.{Error}
@@ -11,33 +11,33 @@ use Rattle.sqlite_resolve.specs.declared.compiled.Compiled.{Compiled}
 use Rattle.sqlite_resolve.specs.declared.error.CompileError.{CompileError}
 use Rattle.tree_core.specs.Versions.{Version, Links, Spans, version_number}
 
--- the question
+-- the query
 abbrev pub version_text : List ℕ
 version_text = codes "SELECT version FROM office"
 
--- it is a question to these tables: they have a table `office` with a version
+-- the query makes sense for these tables: they have a table `office` with a version
 pub record IsAsked (db : Database) : Type 0 where
   pub asked : Compiled
   pub is : understood db.schema version_text ≡ Ok asked
   pub source : Database
   pub from : IsSourceOf (reads_listing db.schema version_text) db source
 
--- it is, and these rows are the answer
+-- it does, and these rows are the answer
 pub record ShowsVersions (db : Database) (rows : List Row) : Type 0 where
   pub question : IsAsked db
   pub shown : Reads question.asked.command question.source [] rows
 
--- it is, and the answer cannot be computed: it was to come from a view
+-- it does, but the answer cannot be computed: it would have to come from a view
 pub record RefusesVersions (db : Database) : Type 0 where
   pub question : IsAsked db
   pub why : Error
   pub refused : RefusesToRead None question.asked.command question.source [] why
 
--- the question is none to these tables
+-- the query makes no sense for these tables
 abbrev pub LacksVersions : Database → Type 0
 LacksVersions db = (why : CompileError) × (understood db.schema version_text ≡ Err why)
 
--- it is none, or there is no answer
+-- it makes no sense, or there is no answer
 abbrev pub CannotTell : Database → Type 0
 CannotTell db = LacksVersions db ⊎ RefusesVersions db
 
@@ -47,7 +47,7 @@ pub record TellsVersion (db : Database) (cell : Value) : Type 0 where
   pub only : ShowsVersions db (row ∷ [])
   pub is : column row 0 ≡ cell
 
--- the tables tell this version
+-- the tables have this version
 abbrev pub IsToldVersion : Version → Database → Type 0
 IsToldVersion version db = TellsVersion db (Int (pos (version_number version)))
 
@@ -55,17 +55,17 @@ abbrev pub other : Version → Version
 other Links = Spans
 other Spans = Links
 
--- they tell some version, or what is none, but not the other of the two
+-- they have some version, or something that is not a version, but not the other of the two
 pub record TellsNoOther (version : Version) (db : Database) : Type 0 where
   pub cell : Value
   pub told : TellsVersion db cell
   pub not_other : cell ≢ Int (pos (version_number (other version)))
 
--- the table `office` cannot be read, or has not one row
+-- the table `office` cannot be read, or does not have exactly one row
 abbrev pub HasNoOffice : Database → Type 0
 HasNoOffice db = CannotTell db ⊎ ((rows : List Row) × ShowsVersions db rows × (length rows ≢ 1))
 
--- the rows of the answer, or none where there can be none
+-- the rows of the answer, or none if there can be none
 abbrev pub AreVersions : Database → Option (Vec Row Global) → Type 0
 AreVersions db None = CannotTell db
 AreVersions db (Some rows) = ShowsVersions db rows.items

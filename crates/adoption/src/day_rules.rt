@@ -1,11 +1,11 @@
-//! The rules of the day, over tables that are otherwise a sound office's.
+//! The rules of the day, for tables that are otherwise a sound office's.
 
 ghost use Rattle.std.specs.Prelude.{◌≡◌, IfOk, IsTrue, Some};
 ghost use Rattle.sqlite.specs.Held.{state};
 ghost use Rattle.sqlite.specs.State.{HasCleanDisk};
 ghost use Rattle.state_encoding.specs.Causes.{day_is_broken};
 ghost use Rattle.state_encoding.specs.CellCauses.{rows_in};
-ghost use Rattle.adoption.specs.Looking.{Looks};
+ghost use Rattle.adoption.specs.ReadOnlyCalls.{Looks};
 ghost use Rattle.office_tables.specs.Faults.{FaultsHaveCause};
 ghost use Rattle.office_tables.specs.Step.{InTransaction};
 ghost use Rattle.adoption.specs.Causes.{HasNoEarlierCause};
@@ -18,8 +18,8 @@ use office_tables::StoreFault;
 use sqlite::{Alter, Connection};
 use std::alloc::Global;
 
-/// Whether a container is out against a rule of the day, where this is the office's own row and none of the causes 1 to
-/// 9 holds.
+/// Whether a container is out against a rule of the day, if `own` is the office's own row and none of the causes 1 to 9
+/// holds.
 pub(crate) fn breaks_day_rules<P: CheckedPlaces, S: Alter>(
     alloc: Global,
     conn: &mut Connection<S>,

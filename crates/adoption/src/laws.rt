@@ -1,20 +1,20 @@
-//! A law of the checks of an office's tables: the contract of a function that does nothing.
+//! Laws of the checks of an office's tables. Each function does nothing; its contract is the law.
 
 ghost use Rattle.sqlite.specs.Tree.{Trees};
 ghost use Rattle.tree_core.specs.Versions.{Version};
 ghost use Rattle.adoption.specs.Causes.{CatalogueChecksTellTheCause};
 ghost use Rattle.std.specs.Prelude.{ℤ};
 ghost use Rattle.desk_core.specs.declared.reader.Limits.{Limits};
-ghost use Rattle.adoption.specs.DeskChecked.{DeskChecksTellTheCause};
+ghost use Rattle.adoption.specs.DeskCheck.{DeskChecksTellTheCause};
 
-/// Of tables with any cells whose office row is in order, the catalogue's check tells the cause that the one list of
-/// causes has for them, as far as that is the catalogue's.
+/// For tables with any cells whose office row is in order, the catalogue's check returns the first of the causes 1 to 5
+/// that holds.
 pub fn catalogue_checks_tell_the_cause()
     ensures { (version : Version) (db : Trees) → CatalogueChecksTellTheCause version db }
 {}
 
-/// Of tables with any cells that have none of the causes 1 to 5, the desk's check tells the cause that the one list of
-/// causes has for them, as far as that is the desk's.
+/// For tables with any cells that have none of the causes 1 to 5, the desk's check, with the limits and the day of the
+/// office's row, returns the first cause of the tables if that is one of 6 to 9, and none otherwise.
 pub fn desk_checks_tell_the_cause()
     ensures { (version : Version) (db : Trees) (limits : Limits) (today : ℤ)
         → DeskChecksTellTheCause version db limits today }

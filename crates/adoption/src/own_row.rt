@@ -10,21 +10,22 @@ ghost use Rattle.isad_core.specs.Days.{is_day_number};
 ghost use Rattle.isad_core.specs.Words.{is_between};
 ghost use Rattle.office_core.specs.Soundness.{is_country as is_country_code, is_repository as is_repository_code};
 ghost use Rattle.office_tables.specs.Cells.{text_in};
-ghost use Rattle.adoption.specs.Looking.{Looks};
+ghost use Rattle.adoption.specs.ReadOnlyCalls.{Looks};
 ghost use Rattle.office_tables.specs.Faults.{FaultsHaveCause};
 ghost use Rattle.office_tables.specs.Step.{InTransaction};
-ghost use Rattle.adoption.specs.OwnRows.{are_good_numbers, are_good_texts, numbers_said, numbers_told, own_from as own_of_numbers, own_judged, own_row_of};
+ghost use Rattle.adoption.specs.OwnRows.{are_good_numbers, are_good_texts, numbers_said, numbers_told};
+ghost use Rattle.adoption.specs.OwnRows.{own_from as own_of_numbers, own_judged, own_row_of};
 ghost use Rattle.adoption.specs.OrderedTables.{StandInOrder};
 
 use catalogue_store::Places;
 use desk_core::Limits;
-use isad_core::Day;
+use isad_core::{Day, limits};
 use office_tables::{Gathering, StoreFault, gather};
 use row_decoding::{cell, number_in, whole_in};
 use sqlite::types::ValueRef;
 use sqlite::{Alter, Connection, Row};
 
-/// What the office's own row tells the checks of the other tables.
+/// What the checks of the other tables need from the office's own row.
 #[derive(Clone, Copy, Debug)]
 pub(crate) struct OwnRow {
     pub(crate) limits: Limits,
@@ -32,7 +33,7 @@ pub(crate) struct OwnRow {
     pub(crate) next_unit: u64,
 }
 
-/// Its numbers, as they are read.
+/// The numbers in the row, as they are read.
 #[derive(Clone, Copy, Debug)]
 pub(crate) struct Numbers {
     version: u64,
@@ -44,7 +45,7 @@ pub(crate) struct Numbers {
     next_unit: u64,
 }
 
-/// Reads the numbers, where each can be read and the row's own is 1.
+/// Reads the numbers, if each can be read and the row's own number is 1.
 fn numbers_in(row: &Row) -> Option<Numbers>
     ensures { result ≡ numbers_said row.now }
 {
@@ -63,14 +64,14 @@ fn numbers_in(row: &Row) -> Option<Numbers>
     })
 }
 
-/// Whether a number is 1 or more, up to the most.
+/// Whether a number is between 1 and `most`.
 fn is_up_to(most: u64, number: u64) -> bool
     ensures { result ≡ is_between 1 most number }
 {
     1 <= number && number <= most
 }
 
-/// Whether it is a day of the calendar.
+/// Whether the number is a day of the calendar.
 fn is_day(number: i64) -> bool
     ensures { result ≡ is_day_number number }
 {
@@ -82,12 +83,12 @@ fn are_good(version: u64, numbers: &Numbers) -> bool
     ensures { result ≡ are_good_numbers version numbers.now }
 {
     numbers.version == version
-        && is_up_to(200, numbers.seats)
-        && is_up_to(50, numbers.daily)
-        && is_up_to(10, numbers.hands)
-        && is_up_to(100, numbers.run_size)
+        && is_up_to(limits::MOST_SEATS, numbers.seats)
+        && is_up_to(limits::MOST_DAILY, numbers.daily)
+        && is_up_to(limits::MOST_HANDS, numbers.hands)
+        && is_up_to(limits::MOST_RUN_SIZE, numbers.run_size)
         && is_day(numbers.day)
-        && is_up_to(100_000_001, numbers.next_unit)
+        && is_up_to(limits::MOST_UNIT_NUMBERS + 1, numbers.next_unit)
 }
 
 /// Whether the code is two capital letters.
@@ -97,14 +98,14 @@ fn is_country(code: &str) -> bool
     code.len() == 2 && code.bytes().all(|b| b >= b'A' && b <= b'Z')
 }
 
-/// Whether all bytes are seen: neither spaces nor control characters, and ASCII.
+/// Whether all bytes are visible ASCII: neither spaces nor control characters.
 fn are_seen(code: &str) -> bool
     ensures { result ≡ list_all (is_between 33 126) code.now }
 {
     code.bytes().all(|b| b >= b'!' && b <= b'~')
 }
 
-/// Whether the code is 1 to 32 bytes that are seen.
+/// Whether the code is 1 to 32 visible ASCII bytes.
 fn is_repository(code: &str) -> bool
     ensures { result ≡ is_repository_code code.now }
 {
@@ -124,7 +125,7 @@ fn tells_country(value: ValueRef<'_>) -> bool
     }
 }
 
-/// Whether it is a text, in UTF-8, of 1 to 32 bytes that are seen.
+/// Whether it is a text, in UTF-8, of 1 to 32 visible ASCII bytes.
 fn tells_repository(value: ValueRef<'_>) -> bool
     ensures { result ≡ option_map_or is_repository_code (text_in (owned value.entry)) false }
 {
@@ -144,7 +145,7 @@ fn has_good_texts(row: &Row) -> bool
     tells_country(cell(row, 8)) && tells_repository(cell(row, 9))
 }
 
-/// What these numbers tell, which an office may have.
+/// The office's own row with these numbers, which an office may have.
 fn own_from(version: u64, numbers: &Numbers) -> Option<OwnRow>
     requires good { are_good_numbers version numbers.now ≡ true }
     ensures { result ≡ Some (own_of_numbers numbers.now) }
@@ -162,7 +163,7 @@ fn own_from(version: u64, numbers: &Numbers) -> Option<OwnRow>
     })
 }
 
-/// The numbers that the row tells, where it has the texts of an office.
+/// The numbers in the row, if it has the texts of an office.
 fn told_in(row: &Row) -> Option<Numbers>
     ensures { result ≡ numbers_told row.now }
 {
@@ -173,7 +174,7 @@ fn told_in(row: &Row) -> Option<Numbers>
     Some(numbers)
 }
 
-/// The rows of the office that were taken: how many, and what the last one tells.
+/// The rows of the office taken so far: how many, and the numbers in the last one.
 #[derive(Drop)]
 struct OwnRows {
     count: u64,
@@ -195,7 +196,7 @@ impl Gathering for OwnRows {
     }
 }
 
-/// What the office's own row tells, or none where it is such as no office of this version has.
+/// Reads the office's own row. Returns none if no office of this version has such a row.
 pub(crate) fn own_row<P: Places, S: Alter>(
     conn: &mut Connection<S>,
 ) -> Result<Option<OwnRow>, StoreFault>
@@ -221,7 +222,7 @@ pub(crate) fn own_row<P: Places, S: Alter>(
     Ok(judged(P::number(), all.told))
 }
 
-/// What these numbers tell, where an office of this version may have them.
+/// The office's own row with these numbers, if an office of this version may have them.
 fn judged(version: u64, told: Option<Numbers>) -> Option<OwnRow>
     ensures { result ≡ own_judged version told }
 {

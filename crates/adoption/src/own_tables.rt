@@ -14,7 +14,7 @@ use office_tables::{StoreFault, begin};
 use sqlite::{Alter, Connection, MemStore};
 use std::alloc::Global;
 
-/// The row of an office that nobody runs.
+/// The row of some office, to make tables with.
 fn some_row(alloc: Global) -> Result<OfficeRow, StoreFault>
     ensures small { IfOk result (λ row. IsNumber row.next_unit) }
 {
@@ -45,7 +45,7 @@ fn new_tables<P: Places>(alloc: Global) -> Result<Connection<MemStore>, StoreFau
     Ok(model)
 }
 
-/// Whether the tables are those that a new office gets, as far as their definitions go.
+/// Whether the tables have the same definitions as those of a new office.
 pub(crate) fn are_ours<P: Places, S: Alter>(
     alloc: Global,
     conn: &Connection<S>,
@@ -53,7 +53,7 @@ pub(crate) fn are_ours<P: Places, S: Alter>(
     ensures tells { IfOk result (λ yes. IsTrue yes ↔ ((state S.Store conn.now).now.schema ≡ schema P.version)) }
     ensures memory { IfErr result (λ e. e ≡ StoreFault.Memory) }
 {
-    // Only memory can be wanting to a store in memory.
+    // A store in memory fails only for want of memory.
     let Ok(model) = new_tables::<P>(alloc) else {
         return Err(StoreFault::Memory);
     };

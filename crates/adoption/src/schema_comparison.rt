@@ -2,14 +2,15 @@
 
 ghost use Rattle.std.specs.Prelude.{◌≡◌, ◌↔◌, IsTrue};
 ghost use Rattle.std.specs.List.{AllByRecursion};
-ghost use Rattle.adoption.specs.Plain.{HaveSameRows, HaveSameRules, IsPlainTable, no_stamps};
+ghost use Rattle.adoption.specs.PlainSchemas.{HaveSameRows, HaveSameRules, IsPlainTable, no_stamps};
 
 use sqlite_items::Items;
 use sqlite_schema::schema::{Column, Index, Reference, Schema, Stamps, Table};
 use sqlite_value::keys::Order;
 use sqlite_value::value::{Bytes, Value};
 
-/// What can be compared with one that is plain: without the expressions and the values that no table of ours has.
+/// A part of a schema that can be compared with a plain one, which has none of the expressions and values that our
+/// tables do not use.
 pub(crate) trait Same {
     ghost use Rattle.std.specs.Prelude.{◌≡◌, ◌↔◌, IsTrue};
 
@@ -78,7 +79,7 @@ impl<T: Same> Same for Items<T> {
 }
 
 impl Same for Column {
-    ghost use Rattle.adoption.specs.Plain.{IsPlainColumn};
+    ghost use Rattle.adoption.specs.PlainSchemas.{IsPlainColumn};
 
     ghost is_plain = { IsPlainColumn };
 
@@ -124,7 +125,7 @@ impl Same for Index {
 
 impl Same for Table {
     ghost use Rattle.std.specs.Prelude.{◌≡◌};
-    ghost use Rattle.adoption.specs.Plain.{IsPlainTable};
+    ghost use Rattle.adoption.specs.PlainSchemas.{IsPlainTable};
 
     ghost is_plain = { IsPlainTable };
 
@@ -167,7 +168,7 @@ fn has_no_stamps(stamps: &Stamps) -> bool
 }
 
 impl Same for Schema {
-    ghost use Rattle.adoption.specs.Plain.{IsPlainSchema};
+    ghost use Rattle.adoption.specs.PlainSchemas.{IsPlainSchema};
 
     ghost is_plain = { IsPlainSchema };
 

@@ -1,18 +1,18 @@
 //! What tables of any origin are.
 
-/// What tables are that are to be an office's of one version.
+/// What tables are, judged as those of an office of one version.
 #[derive(Clone, Copy, Debug, PartialEq, Eq)]
 pub enum Verdict {
     /// They are a sound office's.
     Sound,
-    /// The table `office` cannot be read, or has not one row.
+    /// The table `office` cannot be read, or does not have exactly one row.
     NoOffice,
-    /// They are of version 1, and were to be of version 2.
+    /// They are of version 1, but version 2 was expected.
     OldVersion,
-    /// They are of version 2, and were to be of version 1.
+    /// They are of version 2, but version 1 was expected.
     NewVersion,
     /// They are not this product's.
     OtherTables,
-    /// The least of the ten causes that holds of their rows.
+    /// No sound office has their rows. The number is the least of the ten causes that holds.
     Unsound(u8),
 }

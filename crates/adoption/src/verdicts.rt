@@ -1,13 +1,13 @@
-//! Tables of any origin are judged.
+//! Judging tables of any origin.
 
 ghost use Rattle.std.specs.Prelude.{◌≡◌, IfOk, IsTrue, None, Some};
 ghost use Rattle.sqlite.specs.Held.{state};
 ghost use Rattle.sqlite.specs.State.{HasCleanDisk};
 ghost use Rattle.state_encoding.specs.CellCauses.{cell_cause};
-ghost use Rattle.adoption.specs.Looking.{Looks};
+ghost use Rattle.adoption.specs.ReadOnlyCalls.{Looks};
 ghost use Rattle.office_tables.specs.Faults.{FaultsHaveCause, IsUnlimited};
 ghost use Rattle.office_tables.specs.Step.{InTransaction};
-ghost use Rattle.adoption.specs.DeskChecked.{catalogue_cell_cause};
+ghost use Rattle.adoption.specs.DeskCheck.{catalogue_cell_cause};
 ghost use Rattle.adoption.specs.OwnRows.{own_row_of};
 ghost use Rattle.adoption.specs.Verdicts.{IsVerdict};
 ghost use Rattle.adoption.specs.OrderedTables.{StandInOrder};
@@ -22,7 +22,8 @@ use office_tables::StoreFault;
 use sqlite::{Alter, Connection};
 use std::alloc::Global;
 
-/// The least cause of the desk's, and of the rules of the day, where none of the catalogue's holds.
+/// The least of the desk's causes and the rules of the day that holds, or none. Assumes that none of the catalogue's
+/// causes holds.
 fn desk_cause<P: CheckedPlaces, S: Alter>(
     alloc: Global,
     conn: &mut Connection<S>,
@@ -49,7 +50,7 @@ fn desk_cause<P: CheckedPlaces, S: Alter>(
     Ok(None)
 }
 
-/// The least of the ten causes that holds of the rows, or none.
+/// The least of the ten causes that holds for the rows, or none.
 fn least_cause<P: CheckedPlaces, S: Alter>(
     alloc: Global,
     conn: &mut Connection<S>,
@@ -70,7 +71,8 @@ fn least_cause<P: CheckedPlaces, S: Alter>(
     desk_cause::<P, S>(alloc, conn, &own)
 }
 
-/// What the tables are, inside a transaction. All of them are read, and nothing is changed.
+/// Judges what the tables are, inside a transaction. Reads all of them, unless the verdict is found before, and changes
+/// nothing.
 pub fn judge<P: CheckedPlaces, S: Alter>(
     alloc: Global,
     conn: &mut Connection<S>,

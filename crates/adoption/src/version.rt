@@ -1,9 +1,9 @@
-//! The version that tables tell.
+//! The version of tables.
 
 ghost use Rattle.std.specs.Prelude.{◌≡◌, IfOk, IsTrue};
 ghost use Rattle.sqlite.specs.Held.{state};
 ghost use Rattle.sqlite.specs.State.{HasCleanDisk};
-ghost use Rattle.adoption.specs.Looking.{Looks};
+ghost use Rattle.adoption.specs.ReadOnlyCalls.{Looks};
 ghost use Rattle.office_tables.specs.Faults.{FaultsHaveCause, IsUnlimited};
 ghost use Rattle.adoption.specs.Verdicts.{IsVersionVerdict, verdict_of_version};
 ghost use Rattle.adoption.specs.Versions.{AreVersions};
@@ -14,7 +14,7 @@ use office_tables::StoreFault;
 use row_decoding::{cell, number_in};
 use sqlite::{Alter, Connection, Row};
 
-/// The rows of the table `office`, with their version alone, or none where it cannot be read.
+/// The rows of the table `office`, with their version only, or none if the table cannot be read.
 fn versions<S: Alter>(conn: &mut Connection<S>) -> Result<Option<Vec<Row>>, StoreFault>
     requires inside { HasCleanDisk (state S.Store conn.old) → IsTrue (state S.Store conn.old).in_transaction }
     requires unlimited { IsUnlimited (state S.Store conn.old) }
@@ -32,7 +32,7 @@ fn versions<S: Alter>(conn: &mut Connection<S>) -> Result<Option<Vec<Row>>, Stor
     }
 }
 
-/// What tables are that tell this version and were to be of that one, where it is the other of the two.
+/// The verdict on tables that have the version `told` and were expected to have `own`, if that is the other of the two.
 fn other_version(own: u64, told: Option<u64>) -> Option<Verdict>
     ensures { result ≡ verdict_of_version own told }
 {
@@ -43,7 +43,8 @@ fn other_version(own: u64, told: Option<u64>) -> Option<Verdict>
     }
 }
 
-/// What the tables are by the version that they tell, or none where that is not the other of the two.
+/// The verdict on the tables by their version, or none if that is not the other of the two. It is `NoOffice` if the
+/// table `office` cannot be read or does not have exactly one row.
 pub(crate) fn judge_version<P: Places, S: Alter>(
     conn: &mut Connection<S>,
 ) -> Result<Option<Verdict>, StoreFault>

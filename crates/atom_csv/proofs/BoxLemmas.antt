@@ -20,7 +20,7 @@ use Rattle.atom_csv.specs.Fields.{is_empty, seen}
 use Rattle.isad_core.specs.declared.values.BoxKey.{BoxKey}
 use Rattle.isad_core.specs.Boxes.{distinct, is_same}
 use Rattle.atom_csv.specs.Values.{entry_at, is_named_box, triple, triples}
-use Rattle.atom_csv.specs.Known.{Holds, has, key}
+use Rattle.atom_csv.specs.KnownContainers.{Holds, has, key}
 
 -- ---- the set in which the code keeps them
 

@@ -11,7 +11,7 @@ use Rattle.std.proofs.lemmas.List.{map-append}
 use Rattle.std.proofs.lemmas.List.Folds.{list_all-append}
 use Rattle.isad_core.specs.Texts.{Bytes}
 use Rattle.atom_csv.specs.Columns.{columns, name_of}
-use Rattle.atom_csv.specs.FileOf.{has_twice}
+use Rattle.atom_csv.specs.FileContents.{has_twice}
 use Rattle.atom_csv.specs.declared.column.Column.{Column}
 use Rattle.atom_csv.specs.Fields.{Fields, is_blank, is_empty, field_in, field_under, is_named, place_of, places_in, seen, trimmed, value}
 

@@ -7,7 +7,7 @@ use Rattle.std.proofs.lemmas.Bool.{eqb-true}
 use Rattle.std.proofs.lemmas.List.{reverse-append, reverse-reverse}
 use Rattle.std.proofs.lemmas.Str.{IsUtf8-nil, IsUtf8-append, IsUtf8-from_is_utf8}
 use Rattle.isad_core.specs.Texts.{Bytes, is_space}
-use Rattle.isad_core.specs.Legible.{IsLegibleBox, AreLegibleValues}
+use Rattle.isad_core.specs.LegibleValues.{IsLegibleBox, AreLegibleValues}
 use Rattle.isad_core.specs.declared.element.Element.{Element}
 use Rattle.isad_core.specs.declared.element.Element.TheVariants as element
 use Rattle.csv.specs.Reading.{default_config, records, strip_bom}
@@ -15,8 +15,8 @@ use Rattle.atom_csv.specs.Causes.{number_of}
 use Rattle.atom_csv.specs.Columns.{columns_of, is_split, name_of}
 use Rattle.atom_csv.specs.Entries.{entries, entry_of, filled, joined, parts_of}
 use Rattle.atom_csv.specs.Fields.{Fields, field_under, is_blank, is_empty, is_named, trim_start, trimmed, value}
-use Rattle.atom_csv.specs.FileOf.{Fault, below, faults, file_of, header_causes, is_told_again, lines_below, of_records, or_fault, records_of, row_of, row_told, rows, translations, under}
-use Rattle.atom_csv.specs.Told.{IsLegibleRow, AreLegibleRows}
+use Rattle.atom_csv.specs.FileContents.{Fault, below, faults, file_of, header_causes, is_told_again, lines_below, of_records, or_fault, records_of, row_of, row_told, rows, translations, under}
+use Rattle.atom_csv.specs.FileProperties.{IsLegibleRow, AreLegibleRows}
 use Rattle.atom_csv.specs.Values.{boxes_of, described, entry_at, is_named_box, nonblank, text_of, told_by, triple, triples, values_of}
 use Rattle.atom_csv.specs.declared.cause.Cause.{Cause}
 use Rattle.atom_csv.specs.declared.cause.Cause.TheVariants as cause

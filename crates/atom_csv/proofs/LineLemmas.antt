@@ -10,8 +10,8 @@ use Rattle.std.proofs.lemmas.Slice.Eq.{bytes_eq-Decides}
 use Rattle.isad_core.specs.Texts.{Bytes}
 use Rattle.atom_csv.specs.Causes.{number_of}
 use Rattle.atom_csv.specs.Fields.{Fields, field_under, is_blank, is_empty, is_named}
-use Rattle.atom_csv.specs.FileOf.{Fault, Line, below, causes, culture, fault_of, faults, first_culture, is_counted, is_translation, legacy, lines, lines_below, lowest, or_fault, row_causes, row_of, row_told, rows, stood_above, translations}
-use Rattle.atom_csv.specs.Reads.{Knows}
+use Rattle.atom_csv.specs.FileContents.{Fault, Line, below, causes, culture, fault_of, faults, first_culture, is_counted, is_translation, legacy, lines, lines_below, lowest, or_fault, row_causes, row_of, row_told, rows, stood_above, translations}
+use Rattle.atom_csv.specs.ReadProgress.{Knows}
 use Rattle.atom_csv.specs.declared.cause.Cause.{Cause}
 
 -- the lines of records one after another

@@ -11,8 +11,8 @@ use Rattle.isad_core.specs.declared.values.BoxKey.{BoxKey}
 use Rattle.csv.specs.Reading.{default_config, records, strip_bom}
 use Rattle.atom_csv.specs.Causes.{number_of}
 use Rattle.atom_csv.specs.Fields.{Fields, field_under, is_blank, is_empty, is_named, trim_start, trimmed, value}
-use Rattle.atom_csv.specs.FileOf.{has_other_width, is_late, is_long, is_translation, has_slug_alone, Fault, below, causes, culture, fault_of, faults, file_of, first_culture, header_causes, is_told_again, legacy, lines_below, lowest, of_records, or_fault, records_of, row_causes, row_of, row_told, rows, stood_above, translations, under, when}
-use Rattle.atom_csv.specs.Told.{AllDiffer, AreValues, IsThere, IsTold}
+use Rattle.atom_csv.specs.FileContents.{has_other_width, is_late, is_long, is_translation, has_slug_alone, Fault, below, causes, culture, fault_of, faults, file_of, first_culture, header_causes, is_told_again, legacy, lines_below, lowest, of_records, or_fault, records_of, row_causes, row_of, row_told, rows, stood_above, translations, under, when}
+use Rattle.atom_csv.specs.FileProperties.{AllDiffer, AreValues, IsThere, IsTold}
 use Rattle.atom_csv.specs.Columns.{columns_of, is_split, name_of}
 use Rattle.atom_csv.specs.Entries.{entries, entry_of, filled, joined, parts_of}
 use Rattle.atom_csv.specs.Values.{described, is_named_box, nonblank, text_of, told_by, triple, values_of}

@@ -1,5 +1,4 @@
--- The columns that are read, and the elements of a description that they hold (ISAD(G), second edition,
--- 3.1 to 3.7).
+-- The columns that are read, and the elements of a description that they contain (ISAD(G), second edition, 3.1 to 3.7).
 use Rattle.std.specs.Prelude.{Bool, true, false, List, [], ◌∷◌, ◌++◌, codes}
 use Rattle.std.specs.List.{flat_map}
 use Rattle.isad_core.specs.Texts.{Bytes}
@@ -9,7 +8,7 @@ use Rattle.isad_core.specs.declared.element.Element.TheVariants as element
 use Rattle.atom_csv.specs.declared.column.Column.{Column}
 use Rattle.atom_csv.specs.declared.column.Column.TheVariants as column
 
--- the columns of an element, in the order in which what they hold is told
+-- the columns of an element, in the order in which their entries are joined
 abbrev pub columns_of : Element → List Column
 columns_of element.ReferenceCode = column.Identifier ∷ []
 columns_of element.Title = column.Title ∷ []
@@ -38,7 +37,7 @@ columns_of element.ArchivistsNote = column.ArchivistNote ∷ []
 columns_of element.Rules = column.Rules ∷ []
 columns_of element.DescriptionDates = column.RevisionHistory ∷ []
 
--- the columns that tell of a row and of its containers
+-- the columns about the row itself and about its containers
 abbrev pub other_columns : List Column
 other_columns = column.LegacyId ∷ column.ParentId ∷ column.QubitParentSlug ∷ column.PublicationStatus
     ∷ column.Culture ∷ column.PhysicalObjectName ∷ column.PhysicalObjectLocation
@@ -86,7 +85,7 @@ name_of column.ArchivistNote = codes "archivistNote"
 name_of column.Rules = codes "rules"
 name_of column.RevisionHistory = codes "revisionHistory"
 
--- whether it holds several entries, with a bar between each two: the others hold one text
+-- whether it contains several entries, separated by bars; the other columns contain one text
 abbrev pub is_split : Column → Bool
 is_split column.EventDates = true
 is_split column.EventActors = true

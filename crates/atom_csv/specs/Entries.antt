@@ -9,29 +9,29 @@ use Rattle.atom_csv.specs.Fields.{is_empty, trimmed}
 abbrev pub without_null : Bytes → Bytes
 without_null entry = if bytes_eq entry (codes "NULL") then [] else entry
 
--- what one part of a cut text tells
+-- the entry in one part of a split text
 abbrev pub entry_of : Bytes → Bytes
 entry_of part = without_null (trimmed part)
 
--- the text is cut at each bar
+-- the text, split at each bar
 abbrev pub parts_of : Bytes → List Bytes
 parts_of = slice_split (λ b. b == 124)
 
--- its entries, blank ones among them
+-- the entries of a text, including blank ones
 abbrev pub entries : Bytes → List Bytes
 entries text = map entry_of (parts_of text)
 
--- those that are not blank
+-- the entries that are not blank
 abbrev pub filled : List Bytes → List Bytes
 filled = filter (λ entry. not (is_empty entry))
 
--- entries one after another, with `; ` between each two
+-- the entries, joined with `; `
 abbrev pub joined : List Bytes → Bytes
 joined [] = []
 joined (e ∷ []) = e
 joined (e ∷ f ∷ rest) = e ++ codes "; " ++ joined (f ∷ rest)
 
--- a text of joined entries, with one more
+-- a text of joined entries, with one more entry
 abbrev pub with_entry : Bytes → Bytes → Bytes
 with_entry text entry = if is_empty entry then text
     else if is_empty text then entry else text ++ codes "; " ++ entry

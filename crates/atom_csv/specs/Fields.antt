@@ -17,30 +17,30 @@ trim_start (b ∷ rest) = if is_space b then trim_start rest else b ∷ rest
 abbrev pub trim_end : Bytes → Bytes
 trim_end text = reverse (trim_start (reverse text))
 
--- a text without white space at either end: where it was blank, nothing is left
+-- a text without white space at either end; nothing is left of a blank text
 abbrev pub trimmed : Bytes → Bytes
 trimmed text = trim_end (trim_start text)
 
--- nothing is there
+-- the text is empty
 abbrev pub is_empty : Bytes → Bool
 is_empty text = length text == 0
 
--- the fields of one record, each without white space at its ends
+-- the fields of one record, without white space at their ends
 abbrev pub Fields : Type 0
 Fields = List Bytes
 
--- the name of a column stands in this field of the header
+-- this field of the header is the name of the column
 abbrev pub is_named : Bytes → Bytes → Bool
 is_named name field = bytes_eq field name
 
--- the field under the first column of this name: blank where there is none
+-- the field under the first column with this name; empty if there is none
 abbrev pub field_under : Bytes → Fields → Fields → Bytes
 field_under name [] fields = []
 field_under name (head ∷ heads) [] = []
 field_under name (head ∷ heads) (field ∷ fields) =
     if is_named name head then field else field_under name heads fields
 
--- what a record has in a column
+-- the field of a record in a column
 abbrev pub value : Column → Fields → Fields → Bytes
 value column = field_under (name_of column)
 
@@ -50,23 +50,23 @@ is_blank = list_all is_empty
 
 -- ---- the places of columns
 
--- where the first column of this name stands
+-- the index of the first column with this name
 abbrev pub place_of : Bytes → Fields → Option ℕ
 place_of name = position (is_named name)
 
--- where each column that is read stands
+-- the index of each column that is read
 abbrev pub places_in : Fields → List (Option ℕ)
 places_in header = map (λ column. place_of (name_of column) header) columns
 
--- the field at a place
+-- the field at an index
 abbrev pub field_in : Option ℕ → Fields → Bytes
 field_in None fields = []
 field_in (Some i) fields = unwrap_or (slice_get fields i) []
 
--- what fields are that the code holds by reference
+-- the fields that the code holds by reference
 abbrev pub seen : List (Bor Bytes) → Fields
 seen = map (λ field. field.now)
 
--- the fields of a record of the reader, each without white space at its ends
+-- the fields of a record of the reader, without white space at their ends
 abbrev pub fields_in : Row → Fields
 fields_in row = map trimmed (fields_of row)

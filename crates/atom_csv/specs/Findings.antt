@@ -1,13 +1,13 @@
--- What the code finds of a record before it names a cause.
+-- What the code finds in a record before it determines a cause.
 use Rattle.std.specs.Prelude.{ℕ, Option, is_some, ◌++◌, if◌then◌else◌, List}
 use Rattle.isad_core.specs.Texts.{Bytes}
 use Rattle.atom_csv.specs.Fields.{Fields, is_blank, is_empty}
-use Rattle.atom_csv.specs.FileOf.{has_other_width, is_late, is_long, is_translation, legacy, has_slug_alone, when}
+use Rattle.atom_csv.specs.FileContents.{has_other_width, is_late, is_long, is_translation, legacy, has_slug_alone, when}
 use Rattle.atom_csv.specs.declared.cause.Cause.{Cause}
 use Rattle.atom_csv.specs.declared.cause.Cause.TheVariants as cause
 use Rattle.atom_csv.specs.declared.findings.Findings.{Findings}
 
--- what is found of a record in this row, where the first with its legacyId has the culture `stood`
+-- what is found in a record of this row; `stood` is the culture of the first record with its legacyId
 abbrev pub findings : Fields → Fields → Option Bytes → ℕ → Findings
 findings header fields stood row = record {
   is_blank = is_blank fields;

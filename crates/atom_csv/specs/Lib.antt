@@ -2,12 +2,12 @@ pub mod Causes
 pub mod Columns
 pub mod Entries
 pub mod Fields
-pub mod FileOf
+pub mod FileContents
 pub mod Findings
-pub mod Known
-pub mod Reads
+pub mod KnownContainers
+pub mod ReadProgress
 pub mod Source
-pub mod Told
+pub mod FileProperties
 pub mod Values
 pub use Rattle.csv.specs.Machine
 pub use Rattle.csv.specs.Reading

@@ -1,4 +1,4 @@
--- What a reader of the records of a text has left.
+-- What a reader of the records of a text has left to read.
 use Rattle.std.specs.Prelude.{◌≡◌, ◌+◌, true, Option, Some, List, [], length}
 use Rattle.std.specs.Borrow.{Bor}
 use Rattle.std.specs.Option.{option_map_or}
@@ -12,15 +12,15 @@ use Rattle.isad_core.specs.Texts.{Bytes}
 abbrev pub Source : Type 0
 Source = Reader (Bor Bytes)
 
--- the bytes that it has not read
+-- the bytes that it has not read yet
 abbrev pub unread : Source → Option Bytes
 unread r = source_of (λ s. Some s.now) r
 
--- the records that it has not given
+-- the records that it has not returned yet
 abbrev pub left : Source → List (List Bytes)
 left r = option_map_or (λ ys. records_from default_config (length ys + 1) (reader_state r) ys) (unread r) []
 
--- it reads a text with the crate's settings, where records may differ in length and none is a header
+-- it reads a text with the crate's settings; records may differ in length, and none is a header
 pub record IsReading (r : Source) : Type 0 where
   pub config : reader_config r ≡ default_config
   pub trim : reader_trim r ≡ trim.None

@@ -1,4 +1,4 @@
--- The values of a description that a record tells.
+-- The values of the description in a record.
 use Rattle.std.specs.Prelude.{ℕ, Bool, true, false, not, if◌then◌else◌, Option, Some, None, slice_get, unwrap_or, List, [], ◌∷◌, map, filter}
 use Rattle.std.specs.List.{enumerate_from, flat_map}
 use Rattle.isad_core.specs.Texts.{Bytes}
@@ -14,21 +14,21 @@ use Rattle.atom_csv.specs.Columns.{columns_of, is_split}
 use Rattle.atom_csv.specs.Fields.{Fields, is_empty, value}
 use Rattle.atom_csv.specs.Entries.{entries, filled, joined}
 
--- a text that is there
+-- a text, or none if it is empty
 abbrev pub nonblank : Bytes → Option Bytes
 nonblank text = if is_empty text then None else Some text
 
 -- ---- elements (ISAD(G) 3.1 to 3.7)
 
--- what a column tells by the value in it: its entries, or the one text that it holds
+-- the entries of a split column, or the one text of another column
 abbrev pub told_by : Column → Bytes → List Bytes
 told_by k text = if is_split k then entries text else text ∷ []
 
--- the text of an element: what its columns tell, in their order
+-- the text of an element: the non-blank entries of its columns, in their order, joined
 abbrev pub text_of : Fields → Fields → Element → Bytes
 text_of header fields e = joined (filled (flat_map (λ k. told_by k (value k header fields)) (columns_of e)))
 
--- the level of description is kept apart from the other elements
+-- the level of description is stored apart from the other elements
 abbrev pub is_level : Element → Bool
 is_level element.Level = true
 is_level _ = false
@@ -39,24 +39,24 @@ described = filter (λ e. not (is_level e)) elements
 
 -- ---- containers
 
--- the entry at a place: blank where there is none
+-- the entry at a place, or a blank one if there is none
 abbrev pub entry_at : List Bytes → ℕ → Bytes
 entry_at entries i = unwrap_or (slice_get entries i) []
 
--- the container of a name and of what stands at the same place in the other columns
+-- the container with a name and the entries at the same place in the other columns
 abbrev pub triple : List Bytes → List Bytes → ℕ × Bytes → BoxKey
 triple locations kinds (i, name) =
     record { name = name; location = entry_at locations i; kind = entry_at kinds i }
 
--- entry i of the three columns makes the triple i; past the last name there is none with a name
+-- entry i of the three columns makes triple i; there are as many triples as names
 abbrev pub triples : List Bytes → List Bytes → List Bytes → List BoxKey
 triples names locations kinds = map (triple locations kinds) (enumerate_from 0 names)
 
--- it has a name
+-- the container has a name
 abbrev pub is_named_box : BoxKey → Bool
 is_named_box b = not (is_empty b.name)
 
--- the containers of three columns: a blank name makes none, and shifts none
+-- the containers of three columns; a blank name makes no container and does not shift the others
 abbrev pub boxes_of : Bytes → Bytes → Bytes → List BoxKey
 boxes_of names locations kinds =
     distinct (filter is_named_box (triples (entries names) (entries locations) (entries kinds)))

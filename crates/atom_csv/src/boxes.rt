@@ -5,7 +5,7 @@ ghost use Rattle.atom_csv.specs.Fields.{seen};
 ghost use Rattle.atom_csv.specs.Values.{boxes_of};
 ghost use Rattle.isad_core.specs.Boxes.{is_same};
 ghost use Rattle.atom_csv.specs.Values as spec;
-ghost use Rattle.atom_csv.specs.Known.{has, key};
+ghost use Rattle.atom_csv.specs.KnownContainers.{has, key};
 
 use crate::entries::entries;
 use isad_core::{BoxKey, List, Text};
@@ -15,7 +15,7 @@ use std::collections::BTreeSet;
 // The containers that are known already, by name, location and kind.
 type Known<'a> = BTreeSet<(&'a str, &'a str, &'a str)>;
 
-// Keeps a container, and says whether it is new.
+// Keeps a container, and returns whether it is new.
 fn keep<'a>(
     known: &mut Known<'a>,
     name: &'a str,
@@ -30,7 +30,7 @@ fn keep<'a>(
     Ok(is_new)
 }
 
-// The entry at a place: blank where there is none.
+// The entry at a place, or a blank one if there is none.
 fn entry_at<'a>(entries: &[&'a str], i: usize) -> &'a str
     ensures { result.now ≡ spec.entry_at (seen entries.now) i }
 {
@@ -59,9 +59,9 @@ impl<'a> Kept<'a> {
     ghost use Rattle.isad_core.specs.declared.values.BoxKey.{BoxKey};
     ghost use Rattle.std.specs.Prelude as std_list;
     ghost use Rattle.atom_csv.specs.Fields.{is_empty};
-    ghost use Rattle.atom_csv.specs.Known.{Holds, key};
+    ghost use Rattle.atom_csv.specs.KnownContainers.{Holds, key};
 
-    // Adds one, unless its name is blank or it stood already.
+    // Adds a container, unless its name is blank or it was added before.
     fn add(
         &mut self,
         alloc: Global,
@@ -84,8 +84,8 @@ impl<'a> Kept<'a> {
     }
 }
 
-/// The containers of three columns: entry i of each makes the container i. A blank name makes
-/// none, and each container counts once.
+/// The containers of three columns: entry i of each column belongs to container i. A blank name makes
+/// no container, and each container counts once.
 pub fn boxes<'a>(
     alloc: Global,
     names: &'a str,

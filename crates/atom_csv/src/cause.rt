@@ -2,33 +2,33 @@
 ghost use Rattle.std.specs.Prelude.{◌≡◌};
 ghost use Rattle.atom_csv.specs.Causes.{number_of};
 
-/// Why a row of a file is at fault, lowest first.
+/// Why a row of a file is faulty, lowest first.
 #[derive(Clone, Copy)]
 pub enum Cause {
-    /// The bytes are no UTF-8.
+    /// The bytes are not UTF-8.
     NotUtf8,
     /// There is no record.
     NoHeader,
-    /// The header has no column legacyId.
+    /// The header has no `legacyId` column.
     NoLegacyId,
-    /// A column that is read stands twice in the header.
+    /// A column that is read occurs twice in the header.
     HeaderTwice,
-    /// The row has another number of fields than the header.
+    /// The row does not have as many fields as the header.
     FieldCount,
     /// The legacyId is blank.
     BlankLegacyId,
-    /// The legacyId stood earlier, and the row is no translation.
+    /// The legacyId occurred in an earlier row, and this row is not a translation.
     Repeated,
-    /// The parent is named by a slug alone.
+    /// The parent is named only by a slug.
     Slug,
-    /// There are too many rows before it.
+    /// Too many rows come before it.
     TooManyRows,
     /// A field that is read is too long.
     TooLong,
 }
 
 impl Cause {
-    /// Its number, by which it is told.
+    /// Its number, from 1 to 10.
     pub fn number(self) -> u8
         ensures { result ≡ number_of self }
     {

@@ -1,11 +1,11 @@
-//! The columns that are read, and the elements that they hold.
+//! The columns that are read, and the elements that they contain.
 ghost use Rattle.std.specs.Prelude.{◌≡◌};
 ghost use Rattle.atom_csv.specs.Columns.{columns_of, is_split, name_of};
 ghost use Rattle.atom_csv.specs.Columns as spec;
 
 use isad_core::Element;
 
-/// A column of the file that is read. The others are passed over.
+/// A column of the file that is read. Other columns are ignored.
 #[derive(Clone, Copy)]
 pub enum Column {
     // What a row is, and where it belongs
@@ -52,7 +52,7 @@ pub enum Column {
 pub const COUNT: usize = 35;
 
 impl Column {
-    /// Every column that is read, each at its own place.
+    /// Every column that is read, in the order of the variants.
     #[tactic(auto, unfolding(crate::specs::Columns::columns))]
     pub fn all() -> [Column; COUNT]
         ensures { result ≡ spec.columns }
@@ -139,7 +139,7 @@ impl Column {
         }
     }
 
-    /// Whether it holds several entries, with a bar between each two.
+    /// Whether it contains several entries, separated by bars.
     pub fn is_split(self) -> bool
         ensures { result ≡ is_split self }
     {
@@ -157,7 +157,7 @@ impl Column {
     }
 }
 
-/// The columns of an element, in the order in which what they hold is told.
+/// The columns of an element, in the order in which their entries are joined.
 pub fn columns(element: Element) -> &'static [Column]
     ensures { result.now ≡ columns_of element }
 {

@@ -6,7 +6,7 @@ ghost use Rattle.atom_csv.specs.Fields.{seen};
 use crate::trim::trimmed;
 use std::alloc::{AllocError, Global};
 
-/// What a part of a cut text tells: `NULL` is blank.
+/// The entry in one part of a split text. `NULL` is blank.
 pub fn entry(part: &str) -> &str
     ensures { result.now ≡ spec.entry_of part.now }
 {
@@ -16,7 +16,7 @@ pub fn entry(part: &str) -> &str
     }
 }
 
-/// The entries of a text, blank ones among them.
+/// The entries of a text, including blank ones.
 pub fn entries(alloc: Global, text: &str) -> Result<Vec<&str>, AllocError>
     ensures { IfOk result (λ v. seen v.items ≡ spec.entries text.now) }
 {

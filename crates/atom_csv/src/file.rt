@@ -1,38 +1,38 @@
-//! What a file tells.
+//! The contents of a file.
 ghost use Rattle.std.specs.Prelude.{◌≡◌};
 
 use isad_core::{List, Text, Values};
 use std::alloc::{AllocError, AllocFailed};
 
-/// A row of a file: what it tells of a unit.
+/// A row of a file: the description of a unit.
 #[derive(Debug, PartialEq, Drop)]
 pub struct Row {
-    /// Its number, where the header is 1. Blank rows and translations count.
+    /// Its number; the header is row 1. Blank rows and translations count.
     pub row: u32,
-    /// Its legacyId, which is not blank and stands in no other row of the file.
+    /// Its legacyId, which is not blank and differs from that of every other row of the `File`.
     pub legacy: Text,
     /// The legacyId of its parent, if it names one.
     pub parent: Option<Text>,
-    /// Whether it is published. A row that doesn't say so is a draft.
+    /// Whether it is published. A row that does not say so is a draft.
     pub published: bool,
-    /// What it tells of the description.
+    /// The values of the description.
     pub values: Values,
 }
 
-/// The rows of a file, without blank ones and translations.
+/// The rows of a file, without blank rows and translations.
 #[derive(Debug, PartialEq, Drop)]
 pub struct File {
     pub rows: List<Row>,
-    /// How many rows tell a unit of an earlier row again, in another language.
+    /// How many rows describe the unit of an earlier row again, in another language.
     pub translations: u32,
 }
 
 /// Why a file is refused.
 #[derive(Clone, Copy, Debug, PartialEq, Eq)]
 pub enum FileFault {
-    /// A growth was refused for want of memory.
+    /// There was not enough memory.
     Memory,
-    /// The first row with a cause, and its lowest cause: row 0 is the file, and row 1 its header.
+    /// The first row with a cause, and its lowest cause. Row 0 is the whole file, and row 1 its header.
     Bad { row: u32, cause: u8 },
 }
 

@@ -1,9 +1,9 @@
-//! What is found of a record, and the cause that it has.
+//! What is found in a record, and the cause that follows from it.
 ghost use Rattle.std.specs.Prelude.{◌≡◌, IfNone, false, option_map};
 ghost use Rattle.atom_csv.specs.Fields.{fields_in};
-ghost use Rattle.atom_csv.specs.FileOf.{lowest};
+ghost use Rattle.atom_csv.specs.FileContents.{lowest};
 ghost use Rattle.atom_csv.specs.Fields as fields;
-ghost use Rattle.atom_csv.specs.FileOf as spec;
+ghost use Rattle.atom_csv.specs.FileContents as spec;
 ghost use Rattle.atom_csv.specs.Findings.{causes_of, findings};
 
 use crate::cause::Cause;
@@ -14,10 +14,10 @@ use csv::StringRecord;
 use isad_core::Text;
 use isad_core::limits::MOST_BYTES;
 
-// The last row that is taken.
+// The last row that is accepted.
 const LAST_ROW: u32 = 20_001;
 
-/// What is found of a record.
+/// What is found in a record.
 #[derive(Clone, Copy)]
 pub struct Findings {
     pub is_blank: bool,
@@ -42,7 +42,8 @@ fn is_blank(row: &StringRecord) -> bool
     true
 }
 
-// Whether a record is a translation, where the first row with its legacyId has this culture.
+// Whether a record is a translation. `stood` is the culture of the first row with its legacyId, if
+// there is one.
 fn is_translation(header: &Header, row: &StringRecord, stood: Option<&Text>) -> bool
     ensures { result ≡ spec.is_translation header.now (fields_in row.now) (option_map (λ t. t.now) stood.entry) }
 {
@@ -62,7 +63,7 @@ fn has_other_width(header: &Header, row: &StringRecord) -> bool
     row.len() != header.width()
 }
 
-// Whether a record names its parent by a slug alone.
+// Whether a record names its parent only by a slug.
 fn has_slug_alone(header: &Header, row: &StringRecord) -> bool
     ensures { result ≡ spec.has_slug_alone header.now (fields_in row.now) }
 {
@@ -80,8 +81,8 @@ fn is_long(header: &Header, row: &StringRecord) -> bool
 }
 
 impl Findings {
-    /// What is found of a record in this row, where the first row with its legacyId has this
-    /// culture.
+    /// What is found in the record of this row. `stood` is the culture of the first row with its
+    /// legacyId, if there is one.
     pub fn of(header: &Header, row: &StringRecord, stood: Option<&Text>, number: u32) -> Findings
         ensures { result ≡ findings header.now (fields_in row.now) (option_map (λ t. t.now) stood.entry) number }
     {
@@ -97,7 +98,7 @@ impl Findings {
         }
     }
 
-    /// The lowest cause.
+    /// The lowest cause, if any.
     pub fn lowest(self) -> Option<Cause>
         ensures lowest { result ≡ lowest (causes_of self) }
         ensures late { IfNone result (self.is_late ≡ false) }

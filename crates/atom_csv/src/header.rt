@@ -1,10 +1,10 @@
-//! The header of a file: which columns it has, and where.
+//! The header of a file: which columns it has, and where they are.
 ghost use Rattle.std.specs.Prelude.{◌≡◌, ◌==◌, IfOk, count_by, map, nat_lt, length, position};
 ghost use Rattle.std.specs.List.{list_any};
 ghost use Rattle.atom_csv.specs.Columns.{columns, name_of};
 ghost use Rattle.atom_csv.specs.Fields.{field_in, fields_in, is_named, seen};
 ghost use Rattle.atom_csv.specs.Fields as spec;
-ghost use Rattle.atom_csv.specs.FileOf.{header_causes, lowest};
+ghost use Rattle.atom_csv.specs.FileContents.{header_causes, lowest};
 
 use crate::cause::Cause;
 use crate::column::Column;
@@ -13,7 +13,7 @@ use csv::StringRecord;
 use std::alloc::{AllocError, Global};
 use std::marker::Model;
 
-// The fields of a record, each without white space at its ends.
+// The fields of a record, without white space at their ends.
 fn names(alloc: Global, row: &StringRecord) -> Result<Vec<&str>, AllocError>
     ensures { IfOk result (λ v. seen v.items ≡ fields_in row.now) }
 {
@@ -24,7 +24,7 @@ fn names(alloc: Global, row: &StringRecord) -> Result<Vec<&str>, AllocError>
     Ok(names)
 }
 
-// Where the first column of this name stands.
+// The index of the first column with this name.
 fn place(header: &[&str], name: &str) -> Option<usize>
     ensures { result ≡ position (λ field. is_named name.now field.now) header.now }
 {
@@ -45,7 +45,7 @@ fn count(header: &[&str], name: &str) -> usize
     header.iter().filter(|field| **field == name).count()
 }
 
-// Whether a column that is read stands twice.
+// Whether a column that is read occurs twice.
 fn has_twice(header: &[&str]) -> bool
     ensures { result ≡ list_any (λ column.
         nat_lt 1 (count_by (λ field. is_named (name_of column) field.now) header.now)) columns }
@@ -55,7 +55,7 @@ fn has_twice(header: &[&str]) -> bool
         .any(|column| count(header, column.name()) > 1)
 }
 
-// Where each column that is read stands.
+// The index of each column that is read.
 fn places(alloc: Global, header: &[&str]) -> Result<Vec<Option<usize>>, AllocError>
     ensures { IfOk result (λ v. v.items
         ≡ map (λ column. position (λ field. is_named (name_of column) field.now) header.now) columns) }
@@ -66,7 +66,7 @@ fn places(alloc: Global, header: &[&str]) -> Result<Vec<Option<usize>>, AllocErr
         .collect(alloc)
 }
 
-// The field of a record at a place.
+// The field of a record at an index, without white space at its ends; empty if there is none.
 fn field_at<'r>(row: &'r StringRecord, place: Option<usize>) -> &'r str
     ensures { result.now ≡ field_in place (fields_in row.now) }
 {
@@ -80,7 +80,7 @@ fn field_at<'r>(row: &'r StringRecord, place: Option<usize>) -> &'r str
 #[derive(Drop)]
 pub struct Header<'a> {
     names: Vec<&'a str>,
-    // Where each column that is read stands, so that no name is looked for twice.
+    // The index of each column that is read, so that no name is looked up twice.
     places: Vec<Option<usize>>,
 }
 
@@ -96,7 +96,7 @@ impl<'a> Model for Header<'a> {
 }
 
 impl<'a> Header<'a> {
-    /// The header that a record is.
+    /// The header in a record.
     pub fn of(alloc: Global, row: &'a StringRecord) -> Result<Header<'a>, AllocError>
         ensures { IfOk result (λ h. h ≡ fields_in row.now) }
     {
@@ -105,7 +105,7 @@ impl<'a> Header<'a> {
         Ok(Header { names, places })
     }
 
-    /// The lowest cause for which the file is refused, if there is one.
+    /// The lowest cause in the header for which the file is refused, if any.
     pub fn cause(&self) -> Option<Cause>
         ensures { result ≡ lowest (header_causes self.now) }
     {
@@ -119,14 +119,14 @@ impl<'a> Header<'a> {
         None
     }
 
-    /// What a record has in a column.
+    /// The field of a record in a column, without white space at its ends; empty if there is none.
     pub fn value<'r>(&self, column: Column, row: &'r StringRecord) -> &'r str
         ensures { result.now ≡ spec.value column self.now (fields_in row.now) }
     {
         field_at(row, self.places[column as usize])
     }
 
-    /// How many columns there are.
+    /// The number of columns.
     pub fn width(&self) -> usize
         ensures { result ≡ length self.now }
     {

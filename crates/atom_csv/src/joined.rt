@@ -1,4 +1,4 @@
-//! What the columns of an element tell, as one text.
+//! Joins the entries of an element's columns to one text.
 ghost use Rattle.std.specs.Prelude.{◌≡◌, IfOk, OnOk, fold};
 ghost use Rattle.std.specs.String.{string_bytes};
 ghost use Rattle.atom_csv.specs.Entries.{entries, with_entry};
@@ -12,7 +12,7 @@ use csv::StringRecord;
 use isad_core::Element;
 use std::alloc::{AllocError, Global};
 
-// Adds an entry to those before it.
+// Adds an entry to those before it. An empty entry adds nothing.
 fn add(text: &mut String, entry: &str) -> Result<(), AllocError>
     ensures { OnOk result (string_bytes text.new ≡ with_entry (string_bytes text.old) entry.now) }
 {
@@ -36,7 +36,7 @@ fn add_entries(text: &mut String, value: &str) -> Result<(), AllocError>
     Ok(())
 }
 
-// Adds what a column tells.
+// Adds the entries of a split column, or the one text of another column.
 fn add_told(text: &mut String, column: Column, value: &str) -> Result<(), AllocError>
     ensures { OnOk result (string_bytes text.new
         ≡ fold with_entry (string_bytes text.old) (told_by column value.now)) }
@@ -48,7 +48,7 @@ fn add_told(text: &mut String, column: Column, value: &str) -> Result<(), AllocE
     }
 }
 
-/// The text of an element: what its columns tell, in their order.
+/// The text of an element: the non-blank entries of its columns, in their order, joined.
 pub fn joined(
     alloc: Global,
     header: &Header,

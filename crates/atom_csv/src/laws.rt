@@ -1,11 +1,11 @@
-//! What the rules say, computed for small files, and what follows from them for all.
+//! The rules, computed for small files, and what follows from them for all files.
 ghost use Rattle.std.specs.Prelude.{◌≡◌, ◌∷◌, ◌++◌, [], codes, replicate, true};
 ghost use Rattle.std.specs.Prelude.{Err, Ok, None, Some};
 ghost use Rattle.isad_core.specs.Texts.{Bytes};
 ghost use Rattle.atom_csv.specs.Entries.{entries, filled, joined};
-ghost use Rattle.atom_csv.specs.FileOf.{file_of};
-ghost use Rattle.atom_csv.specs.Known.{key};
-ghost use Rattle.atom_csv.specs.Told.{IsTold, AreLegibleRows};
+ghost use Rattle.atom_csv.specs.FileContents.{file_of};
+ghost use Rattle.atom_csv.specs.KnownContainers.{key};
+ghost use Rattle.atom_csv.specs.FileProperties.{IsTold, AreLegibleRows};
 ghost use Rattle.atom_csv.specs.Values.{boxes_of};
 ghost use Rattle.atom_csv.specs.declared.file.File.{File};
 
@@ -14,53 +14,53 @@ pub fn an_empty_file_has_no_header()
     ensures { file_of (codes "\n") ≡ Err (1, 2) }
 {}
 
-/// A header alone tells no row.
+/// A file with only a header has no rows.
 pub fn a_header_alone_tells_nothing()
     ensures { file_of (codes "legacyId,title\n") ≡ Ok (record { rows = []; translations = 0 }) }
 {}
 
-/// One byte order mark is skipped, and a second belongs to the first name.
+/// One byte order mark is skipped. A second one belongs to the first name.
 pub fn one_mark_is_skipped()
     ensures one { file_of (0xEF ∷ 0xBB ∷ 0xBF ∷ codes "legacyId")
         ≡ Ok (record { rows = []; translations = 0 }) }
     ensures two { file_of (0xEF ∷ 0xBB ∷ 0xBF ∷ 0xEF ∷ 0xBB ∷ 0xBF ∷ codes "legacyId") ≡ Err (1, 3) }
 {}
 
-/// Bytes that are no text are a fault of the file, whatever stands above them.
+/// Bytes that are not UTF-8 are a fault of the whole file, whatever comes before them.
 pub fn no_text_is_no_file()
     ensures { file_of (codes "title\n" ++ 0xFF ∷ []) ≡ Err (0, 1) }
 {}
 
-/// A legacyId that stands again is a fault without two languages.
+/// A legacyId that occurs again is a fault, unless its first row and this row name different languages.
 pub fn a_legacy_id_stands_once()
     ensures without { file_of (codes "legacyId\n1\n1\n") ≡ Err (3, 7) }
     ensures blank { file_of (codes "legacyId,culture\n1,en\n1,\n") ≡ Err (3, 7) }
     ensures first { file_of (codes "legacyId,culture\n1,en\n1,fr\n1,en\n") ≡ Err (4, 7) }
 {}
 
-/// A parent that is named by its slug alone is not known.
+/// A parent that is named only by its slug is not known.
 pub fn a_slug_alone_names_no_parent()
     ensures { file_of (codes "legacyId,parentId,qubitParentSlug\n1,,x\n") ≡ Err (2, 8) }
 {}
 
-/// A blank row is passed over and has its number.
+/// A blank row is skipped, but it has a row number.
 pub fn a_blank_row_counts()
     ensures { file_of (codes "legacyId,title\n,\n\n,x\n") ≡ Err (3, 6) }
 {}
 
-/// `NULL` and blank entries leave nothing between those that are there.
+/// `NULL` and blank entries are left out when entries are joined.
 pub fn entries_are_joined()
     ensures { joined (filled (entries (codes "Smith|NULL| |Jones"))) ≡ codes "Smith; Jones" }
 {}
 
-/// Containers go by their places.
+/// The entries for containers are matched by place.
 pub fn containers_go_by_their_places()
     ensures { boxes_of (codes "Box 1||Box 3|Box 1") (codes "X|Y|Z|X") (codes "Box|NULL")
         ≡ key (codes "Box 1") (codes "X") (codes "Box") ∷ key (codes "Box 3") (codes "Z") []
         ∷ key (codes "Box 1") (codes "X") [] ∷ [] }
 {}
 
-/// A fonds and its series, as their rows tell them.
+/// The rows of a fonds and its series.
 pub fn a_fonds_and_a_series()
     ensures { file_of (codes "legacyId,parentId,identifier,title,levelOfDescription,publicationStatus\n"
         ++ codes "1,,HUL,Hull Dock Company,Fonds,Published\n2,1,1,Minutes,Series,Published\n")
@@ -90,8 +90,8 @@ pub fn a_fonds_and_a_series()
         }) }
 {}
 
-/// No legacyId of a file is blank, and none stands twice; no text or name of a container is blank,
-/// and no container stands twice in a row.
+/// In a file that is read, no legacyId is blank or occurs twice, no text and no name of a container is
+/// blank, and no container occurs twice in a row.
 pub fn a_file_is_sound()
     ensures { (bytes : Bytes) (file : File) → file_of bytes ≡ Ok file → IsTold file }
 {}

@@ -1,9 +1,9 @@
-//! A file, from its bytes.
+//! Reads a file from its bytes.
 ghost use Rattle.std.specs.Prelude.{◌≡◌, Err, IfErr, IfOk, Ok, map};
 ghost use Rattle.atom_csv.specs.Fields.{trimmed};
-ghost use Rattle.atom_csv.specs.FileOf.{file_of};
-ghost use Rattle.atom_csv.specs.FileOf as spec;
-ghost use Rattle.atom_csv.specs.Reads.{IsBad};
+ghost use Rattle.atom_csv.specs.FileContents.{file_of};
+ghost use Rattle.atom_csv.specs.FileContents as spec;
+ghost use Rattle.atom_csv.specs.ReadProgress.{IsBad};
 ghost use Rattle.atom_csv.specs.Source.{IsReading, left};
 
 use crate::cause::Cause;
@@ -14,7 +14,7 @@ use crate::rows::Rows;
 use csv::{Reader, StringRecord};
 use std::alloc::Global;
 
-// The file of the records below its header.
+// Reads the records below the header.
 fn below(alloc: Global, header: &Header, reader: &mut Reader<&[u8]>) -> Result<File, FileFault>
     requires { IsReading reader.old }
     ensures rows { IfOk result (λ f. spec.below header.now (map (map trimmed) (left reader.old)) ≡ Ok f) }
@@ -34,7 +34,7 @@ fn below(alloc: Global, header: &Header, reader: &mut Reader<&[u8]>) -> Result<F
     })
 }
 
-// The file of the records of a text.
+// Reads the records of a text.
 fn of_text(alloc: Global, text: &str) -> Result<File, FileFault>
     ensures rows { IfOk result (λ f. spec.of_records (spec.records_of text.now) ≡ Ok f) }
     ensures bad { IfErr result (λ e. IsBad e (λ at cause.
@@ -54,14 +54,13 @@ fn of_text(alloc: Global, text: &str) -> Result<File, FileFault>
     below(alloc, &header, &mut reader)
 }
 
-/// The file that bytes say: AtoM's archival description CSV, in UTF-8, with or without a byte
-/// order mark.
+/// Reads AtoM's archival description CSV, in UTF-8, with or without a byte order mark.
 ///
-/// Where it is at fault, the first row that has a cause is told, with its lowest cause.
+/// If the file is faulty, the error has the first row with a cause, and its lowest cause.
 pub fn read_file(alloc: Global, bytes: &[u8]) -> Result<File, FileFault>
-    // Where it gives a file, it is the one that the bytes say.
+    // If it returns a file, it is the one that the bytes encode.
     ensures rows { IfOk result (λ f. file_of bytes.now ≡ Ok f) }
-    // A fault is the first row that has one, with its lowest cause.
+    // A fault has the first row with a cause, and its lowest cause.
     ensures bad { IfErr result (λ e. IsBad e (λ row cause. file_of bytes.now ≡ Err (row, cause))) }
 {
     match str::from_utf8(bytes) {

@@ -6,7 +6,7 @@ ghost use Rattle.std.specs.Str.{bytes_eq, str_eq_ignore_ascii_case};
 ghost use Rattle.isad_core.specs.Texts.{Bytes};
 ghost use Rattle.atom_csv.specs.Fields.{fields_in, is_empty};
 ghost use Rattle.atom_csv.specs.Values.{nonblank};
-ghost use Rattle.atom_csv.specs.FileOf as spec;
+ghost use Rattle.atom_csv.specs.FileContents as spec;
 
 use crate::column::Column;
 use crate::file::{FileFault, Row};
@@ -18,7 +18,7 @@ use isad_core::{List, Text};
 use std::alloc::{AllocError, Global};
 use std::collections::BTreeMap;
 
-// A text, where it is not blank.
+// A text, or `None` if it is empty.
 fn optional(alloc: Global, text: &str) -> Result<Option<Text>, AllocError>
     ensures { IfOk result (λ t. t ≡ nonblank text.now) }
 {
@@ -34,7 +34,7 @@ fn is_published(status: &str) -> bool
     status.eq_ignore_ascii_case("Published")
 }
 
-// The row that a record tells.
+// The row that a record describes.
 fn row_of(
     alloc: Global,
     header: &Header,
@@ -55,7 +55,7 @@ fn row_of(
 // The culture of the first row with each legacyId.
 type Cultures = BTreeMap<String, Text>;
 
-// The culture of the first row with this legacyId: a blank one stood nowhere.
+// The culture of the first row with this legacyId. A blank legacyId has none.
 fn stood<'a>(cultures: &'a Cultures, id: &str) -> Option<&'a Text>
     ensures { option_map (λ t. t.now) result ≡ (if is_empty id.now then None else get_by_text cultures.now id.now) }
 {
@@ -65,7 +65,7 @@ fn stood<'a>(cultures: &'a Cultures, id: &str) -> Option<&'a Text>
     cultures.get(id)
 }
 
-// Keeps the culture of a row.
+// Remembers the culture of a row.
 #[tactic(auto, using(std::proofs::lemmas::Map::Text::text_keys))]
 fn remember(
     cultures: &mut Cultures,
@@ -81,7 +81,7 @@ fn remember(
     Ok(())
 }
 
-/// What the records so far tell.
+/// The rows and translations of the records so far.
 #[derive(Drop)]
 pub struct Rows {
     pub rows: List<Row>,
@@ -94,10 +94,10 @@ impl Rows {
     ghost use Rattle.std.specs.Prelude.{OnOk, IfErr, Err, length};
     ghost use Rattle.std.specs.Prelude as std_list;
     ghost use Rattle.atom_csv.specs.Fields.{Fields, fields_in};
-    ghost use Rattle.atom_csv.specs.FileOf.{below};
-    ghost use Rattle.atom_csv.specs.Reads.{IsBad, Tells};
+    ghost use Rattle.atom_csv.specs.FileContents.{below};
+    ghost use Rattle.atom_csv.specs.ReadProgress.{IsBad, Tells};
 
-    /// Before the first record below the header.
+    /// The state before the first record below the header.
     pub fn new(alloc: Global) -> Rows
         ensures none { result.translations ≡ 0 }
         ensures told { (header : Fields) → Tells header [] result }
@@ -109,7 +109,8 @@ impl Rows {
         }
     }
 
-    /// Adds what the next record tells, which has this row number, or gives its lowest cause.
+    /// Adds the next record, which has this row number. If the record has a cause, returns the lowest
+    /// one.
     pub fn add(
         &mut self,
         alloc: Global,

@@ -1,4 +1,4 @@
-//! The values that a record tells of a description.
+//! The values of the description in a record.
 ghost use Rattle.std.specs.Prelude.{◌≡◌, IfOk, map};
 ghost use Rattle.atom_csv.specs.Fields.{fields_in};
 ghost use Rattle.atom_csv.specs.Values.{nonblank, text_of, values_of};
@@ -13,7 +13,7 @@ use isad_core::{Element, Text, Values};
 use std::alloc::{AllocError, Global};
 use std::array;
 
-// The elements but for the level, in the standard's order.
+// The elements other than the level, in the standard's order.
 #[tactic(auto, unfolding(crate::specs::Values::described))]
 fn described() -> [Element; 25]
     ensures { result ≡ spec.described }
@@ -47,7 +47,7 @@ fn described() -> [Element; 25]
     ]
 }
 
-// The text of an element, where it is not blank.
+// The text of an element, or `None` if it is empty.
 fn optional(
     alloc: Global,
     header: &Header,
@@ -63,7 +63,7 @@ fn optional(
     Ok(Some(Text(text)))
 }
 
-// The texts of all elements but the level.
+// The texts of all elements other than the level.
 fn texts(
     alloc: Global,
     header: &Header,
@@ -78,7 +78,7 @@ fn texts(
     Ok(texts)
 }
 
-/// The values of the description that a record is.
+/// The values of the description in a record.
 pub fn values(alloc: Global, header: &Header, row: &StringRecord) -> Result<Values, AllocError>
     ensures { IfOk result (λ v. v ≡ values_of header.now (fields_in row.now)) }
 {

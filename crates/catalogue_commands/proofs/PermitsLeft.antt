@@ -9,7 +9,7 @@ use Rattle.tree_core.proofs.EachLemmas.{cut-each, has-each}
 use Rattle.tree_core.proofs.Pieces.{still_there}
 use Rattle.tree_core.proofs.SpanShifts.{tree_apart}
 use Rattle.desk_core.specs.DeskRows.{PermitRow}
-use Rattle.catalogue_core.specs.Finding.{has_unit}
+use Rattle.catalogue_core.specs.UnitLookup.{has_unit}
 use Rattle.catalogue_core.specs.Units.{Unit, has_id}
 use Rattle.catalogue_core.proofs.EachOf.{all_append}
 use Rattle.catalogue_statements.specs.Removals.{without}
@@ -17,7 +17,7 @@ use Rattle.office_core.specs.Rules.{removed}
 use Rattle.office_core.specs.Soundness.{ArePermitsOfUnits}
 use Rattle.office_core.specs.State.{Permit, State}
 use Rattle.office_core.specs.Words.{numbers_to}
-use Rattle.state_encoding.specs.DeskShown.{permit_row, permit_rows}
+use Rattle.state_encoding.specs.DeskEncoding.{permit_row, permit_rows}
 
 abbrev id_of : Unit → ℕ
 id_of unit = unit.id

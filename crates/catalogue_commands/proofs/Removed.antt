@@ -7,38 +7,38 @@ use Rattle.sqlite.specs.State as store
 use Rattle.sqlite.specs.State.{HasCleanDisk}
 use Rattle.sqlite.specs.Tree.{Trees}
 use Rattle.isad_core.specs.Days.{is_day_number}
-use Rattle.tree_core.specs.Bearing.{MayCut}
+use Rattle.tree_core.specs.ChangeConditions.{MayCut}
 use Rattle.tree_core.specs.Forest.{Forest, branch, cut, each, nodes}
 use Rattle.tree_core.specs.Versions.{Version}
 use Rattle.tree_core.proofs.EachLemmas.{branch-each}
 use Rattle.desk_core.specs.DeskRows.{Desk, PermitRow}
 use Rattle.desk_store.specs.Holdings.{issued_of}
 use Rattle.desk_store.specs.declared.holdings.Loan.{Loan}
-use Rattle.desk_store.specs.Represents.{IsNumberOf, RepresentsDesk}
-use Rattle.catalogue_core.specs.Finding.{has_unit}
+use Rattle.desk_store.specs.Representation.{IsNumberOf, RepresentsDesk}
+use Rattle.catalogue_core.specs.UnitLookup.{has_unit}
 use Rattle.catalogue_core.specs.GoodCatalogues.{IsSomeDay}
 use Rattle.catalogue_core.specs.LegibleCatalogues.{HasLegibleTexts, IsLegibleCatalogue}
-use Rattle.catalogue_core.specs.Merging.{Catalogue}
+use Rattle.catalogue_core.specs.CatalogueMerge.{Catalogue}
 use Rattle.catalogue_core.specs.Units.{Unit, has_id}
 use Rattle.catalogue_core.proofs.DistinctLists.{all_so}
 use Rattle.catalogue_core.proofs.EachAfter.{all_cut}
 use Rattle.catalogue_core.proofs.EachOf.{all_filtered}
 use Rattle.catalogue_core.proofs.GoodChanges.{cut_good}
 use Rattle.catalogue_core.proofs.UnitsAfter.{each_there}
-use Rattle.catalogue_statements.specs.Represents.{Represents}
+use Rattle.catalogue_statements.specs.Representation.{Represents}
 use Rattle.catalogue_statements.specs.declared.office.OfficeRow.{OfficeRow}
-use Rattle.catalogue_store.specs.Removing.{HasNoBranch, tables_of_units}
+use Rattle.catalogue_store.specs.BranchRemoval.{HasNoBranch, tables_of_units}
 use Rattle.office_core.specs.Rules.{removed}
 use Rattle.office_core.specs.SoundOffice.{IsSoundOffice}
 use Rattle.office_core.specs.State.{Permit, State, is_permitted}
 use Rattle.office_core.specs.declared.command.Command.TheVariants as command
 use Rattle.office_core.specs.declared.done.Done.TheVariants as done
-use Rattle.state_encoding.specs.DeskShown.{permit_rows}
-use Rattle.state_encoding.specs.Reading.{tables}
+use Rattle.state_encoding.specs.DeskEncoding.{permit_rows}
+use Rattle.state_encoding.specs.OfficeRows.{tables}
 use Rattle.state_encoding.proofs.LegibleRows.{desk_legible}
 use Rattle.refinement.specs.Gate.{AreAsked, AreEnough}
-use Rattle.refinement.specs.Judging.{CanBeJudged}
-use Rattle.refinement.specs.Represents.{office_of}
+use Rattle.refinement.specs.AccessConditions.{CanBeJudged}
+use Rattle.refinement.specs.Representation.{office_of}
 use Rattle.refinement.proofs.Gates.{enough_of}
 use Rattle.refinement.proofs.Judged.{distinct_ids, judged_with}
 use Rattle.refinement.proofs.OpenByPermits.{IsAlike, permitted_left}

@@ -11,10 +11,10 @@ use Rattle.tree_core.proofs.EachLemmas.{cut-each, has-each}
 use Rattle.tree_core.proofs.Lists.{any_agree, eqb_comm}
 use Rattle.tree_core.proofs.SpanShifts.{tree_apart}
 use Rattle.tree_core.specs.Versions.{Version}
-use Rattle.catalogue_core.specs.Finding.{has_unit}
+use Rattle.catalogue_core.specs.UnitLookup.{has_unit}
 use Rattle.catalogue_core.specs.GoodCatalogues.{IsSomeDay}
 use Rattle.catalogue_core.specs.LegibleCatalogues.{IsLegibleCatalogue}
-use Rattle.catalogue_core.specs.Merging.{Catalogue}
+use Rattle.catalogue_core.specs.CatalogueMerge.{Catalogue}
 use Rattle.catalogue_core.specs.Statuses.{chosen, chosen_units, is_chosen, with_status}
 use Rattle.catalogue_core.specs.Units.{Unit, has_id}
 use Rattle.catalogue_core.proofs.DistinctLists.{all_so}
@@ -23,7 +23,7 @@ use Rattle.catalogue_core.proofs.ImportedAgain.{all_each}
 use Rattle.catalogue_core.proofs.KeptUnits.{status_keeps}
 use Rattle.catalogue_core.proofs.LegibleMerges.{each_legible}
 use Rattle.catalogue_core.proofs.UnitsAfter.{each_there}
-use Rattle.catalogue_statements.specs.Represents.{Represents}
+use Rattle.catalogue_statements.specs.Representation.{Represents}
 use Rattle.catalogue_statements.specs.declared.office.OfficeRow.{OfficeRow}
 use Rattle.office_core.specs.Rules.{after}
 use Rattle.office_core.specs.SoundOffice.{IsSoundOffice}
@@ -33,8 +33,8 @@ use Rattle.office_core.specs.declared.done.Done.TheVariants as done
 use Rattle.office_tables.specs.Schema as tables
 use Rattle.office_tables.specs.Step.{OnlyTouches}
 use Rattle.refinement.specs.Gate.{OthersAreOpen}
-use Rattle.refinement.specs.Judging.{CanBeJudged}
-use Rattle.refinement.specs.Represents.{office_of}
+use Rattle.refinement.specs.AccessConditions.{CanBeJudged}
+use Rattle.refinement.specs.Representation.{office_of}
 use Rattle.refinement.proofs.Changed.{shown_with}
 use Rattle.refinement.proofs.Judged.{distinct_ids, judged_with}
 use Rattle.refinement.proofs.OpenElsewhere.{none_left, others_open, stays_changed}

@@ -1,9 +1,9 @@
-//! A unit is closed, or its closure ends.
+//! Closes units, and ends their closure.
 
 ghost use Rattle.std.specs.Prelude.{◌≡◌, true};
 ghost use Rattle.sqlite.specs.Held.{state};
 ghost use Rattle.isad_core.specs.Limits.{IsNumber};
-ghost use Rattle.catalogue_core.specs.Finding.{has_unit};
+ghost use Rattle.catalogue_core.specs.UnitLookup.{has_unit};
 ghost use Rattle.catalogue_core.specs.GoodCatalogues.{IsSomeDay};
 ghost use Rattle.office_core.specs.declared.command.Command.TheVariants as command;
 ghost use Rattle.office_tables.specs.Step.{InTransaction};
@@ -17,7 +17,7 @@ use refinement::pass_near;
 use sqlite::{Alter, Connection};
 use std::alloc::Global;
 
-/// A day that there is, is one of the calendar.
+/// If there is a day, it is one of the calendar.
 fn is_of_calendar(until: Option<Day>)
     ensures { IsSomeDay until }
 {
@@ -26,7 +26,8 @@ fn is_of_calendar(until: Option<Day>)
     }
 }
 
-/// Closes a unit that is there, or ends its closure, unless that withholds what is out.
+/// Closes a unit that exists or ends its closure, or refuses if this would close a container to the
+/// reader who has it.
 fn close_known<P: Places, S: Alter>(
     alloc: Global,
     conn: &mut Connection<S>,
@@ -44,7 +45,9 @@ fn close_known<P: Places, S: Alter>(
     pass_near::<P, S>(alloc, conn, today, unit, Done::SetClosure { unit })
 }
 
-/// Closes a unit until a day, or ends its closure. The day of the office is known.
+/// Closes a unit until a day, or ends its closure. Refuses if there is no such unit, or if this
+/// would close a container to the reader who has it. After a refusal the caller must roll the
+/// transaction back. `today` must be the office's day.
 pub fn change_closure<P: Places, S: Alter>(
     alloc: Global,
     conn: &mut Connection<S>,

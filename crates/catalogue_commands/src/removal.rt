@@ -1,12 +1,12 @@
-//! Units are taken away.
+//! Removes units.
 
 ghost use Rattle.std.specs.Prelude.{◌≡◌, true};
 ghost use Rattle.sqlite.specs.Held.{state};
 ghost use Rattle.isad_core.specs.Limits.{IsNumber};
-ghost use Rattle.catalogue_core.specs.Finding.{has_unit};
+ghost use Rattle.catalogue_core.specs.UnitLookup.{has_unit};
 ghost use Rattle.desk_store.specs.Holdings.{issued_of};
 ghost use Rattle.office_core.specs.declared.command.Command.TheVariants as command;
-ghost use Rattle.state_encoding.specs.Reading.{tables};
+ghost use Rattle.state_encoding.specs.OfficeRows.{tables};
 ghost use Rattle.office_tables.specs.Step.{InTransaction};
 ghost use Rattle.refinement.specs.CommandSteps.{CarriesOut};
 ghost use Rattle.refinement.specs.Gate.{AreAsked};
@@ -20,8 +20,8 @@ use refinement::{loans_near, pass_of};
 use sqlite::{Alter, Connection};
 use std::alloc::Global;
 
-/// Takes a unit that is there away with all below it, unless that withholds what is out. What is out that it may
-/// withhold is known.
+/// Removes a unit that exists and all below it, or refuses if this would close a container to the reader who has it.
+/// `loans` are the loans that this may affect.
 fn remove_beside<P: Places, S: Alter>(
     alloc: Global,
     conn: &mut Connection<S>,
@@ -40,7 +40,8 @@ fn remove_beside<P: Places, S: Alter>(
     pass_of::<P, S>(alloc, conn, today, loans, Done::Remove { units })
 }
 
-/// Takes a unit that is there away with all below it, unless that withholds what is out.
+/// Removes a unit that exists and all below it, or refuses if this would close a container to the
+/// reader who has it.
 fn remove_known<P: Places, S: Alter>(
     alloc: Global,
     conn: &mut Connection<S>,
@@ -52,12 +53,14 @@ fn remove_known<P: Places, S: Alter>(
     ensures { CarriesOut P.represents P.version (λ s. (today ≡ s.day) × (has_unit s.catalogue.forest unit ≡ true))
         (command.Remove unit) (state S.Store conn.old) (state S.Store conn.new) result }
 {
-    // Once the units are away, nothing tells which containers they named.
+    // Once the units are removed, no row says which containers they named.
     let loans = loans_near::<P, S>(alloc, conn, unit)?;
     remove_beside::<P, S>(alloc, conn, today, unit, &loans)
 }
 
-/// Takes a unit away with all below it, and with the permits for these units. The day of the office is known.
+/// Removes a unit and all below it, with the permits for these units. Refuses if there is no such unit, or if this
+/// would close a container to the reader who has it. After a refusal the caller must roll the transaction back. `today`
+/// must be the office's day.
 pub fn remove_unit<P: Places, S: Alter>(
     alloc: Global,
     conn: &mut Connection<S>,

@@ -1,9 +1,9 @@
-//! Units become drafts, or are published.
+//! Makes units drafts, or publishes them.
 
 ghost use Rattle.std.specs.Prelude.{◌≡◌, true};
 ghost use Rattle.sqlite.specs.Held.{state};
 ghost use Rattle.isad_core.specs.Limits.{IsNumber};
-ghost use Rattle.catalogue_core.specs.Finding.{has_unit};
+ghost use Rattle.catalogue_core.specs.UnitLookup.{has_unit};
 ghost use Rattle.office_core.specs.declared.command.Command.TheVariants as command;
 ghost use Rattle.office_tables.specs.Step.{InTransaction};
 ghost use Rattle.refinement.specs.CommandSteps.{CarriesOut};
@@ -16,7 +16,8 @@ use refinement::pass_near;
 use sqlite::{Alter, Connection};
 use std::alloc::Global;
 
-/// Makes a unit that is there a draft, or publishes it, alone or with all below it, unless that withholds what is out.
+/// Makes a unit that exists a draft or publishes it, alone or with all below it, or refuses if this would close a
+/// container to the reader who has it.
 fn set_known<P: Places, S: Alter>(
     alloc: Global,
     conn: &mut Connection<S>,
@@ -34,7 +35,9 @@ fn set_known<P: Places, S: Alter>(
     pass_near::<P, S>(alloc, conn, today, unit, Done::SetStatus { units })
 }
 
-/// Makes a unit a draft, or publishes it, alone or with all below it. The day of the office is known.
+/// Makes a unit a draft, or publishes it, alone or with all below it. Refuses if there is no such unit, or if this
+/// would close a container to the reader who has it. After a refusal the caller must roll the transaction back. `today`
+/// must be the office's day.
 pub fn change_status<P: Places, S: Alter>(
     alloc: Global,
     conn: &mut Connection<S>,

@@ -5,7 +5,7 @@ use Rattle.std.specs.List.{AllByRecursion}
 use Rattle.std.proofs.lemmas.Bool.{not-true}
 use Rattle.isad_core.specs.declared.values.BoxKey.{BoxKey}
 use Rattle.isad_core.specs.Boxes.{distinct, is_same as is_same_box}
-use Rattle.catalogue_core.specs.Merging.{number_in}
+use Rattle.catalogue_core.specs.CatalogueMerge.{number_in}
 use Rattle.catalogue_core.specs.OneRule.{NumbersArePlaces}
 use Rattle.catalogue_core.proofs.Imported.{distinct_filter}
 use Rattle.catalogue_core.proofs.ImportedAgain.{box_itself}

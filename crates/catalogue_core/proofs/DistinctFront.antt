@@ -6,7 +6,7 @@ use Rattle.std.proofs.lemmas.Bool.{cases_Bool}
 use Rattle.isad_core.specs.declared.values.BoxKey.{BoxKey}
 use Rattle.isad_core.specs.Boxes.{distinct, is_same}
 use Rattle.isad_core.proofs.BoxLemmas.{same_sym}
-use Rattle.catalogue_core.specs.Merging.{number_in}
+use Rattle.catalogue_core.specs.CatalogueMerge.{number_in}
 use Rattle.catalogue_core.proofs.Imported.{distinct_append, distinct_again, same_box}
 
 -- another container is found as well where those like x are left out

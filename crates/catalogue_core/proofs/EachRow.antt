@@ -10,7 +10,7 @@ use Rattle.tree_core.specs.Forest.{Forest, nodes}
 use Rattle.tree_core.proofs.Lists.{eqb_comm}
 use Rattle.catalogue_core.specs.Units.{Unit, has_id, is_from}
 use Rattle.catalogue_core.specs.GoodCatalogues.{is_same_unit}
-use Rattle.catalogue_core.specs.Merging.{New, has_legacy, number_of, numbered_from, revised}
+use Rattle.catalogue_core.specs.CatalogueMerge.{New, has_legacy, number_of, numbered_from, revised}
 use Rattle.catalogue_core.proofs.DistinctLists.{all_so}
 use Rattle.catalogue_core.proofs.EachOf.{all_of_found}
 use Rattle.catalogue_core.proofs.EnteredUnits.{or_else, find-append}

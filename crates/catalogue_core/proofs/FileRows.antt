@@ -7,7 +7,7 @@ use Rattle.std.proofs.lemmas.Bool.{false≢true, or_parts}
 use Rattle.std.proofs.lemmas.List.Folds.{list_any-append}
 use Rattle.isad_core.specs.Texts.{Bytes}
 use Rattle.atom_csv.specs.Fields.{Fields, is_blank, is_empty}
-use Rattle.atom_csv.specs.FileOf.{Line, lines_below, row_number, when, header_causes, legacy, culture, first_culture, stood_above, has_other_width, has_slug_alone, is_late, is_long, causes, row_of, is_told_again, row_told, fault_of, faults, rows, translations, or_fault, under, of_records, records_of, file_of}
+use Rattle.atom_csv.specs.FileContents.{Line, lines_below, row_number, when, header_causes, legacy, culture, first_culture, stood_above, has_other_width, has_slug_alone, is_late, is_long, causes, row_of, is_told_again, row_told, fault_of, faults, rows, translations, or_fault, under, of_records, records_of, file_of}
 use Rattle.atom_csv.specs.Causes.{number_of}
 use Rattle.atom_csv.specs.declared.cause.Cause.{Cause}
 use Rattle.atom_csv.specs.declared.cause.Cause.TheVariants as cause

@@ -13,10 +13,10 @@ use Rattle.tree_core.specs.Forest.{Forest, Empty, Node, nodes, each, has_place, 
 use Rattle.tree_core.proofs.Lists.{eqb_comm}
 use Rattle.tree_core.proofs.EachLemmas.{nodes-each, size-each}
 use Rattle.isad_core.specs.Boxes.{distinct, is_same}
-use Rattle.catalogue_core.specs.Merging.{Catalogue}
+use Rattle.catalogue_core.specs.CatalogueMerge.{Catalogue}
 use Rattle.catalogue_core.specs.Units.{Unit, has_id}
 use Rattle.catalogue_core.proofs.NodeLemmas.{length-nodes}
-use Rattle.catalogue_core.specs.Finding.{has_unit}
+use Rattle.catalogue_core.specs.UnitLookup.{has_unit}
 use Rattle.isad_core.specs.Limits.{most_units, most_deep, most_bytes}
 use Rattle.catalogue_core.specs.Moves.{is_into_itself, depth_after}
 use Rattle.catalogue_core.specs.Sources.{is_source}

@@ -8,8 +8,8 @@ use Rattle.isad_core.specs.declared.element.Element.TheVariants as element
 use Rattle.atom_csv.specs.Columns.{columns}
 use Rattle.atom_csv.specs.Entries.{entries, filled, joined}
 use Rattle.atom_csv.specs.Fields.{Fields, is_empty, value}
-use Rattle.atom_csv.specs.FileOf.{lines_below, row_number, is_long, row_of, row_told, fault_of, file_of}
-use Rattle.atom_csv.specs.Told.{IsThere, AreValues}
+use Rattle.atom_csv.specs.FileContents.{lines_below, row_number, is_long, row_of, row_told, fault_of, file_of}
+use Rattle.atom_csv.specs.FileProperties.{IsThere, AreValues}
 use Rattle.atom_csv.specs.Values.{nonblank, text_of, described, triples, is_named_box}
 use Rattle.isad_core.specs.Boxes.{distinct}
 use Rattle.atom_csv.specs.declared.column.Column.{Column}

@@ -7,10 +7,10 @@ use Rattle.std.proofs.lemmas.Bool.{and_parts}
 use Rattle.std.proofs.lemmas.Slice.Eq.{bytes_eq-Decides}
 use Rattle.isad_core.specs.Texts.{Bytes}
 use Rattle.isad_core.specs.declared.values.BoxKey.{BoxKey}
-use Rattle.atom_csv.specs.FileOf.{file_of}
+use Rattle.atom_csv.specs.FileContents.{file_of}
 use Rattle.atom_csv.specs.declared.file.File.{File}
 use Rattle.atom_csv.specs.declared.file.Row.{Row}
-use Rattle.catalogue_core.specs.Merging.{Catalogue, merge, merged, or_first, faults_below, numbered_from, is_known, merged_boxes}
+use Rattle.catalogue_core.specs.CatalogueMerge.{Catalogue, merge, merged, or_first, faults_below, numbered_from, is_known, merged_boxes}
 use Rattle.isad_core.specs.Boxes.{distinct, is_same as is_same_box}
 use Rattle.catalogue_core.specs.Intake.{Intake, take, take_rows, with_file}
 use Rattle.std.proofs.lemmas.List.Elements.{filter-append}

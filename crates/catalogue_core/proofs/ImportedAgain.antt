@@ -16,7 +16,7 @@ use Rattle.isad_core.specs.Boxes.{distinct, is_same as is_same_box}
 use Rattle.atom_csv.specs.declared.file.Row.{Row}
 use Rattle.tree_core.specs.Forest.{Forest, Empty, Node, nodes, each, has, join}
 use Rattle.catalogue_core.specs.Units.{Unit, is_from}
-use Rattle.catalogue_core.specs.Merging.{Catalogue, New, branches, numbered_from, new_unit, new_units, revised, grown, merged_forest, merged_boxes, merged, merge, or_first, faults_below, has_legacy, is_known}
+use Rattle.catalogue_core.specs.CatalogueMerge.{Catalogue, New, branches, numbered_from, new_unit, new_units, revised, grown, merged_forest, merged_boxes, merged, merge, or_first, faults_below, has_legacy, is_known}
 use Rattle.catalogue_core.specs.Intake.{same_values, unit_of, is_same, is_new, is_changed}
 use Rattle.catalogue_core.proofs.EachOf.{all_append, all_split, all_filtered, all_and, all_true, all_distinct, all_of_found}
 use Rattle.catalogue_core.proofs.FileRows.{AreApartRows}

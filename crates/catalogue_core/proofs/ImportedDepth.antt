@@ -8,7 +8,7 @@ use Rattle.isad_core.specs.Texts.{Bytes}
 use Rattle.atom_csv.specs.declared.file.Row.{Row}
 use Rattle.tree_core.specs.Forest.{Forest, Empty, Node, nodes, has, path, each}
 use Rattle.catalogue_core.specs.Units.{Unit, has_id, is_from}
-use Rattle.catalogue_core.specs.Merging.{New, number_of, numbered_from, branches, new_unit, new_units, revised, grown, merged_forest, has_legacy, depth_under, cause_at, faults_below}
+use Rattle.catalogue_core.specs.CatalogueMerge.{New, number_of, numbered_from, branches, new_unit, new_units, revised, grown, merged_forest, has_legacy, depth_under, cause_at, faults_below}
 use Rattle.catalogue_core.specs.Moves.{height}
 use Rattle.isad_core.specs.Limits.{most_deep}
 use Rattle.catalogue_core.proofs.Heights.{height-join}

@@ -12,7 +12,7 @@ use Rattle.atom_csv.specs.declared.file.Row.{Row}
 use Rattle.tree_core.specs.Forest.{Forest, nodes}
 use Rattle.tree_core.proofs.Lists.{eqb_comm}
 use Rattle.catalogue_core.specs.Units.{Unit, is_from}
-use Rattle.catalogue_core.specs.Merging.{Catalogue, New, numbered_from, new_unit, revised, merged_forest, has_legacy, is_known}
+use Rattle.catalogue_core.specs.CatalogueMerge.{Catalogue, New, numbered_from, new_unit, revised, merged_forest, has_legacy, is_known}
 use Rattle.catalogue_core.specs.GoodCatalogues.{is_same_unit}
 use Rattle.catalogue_core.proofs.DistinctLists.{all_mapped, all_so, distinct_so, distinct_mapped, distinct_beside}
 use Rattle.catalogue_core.proofs.FileRows.{AreApartRows}

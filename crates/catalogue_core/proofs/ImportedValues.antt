@@ -12,7 +12,7 @@ use Rattle.isad_core.specs.Boxes.{distinct, is_same as is_same_box}
 use Rattle.atom_csv.specs.declared.file.Row.{Row}
 use Rattle.isad_core.proofs.BoxLemmas.{same_sym}
 use Rattle.catalogue_core.specs.Units.{Unit}
-use Rattle.catalogue_core.specs.Merging.{New, new_unit, revised, has_legacy, merged_boxes}
+use Rattle.catalogue_core.specs.CatalogueMerge.{New, new_unit, revised, has_legacy, merged_boxes}
 use Rattle.catalogue_core.specs.Sources.{is_source}
 use Rattle.isad_core.specs.Limits.{most_bytes}
 use Rattle.catalogue_core.specs.GoodCatalogues.{is_good_text, IsGoodUnit}

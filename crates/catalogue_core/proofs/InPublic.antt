@@ -5,14 +5,14 @@ use Rattle.std.specs.List.{list_any, AllByRecursion}
 use Rattle.std.proofs.lemmas.Bool.{or_parts}
 use Rattle.std.proofs.lemmas.List.Folds.{list_any-append}
 use Rattle.tree_core.specs.Forest.{Forest, Empty, Node, nodes, each}
-use Rattle.tree_core.specs.Withheld.{public}
+use Rattle.tree_core.specs.Visibility.{public}
 use Rattle.catalogue_core.specs.Units.{Unit, is_closed}
-use Rattle.catalogue_core.specs.Housing.{paths_below, paths}
-use Rattle.catalogue_core.specs.Publishing.{PublicUnit, public_unit, public_of}
+use Rattle.catalogue_core.specs.ContainerContents.{paths_below, paths}
+use Rattle.catalogue_core.specs.PublicForest.{PublicUnit, public_unit, public_of}
 use Rattle.catalogue_core.specs.Pages.{before_last}
 use Rattle.catalogue_core.specs.Members.{StandsIn}
-use Rattle.catalogue_core.specs.Published.{last_of, TellsOf, IsPublished}
-use Rattle.catalogue_core.specs.InPublic.{PublishedInPublic, PublicIsPublished}
+use Rattle.catalogue_core.specs.PublishedUnits.{last_of, TellsOf, IsPublished}
+use Rattle.catalogue_core.specs.PublicationLaws.{PublishedInPublic, PublicIsPublished}
 use Rattle.catalogue_core.proofs.PublishedUnits.{stands_left, stands_right, last_of-push, told_of, published_below}
 
 -- ---- ways

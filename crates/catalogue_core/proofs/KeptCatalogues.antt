@@ -10,10 +10,10 @@ use Rattle.tree_core.specs.Forest.{Forest, Empty, Node, nodes, each, path, has}
 use Rattle.tree_core.proofs.EachLemmas.{nodes-each, size-each, path-each}
 use Rattle.isad_core.specs.Boxes.{distinct}
 use Rattle.catalogue_core.specs.Units.{Unit}
-use Rattle.catalogue_core.specs.Merging.{Catalogue}
+use Rattle.catalogue_core.specs.CatalogueMerge.{Catalogue}
 use Rattle.catalogue_core.specs.Moves.{height}
 use Rattle.catalogue_core.specs.Bounds.{IsBounded, IsLegibleUnit, IsKept}
-use Rattle.catalogue_core.specs.Describing.{KnowsItsContainers, HasAllPlaces}
+use Rattle.catalogue_core.specs.Descriptions.{KnowsItsContainers, HasAllPlaces}
 use Rattle.catalogue_core.specs.GoodCatalogues.{IsSomeDay, IsGoodUnit, AreGoodUnits, AreGoodContainers}
 use Rattle.catalogue_core.specs.LegibleCatalogues.{HasLegibleTexts, IsLegibleCatalogue}
 use Rattle.catalogue_core.proofs.DistinctLists.{all_so, all_mapped}

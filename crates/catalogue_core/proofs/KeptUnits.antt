@@ -1,7 +1,7 @@
 -- Units keep all but what a change of status or closure names.
 use Rattle.std.proofs.Common.{◌≡◌, ℕ, Bool, true, false, cond, List, Option, refl}
 use Rattle.std.specs.Prelude.{ℤ}
-use Rattle.catalogue_core.specs.Merging.{Catalogue}
+use Rattle.catalogue_core.specs.CatalogueMerge.{Catalogue}
 use Rattle.tree_core.specs.Forest.{Forest}
 use Rattle.catalogue_core.specs.Units.{Unit, has_id}
 use Rattle.catalogue_core.specs.Statuses.{is_chosen}

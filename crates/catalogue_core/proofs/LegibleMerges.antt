@@ -4,14 +4,14 @@ use Rattle.std.specs.Prelude.{not, find, option_map, unwrap_or, IsUtf8}
 use Rattle.std.specs.List.{AllByRecursion, flat_map}
 use Rattle.std.specs.Str.{bytes_eq}
 use Rattle.isad_core.specs.Texts.{Bytes}
-use Rattle.isad_core.specs.Legible.{IsLegibleBox, AreLegibleValues}
+use Rattle.isad_core.specs.LegibleValues.{IsLegibleBox, AreLegibleValues}
 use Rattle.isad_core.specs.declared.values.Values.{Values}
-use Rattle.atom_csv.specs.Told.{IsLegibleRow}
+use Rattle.atom_csv.specs.FileProperties.{IsLegibleRow}
 use Rattle.atom_csv.specs.declared.file.Row.{Row}
 use Rattle.atom_csv.proofs.LegibleFiles.{file_legible}
 use Rattle.tree_core.specs.Forest.{nodes, each}
 use Rattle.catalogue_core.specs.Units.{Unit}
-use Rattle.catalogue_core.specs.Merging.{Catalogue, New, has_legacy, is_known, merged, new_unit, numbered_from, revised}
+use Rattle.catalogue_core.specs.CatalogueMerge.{Catalogue, New, has_legacy, is_known, merged, new_unit, numbered_from, revised}
 use Rattle.catalogue_core.specs.Intake.{Intake, take}
 use Rattle.catalogue_core.specs.LegibleCatalogues.{HasLegibleTexts, IsLegibleCatalogue}
 use Rattle.catalogue_core.proofs.DistinctLists.{all_so}

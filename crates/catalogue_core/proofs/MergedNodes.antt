@@ -12,9 +12,9 @@ use Rattle.atom_csv.specs.declared.file.Row.{Row}
 use Rattle.tree_core.specs.Forest.{Forest, Empty, Node, nodes, has, each, join}
 use Rattle.tree_core.proofs.EachLemmas.{nodes-each}
 use Rattle.catalogue_core.specs.Units.{Unit, has_id, is_from}
-use Rattle.catalogue_core.specs.Merging.{New, branches, number_of, numbered_from, has_legacy, new_unit, new_units, revised, grown, merged_forest}
+use Rattle.catalogue_core.specs.CatalogueMerge.{New, branches, number_of, numbered_from, has_legacy, new_unit, new_units, revised, grown, merged_forest}
 use Rattle.catalogue_core.proofs.EachOf.{all_and, all_true, all_of_found}
-use Rattle.catalogue_core.specs.Finding.{has_unit}
+use Rattle.catalogue_core.specs.UnitLookup.{has_unit}
 use Rattle.catalogue_core.proofs.UnitsAfter.{each_units}
 use Rattle.catalogue_core.proofs.Rooted.{nodes-join, has-join, grown_keeps, revised_id}
 

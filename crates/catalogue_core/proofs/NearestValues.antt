@@ -11,7 +11,7 @@ use Rattle.isad_core.specs.declared.element.Element.{Element}
 use Rattle.isad_core.specs.declared.display.Page.{Page}
 use Rattle.tree_core.specs.Forest.{Forest, Empty, Node}
 use Rattle.catalogue_core.specs.Aids.{Repository, identifier_of}
-use Rattle.catalogue_core.specs.Publishing.{PublicUnit, Told, Stub, public_of}
+use Rattle.catalogue_core.specs.PublicForest.{PublicUnit, Told, Stub, public_of}
 use Rattle.catalogue_core.specs.Pages.{Press, Coded, PageLine, is_numbered, before_last, coded_below, coded, nearest_value, page_line, page_at}
 use Rattle.catalogue_core.specs.NearestValues.{has_value, IsNearestValue, LinesAreNearest}
 use Rattle.catalogue_core.proofs.EachOf.{all_append}

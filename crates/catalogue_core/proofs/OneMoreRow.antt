@@ -13,8 +13,8 @@ use Rattle.std.specs.List.{flat_map}
 use Rattle.std.proofs.lemmas.List.{append_assoc}
 use Rattle.isad_core.specs.declared.values.BoxKey.{BoxKey}
 use Rattle.isad_core.specs.Boxes.{distinct}
-use Rattle.catalogue_core.specs.Describing.{with_boxes, with_unit, with_values}
-use Rattle.catalogue_core.specs.Merging.{Catalogue, New, branches, new_unit, new_units, grown, merged, merged_boxes, merged_forest, revised}
+use Rattle.catalogue_core.specs.Descriptions.{with_boxes, with_unit, with_values}
+use Rattle.catalogue_core.specs.CatalogueMerge.{Catalogue, New, branches, new_unit, new_units, grown, merged, merged_boxes, merged_forest, revised}
 use Rattle.catalogue_core.proofs.DistinctFront.{distinct_front}
 use Rattle.catalogue_core.proofs.Branches.{put_none}
 use Rattle.catalogue_core.proofs.ImportedAgain.{all_join, all_each}

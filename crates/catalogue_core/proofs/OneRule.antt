@@ -6,11 +6,11 @@ use Rattle.std.proofs.lemmas.Bool.{cases_Bool, false≢true, or_parts}
 use Rattle.std.proofs.lemmas.List.Elements.{filter-append, filter_map-append}
 use Rattle.std.proofs.lemmas.List.Folds.{list_any-append}
 use Rattle.tree_core.specs.Forest.{Forest, Empty, Node, nodes, each}
-use Rattle.tree_core.specs.Withheld.{public}
+use Rattle.tree_core.specs.Visibility.{public}
 use Rattle.catalogue_core.specs.Units.{Unit, is_closed}
-use Rattle.catalogue_core.specs.Housing.{paths_below}
+use Rattle.catalogue_core.specs.ContainerContents.{paths_below}
 use Rattle.catalogue_core.specs.Pages.{before_last}
-use Rattle.catalogue_core.specs.Publishing.{PublicUnit, public_unit, public_of, stub_of}
+use Rattle.catalogue_core.specs.PublicForest.{PublicUnit, public_unit, public_of, stub_of}
 use Rattle.catalogue_core.specs.OneRule.{is_told, told_whole, told_as_stub, is_public, is_closed_alone, TellsWhatIsOpen, StubsWhatIsClosed}
 use Rattle.catalogue_core.proofs.PublishedUnits.{before_last-push, last_of-push}
 use Rattle.std.proofs.Math.Bool.{or-false}

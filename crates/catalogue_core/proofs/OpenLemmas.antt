@@ -10,15 +10,15 @@ use Rattle.isad_core.specs.declared.values.BoxKey.{BoxKey}
 use Rattle.isad_core.specs.Boxes.{is_same as is_same_box}
 use Rattle.tree_core.specs.Forest.{Forest, Empty, Node, nodes, each, size, has, path, tree, HasDistinctIds}
 use Rattle.tree_core.specs.Marks.{is_closed as is_mark_closed, withholds, contents_paths, IsNumbered}
-use Rattle.tree_core.specs.Withheld.{sharing_paths}
+use Rattle.tree_core.specs.Visibility.{sharing_paths}
 use Rattle.tree_core.specs.declared.marks.Mark.{Mark}
 use Rattle.tree_core.proofs.EachLemmas.{has-each, nodes-each, size-each}
 use Rattle.tree_core.proofs.LinkPaths.{parts, other_id}
 use Rattle.tree_core.proofs.Lists.{list_any-map, any_agree}
 use Rattle.tree_core.proofs.MarkWalks.{list_all-append}
 use Rattle.tree_core.proofs.Sharing.{open_by_paths}
-use Rattle.catalogue_core.specs.Housing.{own_or, housed_below, housed, paths_below, is_withheld_from, is_some_there, is_open}
-use Rattle.catalogue_core.specs.Marking.{mark_of, unnumbered}
+use Rattle.catalogue_core.specs.ContainerContents.{own_or, housed_below, housed, paths_below, is_withheld_from, is_some_there, is_open}
+use Rattle.catalogue_core.specs.UnitMarks.{mark_of, unnumbered}
 use Rattle.std.proofs.lemmas.List.Folds.{list_any-append}
 use Rattle.catalogue_core.proofs.PublishedUnits.{before_last-push}
 use Rattle.catalogue_core.specs.OpenMarks.{with_permit, mark_for, is_opened_above, is_clean, OpenByMarks, NumbersTellNothing, MarksSayClean}

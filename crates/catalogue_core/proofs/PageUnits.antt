@@ -14,12 +14,12 @@ use Rattle.isad_core.specs.declared.values.Values.{Values}
 use Rattle.tree_core.specs.Forest.{Forest, Empty, Node, has, path}
 use Rattle.catalogue_core.specs.Units.{Unit, has_id, is_closed}
 use Rattle.catalogue_core.specs.Members.{StandsIn}
-use Rattle.catalogue_core.specs.Merging.{box_number}
-use Rattle.catalogue_core.specs.Housing.{own_or, housed_below}
+use Rattle.catalogue_core.specs.CatalogueMerge.{box_number}
+use Rattle.catalogue_core.specs.ContainerContents.{own_or, housed_below}
 use Rattle.catalogue_core.specs.Aids.{Repository, identifier_of, numbered_boxes}
-use Rattle.catalogue_core.specs.Publishing.{PublicUnit, Told, Stub, public_unit, public_of}
+use Rattle.catalogue_core.specs.PublicForest.{PublicUnit, Told, Stub, public_unit, public_of}
 use Rattle.catalogue_core.specs.Pages.{Press, Coded, PageLine, PageBox, is_numbered, before_last, coded_below, coded, nearest_value, page_line, page_boxes, boxes_or, nearest_boxes, boxes_on_page, page_at, page_of}
-use Rattle.catalogue_core.specs.Published.{AreToldOn, LineIsTold, BoxIsTold}
+use Rattle.catalogue_core.specs.PublishedUnits.{AreToldOn, LineIsTold, BoxIsTold}
 use Rattle.catalogue_core.specs.OneRule.{is_told, number_and_name, PagesTellTheHousing}
 use Rattle.catalogue_core.proofs.EachOf.{all_append}
 use Rattle.catalogue_core.proofs.OneRule.{public_is}

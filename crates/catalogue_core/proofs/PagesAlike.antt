@@ -11,11 +11,11 @@ use Rattle.isad_core.specs.declared.display.Body.TheVariants.{Full}
 use Rattle.isad_core.specs.declared.values.BoxKey.{BoxKey}
 use Rattle.tree_core.specs.Forest.{Forest, Empty, Node, nodes, has, path, tree}
 use Rattle.catalogue_core.proofs.EachOf.{all_append, all_split}
-use Rattle.catalogue_core.specs.Merging.{box_number}
-use Rattle.catalogue_core.specs.Publishing.{PublicUnit, Told, Stub}
+use Rattle.catalogue_core.specs.CatalogueMerge.{box_number}
+use Rattle.catalogue_core.specs.PublicForest.{PublicUnit, Told, Stub}
 use Rattle.catalogue_core.specs.Aids.{Repository, identifier_of, numbered_boxes, shown_unit, shown_below}
 use Rattle.catalogue_core.specs.Pages.{Press, Coded, PageBox, number_of, side_by_side, coded_below, coded, page_line, page_boxes, boxes_or, nearest_boxes, boxes_on_page, page_at}
-use Rattle.catalogue_core.specs.Published.{boxes_told}
+use Rattle.catalogue_core.specs.PublishedUnits.{boxes_told}
 
 -- the containers have the same numbers in both lists
 

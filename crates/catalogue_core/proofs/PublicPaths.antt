@@ -5,12 +5,12 @@ use Rattle.std.specs.List.{list_any, AllByRecursion}
 use Rattle.std.proofs.lemmas.Bool.{cases_Bool, false≢true, or_left, or_right}
 use Rattle.std.proofs.lemmas.List.Folds.{list_any-append}
 use Rattle.tree_core.specs.Forest.{Forest, Empty, Node, nodes, each, has, path, tree, HasDistinctIds}
-use Rattle.tree_core.specs.Withheld.{public}
+use Rattle.tree_core.specs.Visibility.{public}
 use Rattle.tree_core.proofs.EachLemmas.{has-each}
 use Rattle.tree_core.proofs.LinkPaths.{parts, other_id}
 use Rattle.catalogue_core.specs.Units.{Unit, has_id, is_closed}
 use Rattle.catalogue_core.specs.Pages.{before_last, number_of, is_numbered}
-use Rattle.catalogue_core.specs.Publishing.{PublicUnit, public_unit, public_of, stub_of}
+use Rattle.catalogue_core.specs.PublicForest.{PublicUnit, public_unit, public_of, stub_of}
 use Rattle.catalogue_core.specs.OneRule.{is_told}
 use Rattle.catalogue_core.proofs.PublishedUnits.{before_last-push}
 

@@ -4,15 +4,15 @@ use Rattle.std.specs.Prelude.{ℤ}
 use Rattle.std.specs.List.{list_any, AllByRecursion}
 use Rattle.std.proofs.lemmas.List.Folds.{list_any-append}
 use Rattle.tree_core.specs.Forest.{Forest, Empty, Node, nodes, each}
-use Rattle.tree_core.specs.Withheld.{public}
+use Rattle.tree_core.specs.Visibility.{public}
 use Rattle.catalogue_core.proofs.DistinctLists.{all_so}
 use Rattle.catalogue_core.proofs.EachOf.{all_append}
 use Rattle.catalogue_core.specs.Units.{Unit, is_closed}
-use Rattle.catalogue_core.specs.Housing.{paths_below}
-use Rattle.catalogue_core.specs.Publishing.{PublicUnit, Told, public_unit, public_of, stub_of}
+use Rattle.catalogue_core.specs.ContainerContents.{paths_below}
+use Rattle.catalogue_core.specs.PublicForest.{PublicUnit, Told, public_unit, public_of, stub_of}
 use Rattle.catalogue_core.specs.Pages.{before_last}
 use Rattle.catalogue_core.specs.Members.{StandsIn}
-use Rattle.catalogue_core.specs.Published.{last_of, TellsOf, IsPublished}
+use Rattle.catalogue_core.specs.PublishedUnits.{last_of, TellsOf, IsPublished}
 
 pub stands_left : {X : Type 0} (x : X) (xs ys : List X) → StandsIn x xs → StandsIn x (xs ++ ys)
 stands_left x [] ys h = absurd h

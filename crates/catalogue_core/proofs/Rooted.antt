@@ -11,7 +11,7 @@ use Rattle.atom_csv.specs.declared.file.Row.{Row}
 use Rattle.tree_core.specs.Forest.{Forest, Empty, Node, nodes, each, has, join}
 use Rattle.tree_core.proofs.EachLemmas.{has-each}
 use Rattle.catalogue_core.specs.Units.{Unit, is_from}
-use Rattle.catalogue_core.specs.Merging.{New, branches, number_of, numbered_from, new_unit, new_units, revised, grown, merged_forest, has_legacy}
+use Rattle.catalogue_core.specs.CatalogueMerge.{New, branches, number_of, numbered_from, new_unit, new_units, revised, grown, merged_forest, has_legacy}
 use Rattle.catalogue_core.specs.Members.{StandsIn}
 
 -- ---- a new row among its siblings

@@ -5,16 +5,16 @@ use Rattle.std.specs.List.{AllByRecursion, list_any}
 use Rattle.std.specs.Str.{bytes_eq}
 use Rattle.std.proofs.lemmas.Bool.{ne_eqb}
 use Rattle.isad_core.specs.Texts.{Bytes}
-use Rattle.atom_csv.specs.Told.{AllDiffer}
+use Rattle.atom_csv.specs.FileProperties.{AllDiffer}
 use Rattle.atom_csv.specs.declared.file.Row.{Row}
 use Rattle.tree_core.specs.Forest.{Forest, Empty, Node, add, each, has, has_place, nodes, path}
 use Rattle.tree_core.proofs.EachLemmas.{nodes-each}
 use Rattle.catalogue_core.specs.Units.{Unit, has_id, is_from}
 use Rattle.catalogue_core.specs.GoodCatalogues.{AreGoodUnits}
-use Rattle.catalogue_core.specs.Merging.{Catalogue, New, cause_at, depth_under, faults_below, merged, merged_forest, new_unit, number_of, numbered_from, or_first, revised}
-use Rattle.catalogue_core.specs.Describing.{with_unit, with_values}
+use Rattle.catalogue_core.specs.CatalogueMerge.{Catalogue, New, cause_at, depth_under, faults_below, merged, merged_forest, new_unit, number_of, numbered_from, or_first, revised}
+use Rattle.catalogue_core.specs.Descriptions.{with_unit, with_values}
 use Rattle.catalogue_core.specs.Moves.{depth}
-use Rattle.catalogue_core.specs.RowByRow.{and_then, depth_there, new_at, number_there, unless_cause, with_new, with_row_at, with_rows}
+use Rattle.catalogue_core.specs.EntryByRow.{and_then, depth_there, new_at, number_there, unless_cause, with_new, with_row_at, with_rows}
 use Rattle.catalogue_core.proofs.DistinctLists.{all_so}
 use Rattle.catalogue_core.proofs.EachOf.{all_append, all_of_found, all_split, none_found, some_found}
 use Rattle.catalogue_core.proofs.EnteredUnits.{Alike, Placed, Same, alike_each, placed_added, same_added}

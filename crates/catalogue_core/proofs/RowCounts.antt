@@ -8,15 +8,15 @@ use Rattle.std.proofs.lemmas.Bool.{and_parts}
 use Rattle.std.proofs.lemmas.List.Sums.{length-filter}
 use Rattle.isad_core.specs.Texts.{Bytes}
 use Rattle.isad_core.specs.Boxes.{distinct}
-use Rattle.atom_csv.specs.Told.{AllDiffer}
+use Rattle.atom_csv.specs.FileProperties.{AllDiffer}
 use Rattle.atom_csv.specs.declared.file.Row.{Row}
 use Rattle.tree_core.specs.Forest.{Forest, Empty, Node, each, has, join, nodes}
 use Rattle.tree_core.proofs.EachLemmas.{nodes-each}
 use Rattle.catalogue_core.specs.Units.{Unit, is_from}
 use Rattle.catalogue_core.specs.GoodCatalogues.{AreGoodUnits}
 use Rattle.catalogue_core.specs.Intake.{is_changed, is_new, is_same, same_values, unit_of}
-use Rattle.catalogue_core.specs.Merging.{Catalogue, New, branches, cause_at, depth_under, faults_below, grown, merged_forest, new_unit, new_units, numbered_from, revised}
-use Rattle.catalogue_core.specs.RowByRow.{CountsAlike, count_rows, if_ok, unless_cause, with_new, with_row, with_row_at}
+use Rattle.catalogue_core.specs.CatalogueMerge.{Catalogue, New, branches, cause_at, depth_under, faults_below, grown, merged_forest, new_unit, new_units, numbered_from, revised}
+use Rattle.catalogue_core.specs.EntryByRow.{CountsAlike, count_rows, if_ok, unless_cause, with_new, with_row, with_row_at}
 use Rattle.catalogue_core.proofs.DistinctLists.{all_so}
 use Rattle.catalogue_core.proofs.EachOf.{all_true, none_found, some_found}
 use Rattle.catalogue_core.proofs.EachRow.{none_with, onto, onto-more}
@@ -97,7 +97,7 @@ module _ (c : Catalogue) (source : Bytes) (good : AreGoodUnits c) (test : Forest
   forest before nb = merged_forest source before (numbered_from c.forest source c.next [] nb) c.forest
 
   abbrev so_far : List Row → List Row → Catalogue
-  so_far before nb = Rattle.catalogue_core.specs.Merging.merged c source before (numbered_from c.forest source c.next [] nb)
+  so_far before nb = Rattle.catalogue_core.specs.CatalogueMerge.merged c source before (numbered_from c.forest source c.next [] nb)
 
   unit_stays : (before nb : List Row) (row : Row) → StandsSo c source good before nb → IsApart row before → unit_of (forest before nb) source row ≡ unit_of c.forest source row
   unit_stays before nb row s apart =

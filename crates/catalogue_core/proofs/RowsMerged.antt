@@ -4,8 +4,8 @@ use Rattle.std.specs.Str.{bytes_eq}
 use Rattle.isad_core.specs.Texts.{Bytes}
 use Rattle.isad_core.specs.Boxes.{distinct}
 use Rattle.isad_core.specs.declared.values.BoxKey.{BoxKey}
-use Rattle.atom_csv.specs.FileOf.{file_of}
-use Rattle.atom_csv.specs.Told.{AllDiffer}
+use Rattle.atom_csv.specs.FileContents.{file_of}
+use Rattle.atom_csv.specs.FileProperties.{AllDiffer}
 use Rattle.atom_csv.specs.declared.file.File.{File}
 use Rattle.atom_csv.specs.declared.file.Row.{Row}
 use Rattle.atom_csv.proofs.ToldLemmas.{file_sound}
@@ -13,8 +13,8 @@ use Rattle.tree_core.specs.Forest.{Forest, nodes}
 use Rattle.catalogue_core.specs.Units.{Unit}
 use Rattle.catalogue_core.specs.GoodCatalogues.{AreGoodUnits}
 use Rattle.catalogue_core.specs.Intake.{take, take_rows, with_file}
-use Rattle.catalogue_core.specs.Merging.{Catalogue, merge, merged, revised}
-use Rattle.catalogue_core.specs.RowByRow.{with_rows}
+use Rattle.catalogue_core.specs.CatalogueMerge.{Catalogue, merge, merged, revised}
+use Rattle.catalogue_core.specs.EntryByRow.{with_rows}
 use Rattle.catalogue_core.proofs.EachOf.{all_true}
 use Rattle.catalogue_core.proofs.ImportedAgain.{merged_none}
 use Rattle.catalogue_core.proofs.RowByRow.{IsApart, StandsSo, goes}
@@ -39,8 +39,8 @@ begins c source good apart =
     let next : c.next + 0 ≡ c.next = omega arith in
     record {
       part = λ row h. tt;
-      depths = λ legacy. ap (λ f. Rattle.catalogue_core.specs.Merging.depth_under f source (Some legacy) []) same;
-      numbers = λ legacy. ap (λ f. Rattle.catalogue_core.specs.Merging.number_of f source (c.next + 0) [] legacy) same;
+      depths = λ legacy. ap (λ f. Rattle.catalogue_core.specs.CatalogueMerge.depth_under f source (Some legacy) []) same;
+      numbers = λ legacy. ap (λ f. Rattle.catalogue_core.specs.CatalogueMerge.number_of f source (c.next + 0) [] legacy) same;
     }
 
 pub row_by_row : (c : Catalogue) (source : Bytes) (rows : List Row) → AreGoodUnits c → distinct c.containers ≡ c.containers → AllDiffer (λ (a b : Row). bytes_eq a.legacy b.legacy) rows → with_rows source rows c ≡ merge c source rows

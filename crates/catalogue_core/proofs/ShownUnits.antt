@@ -8,14 +8,14 @@ use Rattle.isad_core.specs.Values.{identifier}
 use Rattle.isad_core.specs.declared.display.Shown.{Shown}
 use Rattle.isad_core.specs.declared.values.BoxKey.{BoxKey}
 use Rattle.tree_core.specs.Forest.{Forest, Empty, Node, nodes, each, has, path, tree}
-use Rattle.tree_core.specs.Withheld.{public}
+use Rattle.tree_core.specs.Visibility.{public}
 use Rattle.catalogue_core.specs.Units.{Unit, is_closed}
 use Rattle.catalogue_core.specs.Members.{StandsIn}
-use Rattle.catalogue_core.specs.Housing.{paths_below}
+use Rattle.catalogue_core.specs.ContainerContents.{paths_below}
 use Rattle.catalogue_core.specs.Aids.{Repository, identifier_of, shown_unit, shown_below}
 use Rattle.catalogue_core.specs.Pages.{Press, number_of, side_by_side}
-use Rattle.catalogue_core.specs.Publishing.{PublicUnit, public_unit, public_of, stub_of}
-use Rattle.catalogue_core.specs.Published.{identifiers, IsPublished}
+use Rattle.catalogue_core.specs.PublicForest.{PublicUnit, public_unit, public_of, stub_of}
+use Rattle.catalogue_core.specs.PublishedUnits.{identifiers, IsPublished}
 use Rattle.catalogue_core.proofs.DistinctLists.{all_so}
 use Rattle.catalogue_core.proofs.EachOf.{all_append}
 use Rattle.catalogue_core.proofs.PublicPaths.{drafts, known_of, known_where}

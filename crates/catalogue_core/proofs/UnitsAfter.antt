@@ -7,8 +7,8 @@ use Rattle.isad_core.specs.Texts.{Bytes}
 use Rattle.atom_csv.specs.declared.file.Row.{Row}
 use Rattle.tree_core.specs.Forest.{Forest, Empty, Node, nodes, each, has, join, tree, cut, put_below, put_last, move_last}
 use Rattle.catalogue_core.specs.Units.{Unit, has_id}
-use Rattle.catalogue_core.specs.Merging.{Catalogue, New, numbered_from, revised, merged_forest}
-use Rattle.catalogue_core.specs.Finding.{has_unit}
+use Rattle.catalogue_core.specs.CatalogueMerge.{Catalogue, New, numbered_from, revised, merged_forest}
+use Rattle.catalogue_core.specs.UnitLookup.{has_unit}
 use Rattle.catalogue_core.proofs.Imported.{new_rows}
 use Rattle.tree_core.proofs.EachLemmas.{has-each}
 use Rattle.catalogue_core.proofs.Rooted.{or_each, has_node, has-join, revised_id}

@@ -9,10 +9,10 @@ use Rattle.isad_core.specs.declared.values.Values.{Values}
 use Rattle.isad_core.specs.declared.display.Shown.{Shown}
 use Rattle.isad_core.specs.declared.display.Body.TheVariants.{Full, Closed}
 use Rattle.tree_core.specs.Forest.{Forest, Empty, Node}
-use Rattle.catalogue_core.specs.Merging.{box_number}
-use Rattle.catalogue_core.specs.Publishing.{PublicUnit, Told, Stub}
+use Rattle.catalogue_core.specs.CatalogueMerge.{box_number}
+use Rattle.catalogue_core.specs.PublicForest.{PublicUnit, Told, Stub}
 
--- whose archives they are: the first parts of every reference code
+-- the repository that holds the archives; its codes are the first parts of every reference code
 pub record Repository : Type 0 where
   pub country : Bytes
   pub repo : Bytes
@@ -25,8 +25,8 @@ identifier_of (Stub id name level until) = name
 abbrev pub numbered_boxes : (BoxKey → ℕ) → List BoxKey → List (ℕ × Bytes)
 numbered_boxes number boxes = map (λ b. (number b, b.name)) boxes
 
--- what is shown of a unit whose values are told: `ids` are the identifiers from the top down to it, and
--- `number` says the numbers of containers
+-- how a unit with public values is shown: `ids` are the identifiers from the top down to it, and `number` gives the
+-- numbers of containers
 abbrev pub shown_told : Repository → (BoxKey → ℕ) → List Bytes → ℕ → Values → Shown
 shown_told at number ids depth values = record {
   depth = depth;
@@ -54,7 +54,7 @@ shown_by at number above depth (Node unit children others) =
     ∷ (shown_by at number (above ++ identifier_of unit ∷ []) (depth + 1) children
     ++ shown_by at number above depth others)
 
--- the same, where the containers are numbered as they stand
+-- the same, with each container numbered by its place in the list
 abbrev pub shown_unit : Repository → List BoxKey → List Bytes → ℕ → PublicUnit → Shown
 shown_unit at containers = shown_unit_by at (box_number containers)
 

@@ -1,14 +1,14 @@
--- The limits of an office, as far as they bear on what its tables can store and give back.
+-- The limits of an office, as far as they matter for what its tables can store and give back.
 use Rattle.std.specs.Prelude.{◌≡◌, ℕ, ◌<◌, ◌≤◌, ◌^◌, true, nat_eq, length, IfSome, IsUtf8}
 use Rattle.std.specs.List.{AllByRecursion}
 use Rattle.isad_core.specs.Days.{is_day_number}
 use Rattle.isad_core.specs.Limits.{most_units, most_deep, IsNumber}
 use Rattle.tree_core.specs.Forest.{Forest, nodes, each, path, size}
-use Rattle.isad_core.specs.Legible.{IsLegibleBox}
-use Rattle.catalogue_core.specs.Merging.{Catalogue}
+use Rattle.isad_core.specs.LegibleValues.{IsLegibleBox}
+use Rattle.catalogue_core.specs.CatalogueMerge.{Catalogue}
 use Rattle.catalogue_core.specs.Units.{Unit}
 
--- An office keeps so many units at most, no deeper than it may, with numbers that a table can keep.
+-- An office has no more units than the limit, no deeper than the limit, with numbers that a table can store.
 pub record IsBounded (f : Forest ℕ) : Type 0 where
   pub few : size f ≤ most_units
   pub low : AllByRecursion IsNumber (nodes f)

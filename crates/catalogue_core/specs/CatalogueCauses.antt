@@ -1,5 +1,5 @@
--- Why rows of doubtful origin show no catalogue, causes 2 to 5: what is wrong in the tables of the places, the units, the elements and
--- the containers. And which keys the rows have. Rows of containers stand by number, and span rows by lft.
+-- Why rows of doubtful origin represent no catalogue, causes 2 to 5: what is wrong in the tables of places, units,
+-- elements and containers. Also the keys of the rows. Rows of containers are ordered by number, and span rows by lft.
 use Rattle.std.specs.Prelude.{ℕ, ℤ, ◌^◌, Bool, true, false, not, ◌&&◌, List, length, map, Option, Some, None, is_some, nat_eq, nat_le, nat_lt}
 use Rattle.std.specs.List.{list_all, IsDistinct}
 use Rattle.std.specs.Option.{option_map_or}
@@ -36,7 +36,7 @@ is_good_link link =
 abbrev pub is_good_span : Span → Bool
 is_good_span span = is_unit_number span.id && (is_place_number span.lft && is_place_number span.rgt)
 
--- they are of the version, in numbers that they may have, and have no fault
+-- the places are of the version, have valid numbers, and have no fault
 abbrev pub are_good_places : Version → PlaceRows → Bool
 are_good_places Links (LinkRows links) = list_all is_good_link links && not (is_some (link_fault links))
 are_good_places Spans (SpanRows spans) = list_all is_good_span spans && not (is_some (span_fault spans))
@@ -51,7 +51,8 @@ abbrev pub is_some_day : Option ℤ → Bool
 is_some_day None = true
 is_some_day (Some day) = is_day_number day
 
--- it has a number below the next, a source, a number there and a level that are none too long, and no closure but until a day
+-- the unit's number is below the next, its source is valid, its number there is not blank, neither that nor its level
+-- is too long, and its closure, if any, ends on a day of the calendar
 abbrev pub is_good_unit_row : ℕ → UnitRow → Bool
 is_good_unit_row next row =
     nat_lt row.id next && (is_source row.source && (not (is_blank_text row.legacy)
@@ -64,11 +65,11 @@ abbrev pub place_numbers : PlaceRows → List ℕ
 place_numbers (LinkRows links) = map (λ (link : Link). link.id) links
 place_numbers (SpanRows spans) = map (λ (span : Span). span.id) spans
 
--- each number of the one list stands in the other
+-- each of these numbers is among the others
 abbrev pub all_stand_in : List ℕ → List ℕ → Bool
 all_stand_in others ns = list_all (λ n. stands n others) ns
 
--- the units are those that have a place, below the next number, not too many, and none lies too deep
+-- each unit row is good, the units are those that have a place, they are not too many, and none lies too deep
 abbrev pub are_good_units : ℕ → CatalogueRows → Bool
 are_good_units next c =
     list_all (is_good_unit_row next) c.units
@@ -80,7 +81,7 @@ units_are_bad next c = not (are_good_units next c)
 
 -- ---- 4: the elements
 
--- one of the 26 elements but the level, a text that is not blank, and a unit that is there
+-- the element is one of the 26 but not the level, the text is not blank, and the unit exists
 abbrev pub is_good_element : List ℕ → ElementRow → Bool
 is_good_element units row =
     is_between 1 26 row.k && (not (nat_eq row.k 4) && (not (is_blank_text row.value) && stands row.unit units))
@@ -90,13 +91,13 @@ elements_are_bad c = not (list_all (is_good_element (unit_numbers c)) c.elements
 
 -- ---- 5: the containers, and what lies in them
 
--- the unit and the container are there, and the place is one of as many as the unit has containers
+-- the unit and the container exist, and the place is between 1 and the number of the unit's containers
 abbrev pub is_good_housing : CatalogueRows → HousingRow → Bool
 is_good_housing c row =
     stands row.unit (unit_numbers c) && (is_between 1 (length c.containers) row.container
     && is_between 1 (length (housings_of row.unit c.housings)) row.ord)
 
--- they are numbered from 1 on, not too many, and each has a name
+-- the containers are numbered from 1 on, they are not too many, and each has a name
 abbrev pub are_good_container_rows : List ContainerRow → Bool
 are_good_container_rows rows =
     are_numbered_from (λ (row : ContainerRow). row.id) 1 rows && (list_all (λ (row : ContainerRow). not (is_blank_text row.name)) rows

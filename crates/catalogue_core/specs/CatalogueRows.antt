@@ -1,5 +1,5 @@
--- The rows of the catalogue's tables: the office's own, the units with their texts and places, the containers and what lies in
--- them. What they are of a catalogue, and what they say again.
+-- The rows of the catalogue's tables: the office's own, the units with their texts and places, the containers and what
+-- lies in them. How rows are made from a catalogue, and what is read back from them.
 use Rattle.std.specs.Prelude.{ℕ, ℤ, zero, suc, ◌+◌, ◌&&◌, Bool, not, cond, List, [], ◌∷◌, length, filter, find, Option, Some, None, option_map, nat_eq, nat_lt}
 use Rattle.isad_core.specs.Texts.{Bytes}
 use Rattle.isad_core.specs.declared.values.BoxKey.{BoxKey}
@@ -11,7 +11,7 @@ use Rattle.tree_core.specs.declared.rows.Link.{Link}
 use Rattle.tree_core.specs.declared.rows.Span.{Span}
 use Rattle.tree_core.specs.Versions.{Version, Links, Spans}
 use Rattle.catalogue_core.specs.Units.{Unit}
-use Rattle.catalogue_core.specs.Merging.{box_number}
+use Rattle.catalogue_core.specs.CatalogueMerge.{box_number}
 
 -- ---- office
 
@@ -95,13 +95,13 @@ pub record CatalogueRows : Type 0 where
 
 -- ---- what rows say
 
--- the tree of a row, with what is below it and beside it, or nothing where there is no row
+-- the tree of a row, with what is below it and beside it, or nothing if there is no row
 abbrev pub grow : Option Link → (ℕ → Forest ℕ) → Forest ℕ → Forest ℕ
 grow None below beside = Empty
 grow (Some row) below beside = Node row.id (below row.id) beside
 
--- the forest of link rows: below a parent the row at each place from k on, with those below it, until there is none. `fuel`
--- is more than the number of rows.
+-- The forest of link rows below a parent: the row at each place from k on, with the rows below it, until there is none.
+-- `fuel` is more than the number of rows.
 abbrev pub linked : ℕ → List Link → Option ℕ → ℕ → Forest ℕ
 linked zero links parent k = Empty
 linked (suc fuel) links parent k =

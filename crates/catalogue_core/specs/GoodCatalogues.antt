@@ -7,7 +7,7 @@ use Rattle.isad_core.specs.declared.values.BoxKey.{BoxKey}
 use Rattle.isad_core.specs.Boxes.{distinct, is_same as is_same_box}
 use Rattle.tree_core.specs.Forest.{nodes, size}
 use Rattle.catalogue_core.specs.Units.{Unit, is_from}
-use Rattle.catalogue_core.specs.Merging.{Catalogue}
+use Rattle.catalogue_core.specs.CatalogueMerge.{Catalogue}
 use Rattle.isad_core.specs.Limits.{most_bytes, most_units, most_unit_numbers, most_containers, most_deep}
 use Rattle.catalogue_core.specs.Sources.{is_source}
 use Rattle.catalogue_core.specs.Moves.{height}
@@ -20,7 +20,7 @@ IsSomeDay (Some day) = IsDayNumber day
 
 -- ---- units
 
--- a text of an element, where there is one, is not blank
+-- a text of an element, if there is one, is not blank
 abbrev pub is_good_text : Option Bytes → Bool
 is_good_text None = true
 is_good_text (Some text) = not (is_blank_text text)
@@ -36,7 +36,7 @@ pub record IsGoodUnit (boxes : List BoxKey) (unit : Unit) : Type 0 where
   pub known : list_all (λ box. list_any (is_same_box box) boxes) unit.values.boxes ≡ true
   pub apart : distinct unit.values.boxes ≡ unit.values.boxes
 
--- one number in one source
+-- the same number in the same source
 abbrev pub is_same_unit : Unit → Unit → Bool
 is_same_unit a b = is_from a.source a.legacy b
 
@@ -52,7 +52,7 @@ pub record AreGoodUnits (c : Catalogue) : Type 0 where
 
 -- ---- containers
 
--- that no two are one is said of the desk
+-- that no two containers are the same is stated with the soundness of the desk
 pub record AreGoodContainers (c : Catalogue) : Type 0 where
   pub named : list_all (λ box. not (is_blank_text box.name)) c.containers ≡ true
   pub few : length c.containers ≤ most_containers

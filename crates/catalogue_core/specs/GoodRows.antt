@@ -1,4 +1,4 @@
--- Rows whose description is one that a unit may have.
+-- Rows with a description that a unit may have.
 use Rattle.std.specs.Prelude.{◌≡◌, ◌≤◌, true, false, length}
 use Rattle.std.specs.List.{list_all, AllByRecursion}
 use Rattle.isad_core.specs.Boxes.{distinct}

@@ -1,4 +1,4 @@
--- What a file makes of a catalogue, and which of its rows are new or tell something else.
+-- What a file makes of a catalogue, and which of its rows are new or change a unit.
 use Rattle.std.specs.Prelude.{ℕ, ◌+◌, Bool, false, not, ◌&&◌, ◌||◌, length, find, Option, Result, Ok, Err, nat_lt}
 use Rattle.std.specs.Option.{option_eq, option_map_or}
 use Rattle.std.specs.Str.{bytes_eq}
@@ -6,12 +6,12 @@ use Rattle.std.specs.Cmp.Lexicographic.{pointwise}
 use Rattle.isad_core.specs.Limits.{most_units, most_unit_numbers, most_containers}
 use Rattle.isad_core.specs.Texts.{Bytes}
 use Rattle.isad_core.specs.declared.values.Values.{Values}
-use Rattle.atom_csv.specs.FileOf.{file_of}
+use Rattle.atom_csv.specs.FileContents.{file_of}
 use Rattle.atom_csv.specs.declared.file.File.{File}
 use Rattle.atom_csv.specs.declared.file.Row.{Row}
 use Rattle.tree_core.specs.Forest.{Forest, nodes, size}
 use Rattle.catalogue_core.specs.Units.{Unit, is_from}
-use Rattle.catalogue_core.specs.Merging.{Catalogue, merge, is_known}
+use Rattle.catalogue_core.specs.CatalogueMerge.{Catalogue, merge, is_known}
 use Rattle.isad_core.specs.Boxes.{is_same as is_same_box}
 
 -- ---- how much the catalogue may have
@@ -23,7 +23,7 @@ is_full c =
 
 -- ---- what a file makes of a catalogue
 
--- the file that was read, and the catalogue with it
+-- the file that was read, and the catalogue after it
 pub record Intake : Type 0 where
   pub file : File
   pub catalogue : Catalogue
@@ -39,8 +39,8 @@ abbrev pub take_rows : Catalogue → Bytes → Result File (ℕ × ℕ) → Take
 take_rows catalogue source (Ok file) = with_file file (merge catalogue source file.rows)
 take_rows catalogue source (Err fault) = Err fault
 
--- The bytes are read as a file, and its rows are placed. The first faulty row of the file is told with
--- its cause; where there is none, the first row that cannot be placed.
+-- The bytes are read as a file, and its rows are placed. On failure, the result is the first faulty row of the file
+-- with its cause or, if there is none, the first row that cannot be placed.
 unfoldable pub take : Catalogue → Bytes → Bytes → Taken
 take catalogue source file = take_rows catalogue source (file_of file)
 
@@ -51,7 +51,7 @@ same_values a b =
     bytes_eq a.level b.level
     && (pointwise (option_eq bytes_eq) a.texts b.texts && pointwise is_same_box a.boxes b.boxes)
 
--- the unit of a row, where it is catalogued
+-- the unit of a row, if it is catalogued
 abbrev pub unit_of : Forest Unit → Bytes → Row → Option Unit
 unit_of f source row = find (is_from source row.legacy) (nodes f)
 

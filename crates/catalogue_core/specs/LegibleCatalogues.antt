@@ -1,10 +1,10 @@
 -- Catalogues whose texts are all UTF-8.
 use Rattle.std.specs.Prelude.{IsUtf8}
 use Rattle.std.specs.List.{AllByRecursion}
-use Rattle.isad_core.specs.Legible.{IsLegibleBox, AreLegibleValues}
+use Rattle.isad_core.specs.LegibleValues.{IsLegibleBox, AreLegibleValues}
 use Rattle.tree_core.specs.Forest.{nodes}
 use Rattle.catalogue_core.specs.Units.{Unit}
-use Rattle.catalogue_core.specs.Merging.{Catalogue}
+use Rattle.catalogue_core.specs.CatalogueMerge.{Catalogue}
 
 -- where a unit came from, its number there, and its description
 pub record HasLegibleTexts (unit : Unit) : Type 0 where

@@ -1,2 +1,2 @@
--- What stands in a list.
+-- Membership in a list.
 pub use Rattle.tree_core.specs.Members.{StandsIn}

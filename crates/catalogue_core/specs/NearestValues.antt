@@ -1,4 +1,4 @@
--- A value that is found above is that of the nearest unit, going up, that has one (ISAD(G) 2.4).
+-- A value that is found above is that of the nearest unit above that has one (ISAD(G) 2.4).
 use Rattle.std.specs.Prelude.{◌≡◌, ◌⊎◌, ℕ, ℤ, Bool, true, false, List, ◌∷◌, ◌++◌, Some, None, is_some}
 use Rattle.std.specs.List.{list_any, AllByRecursion}
 use Rattle.isad_core.specs.Elements.{is_found_above}
@@ -8,18 +8,19 @@ use Rattle.isad_core.specs.declared.display.Page.{Page}
 use Rattle.isad_core.specs.declared.values.Values.{Values}
 use Rattle.tree_core.specs.Forest.{Forest, path}
 use Rattle.catalogue_core.specs.Units.{Unit}
-use Rattle.catalogue_core.specs.Publishing.{PublicUnit, Told, Stub, public_of}
+use Rattle.catalogue_core.specs.PublicForest.{PublicUnit, Told, Stub, public_of}
 use Rattle.catalogue_core.specs.Aids.{Repository}
 use Rattle.catalogue_core.specs.Pages.{Press, PageLine, is_numbered, page_of}
-use Rattle.catalogue_core.specs.Published.{from_unit}
+use Rattle.catalogue_core.specs.PublishedUnits.{from_unit}
 
--- the public is told of a value of this unit for the element
+-- the public may know a value of this unit for the element
 abbrev pub has_value : Element → PublicUnit → Bool
 has_value element (Told id values) = is_some (text_of element values)
 has_value element (Stub id identifier level until) = false
 
--- The line has the text of a unit of the path, and says whose it is. No unit below that one, down to the last of the path,
--- whose page it is, has a text for the element. The text of a unit above stands for such elements alone as are found above.
+-- The line has the text of a unit of the path, and that unit as its origin. No unit below that one, down to the last of
+-- the path, the unit of the page, has a text for the element. The text of a unit above is used only for elements that
+-- are found above.
 pub record IsNearestValue (at : Repository) (way : List PublicUnit) (line : PageLine) : Type 0 where
   pub above : List PublicUnit
   pub id : ℕ

@@ -5,15 +5,15 @@ use Rattle.isad_core.specs.Texts.{Bytes}
 use Rattle.isad_core.specs.Codes.{code_of}
 use Rattle.isad_core.specs.Elements.{is_found_above}
 use Rattle.isad_core.specs.Values.{line_elements, text_of}
-use Rattle.isad_core.specs.Printed.{aid, numbered_line}
+use Rattle.isad_core.specs.PrintedDescriptions.{aid, numbered_line}
 use Rattle.isad_core.specs.declared.element.Element.{Element}
 use Rattle.isad_core.specs.declared.display.Page.{Page}
 use Rattle.isad_core.specs.declared.display.Shown.{Shown}
 use Rattle.isad_core.specs.declared.values.BoxKey.{BoxKey}
 use Rattle.isad_core.specs.declared.values.Values.{Values}
 use Rattle.tree_core.specs.Forest.{Forest, Empty, Node, path, tree}
-use Rattle.catalogue_core.specs.Merging.{box_number}
-use Rattle.catalogue_core.specs.Publishing.{PublicUnit, Told, Stub}
+use Rattle.catalogue_core.specs.CatalogueMerge.{box_number}
+use Rattle.catalogue_core.specs.PublicForest.{PublicUnit, Told, Stub}
 use Rattle.catalogue_core.specs.Aids.{Repository, identifier_of, shown_unit, shown_below}
 
 abbrev pub number_of : PublicUnit → ℕ
@@ -24,7 +24,7 @@ number_of (Stub id identifier level until) = id
 abbrev pub is_numbered : ℕ → PublicUnit → Bool
 is_numbered u unit = nat_eq u (number_of unit)
 
--- what is needed to print units: whose archives they are, and the containers with their numbers
+-- what is needed to print units: the repository, and the containers with their numbers
 pub record Press : Type 0 where
   pub at : Repository
   pub containers : List BoxKey
@@ -46,7 +46,7 @@ fonds_text press f = tops_text (side_by_side press [] f)
 
 -- ---- the finding aid of a unit
 
--- a list without its last
+-- a list without its last element
 abbrev pub before_last : {X : Type 0} → List X → List X
 before_last [] = []
 before_last (x ∷ []) = []
@@ -65,13 +65,13 @@ aid_of press u f = aid (aid_units press u f)
 
 -- ---- the page of a unit
 
--- what is told of a unit, with its reference code
+-- the values of a unit that the public may know, with its reference code
 pub record Coded : Type 0 where
   pub code : Bytes
   pub values : Values
 
--- the units of a path that are told, with their codes, the lowest first; `above` are the identifiers of those above, and
--- `higher` are they themselves
+-- the units of a path that are shown in full, with their codes, the lowest first; `above` are the identifiers of the
+-- units above, and `higher` are those units themselves
 abbrev pub coded_below : Press → List Bytes → List Coded → List PublicUnit → List Coded
 coded_below press above higher [] = higher
 coded_below press above higher (Told id values ∷ way) =
@@ -95,7 +95,7 @@ nearest_value element (unit ∷ higher) = or_else (text_of element unit.values) 
     or_else (Some text) further = Some (element, text, Some unit.code)
     or_else None further = further
 
--- a unit's own value; where it has none, one that is found above, if the element is such
+-- the unit's own value; if it has none and the element is found above, the nearest value above
 abbrev pub page_line : List Coded → Element → Option PageLine
 page_line [] element = None
 page_line (unit ∷ higher) element = own_or (text_of element unit.values)
@@ -110,7 +110,7 @@ PageBox = ℕ × Bytes × Option Bytes
 abbrev pub page_boxes : Press → Option Bytes → List BoxKey → List PageBox
 page_boxes press from boxes = map (λ box. (box_number press.containers box, box.name, from)) boxes
 
--- these containers; where there are none, what is found further up
+-- these containers or, if there are none, those found further up
 abbrev pub boxes_or : Press → Option Bytes → List BoxKey → List PageBox → List PageBox
 boxes_or press from [] further = further
 boxes_or press from (box ∷ boxes) further = page_boxes press from (box ∷ boxes)
@@ -125,7 +125,7 @@ abbrev pub boxes_on_page : Press → List Coded → List PageBox
 boxes_on_page press [] = []
 boxes_on_page press (unit ∷ higher) = boxes_or press None unit.values.boxes (nearest_boxes press higher)
 
--- the page of the unit at the head of a tree, where `way` is its path. A closed unit has its head line alone.
+-- the page of the unit at the head of a tree; `way` is its path. A closed unit has only its head line.
 abbrev pub page_at : Press → List PublicUnit → Forest PublicUnit → Option Page
 page_at press way Empty = None
 page_at press way (Node (Stub id identifier level until) children others) =

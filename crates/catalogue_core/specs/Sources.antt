@@ -4,7 +4,7 @@ use Rattle.std.specs.List.{list_all}
 use Rattle.isad_core.specs.Texts.{Bytes}
 pub use Rattle.isad_core.specs.Words.{is_between}
 
--- an ASCII letter, a digit, a dot, a low line or a hyphen
+-- an ASCII letter, a digit, a dot, an underscore or a hyphen
 abbrev pub is_source_letter : ℕ → Bool
 is_source_letter b =
     is_between 65 90 b || (is_between 97 122 b || (is_between 48 57 b || (nat_eq b 46 || (nat_eq b 95 || nat_eq b 45))))

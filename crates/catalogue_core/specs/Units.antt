@@ -1,4 +1,4 @@
--- Units of description, and what a unit takes from those above it.
+-- Units of description: their records, how they are identified, and when they are closed.
 use Rattle.std.specs.Prelude.{ℕ, ℤ, Bool, false, ◌&&◌, nat_eq, int_lt, Option, Some, None}
 use Rattle.std.specs.Str.{bytes_eq}
 use Rattle.isad_core.specs.Texts.{Bytes}

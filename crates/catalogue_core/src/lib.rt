@@ -1,4 +1,4 @@
-//! What a catalogue is, apart from any table that keeps it.
+//! What a catalogue is, apart from the tables that store it.
 #![tactic(auto)]
 
 pub mod laws;

@@ -4,7 +4,7 @@ ghost use Rattle.std.specs.Prelude.{◌≡◌};
 ghost use Rattle.std.specs.List.{list_all};
 ghost use Rattle.catalogue_core.specs.Sources.{is_source as is_source_name, is_source_letter as may_stand};
 
-/// An ASCII letter, a digit, a dot, an underscore or a hyphen.
+/// Whether it is an ASCII letter, a digit, a dot, an underscore or a hyphen.
 fn is_source_letter(b: u8) -> bool
     ensures { result ≡ may_stand b }
 {
@@ -16,7 +16,7 @@ fn is_source_letter(b: u8) -> bool
         || b == b'-'
 }
 
-/// Whether all bytes may stand in the name of a source.
+/// Whether all bytes are allowed in the name of a source.
 fn are_source_letters(name: &str) -> bool
     ensures { result ≡ list_all may_stand name.now }
 {

@@ -7,7 +7,7 @@ use Rattle.sqlite_rules.proofs.ListLemmas.{some_from, test_from, has_right}
 use Rattle.isad_core.specs.declared.values.BoxKey.{BoxKey}
 use Rattle.isad_core.specs.Boxes.{distinct, is_same}
 use Rattle.isad_core.proofs.BoxLemmas.{distinct_more, same_sym}
-use Rattle.catalogue_core.specs.Merging.{number_in, box_number}
+use Rattle.catalogue_core.specs.CatalogueMerge.{number_in, box_number}
 use Rattle.catalogue_core.proofs.DistinctFront.{found_any, known_distinct}
 use Rattle.catalogue_core.proofs.Imported.{distinct_append}
 use Rattle.catalogue_core.proofs.ImportedAgain.{box_itself}

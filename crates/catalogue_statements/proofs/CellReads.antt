@@ -12,10 +12,10 @@ use Rattle.sqlite_trees.proofs.ListLemmas.{all_weaker, all-get_or, ascending-map
 use Rattle.isad_core.specs.Texts.{Bytes}
 use Rattle.isad_core.specs.declared.values.BoxKey.{BoxKey}
 use Rattle.isad_core.specs.declared.values.Values.{Values}
-use Rattle.catalogue_core.specs.Merging.{box_number}
+use Rattle.catalogue_core.specs.CatalogueMerge.{box_number}
 use Rattle.office_tables.specs.Order.{Rises}
 use Rattle.catalogue_statements.specs.Rows.{counted_from}
-use Rattle.catalogue_statements.specs.Represents.{texts_from, element_number, element_cells, housing_cells}
+use Rattle.catalogue_statements.specs.Representation.{texts_from, element_number, element_cells, housing_cells}
 use Rattle.catalogue_statements.proofs.Numbered.{counted_rises}
 use Rattle.office_tables.proofs.Rows.{had}
 use Rattle.office_tables.proofs.Sorted.{only_order}

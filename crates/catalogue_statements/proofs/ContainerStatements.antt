@@ -6,7 +6,7 @@ use Rattle.std.proofs.lemmas.Result.{IfOk-weaker}
 use Rattle.std.specs.Bool.{⊤}
 use Rattle.std.specs.List.{AllByRecursion, list_any}
 use Rattle.std.specs.Ordering.{int_cmp}
-use Rattle.isad_core.specs.Legible.{IsLegibleBox}
+use Rattle.isad_core.specs.LegibleValues.{IsLegibleBox}
 use Rattle.isad_core.specs.declared.values.BoxKey.{BoxKey}
 use Rattle.isad_core.specs.Boxes.{is_same}
 use Rattle.sqlite.specs.declared.types.Value.TheVariants.{Null, Int, Text}
@@ -33,10 +33,10 @@ use Rattle.sqlite_value.specs.declared.keys.Key.{Key}
 use Rattle.sqlite_value.specs.Keys.{ascending, first_key, plain}
 use Rattle.sqlite_value.proofs.OrderLemmas.{then-Equal, value_cmp-Int}
 use Rattle.tree_core.specs.Versions.{Version, Links, Spans}
-use Rattle.office_tables.specs.Asking.{Finds, Misses}
-use Rattle.office_tables.specs.Changing.{Ran}
+use Rattle.office_tables.specs.Query.{Finds, Misses}
+use Rattle.office_tables.specs.ChangeStatement.{Ran}
 use Rattle.office_tables.specs.Faults.{IsUnlimited, HasCause}
-use Rattle.office_tables.specs.Meaning.{Means}
+use Rattle.office_tables.specs.StatementMeaning.{Means}
 use Rattle.office_tables.specs.Order.{IsOrdered}
 use Rattle.office_tables.specs.Schema.{schema, container}
 use Rattle.office_tables.specs.Step.{Holds, PutsRow}

@@ -28,16 +28,16 @@ use Rattle.sqlite_value.specs.declared.keys.Key.{Key}
 use Rattle.sqlite_value.specs.Keys.{ascending, joined, first_key, plain}
 use Rattle.tree_core.specs.Versions.{Version, Links, Spans}
 use Rattle.catalogue_core.specs.Units.{Unit as Described, has_id}
-use Rattle.office_tables.specs.Asking.{Finds, Misses}
-use Rattle.office_tables.specs.Changing.{Ran}
+use Rattle.office_tables.specs.Query.{Finds, Misses}
+use Rattle.office_tables.specs.ChangeStatement.{Ran}
 use Rattle.office_tables.specs.Faults.{IsUnlimited, HasCause}
-use Rattle.office_tables.specs.Meaning.{Means}
-use Rattle.office_tables.specs.Numbered.{HoldsNumbered}
+use Rattle.office_tables.specs.StatementMeaning.{Means}
+use Rattle.office_tables.specs.RowNumbers.{HoldsNumbered}
 use Rattle.office_tables.specs.Order.{IsOrdered}
 use Rattle.office_tables.specs.Schema.{schema, to_unit, unit, element}
 use Rattle.office_tables.specs.Step.{PutsRow, OnlyTouches}
 use Rattle.office_tables.specs.declared.fault.StoreFault.{StoreFault}
-use Rattle.catalogue_statements.specs.Adding.{AreElements, HasUnit}
+use Rattle.catalogue_statements.specs.DescriptionRows.{AreElements, HasUnit}
 use Rattle.catalogue_statements.specs.Rows.{unit_row, ElementRow, element_row, by_element}
 use Rattle.catalogue_statements.specs.declared.row_types.Element.{Element}
 use Rattle.sqlite_trees.proofs.ListLemmas.{map-map}

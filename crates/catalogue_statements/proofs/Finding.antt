@@ -9,7 +9,7 @@ use Rattle.sqlite_rules.specs.Lists.{Has}
 use Rattle.sqlite_rules.proofs.ListLemmas.{some_has, some_from, has_filtered, has_kept}
 use Rattle.tree_core.specs.Forest.{Forest, nodes}
 use Rattle.catalogue_core.specs.Units.{Unit, has_id}
-use Rattle.catalogue_core.specs.Finding.{Finds}
+use Rattle.catalogue_core.specs.UnitLookup.{Finds}
 use Rattle.office_tables.proofs.Rows.{had}
 
 pub itself : (n : ℕ) → nat_eq n n ≡ true

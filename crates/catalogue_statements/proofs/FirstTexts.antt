@@ -12,9 +12,9 @@ use Rattle.isad_core.specs.Texts.{Bytes}
 use Rattle.isad_core.specs.Values.{text_at}
 use Rattle.isad_core.specs.declared.values.Values.{Values}
 use Rattle.office_tables.proofs.Rows.{filters, had, same_test}
-use Rattle.catalogue_statements.specs.Adding.{cell_of}
+use Rattle.catalogue_statements.specs.DescriptionRows.{cell_of}
 use Rattle.catalogue_statements.specs.Rows.{ElementRow}
-use Rattle.catalogue_statements.specs.Represents.{texts_from, element_number, element_cells, elements_of}
+use Rattle.catalogue_statements.specs.Representation.{texts_from, element_number, element_cells, elements_of}
 use Rattle.catalogue_statements.specs.declared.row_types.Element.{Element}
 use Rattle.catalogue_statements.proofs.TextReads.{other_number}
 

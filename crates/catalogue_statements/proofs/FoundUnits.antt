@@ -10,7 +10,7 @@ use Rattle.sqlite_rules.proofs.ListLemmas.{has_filtered, has_kept}
 use Rattle.sqlite_trees.proofs.ListLemmas.{IsPermutation-filter}
 use Rattle.isad_core.specs.Texts.{Bytes}
 use Rattle.tree_core.specs.Forest.{Forest, nodes, has}
-use Rattle.catalogue_statements.specs.Represents.{RepresentsUnits}
+use Rattle.catalogue_statements.specs.Representation.{RepresentsUnits}
 use Rattle.catalogue_core.specs.Units.{Unit, has_id}
 use Rattle.catalogue_statements.proofs.NewUnits.{numbered_once}
 use Rattle.office_tables.proofs.Reading.{first_kept}

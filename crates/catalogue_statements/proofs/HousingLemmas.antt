@@ -11,11 +11,11 @@ use Rattle.sqlite.specs.Effect.{Database}
 use Rattle.sqlite.specs.Tree.{Trees}
 use Rattle.isad_core.specs.declared.values.BoxKey.{BoxKey}
 use Rattle.isad_core.specs.Boxes.{distinct, is_same}
-use Rattle.catalogue_statements.specs.Adding.{AreHoused, WithHousings}
-use Rattle.catalogue_core.specs.Describing.{with_boxes}
-use Rattle.catalogue_core.specs.Merging.{box_number}
+use Rattle.catalogue_statements.specs.DescriptionRows.{AreHoused, WithHousings}
+use Rattle.catalogue_core.specs.Descriptions.{with_boxes}
+use Rattle.catalogue_core.specs.CatalogueMerge.{box_number}
 use Rattle.catalogue_statements.specs.Rows.{HousingRow, housing_row, counted_from}
-use Rattle.catalogue_statements.specs.Represents.{RepresentsContainers}
+use Rattle.catalogue_statements.specs.Representation.{RepresentsContainers}
 use Rattle.office_tables.specs.Step.{OnlyTouches, PutsRow}
 use Rattle.office_tables.proofs.numbered.OwnNumbers.{one_more, still_numbered}
 use Rattle.catalogue_core.proofs.DistinctFront.{distinct_front}

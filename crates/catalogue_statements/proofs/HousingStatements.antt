@@ -26,16 +26,16 @@ use Rattle.sqlite_trees.proofs.ListLemmas.{all_of, map-map}
 use Rattle.sqlite_typing.specs.Types.{accepts_program}
 use Rattle.sqlite_value.specs.Keys.{joined, first_key, plain}
 use Rattle.tree_core.specs.Versions.{Version, Links, Spans}
-use Rattle.office_tables.specs.Asking.{Finds, Misses}
-use Rattle.office_tables.specs.Changing.{Ran}
+use Rattle.office_tables.specs.Query.{Finds, Misses}
+use Rattle.office_tables.specs.ChangeStatement.{Ran}
 use Rattle.office_tables.specs.Faults.{IsUnlimited, HasCause}
-use Rattle.office_tables.specs.Meaning.{Means}
-use Rattle.office_tables.specs.Numbered.{HoldsNumbered}
+use Rattle.office_tables.specs.StatementMeaning.{Means}
+use Rattle.office_tables.specs.RowNumbers.{HoldsNumbered}
 use Rattle.office_tables.specs.Order.{IsOrdered}
 use Rattle.office_tables.specs.Schema.{schema, housing}
 use Rattle.office_tables.specs.Step.{PutsRow, OnlyTouches}
 use Rattle.office_tables.specs.declared.fault.StoreFault.{StoreFault}
-use Rattle.catalogue_statements.specs.Adding.{HasUnit}
+use Rattle.catalogue_statements.specs.DescriptionRows.{HasUnit}
 use Rattle.catalogue_statements.specs.Rows.{HousingRow, housing_row, by_housing}
 use Rattle.catalogue_statements.specs.declared.row_types.Housing.{Housing}
 use Rattle.office_tables.proofs.Calls.{on_ok_then}

@@ -16,13 +16,13 @@ use Rattle.isad_core.specs.Boxes.{is_same}
 use Rattle.tree_core.specs.Forest.{Forest, nodes, each, has, has_place, add}
 use Rattle.tree_core.proofs.EachLemmas.{add-each}
 use Rattle.tree_core.proofs.Lists.{eqb_comm}
-use Rattle.catalogue_statements.specs.Adding.{WithTexts, cell_of, WithHousings, housing_cell, IsDescribed}
-use Rattle.catalogue_core.specs.Describing.{with_boxes, with_numbered, KnowsItsContainers}
-use Rattle.catalogue_core.specs.Merging.{Catalogue}
-use Rattle.office_tables.specs.Put.{put_by}
+use Rattle.catalogue_statements.specs.DescriptionRows.{WithTexts, cell_of, WithHousings, housing_cell, IsDescribed}
+use Rattle.catalogue_core.specs.Descriptions.{with_boxes, with_numbered, KnowsItsContainers}
+use Rattle.catalogue_core.specs.CatalogueMerge.{Catalogue}
+use Rattle.office_tables.specs.OrderedInsertion.{put_by}
 use Rattle.catalogue_statements.specs.Rows.{office_row, unit_row, by_number, ElementRow, HousingRow}
 use Rattle.tree_core.specs.Versions.{Version}
-use Rattle.catalogue_statements.specs.Represents.{Represents, RepresentsNumbered, RepresentsUnits, element_cells, elements_of, housing_cells, housings_of}
+use Rattle.catalogue_statements.specs.Representation.{Represents, RepresentsNumbered, RepresentsUnits, element_cells, elements_of, housing_cells, housings_of}
 use Rattle.catalogue_core.specs.Units.{Unit, has_id}
 use Rattle.catalogue_statements.specs.declared.office.OfficeRow.{OfficeRow}
 use Rattle.catalogue_statements.proofs.Finding.{itself}

@@ -14,12 +14,12 @@ use Rattle.sqlite_rules.proofs.ListLemmas.{all_has}
 use Rattle.sqlite_trees.proofs.ListLemmas.{all_weaker, ascending-filter}
 use Rattle.isad_core.specs.declared.values.BoxKey.{BoxKey}
 use Rattle.isad_core.specs.Boxes.{is_same}
-use Rattle.catalogue_core.specs.Merging.{number_in}
+use Rattle.catalogue_core.specs.CatalogueMerge.{number_in}
 use Rattle.office_tables.specs.Order.{Rises, IsOrdered}
-use Rattle.office_tables.specs.Put.{put_by}
+use Rattle.office_tables.specs.OrderedInsertion.{put_by}
 use Rattle.office_tables.specs.Schema as tables
 use Rattle.catalogue_statements.specs.Rows.{counted_from, by_container, container_row}
-use Rattle.catalogue_statements.specs.Represents.{RepresentsContainers}
+use Rattle.catalogue_statements.specs.Representation.{RepresentsContainers}
 use Rattle.office_tables.proofs.Puts.{put_rows}
 use Rattle.office_tables.proofs.Rows.{had}
 use Rattle.office_tables.proofs.Sorted.{only_order, head_below}

@@ -9,7 +9,7 @@ use Rattle.std.proofs.lemmas.List.Elements.{filter-append}
 use Rattle.std.proofs.lemmas.List.Sorted.{IsPermutation-trans, IsPermutation-map, IsPermutation-append_comm, IsPermutation-append_left, IsPermutation-append_right}
 use Rattle.std.proofs.Math.Bool.{and-false}
 use Rattle.sqlite_trees.proofs.ListLemmas.{all_weaker, all-append, all-filter, all-permutation, filter_all, filter_none, IsPermutation-filter}
-use Rattle.catalogue_statements.specs.Adding.{WithCells}
+use Rattle.catalogue_statements.specs.DescriptionRows.{WithCells}
 use Rattle.office_tables.proofs.Rows.{filters, same_test}
 
 module _ {A C : Type 0} (unit_of : A → ℕ) (cell_of : A → C) where

@@ -16,12 +16,12 @@ use Rattle.catalogue_core.specs.Bounds.{IsBounded}
 use Rattle.tree_core.specs.Versions.{Version}
 use Rattle.tree_core.proofs.EachLemmas.{nodes-each}
 use Rattle.catalogue_core.specs.Units.{Unit, has_id}
-use Rattle.catalogue_core.specs.Merging.{Catalogue}
+use Rattle.catalogue_core.specs.CatalogueMerge.{Catalogue}
 use Rattle.office_tables.specs.Order.{Rises}
 use Rattle.catalogue_core.specs.Statuses.{with_status, is_chosen, chosen_units}
 use Rattle.catalogue_core.proofs.EachOf.{all_split}
 use Rattle.catalogue_statements.specs.Rows.{unit_row, by_number, ElementRow, HousingRow, element_row, housing_row}
-use Rattle.catalogue_statements.specs.Represents.{Represents, element_cells, elements_of, housing_cells, housings_of}
+use Rattle.catalogue_statements.specs.Representation.{Represents, element_cells, elements_of, housing_cells, housings_of}
 use Rattle.office_tables.specs.Step.{HasRows}
 use Rattle.catalogue_statements.specs.declared.office.OfficeRow.{OfficeRow}
 

@@ -6,9 +6,9 @@ use Rattle.sqlite.specs.Edit.{next_rowid}
 use Rattle.sqlite.specs.Effect.{Database}
 use Rattle.sqlite.specs.Tree.{Trees}
 use Rattle.isad_core.specs.Texts.{Bytes}
-use Rattle.catalogue_statements.specs.Adding.{text_cells, WithTexts, AreElements}
+use Rattle.catalogue_statements.specs.DescriptionRows.{text_cells, WithTexts, AreElements}
 use Rattle.catalogue_statements.specs.Rows.{ElementRow, element_row}
-use Rattle.catalogue_statements.specs.Represents.{texts_from, element_number}
+use Rattle.catalogue_statements.specs.Representation.{texts_from, element_number}
 use Rattle.office_tables.specs.Step.{PutsRow}
 use Rattle.office_tables.specs.Schema as tables
 use Rattle.office_tables.proofs.numbered.OwnNumbers.{one_more}

@@ -6,7 +6,7 @@ use Rattle.std.proofs.lemmas.List.{ext_get_or, get_or-set_other, get_or-set_same
 use Rattle.std.proofs.lemmas.List.Sums.{fold_push}
 use Rattle.isad_core.specs.Texts.{Bytes}
 use Rattle.isad_core.specs.declared.values.Values.{Values}
-use Rattle.catalogue_statements.specs.Represents.{texts_from, element_number, element_cells}
+use Rattle.catalogue_statements.specs.Representation.{texts_from, element_number, element_cells}
 use Rattle.catalogue_statements.specs.declared.row_types.Element.{Element}
 use Rattle.catalogue_statements.proofs.CellReads.{number_rises}
 

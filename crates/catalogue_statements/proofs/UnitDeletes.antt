@@ -32,7 +32,7 @@ use Rattle.sqlite_sql.specs.declared.ops.CompareOp.TheVariants.{Eq}
 use Rattle.sqlite_tied.specs.Compute.{everything}
 use Rattle.sqlite_value.specs.Keys.{joined, first_key, plain}
 use Rattle.desk_core.specs.DeskRows.{PermitRow}
-use Rattle.office_tables.specs.Numbered.{HasNumbered}
+use Rattle.office_tables.specs.RowNumbers.{HasNumbered}
 use Rattle.office_tables.specs.Order.{Rises}
 use Rattle.office_tables.specs.Permits.{permit_cells}
 use Rattle.catalogue_statements.specs.Removals.{without, AreRemoved}

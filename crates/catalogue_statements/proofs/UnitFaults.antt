@@ -35,7 +35,7 @@ use Rattle.sqlite_trees.proofs.ListLemmas.{all_of, all-map, all_from_map, all_we
 use Rattle.sqlite_value.specs.Keys.{joined, first_key, plain}
 use Rattle.tree_core.proofs.Lists.{list_any-map}
 use Rattle.desk_core.specs.DeskRows.{PermitRow}
-use Rattle.office_tables.specs.Numbered.{HasNumbered}
+use Rattle.office_tables.specs.RowNumbers.{HasNumbered}
 use Rattle.office_tables.specs.Permits.{permit_cells}
 use Rattle.office_tables.specs.Faults.{fault_of, IsUnlimited, HasCause}
 use Rattle.catalogue_statements.specs.Removals.{without, AreRemoved, IsTold}
@@ -49,7 +49,7 @@ use Rattle.catalogue_statements.proofs.ElementStatements.{element_alone, element
 use Rattle.catalogue_statements.proofs.HousingStatements.{housing_alone, housing_fits}
 use Rattle.office_tables.proofs.numbered.OwnNumbers.{all_numbered, all_told}
 use Rattle.office_tables.proofs.DeleteCauses.{IsLeaf, delete_cause}
-use Rattle.office_tables.specs.Meaning.{Means}
+use Rattle.office_tables.specs.StatementMeaning.{Means}
 use Rattle.catalogue_statements.proofs.FoundUnits.{none_left, empty}
 use Rattle.catalogue_statements.proofs.Moves.{id_of}
 use Rattle.catalogue_statements.proofs.Removals.{all_kept, still_listed}

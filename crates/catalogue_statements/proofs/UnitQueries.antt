@@ -27,9 +27,9 @@ use Rattle.sqlite_value.specs.Keys.{ascending}
 use Rattle.tree_core.specs.Versions.{Version, Links, Spans}
 use Rattle.catalogue_core.specs.Bounds.{IsLegibleUnit}
 use Rattle.catalogue_core.specs.Units.{Unit, is_from}
-use Rattle.office_tables.specs.Asking.{Finds, Misses}
+use Rattle.office_tables.specs.Query.{Finds, Misses}
 use Rattle.office_tables.specs.Faults.{IsUnlimited, HasCause}
-use Rattle.office_tables.specs.Meaning.{Means}
+use Rattle.office_tables.specs.StatementMeaning.{Means}
 use Rattle.office_tables.specs.Order.{IsOrdered}
 use Rattle.office_tables.specs.Schema.{schema, unit}
 use Rattle.office_tables.specs.Schema as tables

@@ -31,10 +31,10 @@ use Rattle.sqlite_typing.specs.Types.{accepts_program}
 use Rattle.sqlite_value.specs.Keys.{joined, first_key, plain}
 use Rattle.tree_core.specs.Versions.{Version, Links, Spans}
 use Rattle.catalogue_core.specs.Units.{Unit as Described, has_id, is_from}
-use Rattle.office_tables.specs.Changing.{Ran}
+use Rattle.office_tables.specs.ChangeStatement.{Ran}
 use Rattle.office_tables.specs.Faults.{IsUnlimited, HasCause}
 use Rattle.office_tables.specs.Flags.{flag}
-use Rattle.office_tables.specs.Meaning.{Means}
+use Rattle.office_tables.specs.StatementMeaning.{Means}
 use Rattle.office_tables.specs.Order.{Rises}
 use Rattle.office_tables.specs.Schema.{schema, unit}
 use Rattle.office_tables.specs.Schema as tables

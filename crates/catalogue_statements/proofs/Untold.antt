@@ -18,12 +18,12 @@ use Rattle.isad_core.specs.declared.values.Values.{Values}
 use Rattle.tree_core.specs.Forest.{Forest, has}
 use Rattle.isad_core.specs.Boxes.{distinct, is_same}
 use Rattle.isad_core.proofs.BoxLemmas.{same_sym}
-use Rattle.catalogue_statements.specs.Adding.{HasUnit, WithCells, WithTexts, cell_of, WithHousings, housing_cell}
-use Rattle.catalogue_core.specs.Describing.{with_boxes}
-use Rattle.catalogue_core.specs.Merging.{number_in, box_number}
+use Rattle.catalogue_statements.specs.DescriptionRows.{HasUnit, WithCells, WithTexts, cell_of, WithHousings, housing_cell}
+use Rattle.catalogue_core.specs.Descriptions.{with_boxes}
+use Rattle.catalogue_core.specs.CatalogueMerge.{number_in, box_number}
 use Rattle.catalogue_statements.specs.Rows.{unit_row, ElementRow, HousingRow, counted_from}
-use Rattle.office_tables.specs.Put.{put_by}
-use Rattle.catalogue_statements.specs.Represents.{texts_from, element_number}
+use Rattle.office_tables.specs.OrderedInsertion.{put_by}
+use Rattle.catalogue_statements.specs.Representation.{texts_from, element_number}
 use Rattle.catalogue_core.specs.Units.{Unit, has_id}
 use Rattle.office_tables.specs.Schema as tables
 use Rattle.catalogue_core.proofs.Imported.{distinct_again, same_box}

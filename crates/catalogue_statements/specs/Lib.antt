@@ -1,8 +1,8 @@
 pub mod Rows
-pub mod Represents
-pub mod Added
+pub mod Representation
+pub mod NewUnit
 pub mod Removals
-pub mod Adding
+pub mod DescriptionRows
 pub mod Settings
 pub mod Values
 pub mod Standings

@@ -1,27 +1,28 @@
--- Units that are taken out of the tables, with all that tells of them.
+-- Units that are removed from the tables, with all rows about them.
 use Rattle.office_tables.specs.Schema as tables
 use Rattle.std.specs.Prelude.{◌≡◌, ℕ, not, true, List, [], ◌∷◌, map, filter, nat_eq}
 use Rattle.std.specs.List.{IsDistinct, list_any}
 use Rattle.sqlite.specs.Tree.{Trees}
 use Rattle.sqlite.specs.Effect.{Database}
 use Rattle.desk_core.specs.DeskRows.{PermitRow}
-use Rattle.office_tables.specs.Numbered.{HasNumbered}
+use Rattle.office_tables.specs.RowNumbers.{HasNumbered}
 use Rattle.office_tables.specs.Order.{Rises}
 use Rattle.office_tables.specs.Permits.{permit_cells}
 use Rattle.catalogue_statements.specs.Rows.{unit_row, by_number, ElementRow, element_row, HousingRow, housing_row}
 use Rattle.office_tables.specs.Step.{OnlyTouches}
 use Rattle.catalogue_core.specs.Units.{Unit}
 
--- the records that tell none of these numbers
+-- the records that have none of these numbers
 abbrev pub without : {A : Type 0} → (A → ℕ) → List ℕ → List A → List A
 without number ids xs = filter (λ x. not (list_any (nat_eq (number x)) ids)) xs
 
--- each of these numbers is a unit's, and none stands twice
+-- each of these numbers is a unit's, and none occurs twice
 pub record AreListed (ids : List ℕ) (xs : List Unit) : Type 0 where
   pub distinct : IsDistinct nat_eq ids
   pub there : (n : ℕ) → list_any (nat_eq n) ids ≡ true → list_any (λ (u : Unit). nat_eq n u.id) xs ≡ true
 
--- the rows of these units are gone, with their elements, their containers' places and the permits for them, and no others
+-- the rows of these units are gone, with their rows in `element` and `housing` and the permits for them; all other rows
+-- remain
 pub record AreRemoved (ids : List ℕ) (old new : Database) : Type 0 where
   pub units : (xs : List Unit) → old.trees tables.unit.tree ≡ map unit_row xs → Rises by_number xs → new.trees tables.unit.tree ≡ map unit_row (without (λ u. u.id) ids xs)
   pub elements : (xs : List ElementRow) → HasNumbered element_row (old.trees tables.element.tree) xs → HasNumbered element_row (new.trees tables.element.tree) (without (λ e. e.unit) ids xs)
@@ -29,7 +30,7 @@ pub record AreRemoved (ids : List ℕ) (old new : Database) : Type 0 where
   pub permits : (xs : List PermitRow) → HasNumbered permit_cells (old.trees tables.permit.tree) xs → HasNumbered permit_cells (new.trees tables.permit.tree) (without (λ p. p.unit) ids xs)
   pub only : OnlyTouches (tables.permit.tree ∷ tables.unit.tree ∷ tables.element.tree ∷ tables.housing.tree ∷ []) old new
 
--- what the tables of the units, and of all that goes with a unit, have as rows
+-- the rows of the table of units, and of the tables whose rows go with a unit
 pub record IsTold (db : Trees) : Type 0 where
   pub units : List Unit
   pub unit_rows : db tables.unit.tree ≡ map unit_row units

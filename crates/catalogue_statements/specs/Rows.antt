@@ -15,13 +15,13 @@ pub use Rattle.tree_core.specs.Versions.{version_number}
 pub use Rattle.catalogue_core.specs.CatalogueRows.{ElementRow, HousingRow}
 pub use Rattle.office_tables.specs.Flags.{flag}
 pub use Rattle.office_tables.specs.RowCells.{element_cells as element_row, housing_cells as housing_row, link_cells as link_row}
-pub use Rattle.office_tables.specs.Shared.{container_row}
-use Rattle.office_tables.specs.Shared.{settings_cells, office_cells}
+pub use Rattle.office_tables.specs.SharedRows.{container_row}
+use Rattle.office_tables.specs.SharedRows.{settings_cells, office_cells}
 use Rattle.catalogue_core.specs.CatalogueRows as row
 
 -- ---- office
 
--- what the office's row is in this version
+-- the office's row in this version
 abbrev pub told_in : Version → OfficeRow → row.OfficeRow
 told_in version o = record {
   version = version_number version;
@@ -38,7 +38,7 @@ told_in version o = record {
 abbrev pub office_row : Version → OfficeRow → Row
 office_row version o = office_cells (told_in version o)
 
--- the same in either version
+-- the cells of the settings, which are the same in either version
 abbrev pub told_cells : OfficeRow → Row
 told_cells o = settings_cells (told_in Links o)
 

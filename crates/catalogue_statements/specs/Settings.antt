@@ -1,4 +1,4 @@
--- What can be read back of the office's row: texts that are UTF-8, and numbers that fit their types.
+-- Settings that can be read back from the office's row: texts that are UTF-8, and numbers that fit their types.
 use Rattle.std.specs.Prelude.{◌≡◌, ◌<◌, ◌^◌, true, IsUtf8}
 use Rattle.isad_core.specs.Days.{is_day_number}
 use Rattle.catalogue_statements.specs.declared.office.OfficeRow.{OfficeRow}

@@ -1,4 +1,4 @@
--- What a unit's row tells of it, but for where its description came from.
+-- What a unit's row says about it, except where its description came from.
 use Rattle.catalogue_core.specs.Units.{Unit}
 use Rattle.catalogue_statements.specs.declared.row_types.Standing.{Standing}
 

@@ -1,23 +1,23 @@
--- When the tables tell the values of units, in either version.
+-- When the tables represent the values of units, in either version.
 use Rattle.std.specs.Prelude.{◌≡◌, ℕ, List, length, IsPermutation}
 use Rattle.sqlite.specs.Effect.{Database}
 use Rattle.isad_core.specs.declared.values.Values.{«Values» as Description}
 use Rattle.tree_core.specs.Versions.{Version}
-use Rattle.catalogue_core.specs.Describing.{HasAllPlaces}
-use Rattle.catalogue_core.specs.Merging.{Catalogue}
-use Rattle.office_tables.specs.Numbered.{HasNumbered}
+use Rattle.catalogue_core.specs.Descriptions.{HasAllPlaces}
+use Rattle.catalogue_core.specs.CatalogueMerge.{Catalogue}
+use Rattle.office_tables.specs.RowNumbers.{HasNumbered}
 use Rattle.office_tables.specs.Schema as tables
 use Rattle.catalogue_statements.specs.Rows.{ElementRow, element_row}
-use Rattle.catalogue_statements.specs.Represents.{RepresentsCatalogue, element_cells, elements_of}
+use Rattle.catalogue_statements.specs.Representation.{RepresentsCatalogue, element_cells, elements_of}
 use Rattle.catalogue_statements.specs.declared.office.OfficeRow.{OfficeRow}
 
--- the catalogue's tables, but for the places, show units that each have a place for each text
+-- the catalogue's tables, except the places, represent units that each have a place for every text
 pub record RepresentsValues (db : Database) (o : OfficeRow) (c : Catalogue) : Type 0 where
   pub version : Version
   pub catalogue : RepresentsCatalogue version db o c
   pub places : HasAllPlaces c
 
--- these rows tell the texts of the unit with this number, which has a place for each
+-- these rows contain the texts of the unit with this number, which has a place for every text
 pub record TellsTexts (unit : ℕ) (db : Database) (values : Description) (xs : List ElementRow) : Type 0 where
   pub rows : HasNumbered element_row (db.trees tables.element.tree) xs
   pub places : length values.texts ≡ 25

@@ -1,4 +1,4 @@
-//! The statements on the catalogue's tables, each with the rows that it changes or answers.
+//! The statements on the catalogue's tables, each with the rows that it changes or returns.
 #![tactic(auto)]
 
 pub mod containers;

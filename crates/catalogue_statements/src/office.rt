@@ -7,15 +7,15 @@ ghost use Rattle.sqlite.specs.State.{HasCleanDisk};
 ghost use Rattle.tree_core.specs.Versions.{Version};
 ghost use Rattle.catalogue_core.specs.Units.{«Unit» as Described};
 ghost use Rattle.isad_core.specs.Limits.{IsNumber};
-ghost use Rattle.office_tables.specs.Asking.{Reads};
-ghost use Rattle.office_tables.specs.Changing.{Leaves};
-ghost use Rattle.office_tables.specs.Counting.{capped};
+ghost use Rattle.office_tables.specs.Query.{Reads};
+ghost use Rattle.office_tables.specs.ChangeStatement.{Leaves};
+ghost use Rattle.office_tables.specs.RowCounts.{capped};
 ghost use Rattle.office_tables.specs.Faults.{FaultsHaveCause};
 ghost use Rattle.office_tables.specs.Schema as tables;
 ghost use Rattle.office_tables.specs.Step.{InOffice, Holds, HasRows, OnlyTouches};
 ghost use Rattle.catalogue_statements.specs.Rows.{container_row, office_row as row_of_office, unit_row};
 ghost use Rattle.catalogue_statements.specs.Settings.{AreLegibleSettings};
-ghost use Rattle.catalogue_statements.specs.Represents.{RepresentsOffice};
+ghost use Rattle.catalogue_statements.specs.Representation.{RepresentsOffice};
 ghost use Rattle.catalogue_statements.specs.declared.office.OfficeRow.{OfficeRow};
 
 use isad_core::{Day, Text};
@@ -24,7 +24,7 @@ use office_tables::{StoreFault, change, find};
 use sqlite::{Alter, Connection};
 use std::alloc::Global;
 
-/// What the office's row tells.
+/// The office's row: the settings, the day and the next unit number.
 #[derive(Debug, PartialEq, Drop)]
 pub struct OfficeRow {
     /// Two letters, A to Z.
@@ -67,7 +67,7 @@ pub fn set_next_unit<S: Alter>(conn: &mut Connection<S>, next: u64) -> Result<()
     )
 }
 
-/// The rows of the table: one.
+/// The rows of the table, of which there is one.
 pub fn office_rows<S: Alter>(
     alloc: Global,
     conn: &mut Connection<S>,

@@ -1,4 +1,4 @@
-//! What the rows of the catalogue's tables tell, read one by one.
+//! The rows of the catalogue's tables, as queries return them.
 
 ghost use Rattle.std.specs.Prelude.{◌≡◌, pos, [], ◌∷◌, true, IfSome, IfOk, IfErr, IsOk};
 ghost use Rattle.isad_core.specs.Days.{is_day_number};
@@ -37,8 +37,7 @@ impl FromRow for Status {
     }
 }
 
-/// What a unit's row tells of it: its level, whether it is a draft, and the day on which its
-/// closure ends.
+/// A unit's level, whether it is a draft, and the day on which its closure ends.
 #[derive(Drop)]
 pub struct Standing {
     pub level: Text,
@@ -46,7 +45,7 @@ pub struct Standing {
     pub until: Option<Day>,
 }
 
-/// The day of this number, where there is a number.
+/// The day with this number, if there is a number.
 fn day_of(number: Option<i32>) -> Result<Option<Day>, StoreFault>
     ensures value { IfOk result (λ day. day ≡ number) }
     ensures days { IfSome number (λ n. is_day_number n ≡ true) → IsOk result }
@@ -81,7 +80,7 @@ impl FromRow for Standing {
     }
 }
 
-/// A text of a unit, by the number of its element, 1 to 26 without 4.
+/// A text of a unit, with the number of its element: 1 to 26, without 4.
 #[derive(Drop)]
 pub struct Element {
     pub k: u64,
@@ -104,7 +103,7 @@ impl FromRow for Element {
     }
 }
 
-/// A container of a unit by its number, at its place in the unit's order from 1.
+/// A container of a unit: its number, and its place in the unit's order, from 1.
 #[derive(Clone, Copy)]
 pub struct Housing {
     pub ord: u64,

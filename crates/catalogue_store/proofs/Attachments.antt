@@ -18,12 +18,12 @@ use Rattle.sqlite_trees.proofs.ListLemmas.{IsPermutation-filter, ascending-filte
 use Rattle.isad_core.specs.declared.values.BoxKey.{BoxKey}
 use Rattle.tree_core.specs.Forest.{nodes, has}
 use Rattle.tree_core.proofs.Lists.{In, In-from_Contains, Contains-from_In}
-use Rattle.catalogue_core.specs.Marking.{names}
-use Rattle.catalogue_store.specs.Attaching.{AreAttached}
-use Rattle.catalogue_core.specs.Merging.{Catalogue, box_number}
+use Rattle.catalogue_core.specs.UnitMarks.{names}
+use Rattle.catalogue_store.specs.Attachments.{AreAttached}
+use Rattle.catalogue_core.specs.CatalogueMerge.{Catalogue, box_number}
 use Rattle.office_tables.specs.Order.{Rises}
 use Rattle.catalogue_statements.specs.Rows.{HousingRow, by_housing, by_number, counted_from}
-use Rattle.catalogue_statements.specs.Represents.{RepresentsUnits, RepresentsHousings, housing_cells, housings_of}
+use Rattle.catalogue_statements.specs.Representation.{RepresentsUnits, RepresentsHousings, housing_cells, housings_of}
 use Rattle.catalogue_core.specs.Units.{Unit, has_id}
 use Rattle.office_tables.proofs.Rows.{had, has_map, map_has}
 use Rattle.office_tables.proofs.Sorted.{same_rising}

@@ -10,7 +10,7 @@ use Rattle.office_tables.specs.Creation.{HasMade}
 use Rattle.tree_core.specs.Versions.{Version}
 use Rattle.office_tables.specs.Schema.{schema, desk_tables}
 use Rattle.catalogue_statements.specs.Rows.{office_row, element_row, housing_row}
-use Rattle.catalogue_statements.specs.Represents.{Represents}
+use Rattle.catalogue_statements.specs.Representation.{Represents}
 use Rattle.office_tables.specs.Step.{PutsRow}
 use Rattle.office_tables.proofs.numbered.OwnNumbers.{none_there}
 use Rattle.catalogue_statements.specs.declared.office.OfficeRow.{OfficeRow}

@@ -7,7 +7,7 @@ use Rattle.sqlite_rules.specs.Lists.{Has}
 use Rattle.sqlite_rules.proofs.ListLemmas.{has_filtered, has_last}
 use Rattle.isad_core.specs.declared.values.BoxKey.{BoxKey}
 use Rattle.isad_core.specs.Boxes.{is_same}
-use Rattle.catalogue_core.specs.Merging.{number_in, box_number}
+use Rattle.catalogue_core.specs.CatalogueMerge.{number_in, box_number}
 use Rattle.catalogue_statements.specs.Rows.{counted_from}
 use Rattle.catalogue_core.proofs.Imported.{same_box}
 use Rattle.catalogue_statements.proofs.Untold.{one_less}

@@ -10,19 +10,19 @@ use Rattle.sqlite.specs.Tree.{Trees, put_row}
 use Rattle.sqlite_trees.specs.declared.store.Store as store
 use Rattle.tree_core.specs.Forest.{Forest, each, has_place}
 use Rattle.tree_core.specs.Versions.{Version}
-use Rattle.catalogue_core.specs.Describing.{KnowsItsContainers}
-use Rattle.catalogue_core.specs.Merging.{Catalogue}
+use Rattle.catalogue_core.specs.Descriptions.{KnowsItsContainers}
+use Rattle.catalogue_core.specs.CatalogueMerge.{Catalogue}
 use Rattle.catalogue_core.specs.Units.{Unit, has_id}
 use Rattle.office_tables.specs.Calls.{Makes}
 use Rattle.office_tables.specs.Step.{OnlyTouches}
 use Rattle.office_tables.specs.declared.fault.StoreFault.{StoreFault}
 use Rattle.office_tables.proofs.Calls.{on_ok_both}
-use Rattle.catalogue_statements.specs.Adding.{IsDescribed}
+use Rattle.catalogue_statements.specs.DescriptionRows.{IsDescribed}
 use Rattle.catalogue_statements.specs.Rows.{ElementRow, HousingRow, office_row, unit_row}
-use Rattle.catalogue_statements.specs.Represents.{Represents, RepresentsCatalogue}
+use Rattle.catalogue_statements.specs.Representation.{Represents, RepresentsCatalogue}
 use Rattle.catalogue_statements.specs.declared.office.OfficeRow.{OfficeRow}
 use Rattle.catalogue_statements.proofs.NewUnits.{shows_added}
-use Rattle.catalogue_store.specs.Entering.{with_entered}
+use Rattle.catalogue_store.specs.ImportEntries.{with_entered}
 use Rattle.catalogue_store.proofs.Telling.{same_described}
 
 -- the tables tell of one unit more; the office's row is as it was

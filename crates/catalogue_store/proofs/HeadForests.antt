@@ -13,9 +13,9 @@ use Rattle.tree_core.specs.Forest.{Forest, Empty, Node, nodes, each, tree}
 use Rattle.tree_core.specs.Tops.{tops, below_first, part_below}
 use Rattle.tree_core.proofs.TopsLemmas.{tops-each, part_below-each}
 use Rattle.catalogue_core.proofs.EachOf.{all_split}
-use Rattle.catalogue_core.specs.Finding.{has_unit}
+use Rattle.catalogue_core.specs.UnitLookup.{has_unit}
 use Rattle.catalogue_core.specs.Units.{Unit, has_id}
-use Rattle.catalogue_statements.specs.Represents.{RepresentsUnits}
+use Rattle.catalogue_statements.specs.Representation.{RepresentsUnits}
 use Rattle.catalogue_statements.specs.Standings.{standing_of}
 use Rattle.catalogue_statements.specs.declared.row_types.Standing.{Standing}
 use Rattle.catalogue_statements.proofs.FoundUnits.{found_one}

@@ -8,8 +8,8 @@ use Rattle.isad_core.specs.declared.values.Values.{Values}
 use Rattle.isad_core.specs.Boxes.{distinct, is_same}
 use Rattle.tree_core.specs.Forest.{Forest, Empty, Node, nodes, join, put_below, add}
 use Rattle.tree_core.proofs.EachLemmas.{nodes-each}
-use Rattle.catalogue_core.specs.Describing.{with_boxes, KnowsItsContainers, with_unit, with_values}
-use Rattle.catalogue_core.specs.Merging.{Catalogue}
+use Rattle.catalogue_core.specs.Descriptions.{with_boxes, KnowsItsContainers, with_unit, with_values}
+use Rattle.catalogue_core.specs.CatalogueMerge.{Catalogue}
 use Rattle.catalogue_core.specs.Units.{Unit, has_id}
 use Rattle.catalogue_core.proofs.Imported.{distinct_again}
 use Rattle.catalogue_statements.proofs.BoxNumbers.{all_known, still_known}

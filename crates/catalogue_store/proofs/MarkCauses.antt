@@ -12,10 +12,10 @@ use Rattle.tree_core.specs.Forest.{Forest, nodes}
 use Rattle.tree_core.specs.declared.rows.Span.{Span}
 use Rattle.tree_core.proofs.EachLemmas.{nodes-each}
 use Rattle.catalogue_core.specs.Bounds.{IsKept, IsLegibleUnit}
-use Rattle.catalogue_store.specs.Attaching.{AreAttached}
-use Rattle.catalogue_core.specs.Marking.{names}
-use Rattle.catalogue_core.specs.Merging.{Catalogue}
-use Rattle.catalogue_statements.specs.Represents.{RepresentsUnits}
+use Rattle.catalogue_store.specs.Attachments.{AreAttached}
+use Rattle.catalogue_core.specs.UnitMarks.{names}
+use Rattle.catalogue_core.specs.CatalogueMerge.{Catalogue}
+use Rattle.catalogue_statements.specs.Representation.{RepresentsUnits}
 use Rattle.catalogue_core.specs.Units.{Unit}
 use Rattle.catalogue_statements.specs.declared.row_types.Status.{Status}
 use Rattle.catalogue_store.proofs.MarkReads.{blank_unit}

@@ -13,10 +13,10 @@ use Rattle.tree_core.specs.Tops.{last_but_one, right_above}
 use Rattle.tree_core.specs.declared.marks.Mark.{Mark}
 use Rattle.tree_core.proofs.EachLemmas.{has-each, nodes-each}
 use Rattle.tree_core.proofs.LinkPaths.{parts, other_id}
-use Rattle.catalogue_core.specs.Marking.{mark_of, unnumbered, AreMarks, AreWalkMarks}
+use Rattle.catalogue_core.specs.UnitMarks.{mark_of, unnumbered, AreMarks, AreWalkMarks}
 use Rattle.catalogue_core.specs.Units.{Unit, has_id}
 use Rattle.catalogue_statements.proofs.Moves.{id_of}
-use Rattle.catalogue_store.specs.Attaching.{way_to}
+use Rattle.catalogue_store.specs.Attachments.{way_to}
 use Rattle.catalogue_store.proofs.HeadForests.{all_there}
 use Rattle.catalogue_store.proofs.MarkForests.{path_in, path_ids}
 

@@ -14,12 +14,12 @@ use Rattle.isad_core.specs.declared.values.BoxKey.{BoxKey}
 use Rattle.tree_core.specs.Forest.{Forest, nodes}
 use Rattle.tree_core.specs.declared.marks.Mark.{Mark}
 use Rattle.tree_core.specs.declared.rows.Span.{Span}
-use Rattle.catalogue_core.specs.Housing.{is_some_there}
-use Rattle.catalogue_core.specs.Marked.{mark_at, marks_at}
-use Rattle.catalogue_core.specs.Merging.{box_number}
+use Rattle.catalogue_core.specs.ContainerContents.{is_some_there}
+use Rattle.catalogue_core.specs.MarkLookup.{mark_at, marks_at}
+use Rattle.catalogue_core.specs.CatalogueMerge.{box_number}
 use Rattle.office_tables.specs.Order.{Rises}
 use Rattle.catalogue_statements.specs.Rows.{by_number, counted_from, HousingRow}
-use Rattle.catalogue_statements.specs.Represents.{RepresentsUnits, RepresentsHousings, housing_cells, housings_of}
+use Rattle.catalogue_statements.specs.Representation.{RepresentsUnits, RepresentsHousings, housing_cells, housings_of}
 use Rattle.catalogue_core.specs.Units.{Unit}
 use Rattle.catalogue_statements.specs.declared.row_types.Status.{Status}
 use Rattle.catalogue_statements.proofs.Offices.{length-counted}

@@ -4,13 +4,13 @@ use Rattle.std.proofs.Common.{◌≡◌, ℕ, List, ◌∙◌}
 use Rattle.sqlite.specs.Tree.{Trees}
 use Rattle.isad_core.specs.declared.values.BoxKey.{BoxKey}
 use Rattle.isad_core.specs.declared.values.Values.{Values}
-use Rattle.catalogue_statements.specs.Adding.{AreElements, AreHoused, IsDescribed}
-use Rattle.catalogue_core.specs.Describing.{with_boxes, KnowsItsContainers}
-use Rattle.catalogue_core.specs.Merging.{Catalogue}
+use Rattle.catalogue_statements.specs.DescriptionRows.{AreElements, AreHoused, IsDescribed}
+use Rattle.catalogue_core.specs.Descriptions.{with_boxes, KnowsItsContainers}
+use Rattle.catalogue_core.specs.CatalogueMerge.{Catalogue}
 use Rattle.catalogue_statements.specs.Rows.{ElementRow, HousingRow, element_row, housing_row}
 use Rattle.tree_core.specs.Versions.{Version}
 use Rattle.office_tables.proofs.numbered.OwnNumbers.{still_numbered}
-use Rattle.catalogue_statements.specs.Represents.{RepresentsCatalogue}
+use Rattle.catalogue_statements.specs.Representation.{RepresentsCatalogue}
 use Rattle.catalogue_statements.specs.declared.office.OfficeRow.{OfficeRow}
 use Rattle.sqlite.specs.Effect.{Database}
 

@@ -7,10 +7,10 @@ use Rattle.sqlite_rules.specs.Lists.{Has}
 use Rattle.sqlite_rules.proofs.ListLemmas.{all_has}
 use Rattle.isad_core.specs.Boxes.{is_same}
 use Rattle.tree_core.specs.Forest.{nodes}
-use Rattle.catalogue_core.specs.Describing.{KnowsItsContainers}
-use Rattle.catalogue_core.specs.Merging.{Catalogue}
+use Rattle.catalogue_core.specs.Descriptions.{KnowsItsContainers}
+use Rattle.catalogue_core.specs.CatalogueMerge.{Catalogue}
 use Rattle.catalogue_core.specs.Units.{Unit}
-use Rattle.catalogue_statements.specs.Represents.{element_cells, elements_of, housing_cells, housings_of}
+use Rattle.catalogue_statements.specs.Representation.{element_cells, elements_of, housing_cells, housings_of}
 use Rattle.catalogue_statements.specs.Values.{RepresentsValues, TellsTexts}
 use Rattle.catalogue_statements.specs.declared.office.OfficeRow.{OfficeRow}
 

@@ -10,10 +10,10 @@ use Rattle.sqlite.specs.Tree.{Trees}
 use Rattle.tree_core.specs.Forest.{nodes}
 use Rattle.tree_core.proofs.EachLemmas.{has-each}
 use Rattle.catalogue_core.specs.Bounds.{IsKept}
-use Rattle.catalogue_core.specs.Finding.{has_unit}
-use Rattle.catalogue_core.specs.Merging.{Catalogue}
+use Rattle.catalogue_core.specs.UnitLookup.{has_unit}
+use Rattle.catalogue_core.specs.CatalogueMerge.{Catalogue}
 use Rattle.catalogue_core.specs.Units.{Unit, has_id}
-use Rattle.catalogue_statements.specs.Represents.{RepresentsUnits}
+use Rattle.catalogue_statements.specs.Representation.{RepresentsUnits}
 use Rattle.tree_core.specs.Forest.{Forest, each}
 
 none_so_high : (n : ℕ) (ids : List ℕ) → 2 ^ 63 ≤ n → AllByRecursion (λ id. id < 2 ^ 63) ids → list_any (nat_eq n) ids ≡ false

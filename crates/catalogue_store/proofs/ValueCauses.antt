@@ -16,10 +16,10 @@ use Rattle.isad_core.specs.declared.values.Values.{Values}
 use Rattle.isad_core.specs.Boxes.{is_same}
 use Rattle.tree_core.specs.Forest.{Forest, nodes, has}
 use Rattle.catalogue_core.specs.Bounds.{IsLegibleUnit}
-use Rattle.isad_core.specs.Legible.{IsLegibleBox}
-use Rattle.catalogue_core.specs.Merging.{number_in, box_number}
+use Rattle.isad_core.specs.LegibleValues.{IsLegibleBox}
+use Rattle.catalogue_core.specs.CatalogueMerge.{number_in, box_number}
 use Rattle.catalogue_statements.specs.Rows.{counted_from, ElementRow}
-use Rattle.catalogue_statements.specs.Represents.{RepresentsElements, texts_from, element_number, element_cells, elements_of}
+use Rattle.catalogue_statements.specs.Representation.{RepresentsElements, texts_from, element_number, element_cells, elements_of}
 use Rattle.catalogue_core.specs.Units.{Unit, has_id}
 use Rattle.office_tables.proofs.Rows.{had, has_map, map_has}
 use Rattle.catalogue_statements.proofs.Untold.{numbered, one_less}

@@ -12,13 +12,13 @@ use Rattle.isad_core.specs.declared.values.BoxKey.{BoxKey}
 use Rattle.isad_core.specs.declared.values.Values.{Values}
 use Rattle.isad_core.specs.Boxes.{is_same}
 use Rattle.tree_core.specs.Forest.{Forest, nodes, each, has}
-use Rattle.catalogue_statements.specs.Adding.{WithTexts, cell_of, WithHousings, housing_cell, IsDescribed}
-use Rattle.catalogue_core.specs.Describing.{with_boxes, with_values, KnowsItsContainers}
-use Rattle.catalogue_core.specs.Merging.{Catalogue}
+use Rattle.catalogue_statements.specs.DescriptionRows.{WithTexts, cell_of, WithHousings, housing_cell, IsDescribed}
+use Rattle.catalogue_core.specs.Descriptions.{with_boxes, with_values, KnowsItsContainers}
+use Rattle.catalogue_core.specs.CatalogueMerge.{Catalogue}
 use Rattle.catalogue_statements.specs.Rows.{unit_row, ElementRow, HousingRow}
 use Rattle.tree_core.specs.Versions.{Version}
 use Rattle.tree_core.proofs.EachLemmas.{nodes-each}
-use Rattle.catalogue_statements.specs.Represents.{Represents, element_cells, elements_of, housing_cells, housings_of}
+use Rattle.catalogue_statements.specs.Representation.{Represents, element_cells, elements_of, housing_cells, housings_of}
 use Rattle.catalogue_core.specs.Units.{Unit, has_id}
 use Rattle.catalogue_statements.specs.declared.office.OfficeRow.{OfficeRow}
 use Rattle.catalogue_statements.proofs.HousingLemmas.{same_cells}

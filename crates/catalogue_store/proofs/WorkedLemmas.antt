@@ -10,11 +10,11 @@ use Rattle.tree_core.specs.Forest.{each}
 use Rattle.tree_core.specs.declared.rows.Link.{Link}
 use Rattle.tree_core.proofs.LinkPaths.{length-path}
 use Rattle.catalogue_core.specs.Bounds.{IsKept, IsLegibleUnit}
-use Rattle.catalogue_core.specs.Describing.{KnowsItsContainers, HasAllPlaces}
+use Rattle.catalogue_core.specs.Descriptions.{KnowsItsContainers, HasAllPlaces}
 use Rattle.tree_core.specs.Versions.{Links}
-use Rattle.catalogue_statements.specs.Represents.{Represents, RepresentsLinkRows}
+use Rattle.catalogue_statements.specs.Representation.{Represents, RepresentsLinkRows}
 use Rattle.catalogue_core.specs.Units.{Unit}
-use Rattle.catalogue_store.specs.Worked.{box, fonds, series, worked, settings, element_rows, housing_rows, link_rows, tables}
+use Rattle.catalogue_store.specs.WorkedExamples.{box, fonds, series, worked, settings, element_rows, housing_rows, link_rows, tables}
 use Rattle.office_tables.proofs.Puts.{not_falling}
 
 -- texts that are not there

@@ -1,4 +1,4 @@
--- What a unit is shown by in a line of its own (ISAD(G) 3.1: its identity).
+-- What a unit's own line shows of it (ISAD(G) 3.1: its identity).
 use Rattle.std.specs.Prelude.{ℕ, find, Option, option_map}
 use Rattle.isad_core.specs.Values.{identifier, title}
 use Rattle.tree_core.specs.Forest.{Forest, nodes}
@@ -16,6 +16,6 @@ head_of u = record {
   until = u.until;
 }
 
--- that of the unit with this number, where there is one
+-- the head of the unit with this number, if there is one
 abbrev pub head_at : Forest Unit → ℕ → Option Head
 head_at f unit = option_map head_of (find (has_id unit) (nodes f))

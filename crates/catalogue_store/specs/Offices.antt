@@ -1,8 +1,8 @@
--- What is told of an office.
+-- What a call returns about an office.
 use Rattle.std.specs.Prelude.{length}
 use Rattle.tree_core.specs.Forest.{size}
-use Rattle.catalogue_core.specs.Merging.{Catalogue}
-use Rattle.office_tables.specs.Counting.{capped}
+use Rattle.catalogue_core.specs.CatalogueMerge.{Catalogue}
+use Rattle.office_tables.specs.RowCounts.{capped}
 use Rattle.catalogue_statements.specs.declared.office.OfficeRow.{OfficeRow}
 use Rattle.catalogue_store.specs.declared.office.Office.{Office}
 

@@ -9,9 +9,9 @@ ghost use Rattle.isad_core.specs.Limits.{IsNumber};
 ghost use Rattle.tree_core.specs.Forest.{Empty};
 ghost use Rattle.office_tables.specs.Calls.{RepresentsAlone, Tells};
 ghost use Rattle.office_tables.specs.Creation.{IsMaking, LeavesMaking};
-ghost use Rattle.catalogue_core.specs.Finding.{Finds};
+ghost use Rattle.catalogue_core.specs.UnitLookup.{Finds};
 ghost use Rattle.office_tables.specs.Schema.{desk_schema, desk_tables};
-ghost use Rattle.catalogue_statements.specs.Represents.{Represents, RepresentsUnits};
+ghost use Rattle.catalogue_statements.specs.Representation.{Represents, RepresentsUnits};
 ghost use Rattle.office_tables.specs.Step.{InOffice};
 ghost use Rattle.catalogue_core.specs.Units.{is_from};
 
@@ -25,7 +25,7 @@ use office_tables::table_creation::{create_containers, create_units};
 use sqlite::{Alter, Connection};
 use std::alloc::Global;
 
-/// Makes the catalogue's tables beside the desk's, which are there, and the office's row.
+/// Creates the catalogue's tables and the office's row. The desk's tables must already be there.
 pub fn create<P: Places, S: Alter>(
     conn: &mut Connection<S>,
     row: &OfficeRow,
@@ -47,7 +47,7 @@ pub fn create<P: Places, S: Alter>(
     insert_office::<P, S>(conn, row)
 }
 
-/// The number of the unit that has this number in this source, where it is catalogued.
+/// The number of the unit that has the number `legacy` in this source, or none if no unit has it.
 pub fn known<S: Alter>(
     alloc: Global,
     conn: &mut Connection<S>,

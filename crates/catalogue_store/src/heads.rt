@@ -1,4 +1,4 @@
-//! What a unit is shown by in a line of its own.
+//! What a unit's own line shows of it.
 
 ghost use Rattle.std.specs.Prelude.{◌≡◌, ⊤, [], Some, find, map, nat_eq, option_map, true, unwrap_or, IfOk, IfSome};
 ghost use Rattle.std.specs.List.{AllByRecursion};
@@ -7,11 +7,11 @@ ghost use Rattle.isad_core.specs.Limits.{IsNumber};
 ghost use Rattle.tree_core.specs.Forest.{nodes, path};
 ghost use Rattle.tree_core.specs.Tops.{part_below, tops};
 ghost use Rattle.catalogue_core.specs.Bounds.{IsKept};
-ghost use Rattle.catalogue_core.specs.Finding.{has_unit};
+ghost use Rattle.catalogue_core.specs.UnitLookup.{has_unit};
 ghost use Rattle.catalogue_core.specs.Units.{has_id};
 ghost use Rattle.office_tables.specs.Calls.{Tells};
 ghost use Rattle.office_tables.specs.Step.{InTransaction};
-ghost use Rattle.catalogue_statements.specs.Represents.{Represents};
+ghost use Rattle.catalogue_statements.specs.Representation.{Represents};
 ghost use Rattle.catalogue_statements.specs.declared.row_types.Element.{Element};
 ghost use Rattle.catalogue_store.specs.Heads.{head_at, head_of};
 
@@ -25,7 +25,7 @@ use office_tables::value::NO_NUMBER;
 use sqlite::{Alter, Connection};
 use std::alloc::{AllocError, Global};
 
-/// A unit as its head line tells it. A text that it lacks is empty.
+/// A unit as its head line shows it. A text that the unit lacks is empty.
 #[derive(Debug, PartialEq, Drop)]
 pub struct Head {
     pub id: u64,
@@ -33,17 +33,17 @@ pub struct Head {
     pub identifier: Text,
     pub title: Text,
     pub draft: bool,
-    /// The first day on which its closure holds no more.
+    /// The first day on which its closure no longer holds.
     pub until: Option<Day>,
 }
 
-/// The number of the element that tells a unit's code.
+/// The number of the element that contains a unit's reference code.
 const REFERENCE_CODE: u64 = 1;
 
-/// The number of the element that tells its title.
+/// The number of the element that contains a unit's title.
 const TITLE: u64 = 2;
 
-/// The text of the element with this number among these, or an empty one.
+/// The text of the element with this number among these, or an empty text.
 fn text_among(alloc: Global, elements: &[Element], element: u64) -> Result<Text, AllocError>
     ensures { IfOk result (λ text. text ≡ unwrap_or (option_map (λ (e : Element). e.value)
         (find (λ (e : Element). nat_eq e.k element) elements.now)) []) }
@@ -54,7 +54,7 @@ fn text_among(alloc: Global, elements: &[Element], element: u64) -> Result<Text,
     }
 }
 
-/// The head of the unit with this number.
+/// The head of the unit with this number, or none if there is no such unit.
 pub fn find_head<P: Places, S: Alter>(
     alloc: Global,
     conn: &mut Connection<S>,
@@ -82,7 +82,7 @@ pub fn find_head<P: Places, S: Alter>(
     }))
 }
 
-/// The heads of these units, each of which is there.
+/// The heads of these units, all of which must exist.
 fn heads_of<P: Places, S: Alter>(
     alloc: Global,
     conn: &mut Connection<S>,
@@ -108,7 +108,7 @@ fn heads_of<P: Places, S: Alter>(
     Ok(heads)
 }
 
-/// The heads of the units from a top down to this one, or none.
+/// The heads of the units from a top down to this one. Empty if there is no such unit.
 pub fn path_heads<P: Places, S: Alter>(
     alloc: Global,
     conn: &mut Connection<S>,

@@ -1,17 +1,17 @@
-//! Units that are entered beside their places: a file brings many units, whose places come all at
-//! once.
+//! Units that are entered separately from their places: the places of all new units of a file are
+//! added at once.
 
 ghost use Rattle.std.specs.Prelude.{ℕ, Option};
 ghost use Rattle.sqlite.specs.Held.{state};
 ghost use Rattle.isad_core.specs.Limits.{IsNumber};
 ghost use Rattle.tree_core.specs.Versions.{Version};
 ghost use Rattle.catalogue_core.specs.Bounds.{IsKept};
-ghost use Rattle.catalogue_core.specs.Describing.{AreWhole, HasPlaceFor, IsNew, MayDescribe, with_values};
+ghost use Rattle.catalogue_core.specs.Descriptions.{AreWhole, HasPlaceFor, IsNew, MayDescribe, with_values};
 ghost use Rattle.office_tables.specs.Calls.{Makes};
 ghost use Rattle.office_tables.specs.Step.{InOffice};
-ghost use Rattle.catalogue_statements.specs.Added.{unit_of};
-ghost use Rattle.catalogue_statements.specs.Represents.{RepresentsCatalogue, described_trees};
-ghost use Rattle.catalogue_store.specs.Entering.{with_entered};
+ghost use Rattle.catalogue_statements.specs.NewUnit.{unit_of};
+ghost use Rattle.catalogue_statements.specs.Representation.{RepresentsCatalogue, described_trees};
+ghost use Rattle.catalogue_store.specs.ImportEntries.{with_entered};
 
 use crate::descriptions::{clear, describe};
 use catalogue_statements::NewUnit;
@@ -21,8 +21,8 @@ use office_tables::StoreFault;
 use sqlite::{Alter, Connection};
 use std::alloc::Global;
 
-/// Enters a new unit with its values, wherever it stands. New containers get the next numbers; the
-/// number of the next unit stays.
+/// Enters a new unit with its values, wherever its place is. New containers get the next numbers.
+/// The next unit number stays as it is.
 pub fn enter_unit<S: Alter>(
     alloc: Global,
     conn: &mut Connection<S>,
@@ -38,7 +38,7 @@ pub fn enter_unit<S: Alter>(
     describe(alloc, conn, unit.id, unit.values)
 }
 
-/// Gives a known unit other values, wherever it stands. New containers get the next numbers.
+/// Replaces the values of a known unit, wherever its place is. New containers get the next numbers.
 pub fn enter_values<S: Alter>(
     alloc: Global,
     conn: &mut Connection<S>,

@@ -1,19 +1,19 @@
-//! Laws of the definitions, each the contract of a function that does nothing.
+//! Laws of the definitions. Each is the contract of a function that does nothing.
 
 ghost use Rattle.std.specs.Prelude.{ℕ, Option};
 ghost use Rattle.isad_core.specs.declared.values.Values.{Values};
 ghost use Rattle.catalogue_core.specs.Bounds.{IsKept};
-ghost use Rattle.catalogue_core.specs.Describing.{KnowsItsContainers, HasAllPlaces, with_unit, with_values};
-ghost use Rattle.catalogue_core.specs.Merging.{Catalogue};
+ghost use Rattle.catalogue_core.specs.Descriptions.{KnowsItsContainers, HasAllPlaces, with_unit, with_values};
+ghost use Rattle.catalogue_core.specs.CatalogueMerge.{Catalogue};
 ghost use Rattle.tree_core.specs.Versions.{Links};
-ghost use Rattle.catalogue_statements.specs.Represents.{Represents, RepresentsLinkRows};
+ghost use Rattle.catalogue_statements.specs.Representation.{Represents, RepresentsLinkRows};
 ghost use Rattle.catalogue_core.specs.Units.{«Unit» as Described};
-ghost use Rattle.catalogue_store.specs.Worked.{settings, tables, worked};
+ghost use Rattle.catalogue_store.specs.WorkedExamples.{settings, tables, worked};
 
 pub use catalogue_core::laws::open_by_marks;
 
-/// A catalogue of two units is within the limits, and tables show it: a call can meet what the
-/// clauses on the catalogue ask.
+/// A catalogue of two units is within the limits, and tables represent it. So the premises of the
+/// clauses on a catalogue can be met.
 pub fn worked_catalogue()
     ensures kept { IsKept worked }
     ensures known { KnowsItsContainers worked }
@@ -21,7 +21,8 @@ pub fn worked_catalogue()
     ensures shown { Represents RepresentsLinkRows Links tables settings worked }
 {}
 
-/// A catalogue that knows its containers knows them after a unit is added or takes other values.
+/// A catalogue that knows its containers still knows them after a unit is added or gets other
+/// values.
 pub fn containers_known()
     ensures added { (c : Catalogue) (parent : Option ℕ) (unit : Described) → KnowsItsContainers c
         → KnowsItsContainers (with_unit parent unit c) }

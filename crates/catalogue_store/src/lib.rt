@@ -1,4 +1,4 @@
-//! Units, containers and places: what an office knows of its archives, in tables.
+//! The catalogue of an office, kept in tables: units, containers and places.
 #![tactic(auto)]
 
 mod appended_links;
@@ -25,8 +25,8 @@ pub use container_marks::{Attached, branch_marks, contents_marks, path_marks};
 pub use descriptions::{add_unit, replace_values};
 pub use heads::{Head, find_head, heads_below, path_heads};
 pub use import_entries::{enter_unit, enter_values};
-pub use links::LinkPlaces;
-pub use marks::{bare_marks, marks_of};
+pub use links::{LONGEST_PATH, LinkPlaces, spans_by_links};
+pub use marks::marks_of;
 pub use office::{Office, office_row, settings};
 pub use office_tables::{StoreFault, begin, commit, create_index, create_table, roll_back};
 pub use places::Places;

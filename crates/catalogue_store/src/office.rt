@@ -1,17 +1,17 @@
-//! The office: its row, and how much is catalogued.
+//! The office: its row, and how many units and containers it has.
 
 ghost use Rattle.std.specs.Prelude.{◌≡◌, [], OnOk, ⊤};
 ghost use Rattle.sqlite.specs.Held.{state};
 ghost use Rattle.sqlite.specs.State.{HasCleanDisk};
 ghost use Rattle.isad_core.specs.Limits.{IsNumber};
 ghost use Rattle.office_tables.specs.Calls.{Tells};
-ghost use Rattle.office_tables.specs.Changing.{Leaves};
+ghost use Rattle.office_tables.specs.ChangeStatement.{Leaves};
 ghost use Rattle.office_tables.specs.Faults.{FaultsHaveCause};
 ghost use Rattle.office_tables.specs.Schema as tables;
 ghost use Rattle.office_tables.specs.Step.{InTransaction, PutsRow};
 ghost use Rattle.catalogue_statements.specs.Rows.{office_row as row_of_office};
 ghost use Rattle.catalogue_statements.specs.Settings.{AreLegibleSettings};
-ghost use Rattle.catalogue_statements.specs.Represents.{RepresentsSettings};
+ghost use Rattle.catalogue_statements.specs.Representation.{RepresentsSettings};
 ghost use Rattle.catalogue_store.specs.Offices.{told_office};
 
 use crate::places::Places;
@@ -58,7 +58,7 @@ pub fn insert_office<P: Places, S: Alter>(
     Ok(())
 }
 
-/// What the office's row tells, and how much is catalogued.
+/// The office's row, and how many units and containers there are.
 #[derive(Debug, PartialEq, Drop)]
 pub struct Office {
     pub row: OfficeRow,

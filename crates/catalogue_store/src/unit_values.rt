@@ -6,26 +6,27 @@ ghost use Rattle.std.specs.List.{AllByRecursion, list_any, list_all};
 ghost use Rattle.sqlite.specs.Held.{state};
 ghost use Rattle.sqlite.specs.State.{HasCleanDisk};
 ghost use Rattle.isad_core.specs.Boxes.{is_same as is_same_box};
-ghost use Rattle.isad_core.specs.Legible.{IsLegibleBox};
+ghost use Rattle.isad_core.specs.LegibleValues.{IsLegibleBox};
 ghost use Rattle.isad_core.specs.Limits.{IsNumber};
 ghost use Rattle.isad_core.specs.declared.values.BoxKey.{BoxKey};
 ghost use Rattle.isad_core.specs.declared.values.Values.{«Values» as Description};
 ghost use Rattle.catalogue_core.specs.Bounds.{IsKept};
-ghost use Rattle.catalogue_core.specs.Describing.{KnowsItsContainers};
-ghost use Rattle.catalogue_core.specs.Merging.{box_number};
-ghost use Rattle.office_tables.specs.Asking.{Reads};
+ghost use Rattle.catalogue_core.specs.Descriptions.{KnowsItsContainers};
+ghost use Rattle.catalogue_core.specs.CatalogueMerge.{box_number};
+ghost use Rattle.office_tables.specs.Query.{Reads};
 ghost use Rattle.office_tables.specs.Calls.{Tells};
 ghost use Rattle.office_tables.specs.Faults.{FaultsHaveCause};
-ghost use Rattle.office_tables.specs.Numbered.{HoldsNumbered};
+ghost use Rattle.office_tables.specs.RowNumbers.{HoldsNumbered};
 ghost use Rattle.office_tables.specs.Schema as tables;
 ghost use Rattle.office_tables.specs.Step.{InOffice};
 ghost use Rattle.catalogue_statements.specs.Rows.{HousingRow, housing_row};
-ghost use Rattle.catalogue_statements.specs.Represents.{RepresentsContainers, element_cells, housing_cells};
-ghost use Rattle.catalogue_statements.specs.Represents.{element_number as number_of_place, housings_of as containers_among};
+ghost use Rattle.catalogue_statements.specs.Representation.{RepresentsContainers, element_cells, housing_cells};
+ghost use Rattle.catalogue_statements.specs.Representation.{element_number as number_of_place};
+ghost use Rattle.catalogue_statements.specs.Representation.{housings_of as containers_among};
 ghost use Rattle.catalogue_statements.specs.Values.{RepresentsValues, TellsTexts};
 ghost use Rattle.catalogue_statements.specs.declared.row_types.Element.{Element};
 ghost use Rattle.catalogue_statements.specs.declared.row_types.Housing.{Housing};
-ghost use Rattle.catalogue_store.specs.Valuing.{values_of};
+ghost use Rattle.catalogue_store.specs.UnitValues.{values_of};
 
 use catalogue_statements::containers::{find_container, housings_of};
 use catalogue_statements::elements::elements_of;
@@ -45,7 +46,8 @@ pub struct UnitValues {
     pub containers: List<u64>,
 }
 
-/// The place among the texts of the element with this number, which is 1 to 26 without 4, the level.
+/// The place among the texts of the element with this number. The numbers are 1 to 26 without 4,
+/// the level. Any other number has no place.
 fn place_of(k: u64) -> Option<usize>
     ensures place { IfSome result (λ place. k ≡ number_of_place place) }
     ensures small { IfSome result (λ place. place < 25) }
@@ -58,7 +60,7 @@ fn place_of(k: u64) -> Option<usize>
     }
 }
 
-/// These texts at the places of their elements.
+/// The texts of these elements, each at the place of its element.
 fn placed(elements: Vec<Element>) -> Result<[Option<Text>; 25], StoreFault>
     ensures value { (values : Description) → length values.texts ≡ 25
         → map (λ (e : Element). (e.k, e.value)) elements.items ≡ element_cells values
@@ -92,7 +94,7 @@ fn texts_of<S: Alter>(
     placed(found)
 }
 
-/// The numbers that these rows tell.
+/// The numbers of the containers in these rows.
 fn numbers_in(alloc: Global, housings: &[Housing]) -> Result<List<u64>, AllocError>
     ensures { IfOk result (λ numbers. numbers ≡ map (λ (h : Housing). h.container) housings.now) }
 {
@@ -173,7 +175,7 @@ fn boxes_of<S: Alter>(
     Ok(keys)
 }
 
-/// The values of a unit and the numbers of its containers, or none where no unit has this number.
+/// The values of a unit and the numbers of its containers, or none if no unit has this number.
 pub fn values<S: Alter>(
     alloc: Global,
     conn: &mut Connection<S>,

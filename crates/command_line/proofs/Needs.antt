@@ -6,7 +6,7 @@ use Rattle.clap.specs.Simple.{Shape, built, filled, built_leaf, inherited, names
 use Rattle.clap.specs.Faults.{entered_fault, fault_of, level_fault, walk_fault}
 use Rattle.clap.proofs.ValueTestLemmas.{accepts-Accepts}
 use Rattle.command_line.specs.CommandLine.{check_command, import_command, init_command, migrate_command, number_from_to, preview_command, program, serve_command, store_option, talk_command, trial_command, wanted, wanted_file, wanted_within}
-use Rattle.command_line.specs.Given.{HasNeeds, HasNumberWithin, HasSettings, HasText, Previews, Begins, Tries, Imports, Talks, Serves, Checks, Migrates}
+use Rattle.command_line.specs.OptionValues.{HasNeeds, HasNumberWithin, HasSettings, HasText, Previews, Begins, Tries, Imports, Talks, Serves, Checks, Migrates}
 use Rattle.command_line.proofs.Rows.{ArePlain, TextOf, entered_level, first_none, has_text, level_rows, second_none, asking, text_rule}
 
 -- a command as it is built into the program

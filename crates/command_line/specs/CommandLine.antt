@@ -5,7 +5,7 @@ use Rattle.clap.specs.Simple.{App, Shape, new_rule, new_shape, with_subcommand}
 use Rattle.clap.specs.declared.builder.value_parser.ValueParser.{ValueParser}
 use Rattle.clap.specs.declared.builder.value_parser.ValueParser.TheVariants.{Signed}
 
--- `--name <VALUE>`, which has to be there
+-- `--name <VALUE>`, which is required
 abbrev pub wanted : Text → Rule
 wanted name = record (new_rule name) { long = Some name; value_names = 1; required = true }
 
@@ -13,34 +13,34 @@ wanted name = record (new_rule name) { long = Some name; value_names = 1; requir
 abbrev pub number_from_to : ℕ → ℕ → ValueParser
 number_from_to least most = Signed (pos least) (pos most)
 
--- `--name <NUMBER>`, a number within limits, which has to be there
+-- `--name <NUMBER>`, a number within limits, which is required
 abbrev pub wanted_within : Text → ℕ → ℕ → Rule
 wanted_within name least most = record (wanted name) { parser = Some (number_from_to least most) }
 
--- `--name <NUMBER>`, a number from 0 to 4294967295, which has to be there
+-- `--name <NUMBER>`, a number from 0 to 4294967295, which is required
 abbrev pub wanted_number : Text → Rule
 wanted_number name = wanted_within name 0 4294967295
 
--- a file, which may be left out
+-- a file, which is optional
 abbrev pub optional_file : Rule
 optional_file = new_rule (codes "FILE")
 
--- a file, which has to be there
+-- a file, which is required
 abbrev pub wanted_file : Rule
 wanted_file = record optional_file { required = true }
 
 abbrev pub command : Text → List Rule → Shape
 command name rules = record (new_shape name) { rules = rules }
 
--- whose archives they are
+-- the country and the repository of the office
 abbrev pub repository_options : List Rule
 repository_options = wanted (codes "country") ∷ wanted (codes "repo") ∷ []
 
--- the seats of the reading room, and how much a ticket may order
+-- the seats of the reading room, and how many orders a reader may place per day
 abbrev pub room_options : List Rule
 room_options = wanted_number (codes "seats") ∷ wanted_number (codes "daily") ∷ []
 
--- what a reader may have, and how much a run takes
+-- how many containers a reader may have, and how many a run may fetch
 abbrev pub desk_options : List Rule
 desk_options = wanted_number (codes "hands") ∷ wanted_number (codes "run") ∷ []
 
@@ -112,7 +112,7 @@ abbrev pub with_commands : List Shape → App → App
 with_commands [] a = a
 with_commands (s ∷ more) a = with_commands more (with_subcommand a s)
 
--- a command is wanted, `help` is none, and the words are those after the program's name
+-- a command is required, `help` is not a command, and the words are those after the program's name
 abbrev pub bare_program : App
 bare_program = record {
   top = record (new_shape (codes "record_office")) {

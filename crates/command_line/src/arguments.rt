@@ -13,12 +13,12 @@ ghost use Rattle.command_line.specs.CommandLine.{care_commands, new_commands, wi
 use clap::{Arg, Command, value_parser};
 use std::alloc::{AllocError, Global};
 
-// What the program's help says at its end.
+// The text at the end of the program's help.
 const EXITS: &str =
     "Exit status: 0 done; 1 refused, not sound or old version; 2 invalid arguments, date or settings;
 3 a fault of a file, the store, a port, a session or memory. Details are on standard error.";
 
-// `--name <VALUE>`, which has to be there.
+// `--name <VALUE>`, which is required.
 fn option<'a>(alloc: Global, name: &'a str, value: &'a str, help: &'a str) -> Arg<'a>
     ensures rule { rule_of result ≡ wanted name.entry.now }
     ensures local { result.global ≡ false }
@@ -30,7 +30,7 @@ fn option<'a>(alloc: Global, name: &'a str, value: &'a str, help: &'a str) -> Ar
         .help(help)
 }
 
-// `--name <NUMBER>`, a number that fits 32 bits, which has to be there.
+// `--name <NUMBER>`, a number that fits in 32 bits, which is required.
 fn number<'a>(alloc: Global, name: &'a str, help: &'a str) -> Arg<'a>
     ensures rule { rule_of result ≡ wanted_number name.entry.now }
     ensures local { result.global ≡ false }
@@ -38,7 +38,7 @@ fn number<'a>(alloc: Global, name: &'a str, help: &'a str) -> Arg<'a>
     option(alloc, name, "NUMBER", help).value_parser(value_parser!(u32))
 }
 
-// `--port <PORT>`, which has to be there.
+// `--port <PORT>`, a number from 1 to 65535, which is required.
 fn port<'a>(alloc: Global) -> Arg<'a>
     ensures rule { rule_of result ≡ wanted_within (codes "port") 1 65535 }
     ensures local { result.global ≡ false }
@@ -48,7 +48,7 @@ fn port<'a>(alloc: Global) -> Arg<'a>
     ).range(1..))
 }
 
-// `--connections <NUMBER>`, which has to be there.
+// `--connections <NUMBER>`, a number from 1 to 10000, which is required.
 fn connections<'a>(alloc: Global) -> Arg<'a>
     ensures rule { rule_of result ≡ wanted_within (codes "connections") 1 10000 }
     ensures local { result.global ≡ false }
@@ -62,7 +62,7 @@ fn connections<'a>(alloc: Global) -> Arg<'a>
     .value_parser(value_parser!(u32).range(1..=10_000))
 }
 
-// `--store <STORE>`, which has to be there.
+// `--store <STORE>`, which is required.
 fn store<'a>(alloc: Global) -> Arg<'a>
     ensures rule { rule_of result ≡ store_option }
     ensures local { result.global ≡ false }
@@ -70,7 +70,7 @@ fn store<'a>(alloc: Global) -> Arg<'a>
     option(alloc, "store", "STORE", "The file that holds the office")
 }
 
-// A file, which may be left out.
+// A file, which is optional.
 fn file<'a>(alloc: Global) -> Arg<'a>
     ensures rule { rule_of result ≡ optional_file }
     ensures local { result.global ≡ false }
@@ -80,7 +80,7 @@ fn file<'a>(alloc: Global) -> Arg<'a>
     )
 }
 
-// A file, which has to be there.
+// A file, which is required.
 fn given_file<'a>(alloc: Global) -> Arg<'a>
     ensures rule { rule_of result ≡ wanted_file }
     ensures local { result.global ≡ false }
@@ -111,7 +111,7 @@ fn with_repository<'a>(alloc: Global, command: Command<'a>) -> Result<Command<'a
         ))
 }
 
-// The command with the options of the reading room: its seats, and how much a ticket may order.
+// The command with the options of the reading room: its seats, and how many orders a reader may place per day.
 fn with_room<'a>(alloc: Global, command: Command<'a>) -> Result<Command<'a>, AllocError>
     ensures shape { IfOk result (λ c. shape_of c ≡ with_rules room_options (shape_of command.entry)) }
     ensures local { (out-Command command.entry).has_globals ≡ false
@@ -126,7 +126,7 @@ fn with_room<'a>(alloc: Global, command: Command<'a>) -> Result<Command<'a>, All
         ))
 }
 
-// The command with the options of the desk: what a reader may have, and a run takes.
+// The command with the options of the desk: how many containers a reader may have, and how many a run may fetch.
 fn with_desk<'a>(alloc: Global, command: Command<'a>) -> Result<Command<'a>, AllocError>
     ensures shape { IfOk result (λ c. shape_of c ≡ with_rules desk_options (shape_of command.entry)) }
     ensures local { (out-Command command.entry).has_globals ≡ false
@@ -263,7 +263,7 @@ fn bare<'a>(alloc: Global) -> Result<Command<'a>, AllocError>
         .bin_name("record_office")
 }
 
-// With the commands that need no store, and the one that makes it.
+// Adds the commands that need no store, and the one that makes it.
 fn with_new<'a>(alloc: Global, program: Command<'a>) -> Result<Command<'a>, AllocError>
     ensures { IfOk result (λ c. app_of c ≡ with_commands new_commands (app_of program.entry)) }
 {
@@ -273,7 +273,7 @@ fn with_new<'a>(alloc: Global, program: Command<'a>) -> Result<Command<'a>, Allo
         .subcommand(trial(alloc)?)
 }
 
-// With the commands that work on an office in a file.
+// Adds the commands that work on an office in a file.
 fn with_work<'a>(alloc: Global, program: Command<'a>) -> Result<Command<'a>, AllocError>
     ensures { IfOk result (λ c. app_of c ≡ with_commands work_commands (app_of program.entry)) }
 {
@@ -283,7 +283,7 @@ fn with_work<'a>(alloc: Global, program: Command<'a>) -> Result<Command<'a>, All
         .subcommand(serve(alloc)?)
 }
 
-// With the commands that look after an office's file.
+// Adds the commands that look after an office's file.
 fn with_care<'a>(alloc: Global, program: Command<'a>) -> Result<Command<'a>, AllocError>
     ensures { IfOk result (λ c. app_of c ≡ with_commands care_commands (app_of program.entry)) }
 {

@@ -2,13 +2,13 @@
 ghost use Rattle.std.specs.Prelude.{◌≡◌, ◌≤◌, IfOk, codes};
 ghost use Rattle.clap.specs.Matches.{found_of};
 ghost use Rattle.clap.specs.Walk.{first_of, rows_of};
-ghost use Rattle.command_line.specs.Given.{HasNumber, HasNumberWithin, HasText, IsDay, IsNumber, IsValue};
+ghost use Rattle.command_line.specs.OptionValues.{HasNumber, HasNumberWithin, HasText, IsDay, IsNumber, IsValue};
 
 use clap::ArgMatches;
 use isad_core::{Day, Text};
 use std::alloc::{AllocError, Global};
 
-/// What was said for an option that is there.
+/// The value of an option or file that was given.
 pub fn said<'a>(found: &ArgMatches<'a>, name: &str) -> &'a str
     requires { HasText (rows_of (found_of found.now)) name.now }
     ensures { IsValue (rows_of (found_of found.now)) name.now result.now }
@@ -16,7 +16,7 @@ pub fn said<'a>(found: &ArgMatches<'a>, name: &str) -> &'a str
     found.get_str(name).unwrap()
 }
 
-/// The same as a text of its own.
+/// The value of an option or file that was given, as a new text.
 pub fn text(alloc: Global, found: &ArgMatches, name: &str) -> Result<Text, AllocError>
     requires { HasText (rows_of (found_of found.now)) name.now }
     ensures { IfOk result (IsValue (rows_of (found_of found.now)) name.now) }
@@ -24,7 +24,7 @@ pub fn text(alloc: Global, found: &ArgMatches, name: &str) -> Result<Text, Alloc
     Text::new(alloc, said(found, name))
 }
 
-/// The value of what may be left out.
+/// The value of an option or file that may be left out, or none if it was.
 pub fn optional_text(
     alloc: Global,
     found: &ArgMatches,
@@ -65,7 +65,7 @@ pub fn connections(found: &ArgMatches) -> u32
     found.get_one("connections").unwrap()
 }
 
-/// The day of an option, where it is one of the calendar.
+/// The day that an option gives, or none if it is not in the calendar.
 pub fn day(found: &ArgMatches, name: &str) -> Option<Day>
     requires { HasText (rows_of (found_of found.now)) name.now }
     ensures { IsDay (rows_of (found_of found.now)) name.now result }

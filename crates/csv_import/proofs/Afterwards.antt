@@ -8,13 +8,13 @@ use Rattle.sqlite.specs.State.{State, HasCleanDisk}
 use Rattle.sqlite.specs.Tree.{Trees}
 use Rattle.tree_core.specs.Forest.{Forest}
 use Rattle.tree_core.specs.Versions.{Version}
-use Rattle.catalogue_core.specs.Merging.{Catalogue}
-use Rattle.catalogue_statements.specs.Represents.{RepresentsNumbered}
+use Rattle.catalogue_core.specs.CatalogueMerge.{Catalogue}
+use Rattle.catalogue_statements.specs.Representation.{RepresentsNumbered}
 use Rattle.office_tables.specs.Calls.{Updates}
 use Rattle.office_tables.specs.Step.{Goes, IsAborted, LeavesUnchanged, OnlyTouches}
 use Rattle.office_tables.specs.declared.fault.StoreFault.{StoreFault}
 use Rattle.office_tables.proofs.CallEnds.{excused_then}
-use Rattle.csv_import.specs.Entering.{RepresentsLegible}
+use Rattle.csv_import.specs.RowEntry.{RepresentsLegible}
 use Rattle.office_tables.proofs.Calls.{cut_then, early, goes_then, on_err_then, on_ok_then}
 use Rattle.office_tables.proofs.Outcomes.{on_ok_by}
 use Rattle.office_tables.proofs.Touching.{nothing_touched, touched_wider}

@@ -7,10 +7,10 @@ use Rattle.isad_core.specs.Texts.{Bytes}
 use Rattle.atom_csv.specs.declared.file.Row.{Row}
 use Rattle.tree_core.specs.Forest.{Forest}
 use Rattle.tree_core.specs.declared.arrivals.Arrival.{Arrival}
-use Rattle.catalogue_core.specs.Merging.{is_known, number_of}
+use Rattle.catalogue_core.specs.CatalogueMerge.{is_known, number_of}
 use Rattle.catalogue_core.specs.Units.{Unit}
-use Rattle.csv_import.specs.Arriving.{KnowsNumbers, arrival_at, arrivals_from, arrivals_of}
-use Rattle.csv_import.specs.Planning.{new_of, or_there}
+use Rattle.csv_import.specs.Arrivals.{KnowsNumbers, arrival_at, arrivals_from, arrivals_of}
+use Rattle.csv_import.specs.RowPlan.{new_of, or_there}
 
 pub low_more : (b : Bool) (n : ℕ) (there : Option ℕ) → IsNumber n → IfSome there IsNumber → IfSome (cond b (Some n) there) IsNumber
 low_more true n there h k = h

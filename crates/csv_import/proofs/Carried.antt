@@ -9,7 +9,7 @@ use Rattle.sqlite.specs.Tree.{Trees}
 use Rattle.sqlite_trees.specs.declared.store.Store as kept_in
 use Rattle.isad_core.specs.Limits.{most_containers}
 use Rattle.isad_core.specs.Texts.{Bytes}
-use Rattle.atom_csv.specs.FileOf.{file_of}
+use Rattle.atom_csv.specs.FileContents.{file_of}
 use Rattle.atom_csv.specs.declared.file.File.{File}
 use Rattle.atom_csv.specs.declared.file.Row.{Row}
 use Rattle.tree_core.specs.Forest.{Forest}
@@ -17,12 +17,12 @@ use Rattle.tree_core.specs.Versions.{Version}
 use Rattle.desk_core.specs.Refusals.{first_that_holds, when}
 use Rattle.desk_core.specs.declared.refusal.Refusal.{Refusal}
 use Rattle.desk_core.specs.declared.refusal.Refusal.TheVariants.{Full}
-use Rattle.desk_store.specs.Represents.{RepresentsDesk}
-use Rattle.catalogue_core.specs.Merging.{Catalogue}
-use Rattle.catalogue_core.specs.RowByRow.{number_there}
+use Rattle.desk_store.specs.Representation.{RepresentsDesk}
+use Rattle.catalogue_core.specs.CatalogueMerge.{Catalogue}
+use Rattle.catalogue_core.specs.EntryByRow.{number_there}
 use Rattle.catalogue_core.specs.Sources.{is_source}
 use Rattle.catalogue_statements.specs.Settings.{AreLegibleSettings}
-use Rattle.catalogue_statements.specs.Represents.{RepresentsNumbered, catalogue_trees}
+use Rattle.catalogue_statements.specs.Representation.{RepresentsNumbered, catalogue_trees}
 use Rattle.catalogue_statements.specs.declared.office.OfficeRow.{OfficeRow}
 use Rattle.office_core.specs.Rules.{Reply, after, gate, refusal, told}
 use Rattle.office_core.specs.SoundOffice.{HasLegibleSettings, IsSoundOffice}
@@ -30,7 +30,7 @@ use Rattle.office_core.specs.State.{State}
 use Rattle.office_core.specs.declared.command.Command.{Command}
 use Rattle.office_core.specs.declared.command.Command.TheVariants as command
 use Rattle.office_core.proofs.KeptOffices.{office_settings}
-use Rattle.state_encoding.specs.Reading.{tables}
+use Rattle.state_encoding.specs.OfficeRows.{tables}
 use Rattle.office_tables.specs.Calls.{Answers}
 use Rattle.office_tables.specs.Step.{Goes, IsAborted, LeavesUnchanged, OnlyTouches}
 use Rattle.office_tables.specs.declared.fault.StoreFault.{StoreFault}
@@ -38,15 +38,15 @@ use Rattle.office_tables.proofs.CallEnds.{excused_then}
 use Rattle.office_tables.proofs.Calls.{cut_then, early, goes_then, on_err_then, on_ok_then}
 use Rattle.refinement.specs.CommandSteps.{CarriesOut, CarriesOutStep}
 use Rattle.refinement.specs.Gate.{gated, unless_refused}
-use Rattle.refinement.specs.Judging.{RepresentsWhole}
-use Rattle.refinement.specs.Represents.{RepresentsState, office_of}
+use Rattle.refinement.specs.AccessConditions.{RepresentsWhole}
+use Rattle.refinement.specs.Representation.{RepresentsState, office_of}
 use Rattle.refinement.proofs.Doings.{accepted, refused}
 use Rattle.refinement.proofs.Frames.{desk_kept}
 use Rattle.refinement.proofs.Tellings.{looked_crash}
-use Rattle.csv_import.specs.Entering.{CanEnter, RepresentsLegible, counts_of, entered}
-use Rattle.csv_import.specs.Importing.{FitsIn, HasNumbered, judged, told_of}
-use Rattle.csv_import.specs.Known.{TellsUnits}
-use Rattle.csv_import.specs.Remarking.{HaveUnits}
+use Rattle.csv_import.specs.RowEntry.{CanEnter, RepresentsLegible, counts_of, entered}
+use Rattle.csv_import.specs.CatalogueImport.{FitsIn, HasNumbered, judged, told_of}
+use Rattle.csv_import.specs.KnownUnits.{TellsUnits}
+use Rattle.csv_import.specs.Remarks.{HaveUnits}
 use Rattle.csv_import.specs.declared.row_entry.Counts.{Counts}
 use Rattle.csv_import.proofs.Imports.{after_is, can_enter, entered_is, has_imported, now, refusal_is, same_desk, texts_stay, told_is}
 use Rattle.refinement.proofs.Passing.{if_ok_with}

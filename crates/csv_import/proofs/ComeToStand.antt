@@ -6,12 +6,12 @@ use Rattle.isad_core.specs.Texts.{Bytes}
 use Rattle.atom_csv.specs.declared.file.Row.{Row}
 use Rattle.tree_core.specs.Forest.{Forest, HasDistinctIds, add, each, has, has_place, nodes, size}
 use Rattle.tree_core.proofs.EachLemmas.{add-each, has-each, has_place-each, nodes-each, size-each}
-use Rattle.tree_core.specs.Growing.{CanJoin, added}
+use Rattle.tree_core.specs.Arrivals.{CanJoin, added}
 use Rattle.tree_core.specs.declared.arrivals.Arrival.{Arrival}
-use Rattle.catalogue_core.specs.Describing.{with_values}
+use Rattle.catalogue_core.specs.Descriptions.{with_values}
 use Rattle.catalogue_core.specs.GoodCatalogues.{AreGoodUnits}
-use Rattle.catalogue_core.specs.Merging.{Catalogue, cause_at, depth_under, merged, new_unit, number_of, numbered_from}
-use Rattle.catalogue_core.specs.RowByRow.{and_then, new_at, number_there, with_new, with_row_at, with_rows}
+use Rattle.catalogue_core.specs.CatalogueMerge.{Catalogue, cause_at, depth_under, merged, new_unit, number_of, numbered_from}
+use Rattle.catalogue_core.specs.EntryByRow.{and_then, new_at, number_there, with_new, with_row_at, with_rows}
 use Rattle.catalogue_core.specs.Units.{Unit, has_id, is_from}
 use Rattle.catalogue_core.proofs.EachOf.{all_true, none_found, some_found}
 use Rattle.catalogue_core.proofs.EachRow.{length-numbered, onto, onto-more}
@@ -20,9 +20,9 @@ use Rattle.catalogue_core.proofs.RowsMerged.{begins, none_merged}
 use Rattle.catalogue_statements.proofs.Statuses.{each_each}
 use Rattle.catalogue_store.specs.Arrivals.{MayJoin}
 use Rattle.catalogue_store.proofs.Joiners.{size_added}
-use Rattle.csv_import.specs.Arriving.{arrival_of, arrivals_from, arrivals_of}
-use Rattle.csv_import.specs.Entering.{entered, or_as_before}
-use Rattle.csv_import.specs.Planning.{new_of}
+use Rattle.csv_import.specs.Arrivals.{arrival_of, arrivals_from, arrivals_of}
+use Rattle.csv_import.specs.RowEntry.{entered, or_as_before}
+use Rattle.csv_import.specs.RowPlan.{new_of}
 use Rattle.csv_import.specs.Turns.{AreToCome}
 use Rattle.csv_import.proofs.OneRow.{entered_new, may_come, none_against}
 use Rattle.csv_import.proofs.RowsToCome.{OneEntered, one_entered}

@@ -3,7 +3,7 @@ use Rattle.std.proofs.Common.{◌≡◌, ℕ, ◌+◌, ◌<◌, ◌≤◌, sym, 
 use Rattle.std.specs.Prelude.{nat_le, nat_lt}
 use Rattle.std.proofs.lemmas.Bool.{cases_Bool, le-leb, le-ltb, leb-false, leb-true, lt-leb, lt-ltb, ltb-false, ltb-true}
 use Rattle.isad_core.specs.Limits.{most_containers, most_units}
-use Rattle.office_tables.specs.Counting.{capped}
+use Rattle.office_tables.specs.RowCounts.{capped}
 
 -- the count has an end, but far above what an office may have
 pub many_counted : (n : ℕ) → nat_lt most_containers (capped n) ≡ nat_lt most_containers n

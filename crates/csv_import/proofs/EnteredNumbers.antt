@@ -9,14 +9,14 @@ use Rattle.isad_core.specs.Texts.{Bytes}
 use Rattle.atom_csv.specs.declared.file.Row.{Row}
 use Rattle.tree_core.specs.Forest.{nodes}
 use Rattle.catalogue_core.specs.Intake.{is_new}
-use Rattle.catalogue_core.specs.Merging.{Catalogue, new_unit}
-use Rattle.catalogue_core.specs.RowByRow.{and_then, new_at, number_there, with_rows}
+use Rattle.catalogue_core.specs.CatalogueMerge.{Catalogue, new_unit}
+use Rattle.catalogue_core.specs.EntryByRow.{and_then, new_at, number_there, with_rows}
 use Rattle.catalogue_core.specs.Units.{Unit, is_from}
 use Rattle.catalogue_core.proofs.EachOf.{none_found}
 use Rattle.catalogue_core.proofs.EnteredUnits.{placed_added}
 use Rattle.catalogue_core.proofs.ImportedAgain.{other_way, same_text}
-use Rattle.csv_import.specs.Entering.{entered, or_as_before}
-use Rattle.csv_import.specs.Known.{TellsUnits, units_from}
+use Rattle.csv_import.specs.RowEntry.{entered, or_as_before}
+use Rattle.csv_import.specs.KnownUnits.{TellsUnits, units_from}
 use Rattle.csv_import.specs.Turns.{AreToCome, IsTurn}
 use Rattle.csv_import.proofs.KnownUnits.{is_known_by, known_still, number_still, valued_still}
 use Rattle.csv_import.proofs.OneRow.{entered_known, entered_new, may_come, none_there}

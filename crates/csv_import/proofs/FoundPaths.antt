@@ -6,9 +6,9 @@ use Rattle.std.proofs.lemmas.Bool.{and_parts, eqb-true, false≢true, or_cases, 
 use Rattle.isad_core.specs.Texts.{Bytes}
 use Rattle.tree_core.specs.Forest.{Forest, Empty, Node, each, has, nodes, path}
 use Rattle.tree_core.proofs.EachLemmas.{path-each}
-use Rattle.catalogue_core.specs.Finding.{Finds, has_unit}
+use Rattle.catalogue_core.specs.UnitLookup.{Finds, has_unit}
 use Rattle.catalogue_core.specs.GoodCatalogues.{AreGoodUnits}
-use Rattle.catalogue_core.specs.Merging.{Catalogue, depth_under}
+use Rattle.catalogue_core.specs.CatalogueMerge.{Catalogue, depth_under}
 use Rattle.catalogue_core.specs.Units.{Unit, has_id, is_from}
 use Rattle.catalogue_core.proofs.EachOf.{all_split, none_found}
 use Rattle.catalogue_core.proofs.EachRow.{found_numbers}

@@ -8,18 +8,18 @@ use Rattle.isad_core.specs.Texts.{Bytes}
 use Rattle.atom_csv.specs.declared.file.Row.{Row}
 use Rattle.tree_core.specs.Versions.{Version}
 use Rattle.catalogue_core.specs.Bounds.{IsKept}
-use Rattle.catalogue_core.specs.Describing.{HasPlaceFor, IsNew, KnowsItsContainers, MayDescribe, with_unit}
-use Rattle.catalogue_core.specs.RowByRow.{new_at, with_new}
-use Rattle.catalogue_core.specs.Merging.{Catalogue}
+use Rattle.catalogue_core.specs.Descriptions.{HasPlaceFor, IsNew, KnowsItsContainers, MayDescribe, with_unit}
+use Rattle.catalogue_core.specs.EntryByRow.{new_at, with_new}
+use Rattle.catalogue_core.specs.CatalogueMerge.{Catalogue}
 use Rattle.catalogue_core.specs.Units.{Unit}
 use Rattle.office_tables.specs.Calls.{Updates}
 use Rattle.office_tables.specs.Step.{OnlyTouches}
 use Rattle.office_tables.specs.declared.fault.StoreFault.{StoreFault}
-use Rattle.catalogue_statements.specs.Represents.{RepresentsCatalogue, RepresentsOffice, described_trees}
+use Rattle.catalogue_statements.specs.Representation.{RepresentsCatalogue, RepresentsOffice, described_trees}
 use Rattle.catalogue_statements.specs.declared.office.OfficeRow.{OfficeRow}
 use Rattle.refinement.proofs.Frames.{are_apart, untouched}
-use Rattle.catalogue_store.specs.Entering.{with_entered}
-use Rattle.csv_import.specs.Entering.{RepresentsEntering}
+use Rattle.catalogue_store.specs.ImportEntries.{with_entered}
+use Rattle.csv_import.specs.RowEntry.{RepresentsEntering}
 use Rattle.csv_import.specs.Turns.{MayCome}
 use Rattle.csv_import.proofs.OneRow.{unit_comes}
 
@@ -56,14 +56,14 @@ module _ (old new : Database) (touched : List ℕ) (only : OnlyTouches touched o
         units = record { units = it.units.units; rows = kept.0 ∙ it.units.rows; rise = it.units.rise; are = it.units.are };
         elements = record {
           elements = it.elements.elements;
-          rows = subst (λ rows. Rattle.office_tables.specs.Numbered.HasNumbered Rattle.catalogue_statements.specs.Rows.element_row rows it.elements.elements) (sym kept.1.0) it.elements.rows;
+          rows = subst (λ rows. Rattle.office_tables.specs.RowNumbers.HasNumbered Rattle.catalogue_statements.specs.Rows.element_row rows it.elements.elements) (sym kept.1.0) it.elements.rows;
           are = it.elements.are;
           others = it.elements.others;
         };
         containers = kept.1.1.0 ∙ it.containers;
         housings = record {
           housings = it.housings.housings;
-          rows = subst (λ rows. Rattle.office_tables.specs.Numbered.HasNumbered Rattle.catalogue_statements.specs.Rows.housing_row rows it.housings.housings) (sym kept.1.1.1.0) it.housings.rows;
+          rows = subst (λ rows. Rattle.office_tables.specs.RowNumbers.HasNumbered Rattle.catalogue_statements.specs.Rows.housing_row rows it.housings.housings) (sym kept.1.1.1.0) it.housings.rows;
           are = it.housings.are;
           others = it.housings.others;
         };

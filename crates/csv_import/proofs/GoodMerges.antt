@@ -7,13 +7,13 @@ use Rattle.isad_core.specs.Limits.{most_units, most_unit_numbers}
 use Rattle.isad_core.specs.Texts.{Bytes}
 use Rattle.isad_core.specs.declared.values.BoxKey.{BoxKey}
 use Rattle.isad_core.specs.declared.values.Values.{Values}
-use Rattle.atom_csv.specs.Told.{IsLegibleRow}
+use Rattle.atom_csv.specs.FileProperties.{IsLegibleRow}
 use Rattle.atom_csv.specs.declared.file.Row.{Row}
 use Rattle.tree_core.specs.Forest.{Forest, nodes, size}
 use Rattle.catalogue_core.specs.GoodCatalogues.{AreGoodUnits, IsGoodUnit, IsSomeDay}
 use Rattle.catalogue_core.specs.GoodRows.{IsGoodRow}
 use Rattle.catalogue_core.specs.LegibleCatalogues.{IsLegibleCatalogue}
-use Rattle.catalogue_core.specs.Merging.{Catalogue, New, faults_below, is_known, merge, merged, merged_boxes, merged_forest, new_unit, numbered_from, revised}
+use Rattle.catalogue_core.specs.CatalogueMerge.{Catalogue, New, faults_below, is_known, merge, merged, merged_boxes, merged_forest, new_unit, numbered_from, revised}
 use Rattle.catalogue_core.specs.Sources.{is_source}
 use Rattle.catalogue_core.specs.Units.{Unit}
 use Rattle.catalogue_core.proofs.AsciiTexts.{source_legible}

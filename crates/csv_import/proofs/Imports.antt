@@ -11,7 +11,7 @@ use Rattle.isad_core.specs.Boxes.{distinct}
 use Rattle.isad_core.specs.Limits.{most_containers, most_unit_numbers, most_units}
 use Rattle.isad_core.specs.Texts.{Bytes, is_blank_text}
 use Rattle.isad_core.specs.declared.values.BoxKey.{BoxKey}
-use Rattle.atom_csv.specs.FileOf.{file_of}
+use Rattle.atom_csv.specs.FileContents.{file_of}
 use Rattle.atom_csv.specs.declared.file.File.{File}
 use Rattle.atom_csv.specs.declared.file.Row.{Row}
 use Rattle.atom_csv.proofs.LegibleFiles.{file_legible}
@@ -26,8 +26,8 @@ use Rattle.desk_core.specs.declared.refusal.Refusal.TheVariants.{BadName, Full}
 use Rattle.catalogue_core.specs.GoodCatalogues.{AreGoodContainers, AreGoodUnits, IsSomeDay}
 use Rattle.catalogue_core.specs.Intake.{Taken, is_full, is_same, same_values, unit_of, with_file}
 use Rattle.catalogue_core.specs.LegibleCatalogues.{IsLegibleCatalogue}
-use Rattle.catalogue_core.specs.Merging.{Catalogue, New, merge, merged, new_unit, numbered_from, or_first, revised}
-use Rattle.catalogue_core.specs.RowByRow.{with_rows}
+use Rattle.catalogue_core.specs.CatalogueMerge.{Catalogue, New, merge, merged, new_unit, numbered_from, or_first, revised}
+use Rattle.catalogue_core.specs.EntryByRow.{with_rows}
 use Rattle.catalogue_core.specs.Sources.{is_source}
 use Rattle.catalogue_core.specs.Units.{Unit}
 use Rattle.catalogue_core.proofs.DistinctLists.{all_so}
@@ -51,15 +51,15 @@ use Rattle.office_core.specs.Words.{numbers_to}
 use Rattle.office_core.specs.declared.command.Command.TheVariants as command
 use Rattle.office_core.proofs.KeptOffices.{office_settings}
 use Rattle.office_core.proofs.Words.{numbered_within}
-use Rattle.state_encoding.specs.DeskShown.{holding_row, holding_rows}
-use Rattle.state_encoding.specs.Reading.{tables}
+use Rattle.state_encoding.specs.DeskEncoding.{holding_row, holding_rows}
+use Rattle.state_encoding.specs.OfficeRows.{tables}
 use Rattle.state_encoding.proofs.LegibleRows.{desk_legible}
-use Rattle.refinement.specs.Judging.{CanBeJudged}
+use Rattle.refinement.specs.AccessConditions.{CanBeJudged}
 use Rattle.refinement.proofs.Judged.{distinct_ids, orders_there}
-use Rattle.csv_import.specs.Entering.{CanEnter, counts_of, entered, or_as_before}
-use Rattle.csv_import.specs.Importing.{FitsIn, HasImported, told_of}
-use Rattle.csv_import.specs.Planning.{new_of}
-use Rattle.csv_import.specs.Remarking.{HasEntered, HasItsUnit}
+use Rattle.csv_import.specs.RowEntry.{CanEnter, counts_of, entered, or_as_before}
+use Rattle.csv_import.specs.CatalogueImport.{FitsIn, HasImported, told_of}
+use Rattle.csv_import.specs.RowPlan.{new_of}
+use Rattle.csv_import.specs.Remarks.{HasEntered, HasItsUnit}
 use Rattle.csv_import.proofs.GoodMerges.{legible_with, merged_days, merged_good}
 use Rattle.csv_import.proofs.SameValues.{one_description}
 

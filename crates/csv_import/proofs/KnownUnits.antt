@@ -9,16 +9,16 @@ use Rattle.isad_core.specs.Texts.{Bytes}
 use Rattle.isad_core.specs.declared.values.Values.{Values}
 use Rattle.atom_csv.specs.declared.file.Row.{Row}
 use Rattle.tree_core.specs.Forest.{nodes}
-use Rattle.catalogue_core.specs.Describing.{with_values}
-use Rattle.catalogue_core.specs.Merging.{Catalogue, is_known, new_unit}
-use Rattle.catalogue_core.specs.RowByRow.{new_at, number_there, with_new}
+use Rattle.catalogue_core.specs.Descriptions.{with_values}
+use Rattle.catalogue_core.specs.CatalogueMerge.{Catalogue, is_known, new_unit}
+use Rattle.catalogue_core.specs.EntryByRow.{new_at, number_there, with_new}
 use Rattle.catalogue_core.specs.Units.{Unit, has_id, is_from}
 use Rattle.catalogue_core.proofs.DistinctLists.{all_so}
 use Rattle.catalogue_core.proofs.EachOf.{none_found, some_found}
 use Rattle.catalogue_core.proofs.EnteredUnits.{alike_each, same_added}
 use Rattle.catalogue_core.proofs.ImportedAgain.{one_text}
-use Rattle.csv_import.specs.Entering.{entered}
-use Rattle.csv_import.specs.Known.{KnowsUnits, TellsUnits}
+use Rattle.csv_import.specs.RowEntry.{entered}
+use Rattle.csv_import.specs.KnownUnits.{KnowsUnits, TellsUnits}
 use Rattle.csv_import.specs.Turns.{AreToCome, IsTurn}
 use Rattle.csv_import.proofs.OneRow.{entered_known, entered_new}
 use Rattle.csv_import.proofs.RowsToCome.{one_entered}

@@ -6,20 +6,20 @@ use Rattle.std.proofs.lemmas.Bool.{and_parts, eqb-true, false≢true, ne_eqb, or
 use Rattle.isad_core.specs.Texts.{Bytes}
 use Rattle.atom_csv.specs.declared.file.Row.{Row}
 use Rattle.tree_core.specs.Forest.{has, has_place, nodes, path}
-use Rattle.catalogue_core.specs.Describing.{AreWhole, with_values}
-use Rattle.catalogue_core.specs.Finding.{Finds}
+use Rattle.catalogue_core.specs.Descriptions.{AreWhole, with_values}
+use Rattle.catalogue_core.specs.UnitLookup.{Finds}
 use Rattle.catalogue_core.specs.GoodCatalogues.{AreGoodUnits}
 use Rattle.catalogue_core.specs.GoodRows.{IsGoodRow}
-use Rattle.catalogue_core.specs.Merging.{Catalogue, box_number, cause_at, new_unit}
-use Rattle.catalogue_core.specs.RowByRow.{and_then, depth_there, new_at, number_there, unless_cause, with_new, with_row_at, with_rows}
+use Rattle.catalogue_core.specs.CatalogueMerge.{Catalogue, box_number, cause_at, new_unit}
+use Rattle.catalogue_core.specs.EntryByRow.{and_then, depth_there, new_at, number_there, unless_cause, with_new, with_row_at, with_rows}
 use Rattle.catalogue_core.specs.Units.{Unit, has_id, is_from}
 use Rattle.catalogue_core.proofs.EachOf.{all_of_found, none_found, some_found}
 use Rattle.catalogue_core.proofs.EachRow.{found_numbers}
 use Rattle.catalogue_core.proofs.EnteredUnits.{find_none}
 use Rattle.catalogue_core.proofs.UnitsAfter.{each_there}
-use Rattle.catalogue_store.specs.Valuing.{values_of}
+use Rattle.catalogue_store.specs.UnitValues.{values_of}
 use Rattle.catalogue_store.specs.declared.unit_values.UnitValues.{UnitValues}
-use Rattle.csv_import.specs.Entering.{entered, or_as_before}
+use Rattle.csv_import.specs.RowEntry.{entered, or_as_before}
 use Rattle.csv_import.specs.Turns.{IsTurn, MayChange, MayCome}
 
 -- ---- the unit with a number in a source

@@ -8,9 +8,9 @@ use Rattle.isad_core.specs.Limits.{most_deep}
 use Rattle.isad_core.specs.Texts.{Bytes}
 use Rattle.atom_csv.specs.declared.file.Row.{Row}
 use Rattle.tree_core.specs.Forest.{Forest}
-use Rattle.catalogue_core.specs.Merging.{cause_at, depth_under, faults_below, is_known, or_first}
+use Rattle.catalogue_core.specs.CatalogueMerge.{cause_at, depth_under, faults_below, is_known, or_first}
 use Rattle.catalogue_core.specs.Units.{Unit}
-use Rattle.csv_import.specs.Planning.{KnowsDepths, as_plan, at_depth, new_of, or_there, placing_of, plan_of}
+use Rattle.csv_import.specs.RowPlan.{KnowsDepths, as_plan, at_depth, new_of, or_there, placing_of, plan_of}
 use Rattle.csv_import.specs.declared.row_plan.Placing.TheVariants as placing
 use Rattle.csv_import.specs.declared.row_plan.Planned.TheVariants as planned
 

@@ -4,13 +4,13 @@ use Rattle.std.specs.Prelude.{nat_le, nat_lt, None}
 use Rattle.std.proofs.lemmas.Bool.{and_from, false≢true, le-leb, ltb-false}
 use Rattle.isad_core.specs.Limits.{most_containers, most_unit_numbers, most_units}
 use Rattle.isad_core.specs.Texts.{Bytes}
-use Rattle.atom_csv.specs.FileOf.{file_of}
+use Rattle.atom_csv.specs.FileContents.{file_of}
 use Rattle.atom_csv.specs.declared.file.File.{File}
 use Rattle.tree_core.specs.Forest.{size}
 use Rattle.desk_core.specs.Refusals.{first_that_holds, unless, when}
 use Rattle.desk_core.specs.declared.refusal.Refusal.TheVariants.{BadFile, BadName, Full}
 use Rattle.catalogue_core.specs.Intake.{Taken, is_full, take_rows, with_file}
-use Rattle.catalogue_core.specs.Merging.{Catalogue, faults_below, merged, numbered_from, or_first}
+use Rattle.catalogue_core.specs.CatalogueMerge.{Catalogue, faults_below, merged, numbered_from, or_first}
 use Rattle.catalogue_core.specs.Sources.{is_source}
 use Rattle.catalogue_core.proofs.UnitsAfter.{length-numbered}
 use Rattle.office_core.specs.ImportReply.{bad_file, too_much}
@@ -18,8 +18,8 @@ use Rattle.office_core.specs.Rules.{gate, imported, refusal, taken}
 use Rattle.office_core.specs.SoundOffice.{IsSoundOffice}
 use Rattle.office_core.specs.State.{State}
 use Rattle.office_core.specs.declared.command.Command.TheVariants as command
-use Rattle.csv_import.specs.Importing.{CanBePlaced, has_room}
-use Rattle.csv_import.specs.Planning.{as_plan, new_of, plan_of}
+use Rattle.csv_import.specs.CatalogueImport.{CanBePlaced, has_room}
+use Rattle.csv_import.specs.RowPlan.{as_plan, new_of, plan_of}
 use Rattle.csv_import.specs.declared.row_plan.Planned.TheVariants as planned
 use Rattle.csv_import.proofs.Imports.{merged_size}
 

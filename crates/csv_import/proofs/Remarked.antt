@@ -19,7 +19,7 @@ use Rattle.catalogue_core.proofs.UnitPlaces.{HaveOwnNumbers}
 use Rattle.office_core.specs.ImportReply.{is_level_above, lacks_essential, remark_if, remark_on, remarks}
 use Rattle.office_core.specs.declared.done.Remark.{Remark}
 use Rattle.office_core.specs.declared.done.Remark.TheVariants.{LacksEssential, LevelTooHigh}
-use Rattle.csv_import.specs.Remarking.{HasItsUnit}
+use Rattle.csv_import.specs.Remarks.{HasItsUnit}
 
 -- ---- lists
 

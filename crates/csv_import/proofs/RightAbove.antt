@@ -9,12 +9,12 @@ use Rattle.atom_csv.specs.declared.file.Row.{Row}
 use Rattle.tree_core.specs.Forest.{Forest, each, nodes, path}
 use Rattle.tree_core.specs.Tops.{last_but_one, right_above}
 use Rattle.catalogue_core.specs.GoodCatalogues.{AreGoodUnits}
-use Rattle.catalogue_core.specs.Merging.{Catalogue}
-use Rattle.catalogue_core.specs.RowByRow.{number_there}
+use Rattle.catalogue_core.specs.CatalogueMerge.{Catalogue}
+use Rattle.catalogue_core.specs.EntryByRow.{number_there}
 use Rattle.catalogue_core.specs.Units.{Unit, is_from}
 use Rattle.office_core.specs.ImportReply.{remark_on, remarks}
 use Rattle.office_core.specs.declared.done.Remark.{Remark}
-use Rattle.csv_import.specs.Remarking.{HasItsUnit, HasParent, HaveParents, number_above}
+use Rattle.csv_import.specs.Remarks.{HasItsUnit, HasParent, HaveParents, number_above}
 use Rattle.csv_import.proofs.FoundPaths.{path_by_number}
 use Rattle.csv_import.proofs.OneRow.{is_found}
 use Rattle.csv_import.proofs.Remarked.{told_more}

@@ -9,11 +9,11 @@ use Rattle.isad_core.specs.Texts.{Bytes}
 use Rattle.atom_csv.specs.declared.file.Row.{Row}
 use Rattle.tree_core.specs.Forest.{Forest, Empty, Node, add, has, join, nodes, put_below, size}
 use Rattle.tree_core.proofs.EachLemmas.{size-each}
-use Rattle.catalogue_core.specs.Describing.{with_values}
+use Rattle.catalogue_core.specs.Descriptions.{with_values}
 use Rattle.catalogue_core.specs.GoodRows.{IsGoodRow}
 use Rattle.catalogue_core.specs.Intake.{is_changed, is_new, is_same, same_values, unit_of}
-use Rattle.catalogue_core.specs.Merging.{Catalogue, cause_at, merge, new_unit}
-use Rattle.catalogue_core.specs.RowByRow.{and_then, count_rows, depth_there, if_ok, new_at, unless_cause, with_new, with_row, with_row_at, with_rows}
+use Rattle.catalogue_core.specs.CatalogueMerge.{Catalogue, cause_at, merge, new_unit}
+use Rattle.catalogue_core.specs.EntryByRow.{and_then, count_rows, depth_there, if_ok, new_at, unless_cause, with_new, with_row, with_row_at, with_rows}
 use Rattle.catalogue_core.specs.Units.{Unit, has_id, is_from}
 use Rattle.catalogue_core.proofs.EachOf.{none_found, some_found}
 use Rattle.catalogue_core.proofs.Imported.{distinct_again}
@@ -21,7 +21,7 @@ use Rattle.catalogue_core.proofs.KeptCatalogues.{kept_within, knows}
 use Rattle.catalogue_core.proofs.RowCounts.{changed_counts, new_counts, same_counts}
 use Rattle.catalogue_core.proofs.RowsMerged.{row_by_row}
 use Rattle.catalogue_statements.proofs.Untold.{boxes_within}
-use Rattle.csv_import.specs.Entering.{CanEnter, counts_of, entered, or_as_before}
+use Rattle.csv_import.specs.RowEntry.{CanEnter, counts_of, entered, or_as_before}
 use Rattle.csv_import.specs.Turns.{AreToCome, IsTurn, boxes_named, counted, entry_of}
 use Rattle.csv_import.specs.declared.row_entry.Counts.{Counts}
 use Rattle.csv_import.specs.declared.row_entry.Entry.{Entry}

@@ -1,8 +1,8 @@
-pub mod Entering
-pub mod Known
+pub mod RowEntry
+pub mod KnownUnits
 pub mod Turns
-pub mod Arriving
-pub mod Planning
-pub mod Climbing
-pub mod Remarking
-pub mod Importing
+pub mod Arrivals
+pub mod RowPlan
+pub mod AncestorPaths
+pub mod Remarks
+pub mod CatalogueImport

@@ -7,26 +7,26 @@ use Rattle.isad_core.specs.declared.values.Values.{Values}
 use Rattle.atom_csv.specs.declared.file.Row.{Row}
 use Rattle.tree_core.specs.Forest.{nodes}
 use Rattle.catalogue_core.specs.Bounds.{IsKept}
-use Rattle.catalogue_core.specs.Describing.{AreWhole, HasPlaceFor, IsNew, KnowsItsContainers, MayDescribe}
+use Rattle.catalogue_core.specs.Descriptions.{AreWhole, HasPlaceFor, IsNew, KnowsItsContainers, MayDescribe}
 use Rattle.catalogue_core.specs.GoodCatalogues.{AreGoodUnits, IsSomeDay}
 use Rattle.catalogue_core.specs.GoodRows.{IsGoodRow}
 use Rattle.catalogue_core.specs.Intake.{same_values}
 use Rattle.catalogue_core.specs.LegibleCatalogues.{IsLegibleCatalogue}
-use Rattle.catalogue_core.specs.Merging.{Catalogue, new_unit}
-use Rattle.catalogue_core.specs.RowByRow.{new_at, with_row}
+use Rattle.catalogue_core.specs.CatalogueMerge.{Catalogue, new_unit}
+use Rattle.catalogue_core.specs.EntryByRow.{new_at, with_row}
 use Rattle.catalogue_core.specs.Sources.{is_source}
 use Rattle.catalogue_core.specs.Units.{Unit}
-use Rattle.csv_import.specs.Entering.{AreFileRows, HasRoomFor}
+use Rattle.csv_import.specs.RowEntry.{AreFileRows, HasRoomFor}
 use Rattle.csv_import.specs.declared.row_entry.Counts.{Counts}
 use Rattle.csv_import.specs.declared.row_entry.Entry.{Entry}
 use Rattle.csv_import.specs.declared.row_entry.Entry.TheVariants as entry
 
--- what a row makes of its unit, where it is catalogued or not
+-- what a row does to its unit, whether the unit is catalogued or not
 abbrev pub entry_of : Option Unit → Values → Entry
 entry_of None values = entry.New
 entry_of (Some unit) values = cond (same_values unit.values values) entry.Same entry.Changed
 
--- the counts with a row more, of which this became
+-- the counts with one more row, which had this effect
 abbrev pub counted : Entry → Counts → Counts
 counted entry.Changed counts = record counts { changed = counts.changed + 1 }
 counted entry.New counts = record counts { new = counts.new + 1 }
@@ -42,14 +42,14 @@ pub record IsTurn (source : Bytes) (row : Row) (next : ℕ) (c : Catalogue) : Ty
   pub after : Catalogue
   pub placed : with_row source row c ≡ Ok after
 
--- the unit of these values is there
+-- the unit exists, and may get these values
 pub record MayChange (unit : ℕ) (values : Values) (c : Catalogue) : Type 0 where
   pub units : AreGoodUnits c
   pub kept : IsKept c
   pub there : MayDescribe unit c
   pub whole : AreWhole values
 
--- no unit is the row's, its parent is there, and this is the next number
+-- no unit is the row's yet, its parent exists, and this is the next number
 pub record MayCome (source : Bytes) (row : Row) (next : ℕ) (c : Catalogue) : Type 0 where
   pub units : AreGoodUnits c
   pub kept : IsKept c
@@ -61,7 +61,7 @@ pub record MayCome (source : Bytes) (row : Row) (next : ℕ) (c : Catalogue) : T
 abbrev pub boxes_named : List Row → ℕ
 boxes_named rows = length (flat_map (λ row. row.values.boxes) rows)
 
--- the rows that are to come can be placed one after another, and this is the next number
+-- the rows that are still to be entered can be placed one after another, and this is the next number
 pub record AreToCome (source : Bytes) (rows : List Row) (next : ℕ) (c : Catalogue) : Type 0 where
   pub named : is_source source ≡ true
   pub told : AreFileRows rows

@@ -1,4 +1,4 @@
-//! The units that the rows of a file bring, each with its parent. Nothing is entered.
+//! The units that the rows of a file add, each with its parent. Nothing is entered.
 
 ghost use Rattle.std.specs.Prelude.{◌≡◌, ◌+◌, ◌<◌, ◌^◌, ℕ, List, length, option_and_then, IfOk, IfSome, ⊤};
 ghost use Rattle.std.specs.BTreeMap.{get_by_text};
@@ -8,14 +8,14 @@ ghost use Rattle.isad_core.specs.Limits.{IsNumber};
 ghost use Rattle.isad_core.specs.Texts.{Bytes};
 ghost use Rattle.atom_csv.specs.declared.file.Row.{«Row» as RowTold};
 ghost use Rattle.catalogue_core.specs.GoodCatalogues.{AreGoodUnits};
-ghost use Rattle.catalogue_core.specs.Merging.{number_of as number_among};
-ghost use Rattle.catalogue_core.specs.RowByRow.{number_there};
+ghost use Rattle.catalogue_core.specs.CatalogueMerge.{number_of as number_among};
+ghost use Rattle.catalogue_core.specs.EntryByRow.{number_there};
 ghost use Rattle.catalogue_store.specs.Arrivals.{IsNumbered};
 ghost use Rattle.office_tables.specs.Calls.{Answers};
 ghost use Rattle.office_tables.specs.Step.{InTransaction};
-ghost use Rattle.csv_import.specs.Arriving.{KnowsNumbers, arrival_at, arrivals_of};
-ghost use Rattle.csv_import.specs.Entering.{RepresentsEntering};
-ghost use Rattle.csv_import.specs.Known.{TellsUnits};
+ghost use Rattle.csv_import.specs.Arrivals.{KnowsNumbers, arrival_at, arrivals_of};
+ghost use Rattle.csv_import.specs.RowEntry.{RepresentsEntering};
+ghost use Rattle.csv_import.specs.KnownUnits.{TellsUnits};
 
 use crate::legacy::{ByLegacy, kept_number, remember};
 use crate::numbers::number_of;
@@ -27,7 +27,7 @@ use sqlite::{Alter, Connection};
 use std::alloc::Global;
 use tree_core::Arrival;
 
-/// The number of a new row's parent, where it names one: that of a new row above it, or else of a
+/// The number of a new row's parent, if it names one: that of a new row above it, or else of a
 /// catalogued unit.
 fn parent_of<P: Places, S: Alter>(
     alloc: Global,
@@ -53,7 +53,7 @@ fn parent_of<P: Places, S: Alter>(
     number_of::<P, S>(alloc, conn, source, parent)
 }
 
-/// The unit that a row brings, which gets the next number; none where its unit is catalogued, which is known.
+/// The unit that a row adds, which gets the next number; none if its unit is in `catalogued`.
 fn arrival_of<P: Places, S: Alter>(
     alloc: Global,
     conn: &mut Connection<S>,
@@ -81,8 +81,8 @@ fn arrival_of<P: Places, S: Alter>(
     Ok(Some(Arrival { unit: next, parent }))
 }
 
-/// The units that the rows of a file from a source bring, numbered in file order from the next number on, where the
-/// numbers of the units that are catalogued are known.
+/// The units that the rows of a file from a source add, numbered in file order from `next` on. `catalogued` has the
+/// numbers of the units that are catalogued.
 pub(crate) fn arrivals<P: Places, S: Alter>(
     alloc: Global,
     conn: &mut Connection<S>,

@@ -1,4 +1,4 @@
-//! A file is taken into the catalogue.
+//! The import of a file into the catalogue.
 
 ghost use Rattle.std.specs.Prelude.{◌≡◌, ◌+◌, ◌&&◌, true, length, nat_le, nat_lt, Ok, IfSome, ⊤};
 ghost use Rattle.std.specs.BTreeMap.{get_by_text};
@@ -6,18 +6,18 @@ ghost use Rattle.std.specs.List.{AllByRecursion};
 ghost use Rattle.sqlite.specs.Held.{state};
 ghost use Rattle.isad_core.specs.Limits.{IsNumber, most_containers, most_unit_numbers, most_units};
 ghost use Rattle.isad_core.specs.Texts.{Bytes};
-ghost use Rattle.atom_csv.specs.FileOf.{file_of};
+ghost use Rattle.atom_csv.specs.FileContents.{file_of};
 ghost use Rattle.catalogue_core.specs.Sources.{is_source};
 ghost use Rattle.office_core.specs.declared.command.Command.TheVariants as command;
 ghost use Rattle.office_tables.specs.Calls.{Answers};
 ghost use Rattle.office_tables.specs.Step.{InTransaction};
 ghost use Rattle.catalogue_statements.specs.Settings.{AreLegibleSettings};
-ghost use Rattle.catalogue_statements.specs.Represents.{RepresentsSettings};
+ghost use Rattle.catalogue_statements.specs.Representation.{RepresentsSettings};
 ghost use Rattle.refinement.specs.CommandSteps.{CarriesOut};
-ghost use Rattle.refinement.specs.Judging.{RepresentsWhole};
-ghost use Rattle.csv_import.specs.Importing.{CanBePlaced, FitsIn, HasNumbered, judged, told_of};
-ghost use Rattle.csv_import.specs.Importing as spec;
-ghost use Rattle.csv_import.specs.Known.{TellsUnits};
+ghost use Rattle.refinement.specs.AccessConditions.{RepresentsWhole};
+ghost use Rattle.csv_import.specs.CatalogueImport.{CanBePlaced, FitsIn, HasNumbered, judged, told_of};
+ghost use Rattle.csv_import.specs.CatalogueImport as spec;
+ghost use Rattle.csv_import.specs.KnownUnits.{TellsUnits};
 
 use crate::legacy::ByLegacy;
 use crate::numbers::known_units;
@@ -34,7 +34,7 @@ use refinement::pass;
 use sqlite::{Alter, Connection};
 use std::alloc::Global;
 
-/// Whether so many more units fit, each with a number of its own.
+/// Whether `new` more units fit, each with a number of its own.
 fn has_space(office: &Office, new: u64) -> bool
     ensures { result ≡ (nat_le (office.now.units + new) most_units
         && nat_le (office.now.row.next_unit + new) (most_unit_numbers + 1)) }
@@ -44,7 +44,7 @@ fn has_space(office: &Office, new: u64) -> bool
     units <= MOST_UNITS && next <= MOST_UNIT_NUMBERS + 1
 }
 
-/// Whether there is room for so many more units, each with a number of its own.
+/// Whether there is room for `new` more units, each with a number of its own.
 fn has_room<P: Places, S: Alter>(
     alloc: Global,
     conn: &mut Connection<S>,
@@ -71,7 +71,8 @@ fn has_many_containers<P: Places, S: Alter>(
     Ok(office.containers > MOST_CONTAINERS)
 }
 
-/// What is told of a file whose rows were entered, unless there are too many containers now or what is out is withheld.
+/// The outcome of a file whose rows were entered, or a refusal if there are now too many containers, or if a container
+/// is now closed to the reader who has it.
 fn judge<P: Places, S: Alter>(
     alloc: Global,
     conn: &mut Connection<S>,
@@ -101,7 +102,8 @@ fn judge<P: Places, S: Alter>(
     pass::<P, S>(alloc, conn, today, done)
 }
 
-/// Takes in rows that can all be placed and for which there is room. Which of their units are catalogued is known.
+/// Imports rows that can all be placed and for which there is room. `catalogued` has the numbers of the units that are
+/// catalogued.
 fn import_rows<P: Places, S: Alter>(
     alloc: Global,
     conn: &mut Connection<S>,
@@ -121,8 +123,8 @@ fn import_rows<P: Places, S: Alter>(
     judge::<P, S>(alloc, conn, today, file, &outcome)
 }
 
-/// Takes in rows that can all be placed, of which so many are new, where there is room. Which of their units are
-/// catalogued is known.
+/// Imports rows that can all be placed, of which `new` are new, or refuses if there is no room for them. `catalogued`
+/// has the numbers of the units that are catalogued.
 fn import_placed<P: Places, S: Alter>(
     alloc: Global,
     conn: &mut Connection<S>,
@@ -145,7 +147,7 @@ fn import_placed<P: Places, S: Alter>(
     import_rows::<P, S>(alloc, conn, today, source, catalogued, file)
 }
 
-/// Takes in a file that was read, where it is known which of its rows' units are catalogued.
+/// Imports a file that was read. `catalogued` has the numbers of the units that are catalogued.
 fn import_known<P: Places, S: Alter>(
     alloc: Global,
     conn: &mut Connection<S>,
@@ -169,7 +171,7 @@ fn import_known<P: Places, S: Alter>(
     }
 }
 
-/// Takes in a file that was read.
+/// Imports a file that was read.
 fn import_read<P: Places, S: Alter>(
     alloc: Global,
     conn: &mut Connection<S>,
@@ -186,9 +188,9 @@ fn import_read<P: Places, S: Alter>(
     import_known::<P, S>(alloc, conn, today, source, &catalogued, file)
 }
 
-/// Takes a file of a source into the catalogue: units that are there take other values, and new ones come. Where it is
-/// refused, some of it may have been entered: the caller takes back what was done. The day of the office and the name
-/// of the source are known.
+/// Imports a file of a source into the catalogue: units that exist get the file's values, and new units are added.
+/// After a refusal some rows may have been entered, so the caller must roll the transaction back. `today` must be the
+/// office's day, and `source` a well-formed name.
 pub fn import<P: Places, S: Alter>(
     alloc: Global,
     conn: &mut Connection<S>,

@@ -1,4 +1,4 @@
-//! What is kept of rows by their numbers in their source.
+//! What is kept about rows, by their numbers in their source.
 
 ghost use Rattle.std.specs.Prelude.{◌≡◌, if◌then◌else◌, OnOk, Some};
 ghost use Rattle.std.specs.BTreeMap.{get_by_text};

@@ -1,4 +1,4 @@
-//! Files taken into the catalogue of an office, over its tables, within a transaction.
+//! The import of files into the catalogue of an office, over its tables, within a transaction.
 #![tactic(auto)]
 
 mod ancestor_depths;

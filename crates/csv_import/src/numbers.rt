@@ -6,11 +6,11 @@ ghost use Rattle.sqlite.specs.Held.{state};
 ghost use Rattle.isad_core.specs.Limits.{IsNumber};
 ghost use Rattle.isad_core.specs.Texts.{Bytes};
 ghost use Rattle.catalogue_core.specs.GoodCatalogues.{AreGoodUnits};
-ghost use Rattle.catalogue_core.specs.RowByRow.{number_there};
+ghost use Rattle.catalogue_core.specs.EntryByRow.{number_there};
 ghost use Rattle.office_tables.specs.Calls.{Answers};
 ghost use Rattle.office_tables.specs.Step.{InTransaction};
-ghost use Rattle.csv_import.specs.Entering.{RepresentsEntering};
-ghost use Rattle.csv_import.specs.Known.{KnowsUnits};
+ghost use Rattle.csv_import.specs.RowEntry.{RepresentsEntering};
+ghost use Rattle.csv_import.specs.KnownUnits.{KnowsUnits};
 
 use crate::legacy::{ByLegacy, remember};
 use atom_csv::Row;
@@ -21,7 +21,7 @@ use office_tables::value::NO_NUMBER;
 use sqlite::{Alter, Connection};
 use std::alloc::Global;
 
-/// The number of the unit that has this number in the source.
+/// The number of the unit that has this number in the source, if it is catalogued.
 pub(crate) fn number_of<P: Places, S: Alter>(
     alloc: Global,
     conn: &mut Connection<S>,
@@ -42,7 +42,7 @@ pub(crate) fn number_of<P: Places, S: Alter>(
     Ok(Some(unit))
 }
 
-/// The numbers of these rows' units, where they are catalogued. Each is looked up once, and kept for all that follows.
+/// The numbers of those of these rows' units that are catalogued. Each is looked up once, and kept for all later steps.
 pub(crate) fn known_units<P: Places, S: Alter>(
     alloc: Global,
     conn: &mut Connection<S>,

@@ -1,4 +1,4 @@
-//! Where the units of a file's rows stand.
+//! The paths of the units that a file's rows name.
 
 ghost use Rattle.std.specs.Prelude.{◌≡◌, map, ⊤};
 ghost use Rattle.sqlite.specs.Held.{state};
@@ -8,7 +8,7 @@ ghost use Rattle.catalogue_core.specs.GoodCatalogues.{AreGoodUnits};
 ghost use Rattle.catalogue_core.specs.Units.{is_from};
 ghost use Rattle.office_tables.specs.Calls.{Answers};
 ghost use Rattle.office_tables.specs.Step.{InTransaction};
-ghost use Rattle.catalogue_statements.specs.Represents.{Represents};
+ghost use Rattle.catalogue_statements.specs.Representation.{Represents};
 
 use catalogue_store::{Places, known};
 use isad_core::Text;
@@ -17,7 +17,8 @@ use office_tables::value::NO_NUMBER;
 use sqlite::{Alter, Connection};
 use std::alloc::Global;
 
-/// The numbers of the units from a top down to the one with this number in the source, or none.
+/// The numbers of the units from a top down to the one with this number in the source. Empty if
+/// there is no such unit.
 pub(crate) fn path_of<P: Places, S: Alter>(
     alloc: Global,
     conn: &mut Connection<S>,

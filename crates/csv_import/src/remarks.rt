@@ -1,4 +1,4 @@
-//! What is remarked on the rows of a file that were entered.
+//! The remarks on the rows of a file, after these were entered.
 
 ghost use Rattle.std.specs.Prelude.{◌≡◌, Some, find, is_some, IfSome, ⊤};
 ghost use Rattle.std.specs.List.{AllByRecursion, list_all};
@@ -17,8 +17,8 @@ ghost use Rattle.office_core.specs.ImportReply as reply;
 ghost use Rattle.office_core.specs.declared.done.Remark.TheVariants.{LacksEssential, LevelTooHigh};
 ghost use Rattle.office_tables.specs.Calls.{Answers};
 ghost use Rattle.office_tables.specs.Step.{InTransaction};
-ghost use Rattle.catalogue_statements.specs.Represents.{Represents};
-ghost use Rattle.csv_import.specs.Remarking.{HasParent, HaveParents, HaveUnits, IsRankOf, IsRanked};
+ghost use Rattle.catalogue_statements.specs.Representation.{Represents};
+ghost use Rattle.csv_import.specs.Remarks.{HasParent, HaveParents, HaveUnits, IsRankOf, IsRanked};
 
 use atom_csv::Row;
 use catalogue_statements::units::levels_of;
@@ -30,7 +30,7 @@ use office_tables::value::NO_NUMBER;
 use sqlite::{Alter, Connection};
 use std::alloc::Global;
 
-/// The elements that are essential for international exchange, beside the level.
+/// The elements that are essential for international exchange, besides the level.
 const ESSENTIAL: [Element; 5] = [
     Element::ReferenceCode,
     Element::Title,
@@ -65,15 +65,15 @@ fn is_above(rank: Option<u8>, other: Option<u8>) -> bool
     }
 }
 
-/// A unit and the rank of its level. It is kept of the last unit that was asked for, since rows of one parent mostly
-/// stand together.
+/// A unit and the rank of its level. It is kept for the last unit that was looked up, because rows with the same parent
+/// mostly stand together.
 #[derive(Clone, Copy)]
 struct Ranked {
     unit: u64,
     rank: Option<u8>,
 }
 
-/// What is kept, where it is of the unit with this number.
+/// What is kept, if it is for the unit with this number.
 fn kept_of(last: Option<Ranked>, unit: u64) -> Option<Ranked>
     ensures { IfSome result (λ ranked. (last ≡ Some ranked) × (ranked.unit ≡ unit)) }
 {
@@ -101,7 +101,7 @@ fn rank_there<P: Places, S: Alter>(
     Ok(rank(level.as_str()))
 }
 
-/// The same, which is kept, and not asked for where it was.
+/// The same, but a rank that is kept is not looked up again, and the rank is kept afterwards.
 fn kept_rank<P: Places, S: Alter>(
     alloc: Global,
     conn: &mut Connection<S>,
@@ -121,7 +121,7 @@ fn kept_rank<P: Places, S: Alter>(
     Ok(rank)
 }
 
-/// The remark on a row whose unit stands right below the one with this number.
+/// The remark on a row whose unit is right below the one with this number.
 fn remark_below<P: Places, S: Alter>(
     alloc: Global,
     conn: &mut Connection<S>,
@@ -157,7 +157,7 @@ fn remark_on_top(row: &Row) -> Option<Remark>
     None
 }
 
-/// The remark on a row whose unit stands right below the one with this number, or is a top.
+/// The remark on a row whose unit is right below the one with this number, or is a top.
 fn remark_on<P: Places, S: Alter>(
     alloc: Global,
     conn: &mut Connection<S>,
@@ -177,7 +177,7 @@ fn remark_on<P: Places, S: Alter>(
     }
 }
 
-/// The remarks on rows whose units stand right below those with these numbers, or are tops.
+/// The remarks on rows whose units are right below those with these numbers, or are tops.
 fn remarks_below<P: Places, S: Alter>(
     alloc: Global,
     conn: &mut Connection<S>,
@@ -199,8 +199,8 @@ fn remarks_below<P: Places, S: Alter>(
     Ok(told)
 }
 
-/// The remarks on the rows of a file from a source, in their order, after all of them were entered. These are the rows'
-/// units.
+/// The remarks on the rows of a file from a source, in their order, after all of them were entered. `units` are the
+/// rows' units.
 pub(crate) fn remarks<P: Places, S: Alter>(
     alloc: Global,
     conn: &mut Connection<S>,

@@ -9,19 +9,19 @@ ghost use Rattle.sqlite.specs.State.{HasCleanDisk};
 ghost use Rattle.isad_core.specs.Limits.{IsNumber};
 ghost use Rattle.isad_core.specs.Texts.{Bytes};
 ghost use Rattle.tree_core.specs.Forest.{nodes};
-ghost use Rattle.catalogue_core.specs.Describing.{with_values};
+ghost use Rattle.catalogue_core.specs.Descriptions.{with_values};
 ghost use Rattle.catalogue_core.specs.Intake.{same_values, unit_of};
-ghost use Rattle.catalogue_core.specs.Merging.{Catalogue};
-ghost use Rattle.catalogue_core.specs.RowByRow.{number_there, with_new};
+ghost use Rattle.catalogue_core.specs.CatalogueMerge.{Catalogue};
+ghost use Rattle.catalogue_core.specs.EntryByRow.{number_there, with_new};
 ghost use Rattle.catalogue_core.specs.Units.{«Unit» as Described, has_id};
-ghost use Rattle.catalogue_statements.specs.Represents.{RepresentsNumbered, catalogue_trees, described_trees};
+ghost use Rattle.catalogue_statements.specs.Representation.{RepresentsNumbered, catalogue_trees, described_trees};
 ghost use Rattle.catalogue_statements.specs.declared.office.OfficeRow.{OfficeRow};
 ghost use Rattle.catalogue_store.specs.Arrivals.{IsNumbered};
 ghost use Rattle.office_tables.specs.Calls.{Updates, Answers};
 ghost use Rattle.office_tables.specs.Step.{InTransaction};
-ghost use Rattle.csv_import.specs.Arriving.{BringUnits};
-ghost use Rattle.csv_import.specs.Entering.{CanEnter, RepresentsEntering, RepresentsLegible, counts_of, entered};
-ghost use Rattle.csv_import.specs.Known.{TellsUnits, units_from};
+ghost use Rattle.csv_import.specs.Arrivals.{BringUnits};
+ghost use Rattle.csv_import.specs.RowEntry.{CanEnter, RepresentsEntering, RepresentsLegible, counts_of, entered};
+ghost use Rattle.csv_import.specs.KnownUnits.{TellsUnits, units_from};
 ghost use Rattle.csv_import.specs.Turns.{AreToCome, IsTurn, MayChange, MayCome, boxes_named, counted, entry_of};
 
 use crate::arrivals::arrivals;
@@ -35,10 +35,10 @@ use sqlite::{Alter, Connection};
 use std::alloc::{AllocError, Global};
 use tree_core::Arrival;
 
-/// The numbers of units stay far below this one.
+/// All unit numbers are far below this one.
 const LAST_NUMBER: u64 = 1 << 62;
 
-/// How many rows of a file changed a unit, made one, or left one as it was.
+/// How many rows of a file changed a unit, added one, or left one as it was.
 #[derive(Clone, Copy, Debug, PartialEq, Eq)]
 pub struct Counts {
     pub changed: u64,
@@ -46,21 +46,21 @@ pub struct Counts {
     pub same: u64,
 }
 
-/// What became of the rows of a file: how many of each, and the unit of each row.
+/// The result of entering the rows of a file: how many had each effect, and the unit of each row.
 #[derive(Drop)]
 pub(crate) struct Outcome {
     pub(crate) counts: Counts,
     pub(crate) units: Vec<u64>,
 }
 
-/// What became of a row.
+/// The effect of a row.
 #[derive(Clone, Copy)]
 enum Entry {
-    /// Its unit took other values.
+    /// Its unit got other values.
     Changed,
-    /// It made a unit.
+    /// It added a unit.
     New,
-    /// Its unit had its values.
+    /// Its unit already had its values.
     Same,
 }
 
@@ -71,7 +71,7 @@ fn are_same(some: &Values, others: &Values) -> bool
     some == others
 }
 
-/// Gives a unit the values of its row, where they differ.
+/// Gives a unit the values of its row, if they differ.
 fn enter_known<P: Places, S: Alter>(
     alloc: Global,
     conn: &mut Connection<S>,
@@ -97,7 +97,7 @@ fn enter_known<P: Places, S: Alter>(
     Ok(Entry::Changed)
 }
 
-/// Makes the unit of a row.
+/// Adds the unit of a row.
 fn enter_new<P: Places, S: Alter>(
     alloc: Global,
     conn: &mut Connection<S>,
@@ -122,7 +122,8 @@ fn enter_new<P: Places, S: Alter>(
     Ok(Entry::New)
 }
 
-/// Enters a row, whose unit has this number and takes its values, or comes with the next number.
+/// Enters a row. Its unit gets the row's values if it has a number, and otherwise is added with the
+/// next number.
 fn enter_row<P: Places, S: Alter>(
     alloc: Global,
     conn: &mut Connection<S>,
@@ -148,7 +149,7 @@ fn enter_row<P: Places, S: Alter>(
     }
 }
 
-/// The counts with one row more.
+/// The counts with one more row.
 fn count(counts: Counts, became: Entry) -> Counts
     requires changed { counts.changed + 1 < 2 ^ 64 }
     requires new { counts.new + 1 < 2 ^ 64 }
@@ -171,8 +172,8 @@ fn count(counts: Counts, became: Entry) -> Counts
     }
 }
 
-/// Enters rows one after another, where the numbers of the units that are catalogued are known, and this is the next
-/// one. The places of new units have been entered, or will be.
+/// Enters rows one after another. `catalogued` has the numbers of the units that are catalogued. `next` is the next new
+/// number. The places of new units are entered separately.
 fn enter_each<P: Places, S: Alter>(
     alloc: Global,
     conn: &mut Connection<S>,
@@ -223,7 +224,7 @@ fn next_number<P: Places, S: Alter>(
     Ok(office.next_unit)
 }
 
-/// No memory holds so many rows or containers. Fewer can be numbered on top of those that an office
+/// No memory holds this many rows or containers. Fewer can be numbered after those that an office
 /// has.
 const MOST_HELD: u64 = 1 << 61;
 
@@ -242,7 +243,7 @@ fn name_too_many(rows: &[Row]) -> bool
     false
 }
 
-/// The number that is the next after a row, whose unit has a number or takes this one.
+/// The next new number after a row. The row's unit has a number already, or takes this one.
 fn number_after(number: u64, known: Option<u64>) -> u64
     requires { number + 1 < 2 ^ 64 }
     ensures value { result ≡ number + cond (is_some known) 0 1 }
@@ -254,7 +255,7 @@ fn number_after(number: u64, known: Option<u64>) -> u64
     }
 }
 
-/// The units of rows in their order: those that are catalogued, and new ones with the numbers from the next on.
+/// The units of rows in their order: those that are catalogued, and new ones with the numbers from `next` on.
 fn units_of(
     alloc: Global,
     catalogued: &ByLegacy,
@@ -276,8 +277,8 @@ fn units_of(
     Ok(units)
 }
 
-/// Enters rows, and the places of the units that they bring, all at once. The numbers of the units that are catalogued
-/// are known, and this is the next one.
+/// Enters rows, and the places of the units that they add, all places at once. `catalogued` has the numbers of the
+/// units that are catalogued. `next` is the next new number.
 fn enter_with_places<P: Places, S: Alter>(
     alloc: Global,
     conn: &mut Connection<S>,
@@ -305,8 +306,8 @@ fn enter_with_places<P: Places, S: Alter>(
     Ok(counts)
 }
 
-/// Enters the rows of a file from a source, one after another: the unit of a row takes its values, or comes with the
-/// next number. The numbers of the units that are catalogued are known.
+/// Enters the rows of a file from a source, one after another: the unit of a row gets the row's values, or is added
+/// with the next number. `catalogued` has the numbers of the units that are catalogued.
 pub(crate) fn enter_rows<P: Places, S: Alter>(
     alloc: Global,
     conn: &mut Connection<S>,

@@ -1,4 +1,4 @@
-//! What is known of a file's rows before any is entered.
+//! What is known about a file's rows before any is entered.
 
 ghost use Rattle.std.specs.Prelude.{◌≡◌, List, ⊤};
 ghost use Rattle.std.specs.BTreeMap.{get_by_text};
@@ -6,13 +6,13 @@ ghost use Rattle.sqlite.specs.Held.{state};
 ghost use Rattle.atom_csv.specs.declared.file.Row.{«Row» as RowTold};
 ghost use Rattle.catalogue_core.specs.Bounds.{IsKept};
 ghost use Rattle.catalogue_core.specs.GoodCatalogues.{AreGoodUnits};
-ghost use Rattle.catalogue_core.specs.Merging.{depth_under};
+ghost use Rattle.catalogue_core.specs.CatalogueMerge.{depth_under};
 ghost use Rattle.office_tables.specs.Calls.{Answers};
 ghost use Rattle.office_tables.specs.Step.{InTransaction};
-ghost use Rattle.catalogue_statements.specs.Represents.{Represents};
-ghost use Rattle.catalogue_core.specs.RowByRow.{number_there};
-ghost use Rattle.csv_import.specs.Known.{TellsUnits};
-ghost use Rattle.csv_import.specs.Planning.{KnowsDepths, at_depth, placing_of, plan_of};
+ghost use Rattle.catalogue_statements.specs.Representation.{Represents};
+ghost use Rattle.catalogue_core.specs.EntryByRow.{number_there};
+ghost use Rattle.csv_import.specs.KnownUnits.{TellsUnits};
+ghost use Rattle.csv_import.specs.RowPlan.{KnowsDepths, at_depth, placing_of, plan_of};
 
 use crate::ancestor_depths::depths_below_many;
 use crate::legacy::{ByLegacy, kept_number, remember};
@@ -25,34 +25,34 @@ use office_tables::StoreFault;
 use sqlite::{Alter, Connection};
 use std::alloc::Global;
 
-/// Why a row cannot be placed: its parent is not there.
+/// Why a row cannot be placed: its parent does not exist.
 const NO_PARENT: u8 = 11;
 
 /// Why a row cannot be placed: it would lie too deep.
 const TOO_DEEP: u8 = 12;
 
-/// What can be told of the rows of a file before any is entered.
+/// What is known about the rows of a file before any is entered.
 #[derive(Clone, Copy)]
 pub(crate) enum Planned {
-    /// All of them can be placed, and so many are new.
+    /// All of them can be placed, and this many are new.
     Fits { new: u64 },
-    /// The first that cannot be placed, and why.
+    /// The first row that cannot be placed, and why.
     Faulty { row: u32, cause: u8 },
 }
 
-/// What becomes of a row.
+/// How a row is placed.
 #[derive(Clone, Copy)]
 enum Placing {
     /// Its unit is catalogued.
     Known,
-    /// It is new, and one right below it would lie so deep.
+    /// It is new, and a row right below it would lie this deep.
     Fits { below: u64 },
-    /// It cannot be placed, and why.
+    /// It cannot be placed, for this cause.
     Faulty { cause: u8 },
 }
 
-/// How deep a new row lies, where a top is 1; none where its parent is not there. Of a parent that is catalogued the path
-/// is asked for once, as many rows of a file may have the same parent.
+/// How deep a new row lies: 1 for a top; none if its parent does not exist. The path of a catalogued parent is looked
+/// up once, because many rows of a file may have the same parent.
 fn depth_of<P: Places, S: Alter>(
     alloc: Global,
     conn: &mut Connection<S>,
@@ -82,7 +82,7 @@ fn depth_of<P: Places, S: Alter>(
     Ok(Some(depth))
 }
 
-/// What becomes of a new row that lies so deep.
+/// How a new row at this depth is placed.
 fn placed(depth: Option<u64>) -> Placing
     ensures { result ≡ at_depth depth }
 {
@@ -93,7 +93,8 @@ fn placed(depth: Option<u64>) -> Placing
     }
 }
 
-/// What becomes of a row below the new rows above it, where it is known whether its unit is catalogued.
+/// How a row is placed, after the new rows above it in the file. `catalogued` has its unit's number if the unit is
+/// catalogued.
 fn place<P: Places, S: Alter>(
     alloc: Global,
     conn: &mut Connection<S>,
@@ -117,8 +118,8 @@ fn place<P: Places, S: Alter>(
     Ok(placed(depth))
 }
 
-/// Which row of a file from a source cannot be placed, or how many are new. It is known which of the rows' units are
-/// catalogued. Nothing is entered.
+/// The first row of a file from a source that cannot be placed, or how many rows are new. `catalogued` has the numbers
+/// of the rows' units that are catalogued. Nothing is entered.
 pub(crate) fn plan<P: Places, S: Alter>(
     alloc: Global,
     conn: &mut Connection<S>,

@@ -8,9 +8,9 @@ use Rattle.tree_core.specs.Forest.{Forest}
 use Rattle.tree_core.specs.Versions.{Version, version_number}
 use Rattle.desk_core.specs.DeskRows.{SeatRow}
 use Rattle.desk_core.specs.declared.refusal.Refusal.TheVariants.{StillIssued}
-use Rattle.desk_store.specs.Opening.{House, RepresentsBoth, opened}
+use Rattle.desk_store.specs.OfficeDay.{House, RepresentsBoth, opened}
 use Rattle.desk_store.specs.Seats.{all_free}
-use Rattle.desk_store.specs.Represents.{RepresentsDesk}
+use Rattle.desk_store.specs.Representation.{RepresentsDesk}
 use Rattle.office_core.specs.Rules.{Reply, after, refusal}
 use Rattle.office_core.specs.SoundOffice.{AreTexts}
 use Rattle.office_core.specs.State.{State, containers, is_out}
@@ -18,11 +18,11 @@ use Rattle.office_core.specs.declared.command.Command.{Command}
 use Rattle.office_core.specs.declared.command.Command.TheVariants as command
 use Rattle.office_core.specs.declared.done.Done.TheVariants as done
 use Rattle.office_core.proofs.Texts.{always_texts}
-use Rattle.state_encoding.specs.Reading.{tables}
+use Rattle.state_encoding.specs.OfficeRows.{tables}
 use Rattle.office_tables.specs.Schema as schema
 use Rattle.office_tables.specs.Step.{OnlyTouches}
 use Rattle.refinement.specs.CommandSteps.{CarriesOutStep}
-use Rattle.refinement.specs.Represents.{RepresentsState, office_of}
+use Rattle.refinement.specs.Representation.{RepresentsState, office_of}
 use Rattle.refinement.proofs.Doings.{accepted, refused}
 use Rattle.refinement.proofs.Frames.{catalogue_with_office}
 use Rattle.refinement.proofs.EmptySeats.{none_seated}

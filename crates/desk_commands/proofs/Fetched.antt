@@ -24,13 +24,13 @@ use Rattle.office_core.proofs.Counts.{numbered_from_one}
 use Rattle.office_core.proofs.Filed.{picked_due}
 use Rattle.office_core.proofs.LineOrder.{any-in_order}
 use Rattle.office_core.proofs.Words.{numbered_within}
-use Rattle.state_encoding.specs.DeskShown.{lines_from, order_row, order_rows, run_line_row, run_line_rows, run_row}
-use Rattle.state_encoding.specs.Reading.{tables}
+use Rattle.state_encoding.specs.DeskEncoding.{lines_from, order_row, order_rows, run_line_row, run_line_rows, run_row}
+use Rattle.state_encoding.specs.OfficeRows.{tables}
 use Rattle.state_encoding.proofs.DeskLookups.{flipped}
 use Rattle.state_encoding.proofs.Members.{all_of_in, in_filter, in_map}
 use Rattle.state_encoding.proofs.NumberedRows.{in_rows, length-rows}
 use Rattle.tree_core.specs.Versions.{Version}
-use Rattle.desk_commands.specs.Running.{has_numbers, taken_by}
+use Rattle.desk_commands.specs.RunCreation.{has_numbers, taken_by}
 use Rattle.desk_commands.proofs.MovedAll.{AreWithin, all_taken}
 use Rattle.desk_commands.proofs.Picked.{due_shown, is_open_for}
 use Rattle.desk_commands.proofs.Reshelved.{all_left, rising_left, rising_to}

@@ -19,9 +19,8 @@ use Rattle.desk_core.specs.declared.reader.Place.TheVariants.{Shelf, Desk, Out}
 use Rattle.desk_core.specs.declared.reader.Reader.{Reader as Sitter}
 use Rattle.desk_core.specs.declared.refusal.Refusal.{Refusal}
 use Rattle.desk_core.specs.declared.refusal.Refusal.TheVariants.{NotAtDesk, NotFirst, UnknownContainer}
-use Rattle.desk_store.specs.Readers.{card_of}
-use Rattle.desk_store.specs.Represents.{RepresentsDesk}
-use Rattle.desk_store.specs.declared.reader_summary.ReaderCard.{ReaderCard}
+use Rattle.desk_store.specs.Readers.{ticket_holder}
+use Rattle.desk_store.specs.Representation.{RepresentsDesk}
 use Rattle.desk_store.specs.declared.orders.OrderState.TheVariants as states
 use Rattle.desk_store.specs.declared.orders.WaitingOrder.{WaitingOrder}
 use Rattle.office_core.specs.Laws.{Standing}
@@ -37,21 +36,21 @@ use Rattle.office_core.proofs.Filed.{is_issued, only_issues, waiting, waits_with
 use Rattle.office_core.proofs.OrderLaws.{stands_out}
 use Rattle.office_core.proofs.Steps.{held_so, passes}
 use Rattle.office_core.proofs.Words.{same_number}
-use Rattle.state_encoding.specs.DeskShown.{order_rows, state_number}
-use Rattle.state_encoding.specs.Reading.{tables}
+use Rattle.state_encoding.specs.DeskEncoding.{order_rows, state_number}
+use Rattle.state_encoding.specs.OfficeRows.{tables}
 use Rattle.state_encoding.proofs.TableLaws.{rows_moved}
 use Rattle.office_tables.specs.Schema as schema
 use Rattle.office_tables.specs.Step.{OnlyTouches}
-use Rattle.refinement.specs.Allowed.{limits_of}
+use Rattle.refinement.specs.ReadingRoomLimits.{limits_of}
 use Rattle.refinement.specs.CommandSteps.{CarriesOutStep}
-use Rattle.refinement.specs.Represents.{RepresentsState}
+use Rattle.refinement.specs.Representation.{RepresentsState}
 use Rattle.refinement.specs.Sitters.{sitter, sitter_of}
-use Rattle.refinement.proofs.CardsShown.{sitter_shown}
+use Rattle.refinement.proofs.CardsShown.{holder_shown}
 use Rattle.refinement.proofs.CommandSteps.{accepts, refuses}
 use Rattle.refinement.proofs.HoldingRows.{place_after}
 use Rattle.refinement.proofs.SeatsShown.{some_placed}
-use Rattle.desk_commands.specs.Lending.{IsQueuedFor, asked_for, first_waiting}
-use Rattle.desk_commands.specs.Moving.{handed_over}
+use Rattle.desk_commands.specs.Issuance.{IsQueuedFor, asked_for, first_waiting}
+use Rattle.desk_commands.specs.ContainerMoves.{handed_over}
 use Rattle.desk_commands.proofs.QueueTold.{waiter}
 
 -- ---- who may have it
@@ -210,10 +209,10 @@ module _ (places : Trees → Forest ℕ → Type 0) (version : Version) (s : Sta
 -- ---- the decision on what was read
 
 pub decided_as : (version : Version) (s : State) (c t : ℕ) → IsSoundOffice s → (place : Place) (head : Option WaitingOrder) (opened : Bool) (who : Option Sitter) (today : ℤ) (limits : Limits)
-    → today ≡ s.day → limits ≡ limits_of s → IsQueuedFor s c place head → who ≡ option_map (λ (r : ReaderCard). r.reader) (card_of t today (tables version s).desk) → opened ≡ opens s t c
+    → today ≡ s.day → limits ≡ limits_of s → IsQueuedFor s c place head → who ≡ ticket_holder t (tables version s).desk → opened ≡ opens s t c
     → first_that_holds (issue_checks (issue_facts (Some (asked_for place head opened)) t who today limits)) ≡ refusal s (command.Issue c t)
 decided_as version s c t sound place head opened who today limits day allowed queued told is_open =
-    ap (λ (r : Option Sitter). first_that_holds (issue_checks (issue_facts (Some (asked_for place head opened)) t r today limits))) (told ∙ sitter_shown version s sound t today)
+    ap (λ (r : Option Sitter). first_that_holds (issue_checks (issue_facts (Some (asked_for place head opened)) t r today limits))) (told ∙ holder_shown version s sound t)
     ∙ ap (λ (n : ℤ). first_that_holds (issue_checks (issue_facts (Some (asked_for place head opened)) t (sitter s t) n limits))) day
     ∙ ap (λ (l : Limits). first_that_holds (issue_checks (issue_facts (Some (asked_for place head opened)) t (sitter s t) s.day l))) allowed
     ∙ agrees s c t sound place head opened queued.is_at queued.is_first is_open queued.known

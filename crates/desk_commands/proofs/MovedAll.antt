@@ -10,11 +10,11 @@ use Rattle.desk_store.specs.Holdings.{placed_at, with_place}
 use Rattle.office_core.specs.State.{Order, State}
 use Rattle.office_core.specs.Laws.{standing}
 use Rattle.office_core.specs.Words.{numbers_to, put, stands}
-use Rattle.state_encoding.specs.DeskShown.{order_row, order_rows, rows_from, state_number}
+use Rattle.state_encoding.specs.DeskEncoding.{order_row, order_rows, rows_from, state_number}
 use Rattle.state_encoding.proofs.DeskLookups.{flipped}
 use Rattle.refinement.proofs.HoldingRows.{placed_to, rows_of}
 use Rattle.desk_store.proofs.MadeInTurn.{legible_place}
-use Rattle.desk_commands.specs.Moving.{all_placed, with_all_placed}
+use Rattle.desk_commands.specs.ContainerMoves.{all_placed, with_all_placed}
 
 -- ---- one container more
 

@@ -16,7 +16,7 @@ use Rattle.desk_core.specs.declared.reader.Limits.{Limits}
 use Rattle.desk_core.specs.declared.refusal.Refusal.{Refusal}
 use Rattle.desk_core.specs.declared.refusal.Refusal.TheVariants.{UnknownTicket}
 use Rattle.desk_store.specs.Orders.{IsNextOrder, with_order}
-use Rattle.desk_store.specs.Represents.{RepresentsDesk}
+use Rattle.desk_store.specs.Representation.{RepresentsDesk}
 use Rattle.desk_store.specs.declared.reader_summary.ReaderCard.{ReaderCard}
 use Rattle.office_core.specs.Laws.{Waiting, standing}
 use Rattle.office_core.specs.Rules.{after, checks, ordered, refusal}
@@ -29,20 +29,20 @@ use Rattle.office_core.specs.declared.done.Done.TheVariants as done
 use Rattle.office_core.proofs.Filed.{is_ordered, only_orders}
 use Rattle.office_core.proofs.OrderLaws.{goes_same, stands_waiting}
 use Rattle.office_core.proofs.Steps.{held_not, passes}
-use Rattle.state_encoding.specs.DeskShown.{order_row, order_rows, rows_from, state_number}
-use Rattle.state_encoding.specs.Reading.{tables}
+use Rattle.state_encoding.specs.DeskEncoding.{order_row, order_rows, rows_from, state_number}
+use Rattle.state_encoding.specs.OfficeRows.{tables}
 use Rattle.state_encoding.proofs.NumberedRows.{length-rows}
 use Rattle.office_tables.specs.Schema as schema
 use Rattle.office_tables.specs.Step.{OnlyTouches}
-use Rattle.refinement.specs.Allowed.{limits_of}
+use Rattle.refinement.specs.ReadingRoomLimits.{limits_of}
 use Rattle.refinement.specs.CommandSteps.{CarriesOutStep}
-use Rattle.refinement.specs.Represents.{RepresentsState}
+use Rattle.refinement.specs.Representation.{RepresentsState}
 use Rattle.refinement.proofs.CardsShown.{card, card_shown}
 use Rattle.refinement.proofs.CommandSteps.{accepts}
 use Rattle.refinement.proofs.Judged.{judged_now}
 use Rattle.refinement.proofs.OpenByRows.{opens_none}
 use Rattle.refinement.proofs.OrdersShown.{ordered_shown}
-use Rattle.desk_commands.specs.Placing.{IsCardOf, MayOrder, ask_of}
+use Rattle.desk_commands.specs.OrderPlacement.{IsCardOf, MayOrder, ask_of}
 use Rattle.desk_commands.proofs.Registered.{rows_end}
 
 -- what is open has a number that a table keeps

@@ -14,13 +14,13 @@ use Rattle.sqlite.specs.declared.types.Value.TheVariants.{Int}
 use Rattle.isad_core.specs.Limits.{most_permits}
 use Rattle.tree_core.specs.Forest.{Forest, nodes}
 use Rattle.tree_core.specs.Versions.{Version}
-use Rattle.catalogue_core.specs.Finding.{has_unit}
+use Rattle.catalogue_core.specs.UnitLookup.{has_unit}
 use Rattle.catalogue_core.specs.Units.{Unit, has_id}
 use Rattle.catalogue_core.specs.Members.{StandsIn}
 use Rattle.catalogue_statements.specs.Rows.{unit_row}
 use Rattle.desk_core.specs.declared.refusal.Refusal.TheVariants.{Full, UnknownTicket, UnknownUnit}
 use Rattle.desk_store.specs.Permits.{HasUnitRow, MayHave, by_unit, permits_of, with_permit}
-use Rattle.desk_store.specs.Represents.{RepresentsDesk}
+use Rattle.desk_store.specs.Representation.{RepresentsDesk}
 use Rattle.desk_store.specs.declared.reader_permits.Permit.{Permit as Told}
 use Rattle.office_core.specs.Rules.{after, checks, refusal}
 use Rattle.office_core.specs.SoundDesk.{ByUnit}
@@ -31,8 +31,8 @@ use Rattle.office_core.specs.declared.done.Done.TheVariants as done
 use Rattle.office_core.proofs.Counts.{numbered_from_one}
 use Rattle.office_core.proofs.Steps.{held_so, passes}
 use Rattle.office_core.proofs.Words.{numbered_within}
-use Rattle.state_encoding.specs.DeskShown.{permit_rows, reader_row}
-use Rattle.state_encoding.specs.Reading.{tables}
+use Rattle.state_encoding.specs.DeskEncoding.{permit_rows, reader_row}
+use Rattle.state_encoding.specs.OfficeRows.{tables}
 use Rattle.state_encoding.proofs.Members.{some_in}
 use Rattle.state_encoding.proofs.NumberedRows.{length-rows}
 use Rattle.office_tables.specs.Order.{IsOrdered, Rises}
@@ -41,10 +41,10 @@ use Rattle.office_tables.specs.Step.{OnlyTouches}
 use Rattle.office_tables.proofs.Sorted.{only_order}
 use Rattle.office_tables.proofs.numbered.Counted.{below_less}
 use Rattle.refinement.specs.CommandSteps.{CarriesOutStep}
-use Rattle.refinement.specs.Represents.{RepresentsState}
+use Rattle.refinement.specs.Representation.{RepresentsState}
 use Rattle.refinement.proofs.CommandSteps.{accepts}
 use Rattle.refinement.proofs.PermitsShown.{granted_rows, permits_reordered, permits_shown, told_of, by_unit_total}
-use Rattle.desk_commands.specs.Permitting.{MayPermit, later_of, until_for}
+use Rattle.desk_commands.specs.Permits.{MayPermit, later_of, until_for}
 
 -- ---- the permits that are read
 

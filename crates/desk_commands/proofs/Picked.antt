@@ -16,8 +16,8 @@ use Rattle.office_core.specs.State.{Order, State, is_due, is_shelf, opens}
 use Rattle.office_core.specs.Words.{first, numbers_to, some_and, stands}
 use Rattle.office_core.specs.Laws.{numbers_from}
 use Rattle.office_core.proofs.Words.{below_none}
-use Rattle.state_encoding.specs.DeskShown.{holding_rows, order_row, order_rows, place_from, place_in, rows_from}
-use Rattle.state_encoding.specs.Reading.{tables}
+use Rattle.state_encoding.specs.DeskEncoding.{holding_rows, order_row, order_rows, place_from, place_in, rows_from}
+use Rattle.state_encoding.specs.OfficeRows.{tables}
 use Rattle.state_encoding.proofs.DeskLookups.{flipped}
 use Rattle.state_encoding.proofs.Members.{any_same, to_from}
 use Rattle.state_encoding.proofs.NumberedRows.{in_rows}

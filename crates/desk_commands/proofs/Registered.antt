@@ -13,7 +13,7 @@ use Rattle.tree_core.specs.Versions.{Version}
 use Rattle.desk_core.specs.DeskRows.{Desk, PermitRow, ReaderRow}
 use Rattle.desk_core.specs.declared.refusal.Refusal.TheVariants.{Full}
 use Rattle.desk_store.specs.Readers.{next_ticket, with_reader}
-use Rattle.desk_store.specs.Represents.{RepresentsDesk}
+use Rattle.desk_store.specs.Representation.{RepresentsDesk}
 use Rattle.office_core.specs.Words.{numbered, numbers_to}
 use Rattle.office_core.specs.State.{State, Reader}
 use Rattle.office_core.specs.Rules.{is_name, after, refusal, Reply}
@@ -22,13 +22,13 @@ use Rattle.office_core.specs.declared.command.Command.{Command}
 use Rattle.office_core.specs.declared.command.Command.TheVariants as command
 use Rattle.office_core.specs.declared.done.Done.TheVariants as done
 use Rattle.office_core.proofs.Texts.{always_texts}
-use Rattle.state_encoding.specs.DeskShown.{rows_from, reader_row, permit_row, permit_rows}
-use Rattle.state_encoding.specs.Reading.{tables}
+use Rattle.state_encoding.specs.DeskEncoding.{rows_from, reader_row, permit_row, permit_rows}
+use Rattle.state_encoding.specs.OfficeRows.{tables}
 use Rattle.state_encoding.proofs.NumberedRows.{length-rows}
 use Rattle.office_tables.specs.Schema as schema
 use Rattle.office_tables.specs.Step.{OnlyTouches}
 use Rattle.refinement.specs.CommandSteps.{CarriesOutStep}
-use Rattle.refinement.specs.Represents.{RepresentsState}
+use Rattle.refinement.specs.Representation.{RepresentsState}
 use Rattle.refinement.proofs.DeskSteps.{desk_step}
 use Rattle.refinement.proofs.Doings.{accepted, refused}
 

@@ -1,6 +1,6 @@
 -- A ticket that gets another last day, in the rows of the desk.
-use Rattle.std.proofs.Common.{◌≡◌, ℕ, zero, suc, ◌+◌, ◌<◌, true, false, nat_eq, List, [], ◌∷◌, length, map, Option, Some, None, Ok, Err, refl, sym, ap, subst, ◌∙◌, arith}
-use Rattle.std.specs.Prelude.{ℤ, is_some, option_map}
+use Rattle.std.proofs.Common.{◌≡◌, ℕ, zero, suc, ◌+◌, ◌<◌, true, false, nat_eq, List, [], ◌∷◌, length, map, Some, None, Ok, Err, refl, sym, ap, subst, ◌∙◌, arith}
+use Rattle.std.specs.Prelude.{ℤ, is_some}
 use Rattle.std.specs.List.{flat_map}
 use Rattle.std.proofs.lemmas.Bool.Decides.{nat_tests}
 use Rattle.sqlite.specs.Effect.{Database}
@@ -9,9 +9,9 @@ use Rattle.tree_core.specs.Forest.{Forest}
 use Rattle.tree_core.specs.Versions.{Version}
 use Rattle.desk_core.specs.DeskRows.{PermitRow, ReaderRow}
 use Rattle.desk_core.specs.declared.refusal.Refusal.TheVariants.{UnknownTicket}
-use Rattle.desk_store.specs.Readers.{card_of, with_last_day}
+use Rattle.desk_store.specs.Readers.{with_last_day}
 use Rattle.desk_store.specs.Readers as store
-use Rattle.desk_store.specs.Represents.{RepresentsDesk}
+use Rattle.desk_store.specs.Representation.{RepresentsDesk}
 use Rattle.office_core.specs.Rules.{Reply, after, refusal, renewed}
 use Rattle.office_core.specs.SoundOffice.{AreTexts}
 use Rattle.office_core.specs.State.{Reader, State, is_ticket}
@@ -21,15 +21,15 @@ use Rattle.office_core.specs.declared.command.Command.TheVariants as command
 use Rattle.office_core.specs.declared.done.Done.TheVariants as done
 use Rattle.office_core.proofs.Texts.{always_texts}
 use Rattle.office_core.proofs.Words.{same_number}
-use Rattle.state_encoding.specs.DeskShown.{permit_row, permit_rows, reader_row, rows_from}
-use Rattle.state_encoding.specs.Reading.{tables}
+use Rattle.state_encoding.specs.DeskEncoding.{permit_row, permit_rows, reader_row, rows_from}
+use Rattle.state_encoding.specs.OfficeRows.{tables}
 use Rattle.office_tables.specs.Schema as schema
 use Rattle.office_tables.specs.Step.{OnlyTouches}
 use Rattle.refinement.specs.CommandSteps.{CarriesOutStep}
-use Rattle.refinement.specs.Represents.{RepresentsState}
+use Rattle.refinement.specs.Representation.{RepresentsState}
 use Rattle.refinement.proofs.DeskSteps.{desk_step}
 use Rattle.refinement.proofs.Doings.{accepted, refused}
-use Rattle.refinement.proofs.RowsOfLists.{found_row, other}
+use Rattle.refinement.proofs.RowsOfLists.{other}
 
 before : (n t : ℕ) → t < n → nat_eq t n ≡ false
 before n t less = grind (arith, nat_tests, less)
@@ -59,20 +59,12 @@ as_many until [] (suc n) = refl
 as_many until (x ∷ xs) (suc zero) = refl
 as_many until (x ∷ xs) (suc (suc n)) = ap suc (as_many until xs (suc n))
 
-some_mapped : {X Y : Type 0} (f : X → Y) (o : Option X) → is_some (option_map f o) ≡ is_some o
-some_mapped f None = refl
-some_mapped f (Some x) = refl
-
 module _ (version : Version) (s : State) (t : ℕ) (until : ℤ) where
   abbrev asked : Command
   asked = command.Renew t until
 
   abbrev next : State
   next = after s asked
-
-  -- who has a card has a ticket
-  pub has_card : (today : ℤ) → is_some (card_of t today (tables version s).desk) ≡ is_ticket s t
-  has_card today = some_mapped _ _ ∙ ap is_some (found_row reader_row (λ (r : ReaderRow). r.ticket) (λ n x. refl) t s.readers) ∙ some_mapped (reader_row t) (numbered s.readers t)
 
   permits_same : permit_rows next ≡ permit_rows s
   permits_same = ap (λ n. flat_map (λ t. map (permit_row t) (s.permits t)) (numbers_to n)) (as_many until s.readers t)

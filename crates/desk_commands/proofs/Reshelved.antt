@@ -15,7 +15,7 @@ use Rattle.desk_core.specs.declared.reader.Place.{Place}
 use Rattle.desk_core.specs.declared.reader.Place.TheVariants.{Shelf, Desk, Out}
 use Rattle.desk_core.specs.declared.refusal.Refusal.TheVariants.{NothingToMove}
 use Rattle.desk_store.specs.Holdings.{at_desk_of, waits_for}
-use Rattle.desk_store.specs.Represents.{RepresentsDesk}
+use Rattle.desk_store.specs.Representation.{RepresentsDesk}
 use Rattle.office_core.specs.Rules.{refusal, reshelved}
 use Rattle.office_core.specs.SoundDesk.{IsAscending}
 use Rattle.office_core.specs.SoundOffice.{IsSoundOffice}
@@ -26,18 +26,18 @@ use Rattle.office_core.specs.declared.done.Done.TheVariants as done
 use Rattle.office_core.proofs.Filed.{reshelved_out}
 use Rattle.office_core.proofs.OrderLaws.{goes_same}
 use Rattle.office_core.proofs.Words.{ascending-push}
-use Rattle.state_encoding.specs.DeskShown.{holding_row, order_rows}
-use Rattle.state_encoding.specs.Reading.{tables}
+use Rattle.state_encoding.specs.DeskEncoding.{holding_row, order_rows}
+use Rattle.state_encoding.specs.OfficeRows.{tables}
 use Rattle.state_encoding.proofs.DeskLookups.{flipped}
 use Rattle.state_encoding.proofs.Members.{all_of_in, any_same, in_filter, in_numbers}
 use Rattle.state_encoding.proofs.TableLaws.{reads_back}
 use Rattle.office_tables.specs.Schema as schema
 use Rattle.office_tables.specs.Step.{OnlyTouches}
 use Rattle.refinement.specs.CommandSteps.{CarriesOutStep}
-use Rattle.refinement.specs.Represents.{RepresentsState}
+use Rattle.refinement.specs.Representation.{RepresentsState}
 use Rattle.refinement.proofs.CommandSteps.{accepts, refuses}
 use Rattle.refinement.proofs.HoldingRows.{rows_of}
-use Rattle.desk_commands.specs.Moving.{with_all_placed}
+use Rattle.desk_commands.specs.ContainerMoves.{with_all_placed}
 use Rattle.desk_commands.proofs.MovedAll.{AreWithin, all_moved, rows_stay}
 use Rattle.std.proofs.Math.Bool.{and_comm}
 

@@ -10,7 +10,7 @@ use Rattle.desk_core.specs.DeskRows.{HoldingRow, OrderRow, with_state}
 use Rattle.desk_core.specs.declared.reader.Place.{Place}
 use Rattle.desk_core.specs.declared.reader.Place.TheVariants.{Shelf, Desk, Out}
 use Rattle.desk_core.specs.declared.refusal.Refusal.TheVariants.{NotIssued, UnknownContainer}
-use Rattle.desk_store.specs.Represents.{RepresentsDesk}
+use Rattle.desk_store.specs.Representation.{RepresentsDesk}
 use Rattle.desk_store.specs.declared.orders.OrderState.TheVariants as states
 use Rattle.office_core.specs.Laws.{Standing}
 use Rattle.office_core.specs.Rules.{refusal, returned}
@@ -25,16 +25,16 @@ use Rattle.office_core.proofs.Filed.{is_returned, only_returns}
 use Rattle.office_core.proofs.OrderLaws.{stands_past}
 use Rattle.office_core.proofs.Places.{out_known, out_order}
 use Rattle.office_core.proofs.Words.{numbered_within}
-use Rattle.state_encoding.specs.DeskShown.{order_rows, state_number}
-use Rattle.state_encoding.specs.Reading.{tables}
+use Rattle.state_encoding.specs.DeskEncoding.{order_rows, state_number}
+use Rattle.state_encoding.specs.OfficeRows.{tables}
 use Rattle.state_encoding.proofs.TableLaws.{rows_moved}
 use Rattle.office_tables.specs.Schema as schema
 use Rattle.office_tables.specs.Step.{OnlyTouches}
 use Rattle.refinement.specs.CommandSteps.{CarriesOutStep}
-use Rattle.refinement.specs.Represents.{RepresentsState}
+use Rattle.refinement.specs.Representation.{RepresentsState}
 use Rattle.refinement.proofs.CommandSteps.{accepts, refuses}
 use Rattle.refinement.proofs.HoldingRows.{place_after}
-use Rattle.desk_commands.specs.Moving.{handed_over}
+use Rattle.desk_commands.specs.ContainerMoves.{handed_over}
 
 -- the order that a container is out with is one of those that were placed
 pub small_order : (s : State) → IsSoundOffice s → (c o : ℕ) → s.place c ≡ Out o → IsNumber o

@@ -5,7 +5,7 @@ use Rattle.std.proofs.lemmas.Bool.{cases_eq, eqb-true}
 use Rattle.sqlite.specs.Effect.{Database}
 use Rattle.sqlite.specs.Tree.{Trees}
 use Rattle.isad_core.specs.Days.{is_day_number}
-use Rattle.catalogue_core.specs.Finding.{has_unit}
+use Rattle.catalogue_core.specs.UnitLookup.{has_unit}
 use Rattle.catalogue_core.specs.Units.{Unit, has_id}
 use Rattle.catalogue_core.proofs.DistinctLists.{all_so}
 use Rattle.tree_core.specs.Forest.{Forest, cut, nodes}
@@ -16,26 +16,26 @@ use Rattle.desk_core.specs.LegibleDesks.{IsLegible}
 use Rattle.desk_core.specs.Refusals.{first_that_holds}
 use Rattle.desk_core.specs.declared.refusal.Refusal.TheVariants.{NoPermit, UnknownTicket, UnknownUnit}
 use Rattle.desk_store.specs.Permits.{is_permit, revoked as without_it}
-use Rattle.desk_store.specs.Represents.{RepresentsDesk}
+use Rattle.desk_store.specs.Representation.{RepresentsDesk}
 use Rattle.office_core.specs.Rules.{after, gate, refusal}
 use Rattle.office_core.specs.SoundOffice.{AreTexts, IsSoundOffice}
 use Rattle.office_core.specs.State.{Permit, State, has_permit, is_permitted, is_ticket, revoked}
 use Rattle.office_core.specs.Words.{put}
 use Rattle.office_core.specs.declared.command.Command.TheVariants as command
 use Rattle.office_core.proofs.Words.{put_here, put_there}
-use Rattle.state_encoding.specs.DeskShown.{permit_rows}
-use Rattle.state_encoding.specs.Reading.{tables}
+use Rattle.state_encoding.specs.DeskEncoding.{permit_rows}
+use Rattle.state_encoding.specs.OfficeRows.{tables}
 use Rattle.office_tables.specs.Schema as schema
 use Rattle.office_tables.specs.Step.{OnlyTouches}
 use Rattle.refinement.specs.Gate.{OthersAreOpen}
-use Rattle.refinement.specs.Judging.{CanBeJudged}
-use Rattle.refinement.specs.Represents.{RepresentsState}
+use Rattle.refinement.specs.AccessConditions.{CanBeJudged}
+use Rattle.refinement.specs.Representation.{RepresentsState}
 use Rattle.refinement.proofs.DeskSteps.{desk_step}
 use Rattle.refinement.proofs.Judged.{judged_now}
 use Rattle.refinement.proofs.OpenByPermits.{IsAlike, permitted_left}
 use Rattle.refinement.proofs.OpenElsewhere.{none_left, stays_permitted, still_open}
 use Rattle.refinement.proofs.PermitsShown.{revoked_rows}
-use Rattle.desk_commands.specs.Revoking.{HasPermit}
+use Rattle.desk_commands.specs.Revocation.{HasPermit}
 
 all_kept : {X : Type 0} (P : X → Type 0) (p : X → Bool) (xs : List X) → AllByRecursion P xs → AllByRecursion P (filter p xs)
 all_kept P p [] all = tt

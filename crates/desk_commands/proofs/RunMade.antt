@@ -20,7 +20,7 @@ use Rattle.desk_core.specs.declared.refusal.Refusal.TheVariants.{Full, NothingTo
 use Rattle.desk_core.specs.LegibleDesks.{IsLegible}
 use Rattle.desk_store.specs.Runs.{IsNumbered, with_run}
 use Rattle.desk_store.specs.Runs as stored
-use Rattle.desk_store.specs.Represents.{IsNumberOf, RepresentsDesk}
+use Rattle.desk_store.specs.Representation.{IsNumberOf, RepresentsDesk}
 use Rattle.desk_store.specs.declared.holdings.FirstOrder.{FirstOrder}
 use Rattle.office_core.specs.Rules.{fetched, refusal}
 use Rattle.office_core.specs.SoundOffice.{IsSoundOffice}
@@ -30,16 +30,16 @@ use Rattle.office_core.specs.declared.command.Command.TheVariants as command
 use Rattle.office_core.specs.declared.done.Done.TheVariants as done
 use Rattle.office_core.proofs.Filed.{fetched_out}
 use Rattle.office_core.proofs.OrderLaws.{goes_same}
-use Rattle.state_encoding.specs.DeskShown.{holding_rows, order_rows, run_line_rows, run_row}
-use Rattle.state_encoding.specs.Reading.{tables}
+use Rattle.state_encoding.specs.DeskEncoding.{holding_rows, order_rows, run_line_rows, run_row}
+use Rattle.state_encoding.specs.OfficeRows.{tables}
 use Rattle.office_tables.specs.Schema as schema
 use Rattle.office_tables.specs.Step.{OnlyTouches}
 use Rattle.refinement.specs.CommandSteps.{CarriesOutStep}
-use Rattle.refinement.specs.Represents.{RepresentsState}
+use Rattle.refinement.specs.Representation.{RepresentsState}
 use Rattle.refinement.proofs.CommandSteps.{accepts, refuses}
 use Rattle.refinement.proofs.HoldingRows.{rows_of}
-use Rattle.desk_commands.specs.Moving.{all_placed, with_all_placed}
-use Rattle.desk_commands.specs.Running.{taken_by}
+use Rattle.desk_commands.specs.ContainerMoves.{all_placed, with_all_placed}
+use Rattle.desk_commands.specs.RunCreation.{taken_by}
 use Rattle.desk_commands.proofs.Fetched.{as_many, brought, none_left, none_taken, one_left, same_lines, taken_within}
 use Rattle.desk_commands.proofs.MovedAll.{all_moved, rows_stay}
 use Rattle.desk_commands.proofs.Registered.{rows_end}

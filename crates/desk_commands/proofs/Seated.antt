@@ -18,7 +18,7 @@ use Rattle.desk_core.specs.declared.reader.Limits.{Limits}
 use Rattle.desk_core.specs.declared.reader.Reader.{Reader as Sitter}
 use Rattle.desk_core.specs.declared.refusal.Refusal.{Refusal}
 use Rattle.desk_store.specs.Seats.{MayTake, taken_seats, with_seat}
-use Rattle.desk_store.specs.Represents.{RepresentsDesk}
+use Rattle.desk_store.specs.Representation.{RepresentsDesk}
 use Rattle.desk_store.specs.declared.taken_seats.TakenSeat.{TakenSeat}
 use Rattle.office_core.specs.Rules.{after, checks, refusal}
 use Rattle.office_core.specs.SoundOffice.{IsSoundOffice}
@@ -27,17 +27,17 @@ use Rattle.office_core.specs.Words.{numbered, some_and}
 use Rattle.office_core.specs.declared.command.Command.TheVariants as command
 use Rattle.office_core.specs.declared.done.Done.TheVariants as done
 use Rattle.office_core.proofs.Steps.{held_not, passes}
-use Rattle.state_encoding.specs.DeskShown.{seat_rows}
-use Rattle.state_encoding.specs.Reading.{tables}
+use Rattle.state_encoding.specs.DeskEncoding.{seat_rows}
+use Rattle.state_encoding.specs.OfficeRows.{tables}
 use Rattle.office_tables.specs.Schema as schema
 use Rattle.office_tables.specs.Step.{OnlyTouches}
-use Rattle.refinement.specs.Allowed.{limits_of}
+use Rattle.refinement.specs.ReadingRoomLimits.{limits_of}
 use Rattle.refinement.specs.CommandSteps.{CarriesOutStep}
-use Rattle.refinement.specs.Represents.{RepresentsState}
+use Rattle.refinement.specs.Representation.{RepresentsState}
 use Rattle.refinement.specs.Sitters.{sitter, sitter_of}
 use Rattle.refinement.proofs.CommandSteps.{accepts}
 use Rattle.refinement.proofs.SeatsShown.{free_is, is_free, risen, sat, sits_by_row, some_placed}
-use Rattle.desk_commands.specs.Seating.{MayLeave, MaySit}
+use Rattle.desk_commands.specs.Seats.{MayLeave, MaySit}
 
 module _ (s : State) (sound : IsSoundOffice s) (t : ℕ) where
   -- ---- the checks, of the reader as the desk sees him

@@ -12,8 +12,8 @@ use Rattle.office_core.specs.SoundOffice.{IsSoundOffice}
 use Rattle.office_core.specs.State.{Order, State, containers, is_out}
 use Rattle.office_core.specs.Words.{is_empty, numbered}
 use Rattle.office_core.proofs.Words.{same_number}
-use Rattle.state_encoding.specs.DeskShown.{holding_row, order_row, order_rows}
-use Rattle.state_encoding.specs.Reading.{tables}
+use Rattle.state_encoding.specs.DeskEncoding.{holding_row, order_row, order_rows}
+use Rattle.state_encoding.specs.OfficeRows.{tables}
 use Rattle.refinement.proofs.RowsOfLists.{found_row}
 use Rattle.tree_core.specs.Versions.{Version}
 

@@ -1,7 +1,7 @@
-pub mod Seating
-pub mod Placing
-pub mod Permitting
-pub mod Moving
-pub mod Revoking
-pub mod Lending
-pub mod Running
+pub mod Seats
+pub mod OrderPlacement
+pub mod Permits
+pub mod ContainerMoves
+pub mod Revocation
+pub mod Issuance
+pub mod RunCreation

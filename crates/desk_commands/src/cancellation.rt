@@ -1,4 +1,4 @@
-//! An order that waits is cancelled.
+//! Cancelling an order that waits.
 
 ghost use Rattle.std.specs.Prelude.{◌≡◌, nat_eq, true, ⊤};
 ghost use Rattle.sqlite.specs.Held.{state};
@@ -37,7 +37,7 @@ fn end_waiting<P: Places, S: Alter>(
     Ok(Ok(Done::Cancel { order }))
 }
 
-/// Cancels an order, where it was placed and waits.
+/// Cancels an order. The command is refused if the order was not placed or does not wait.
 pub fn cancel<P: Places, S: Alter>(
     alloc: Global,
     conn: &mut Connection<S>,

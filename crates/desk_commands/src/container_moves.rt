@@ -1,15 +1,15 @@
-//! Containers go from one place to another.
+//! Moving containers from one place to another.
 
 ghost use Rattle.std.specs.Prelude.{[], ◌∷◌, IfSome, ⊤};
 ghost use Rattle.std.specs.List.{AllByRecursion};
 ghost use Rattle.sqlite.specs.Held.{state};
 ghost use Rattle.isad_core.specs.Limits.{IsNumber};
 ghost use Rattle.desk_store.specs.Holdings.{by_order};
-ghost use Rattle.desk_store.specs.Represents.{IsLegible, RepresentsDeskAlone};
+ghost use Rattle.desk_store.specs.Representation.{IsLegible, RepresentsDeskAlone};
 ghost use Rattle.office_tables.specs.Calls.{Updates};
 ghost use Rattle.office_tables.specs.Schema as tables;
 ghost use Rattle.office_tables.specs.Step.{InOffice};
-ghost use Rattle.desk_commands.specs.Moving.{handed_over, with_all_placed};
+ghost use Rattle.desk_commands.specs.ContainerMoves.{handed_over, with_all_placed};
 
 use desk_core::Place;
 use desk_store::{OrderState, end_order, set_place};
@@ -17,7 +17,7 @@ use office_tables::StoreFault;
 use office_tables::value::NO_NUMBER;
 use sqlite::{Alter, Connection};
 
-/// Brings a container to another place, and its order into the state that goes with it.
+/// Moves a container to a place, and sets its order to the state that goes with the place.
 pub(crate) fn hand_over<S: Alter>(
     conn: &mut Connection<S>,
     container: u64,
@@ -36,7 +36,7 @@ pub(crate) fn hand_over<S: Alter>(
     set_place(conn, container, place)
 }
 
-/// Brings these containers to one place, one after the other.
+/// Moves these containers to one place, one after the other.
 pub(crate) fn move_all<S: Alter>(
     conn: &mut Connection<S>,
     containers: &[u64],

@@ -1,4 +1,4 @@
-//! A container comes back from its reader.
+//! Taking a container back from its reader.
 
 ghost use Rattle.std.specs.Prelude.{◌≡◌, ⊤};
 ghost use Rattle.sqlite.specs.Held.{state};
@@ -18,7 +18,7 @@ use office_tables::value::NO_NUMBER;
 use sqlite::{Alter, Connection};
 use std::alloc::Global;
 
-/// Takes a container back to the desk that is known to be out with this order.
+/// Takes back to the desk a container that is known to be out with this order.
 fn take_back<P: Places, S: Alter>(
     conn: &mut Connection<S>,
     container: u64,
@@ -36,7 +36,7 @@ fn take_back<P: Places, S: Alter>(
     Ok(Ok(Done::Return { order }))
 }
 
-/// Takes a container back to the desk, where it is known and out.
+/// Takes a container back to the desk. The command is refused if the container is not known or is not out.
 pub fn return_container<P: Places, S: Alter>(
     alloc: Global,
     conn: &mut Connection<S>,

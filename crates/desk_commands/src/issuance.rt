@@ -1,4 +1,4 @@
-//! A container is given to a reader.
+//! Issuing a container to a reader.
 
 ghost use Rattle.std.specs.Prelude.{◌≡◌, None, Some, IfOk, option_map, slice_get};
 ghost use Rattle.std.specs.Result.{result_err};
@@ -12,15 +12,14 @@ ghost use Rattle.office_core.specs.Rules.{refusal};
 ghost use Rattle.office_core.specs.Words.{first as first_of};
 ghost use Rattle.office_core.specs.declared.command.Command.TheVariants as command;
 ghost use Rattle.office_tables.specs.Step.{InTransaction};
-ghost use Rattle.refinement.specs.Allowed.{limits_of};
+ghost use Rattle.refinement.specs.ReadingRoomLimits.{limits_of};
 ghost use Rattle.refinement.specs.CommandSteps.{CarriesOut};
-ghost use Rattle.desk_commands.specs.Lending.{IsQueuedFor, asked_for};
+ghost use Rattle.desk_commands.specs.Issuance.{IsQueuedFor, asked_for};
 
 use crate::container_moves::hand_over;
-use crate::seats::reader_of;
 use catalogue_store::Places;
 use desk_core::{AtDesk, Limits, Place, Reader, may_issue};
-use desk_store::{OrderState, WaitingOrder, queue, reader};
+use desk_store::{OrderState, WaitingOrder, queue, ticket_holder};
 use isad_core::Day;
 use office_core::{Done, Refusal};
 use office_tables::StoreFault;
@@ -29,7 +28,7 @@ use refinement::is_open_to;
 use sqlite::{Alter, Connection};
 use std::alloc::Global;
 
-/// A container that is known: where it is, and which order waits first for it.
+/// A container that is known: where it is, and the first order that waits for it.
 #[derive(Debug, Clone, Copy, PartialEq, Eq)]
 struct Wanted {
     container: u64,
@@ -37,14 +36,14 @@ struct Wanted {
     head: Option<WaitingOrder>,
 }
 
-/// The ticket of an order, where there is one.
+/// The ticket of the order, or none if there is no order.
 fn ticket_of(head: Option<WaitingOrder>) -> Option<u64>
     ensures { result ≡ option_map (λ (w : Waiter). w.ticket) head }
 {
     head.map(|head| head.ticket)
 }
 
-/// The order that may be lent, or why the container may not be given to the ticket.
+/// The order with which the container may be issued to the ticket, or why it may not be issued.
 fn decide(
     wanted: Wanted,
     is_open: bool,
@@ -70,7 +69,7 @@ fn decide(
     }
 }
 
-/// Gives a container out that is known to be free to go, with the first order that waits for it.
+/// Issues a container with the first order that waits for it. The caller knows that no rule forbids this.
 fn lend<P: Places, S: Alter>(
     conn: &mut Connection<S>,
     container: u64,
@@ -90,7 +89,7 @@ fn lend<P: Places, S: Alter>(
     Ok(Ok(Done::Issue { order }))
 }
 
-/// Gives a container to a reader that is known to be such.
+/// Issues a container to a reader if no rule forbids it. The container is known to be as `wanted` describes it.
 fn issue_known<P: Places, S: Alter>(
     alloc: Global,
     conn: &mut Connection<S>,
@@ -105,8 +104,7 @@ fn issue_known<P: Places, S: Alter>(
         × IsQueuedFor s wanted.container wanted.place wanted.head) (command.Issue wanted.container ticket)
         (state S.Store conn.old) (state S.Store conn.new) result }
 {
-    let card = reader(alloc, conn, ticket, today)?;
-    let who = reader_of(&card);
+    let who = ticket_holder(alloc, conn, ticket)?;
     let is_open = is_open_to::<P, S>(alloc, conn, wanted.container, ticket, today)?;
     match decide(wanted, is_open, ticket, who, today, limits) {
         Ok(order) => lend::<P, S>(conn, wanted.container, ticket, order),
@@ -114,15 +112,16 @@ fn issue_known<P: Places, S: Alter>(
     }
 }
 
-/// The order that waits first.
+/// The first of these orders, or none.
 fn head_of(waiting: &[WaitingOrder]) -> Option<WaitingOrder>
     ensures { result ≡ slice_get waiting.now 0 }
 {
     waiting.first().copied()
 }
 
-/// Gives a container to a reader, where it is at the desk and open to him, his is the first order that waits for it,
-/// and he sits and has not too much.
+/// Issues a container to a reader if it is at the desk and open to the reader, the reader's order is the first in its
+/// queue, and the reader has a valid ticket and a seat and may hold one more container. Otherwise the command is
+/// refused.
 pub fn issue<P: Places, S: Alter>(
     alloc: Global,
     conn: &mut Connection<S>,

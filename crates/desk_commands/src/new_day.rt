@@ -1,4 +1,4 @@
-//! A new day begins.
+//! Opening a new day.
 
 ghost use Rattle.std.specs.Prelude.{◌≡◌, false, int_lt, true};
 ghost use Rattle.std.specs.List.{list_any};
@@ -24,7 +24,7 @@ fn are_none(loans: &[Loan]) -> bool
     loans.is_empty()
 }
 
-/// Begins a later day, where nothing is out.
+/// Opens a day that is known to be later. Nothing is out.
 fn begin_day<P: Places, S: Alter>(
     conn: &mut Connection<S>,
     day: Day,
@@ -38,7 +38,7 @@ fn begin_day<P: Places, S: Alter>(
     Ok(Ok(Done::OpenDay { day }))
 }
 
-/// Begins another day, which is known to be later.
+/// Opens another day, which is known to be later. The command is refused if a container is out.
 pub fn open<P: Places, S: Alter>(
     alloc: Global,
     conn: &mut Connection<S>,

@@ -1,4 +1,4 @@
-//! Containers are ordered.
+//! Ordering containers.
 
 ghost use Rattle.std.specs.Prelude.{◌≡◌, ◌&&◌, ◌^◌, true, nat_eq, nat_lt};
 ghost use Rattle.std.specs.List.{list_any};
@@ -8,9 +8,9 @@ ghost use Rattle.desk_store.specs.declared.reader_summary.LiveOrder.{LiveOrder a
 ghost use Rattle.office_core.specs.State.{opens};
 ghost use Rattle.office_core.specs.declared.command.Command.TheVariants as command;
 ghost use Rattle.office_tables.specs.Step.{InTransaction};
-ghost use Rattle.refinement.specs.Allowed.{limits_of};
+ghost use Rattle.refinement.specs.ReadingRoomLimits.{limits_of};
 ghost use Rattle.refinement.specs.CommandSteps.{CarriesOut};
-ghost use Rattle.desk_commands.specs.Placing.{IsCardOf, MayOrder, ask_of};
+ghost use Rattle.desk_commands.specs.OrderPlacement.{IsCardOf, MayOrder, ask_of};
 
 use catalogue_store::Places;
 use desk_core::{Ask, Limits, may_order};
@@ -30,7 +30,7 @@ fn is_for_one(live: &[LiveOrder], container: u64) -> bool
     live.iter().any(|order| container == order.container)
 }
 
-/// What an order for the container is decided by, besides the reader.
+/// The facts that decide on an order for the container, besides the reader.
 fn ask(card: &ReaderCard, container: u64, is_open: bool) -> Ask
     ensures { result ≡ ask_of card.now container is_open }
 {
@@ -42,7 +42,7 @@ fn ask(card: &ReaderCard, container: u64, is_open: bool) -> Ask
     }
 }
 
-/// Places an order that may be placed, under the number after the last.
+/// Places an order that is known to be allowed, under the number after the last.
 fn append<P: Places, S: Alter>(
     conn: &mut Connection<S>,
     today: Day,
@@ -61,7 +61,7 @@ fn append<P: Places, S: Alter>(
     Ok(Ok(Done::Order { order }))
 }
 
-/// Places an order, where the reader may place it. Whether the container is open to him is known.
+/// Places an order if the reader may place it. `is_open` is whether the container is open to the reader.
 fn decide<P: Places, S: Alter>(
     conn: &mut Connection<S>,
     today: Day,
@@ -89,14 +89,14 @@ fn decide<P: Places, S: Alter>(
     }
 }
 
-/// Whether the container is open, and has a number that a table keeps: what is open has one.
+/// Whether the container is open and a table can keep its number. A table can keep the number of every open container.
 fn is_open_with_number(container: u64, is_open: bool) -> bool
     ensures { result ≡ (is_open && nat_lt container (2 ^ 63)) }
 {
     is_open && container < NO_NUMBER
 }
 
-/// Places an order of the reader with this card, where he may place it.
+/// Places an order of the reader with this card, if the reader may place it.
 fn order_by<P: Places, S: Alter>(
     alloc: Global,
     conn: &mut Connection<S>,
@@ -124,7 +124,8 @@ fn order_by<P: Places, S: Alter>(
     )
 }
 
-/// A ticket orders a container that is open to its reader.
+/// Orders a container for a ticket. The ticket must be valid, the container must be open to its reader and not already
+/// ordered by the ticket, and no limit on the number of orders may be reached. Otherwise the command is refused.
 pub fn order<P: Places, S: Alter>(
     alloc: Global,
     conn: &mut Connection<S>,

@@ -1,17 +1,17 @@
-//! Permits for closed units are granted.
+//! Granting permits for closed units.
 
 ghost use Rattle.std.specs.Prelude.{◌≡◌, ◌&&◌, true, ⊤, not, is_some, length, nat_le};
 ghost use Rattle.sqlite.specs.Held.{state};
 ghost use Rattle.isad_core.specs.Limits.{IsNumber, most_permits};
-ghost use Rattle.catalogue_core.specs.Finding.{has_unit};
+ghost use Rattle.catalogue_core.specs.UnitLookup.{has_unit};
 ghost use Rattle.office_core.specs.State.{is_ticket};
 ghost use Rattle.office_core.specs.declared.command.Command.TheVariants as command;
 ghost use Rattle.office_tables.specs.Step.{InTransaction};
 ghost use Rattle.refinement.specs.CommandSteps.{CarriesOut};
-ghost use Rattle.desk_commands.specs.Permitting.{MayPermit, later_of, until_for};
+ghost use Rattle.desk_commands.specs.Permits.{MayPermit, later_of, until_for};
 
 use catalogue_store::{Places, is_unit};
-use desk_store::{Permit, grant, permits, reader};
+use desk_store::{Permit, grant, is_registered, permits};
 use isad_core::{Day, limits};
 use office_core::{Done, Refusal};
 use office_tables::StoreFault;
@@ -21,7 +21,7 @@ use std::alloc::Global;
 /// How many permits a ticket may have.
 const MOST_PERMITS: usize = limits::MOST_PERMITS as usize;
 
-/// The last day of the permit for a unit, where there is one.
+/// The last day of the permit for a unit, or none if there is no permit.
 pub(crate) fn last_day(held: &[Permit], unit: u64) -> Option<Day>
     ensures { result ≡ until_for unit held.now }
 {
@@ -30,7 +30,7 @@ pub(crate) fn last_day(held: &[Permit], unit: u64) -> Option<Day>
         .map(|permit| permit.until)
 }
 
-/// The later of the day to which there is a permit, and of the day that is asked.
+/// The later of the last day of the permit, if there is one, and the day that is asked for.
 fn later(held: Option<Day>, asked: Day) -> Day
     ensures { result ≡ later_of held asked }
 {
@@ -40,14 +40,15 @@ fn later(held: Option<Day>, asked: Day) -> Day
     }
 }
 
-/// Whether the ticket has no permit for the unit, and as many for others as it may have.
+/// Whether the ticket has no permit for the unit, but as many permits for other units as it may have.
 fn is_full(held: &[Permit], unit: u64) -> bool
     ensures { result ≡ (not (is_some (until_for unit held.now)) && nat_le most_permits (length held.now)) }
 {
     last_day(held, unit).is_none() && held.len() >= MOST_PERMITS
 }
 
-/// Gives a permit that may be given. It is to the day that then stands.
+/// Grants a permit that is known to be allowed. `until` is its last day: the day asked for, or a later one that was
+/// granted before.
 fn give<P: Places, S: Alter>(
     conn: &mut Connection<S>,
     ticket: u64,
@@ -69,7 +70,7 @@ fn give<P: Places, S: Alter>(
     }))
 }
 
-/// Gives a permit, where the ticket has one for the unit or may have one more. The ticket and the unit are there.
+/// Grants a permit if the ticket has one for the unit or may have one more. The ticket and the unit exist.
 fn give_within<P: Places, S: Alter>(
     alloc: Global,
     conn: &mut Connection<S>,
@@ -92,7 +93,7 @@ fn give_within<P: Places, S: Alter>(
     give::<P, S>(conn, ticket, unit, asked, until)
 }
 
-/// Gives a permit for a unit that may be there or not. The ticket is there.
+/// Grants a permit for a unit that may or may not exist. The ticket exists.
 fn give_for<P: Places, S: Alter>(
     alloc: Global,
     conn: &mut Connection<S>,
@@ -112,11 +113,11 @@ fn give_for<P: Places, S: Alter>(
     give_within::<P, S>(alloc, conn, ticket, unit, asked)
 }
 
-/// Gives a ticket a permit for a unit to a day, unless it has one to a later day.
+/// Grants a ticket a permit for a unit up to a day. If the ticket has one up to a later day, that later day remains.
+/// The command is refused if the ticket or the unit does not exist, or if the ticket may have no further permit.
 pub fn permit<P: Places, S: Alter>(
     alloc: Global,
     conn: &mut Connection<S>,
-    today: Day,
     ticket: u64,
     unit: u64,
     until: Day,
@@ -125,8 +126,8 @@ pub fn permit<P: Places, S: Alter>(
     ensures { CarriesOut P.represents P.version (λ _. ⊤) (command.Permit ticket unit until)
         (state S.Store conn.old) (state S.Store conn.new) result }
 {
-    let card = reader(alloc, conn, ticket, today)?;
-    if card.is_none() {
+    let known = is_registered(alloc, conn, ticket)?;
+    if !known {
         return Ok(Err(Refusal::UnknownTicket));
     }
     give_for::<P, S>(alloc, conn, ticket, unit, until)

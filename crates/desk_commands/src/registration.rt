@@ -1,4 +1,4 @@
-//! A reader gets a ticket.
+//! Registering readers.
 
 ghost use Rattle.std.specs.Prelude.{◌≡◌, true, IsUtf8, ⊤};
 ghost use Rattle.sqlite.specs.Held.{state};
@@ -14,7 +14,7 @@ use office_core::{Done, Refusal};
 use office_tables::StoreFault;
 use sqlite::{Alter, Connection};
 
-/// Gives a reader the next ticket. The name is known to be one.
+/// Gives a reader the next ticket. The name must be a valid one. The command is refused if no ticket is left.
 pub fn register<P: Places, S: Alter>(
     conn: &mut Connection<S>,
     name: &Text,

@@ -1,4 +1,4 @@
-//! A ticket gets another last day.
+//! Renewing tickets.
 
 ghost use Rattle.std.specs.Prelude.{◌≡◌, ◌<◌, ◌^◌, true, ⊤};
 ghost use Rattle.sqlite.specs.Held.{state};
@@ -8,7 +8,7 @@ ghost use Rattle.office_tables.specs.Step.{InTransaction};
 ghost use Rattle.refinement.specs.CommandSteps.{CarriesOut};
 
 use catalogue_store::Places;
-use desk_store::{reader, renew};
+use desk_store::{is_registered, renew};
 use isad_core::Day;
 use office_core::{Done, Refusal};
 use office_tables::StoreFault;
@@ -30,11 +30,10 @@ fn set_last_day<P: Places, S: Alter>(
     Ok(Ok(Done::Renew { ticket }))
 }
 
-/// Gives a ticket another last day, where the ticket was given.
+/// Gives a ticket another last day. The command is refused if the ticket was not given.
 pub fn renew_ticket<P: Places, S: Alter>(
     alloc: Global,
     conn: &mut Connection<S>,
-    today: Day,
     ticket: u64,
     until: Day,
 ) -> Result<Result<Done, Refusal>, StoreFault>
@@ -42,8 +41,8 @@ pub fn renew_ticket<P: Places, S: Alter>(
     ensures { CarriesOut P.represents P.version (λ _. ⊤) (command.Renew ticket until) (state S.Store conn.old)
         (state S.Store conn.new) result }
 {
-    let card = reader(alloc, conn, ticket, today)?;
-    if card.is_none() {
+    let known = is_registered(alloc, conn, ticket)?;
+    if !known {
         return Ok(Err(Refusal::UnknownTicket));
     }
     set_last_day::<P, S>(conn, ticket, until)

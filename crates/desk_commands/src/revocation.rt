@@ -1,18 +1,18 @@
-//! Permits for closed units are taken back.
+//! Revoking permits for closed units.
 
 ghost use Rattle.std.specs.Prelude.{◌≡◌, true};
 ghost use Rattle.sqlite.specs.Held.{state};
 ghost use Rattle.isad_core.specs.Limits.{IsNumber};
-ghost use Rattle.catalogue_core.specs.Finding.{has_unit};
+ghost use Rattle.catalogue_core.specs.UnitLookup.{has_unit};
 ghost use Rattle.office_core.specs.State.{is_ticket};
 ghost use Rattle.office_core.specs.declared.command.Command.TheVariants as command;
 ghost use Rattle.office_tables.specs.Step.{InTransaction};
 ghost use Rattle.refinement.specs.CommandSteps.{CarriesOut};
-ghost use Rattle.desk_commands.specs.Revoking.{HasPermit};
+ghost use Rattle.desk_commands.specs.Revocation.{HasPermit};
 
 use crate::permits::last_day;
 use catalogue_store::{Places, is_unit};
-use desk_store::{permits, reader, revoke};
+use desk_store::{is_registered, permits, revoke};
 use isad_core::Day;
 use office_core::{Done, Refusal};
 use office_tables::StoreFault;
@@ -20,7 +20,7 @@ use refinement::pass_near;
 use sqlite::{Alter, Connection};
 use std::alloc::Global;
 
-/// Takes back a permit that is there, unless it is for what the reader has in his hands.
+/// Revokes a permit that exists. The command is refused if it would close a container to the reader who has it.
 fn take_back<P: Places, S: Alter>(
     alloc: Global,
     conn: &mut Connection<S>,
@@ -38,7 +38,7 @@ fn take_back<P: Places, S: Alter>(
     pass_near::<P, S>(alloc, conn, today, unit, Done::Revoke { unit })
 }
 
-/// Takes back a permit that may be there or not. The ticket and the unit are there.
+/// Revokes a permit that may or may not exist. The ticket and the unit exist.
 fn take_back_held<P: Places, S: Alter>(
     alloc: Global,
     conn: &mut Connection<S>,
@@ -61,7 +61,7 @@ fn take_back_held<P: Places, S: Alter>(
     take_back::<P, S>(alloc, conn, today, ticket, unit)
 }
 
-/// Takes back a permit for a unit that may be there or not. The ticket is there.
+/// Revokes a permit for a unit that may or may not exist. The ticket exists.
 fn take_back_for<P: Places, S: Alter>(
     alloc: Global,
     conn: &mut Connection<S>,
@@ -81,7 +81,8 @@ fn take_back_for<P: Places, S: Alter>(
     take_back_held::<P, S>(alloc, conn, today, ticket, unit)
 }
 
-/// Takes a ticket's permit for a unit back, unless its reader has in his hands what only the permit opens to him.
+/// Revokes a ticket's permit for a unit. The command is refused if the ticket, the unit or the permit does not exist,
+/// or if it would close a container to the reader who has it.
 pub fn revoke_permit<P: Places, S: Alter>(
     alloc: Global,
     conn: &mut Connection<S>,
@@ -93,8 +94,8 @@ pub fn revoke_permit<P: Places, S: Alter>(
     ensures { CarriesOut P.represents P.version (λ s. today ≡ s.day) (command.Revoke ticket unit)
         (state S.Store conn.old) (state S.Store conn.new) result }
 {
-    let card = reader(alloc, conn, ticket, today)?;
-    if card.is_none() {
+    let known = is_registered(alloc, conn, ticket)?;
+    if !known {
         return Ok(Err(Refusal::UnknownTicket));
     }
     take_back_for::<P, S>(alloc, conn, today, ticket, unit)

@@ -1,4 +1,4 @@
-//! A run brings containers to the desk.
+//! Making runs, which bring containers to the desk.
 
 ghost use Rattle.std.specs.Prelude.{◌≡◌, false, map, IfOk, ⊤};
 ghost use Rattle.std.specs.List.{AllByRecursion, list_all};
@@ -9,10 +9,10 @@ ghost use Rattle.office_core.specs.Words.{is_empty};
 ghost use Rattle.office_core.specs.declared.command.Command.TheVariants as command;
 ghost use Rattle.office_tables.specs.Calls.{Answers};
 ghost use Rattle.office_tables.specs.Step.{InTransaction};
-ghost use Rattle.refinement.specs.Allowed.{limits_of};
+ghost use Rattle.refinement.specs.ReadingRoomLimits.{limits_of};
 ghost use Rattle.refinement.specs.CommandSteps.{CarriesOut};
-ghost use Rattle.refinement.specs.Judging.{CanBeJudged, RepresentsWhole};
-ghost use Rattle.desk_commands.specs.Running.{due_of, has_numbers, taken_by};
+ghost use Rattle.refinement.specs.AccessConditions.{CanBeJudged, RepresentsWhole};
+ghost use Rattle.desk_commands.specs.RunCreation.{due_of, has_numbers, taken_by};
 
 use crate::container_moves::move_all;
 use catalogue_store::Places;
@@ -26,7 +26,7 @@ use refinement::is_open_to;
 use sqlite::{Alter, Connection};
 use std::alloc::{AllocError, Global};
 
-/// Of these orders those whose containers are open to their readers, as many as a run takes.
+/// The first `most` of these orders whose containers are open to their readers.
 fn due<P: Places, S: Alter>(
     alloc: Global,
     conn: &mut Connection<S>,
@@ -58,7 +58,7 @@ fn are_none(due: &[FirstOrder]) -> bool
     due.is_empty()
 }
 
-/// Whether the numbers of these orders are such as a table keeps.
+/// Whether a table can keep the numbers of these orders.
 fn are_kept(due: &[FirstOrder]) -> bool
     ensures { result ≡ list_all has_numbers due.now }
 {
@@ -96,7 +96,7 @@ fn bring<P: Places, S: Alter>(
     }))
 }
 
-/// Brings the containers to the desk of the orders that are known to be those that are due.
+/// Makes a run for these orders, which are known to be those that are due.
 fn bring_due<P: Places, S: Alter>(
     alloc: Global,
     conn: &mut Connection<S>,
@@ -115,8 +115,9 @@ fn bring_due<P: Places, S: Alter>(
     bring::<P, S>(conn, today, due, &containers)
 }
 
-/// Makes a run: the first orders for the containers on the shelf, those that are open to their readers, the earliest
-/// first and as many as a run takes. Their containers go to the desk.
+/// Makes a run. It takes the first order for each container on the shelf if the container is open to the order's
+/// reader, the earliest orders first and no more than a run takes, and brings their containers to the desk. The command
+/// is refused if no order is due, or if no number is left for a run.
 pub fn fetch<P: Places, S: Alter>(
     alloc: Global,
     conn: &mut Connection<S>,

@@ -1,35 +1,27 @@
-//! Readers sit down, and leave.
+//! Taking and leaving seats.
 
-ghost use Rattle.std.specs.Prelude.{◌≡◌, ⊤, IfOk, IfSome, IsPermutation, map, option_map};
+ghost use Rattle.std.specs.Prelude.{◌≡◌, ⊤, IfOk, IfSome, IsPermutation, map};
 ghost use Rattle.std.specs.List.Sorted.{IsNonDecreasing};
 ghost use Rattle.sqlite.specs.Held.{state};
 ghost use Rattle.isad_core.specs.Limits.{IsNumber};
-ghost use Rattle.desk_store.specs.declared.reader_summary.ReaderCard.{ReaderCard as Card};
 ghost use Rattle.desk_store.specs.declared.taken_seats.TakenSeat.{TakenSeat as Taken};
 ghost use Rattle.office_core.specs.declared.command.Command.TheVariants as command;
 ghost use Rattle.office_tables.specs.Step.{InTransaction};
-ghost use Rattle.refinement.specs.Allowed.{limits_of};
+ghost use Rattle.refinement.specs.ReadingRoomLimits.{limits_of};
 ghost use Rattle.refinement.specs.CommandSteps.{CarriesOut};
 ghost use Rattle.refinement.specs.Sitters.{sitter};
-ghost use Rattle.desk_commands.specs.Seating.{MayLeave, MaySit};
+ghost use Rattle.desk_commands.specs.Seats.{MayLeave, MaySit};
 
 use catalogue_store::Places;
 use desk_core::{Limits, Reader, may_leave, may_sit};
-use desk_store::{ReaderCard, TakenSeat, reader, seats, set_seat};
+use desk_store::{TakenSeat, seats, set_seat, ticket_holder};
 use isad_core::Day;
 use office_core::{Done, Refusal};
 use office_tables::StoreFault;
 use sqlite::{Alter, Connection};
 use std::alloc::{AllocError, Global};
 
-/// The reader of a card, where there is one.
-pub(crate) fn reader_of(card: &Option<ReaderCard>) -> Option<Reader>
-    ensures { result ≡ option_map (λ (c : Card). c.reader) card.now }
-{
-    card.as_ref().map(|card| card.reader)
-}
-
-/// Frees the seat of a ticket, which may leave.
+/// Frees the seat of a ticket that is known to be allowed to leave.
 fn free_seat<P: Places, S: Alter>(
     conn: &mut Connection<S>,
     ticket: u64,
@@ -43,25 +35,24 @@ fn free_seat<P: Places, S: Alter>(
     Ok(Ok(Done::LeaveSeat { seat }))
 }
 
-/// A ticket leaves its seat, where no container is out with it.
+/// Frees the seat of a ticket. The command is refused if the ticket was not given, has no seat, or has a container out.
 pub fn leave_seat<P: Places, S: Alter>(
     alloc: Global,
     conn: &mut Connection<S>,
-    today: Day,
     ticket: u64,
 ) -> Result<Result<Done, Refusal>, StoreFault>
     requires inside { InTransaction P.version (state S.Store conn.old) }
     ensures { CarriesOut P.represents P.version (λ _. ⊤) (command.LeaveSeat ticket) (state S.Store conn.old)
         (state S.Store conn.new) result }
 {
-    let card = reader(alloc, conn, ticket, today)?;
-    match may_leave(reader_of(&card).as_ref()) {
+    let who = ticket_holder(alloc, conn, ticket)?;
+    match may_leave(who.as_ref()) {
         Ok(seat) => free_seat::<P, S>(conn, ticket, seat),
         Err(why) => Ok(Err(why)),
     }
 }
 
-/// The numbers of the seats that are taken, ascending.
+/// The numbers of the taken seats, in ascending order.
 fn numbers_of(alloc: Global, taken: &[TakenSeat]) -> Result<Vec<u32>, AllocError>
     ensures same { IfOk result (λ numbers. IsPermutation (map (λ (t : Taken). t.seat) taken.now) numbers.items) }
     ensures rise { IfOk result (λ numbers. IsNonDecreasing numbers.items) }
@@ -89,7 +80,7 @@ fn take<P: Places, S: Alter>(
     Ok(Ok(Done::TakeSeat { seat }))
 }
 
-/// Gives a reader the least seat that is free, where he may sit down.
+/// Gives a reader the lowest free seat, if the reader may sit down.
 fn sit_down<P: Places, S: Alter>(
     alloc: Global,
     conn: &mut Connection<S>,
@@ -112,7 +103,8 @@ fn sit_down<P: Places, S: Alter>(
     }
 }
 
-/// A ticket takes the least seat that is free.
+/// Gives a ticket the lowest free seat. The command is refused if the ticket was not given, has expired or has a seat,
+/// or if no seat is free.
 pub fn take_seat<P: Places, S: Alter>(
     alloc: Global,
     conn: &mut Connection<S>,
@@ -124,6 +116,6 @@ pub fn take_seat<P: Places, S: Alter>(
     ensures { CarriesOut P.represents P.version (λ s. (today ≡ s.day) × (limits.now ≡ limits_of s))
         (command.TakeSeat ticket) (state S.Store conn.old) (state S.Store conn.new) result }
 {
-    let card = reader(alloc, conn, ticket, today)?;
-    sit_down::<P, S>(alloc, conn, today, limits, ticket, reader_of(&card))
+    let who = ticket_holder(alloc, conn, ticket)?;
+    sit_down::<P, S>(alloc, conn, today, limits, ticket, who)
 }

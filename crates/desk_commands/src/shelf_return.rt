@@ -1,4 +1,4 @@
-//! Containers that nobody waits for go back to the shelf.
+//! Moving containers that nobody waits for back to the shelf.
 
 ghost use Rattle.std.specs.Prelude.{◌≡◌, false, ⊤};
 ghost use Rattle.sqlite.specs.Held.{state};
@@ -25,7 +25,7 @@ fn are_none(containers: &[u64]) -> bool
     containers.is_empty()
 }
 
-/// Brings the containers back to the shelf that are known to be those that nobody waits for.
+/// Moves these containers back to the shelf. They are known to be those at the desk that nobody waits for.
 fn shelve<P: Places, S: Alter>(
     conn: &mut Connection<S>,
     containers: Vec<u64>,
@@ -40,7 +40,7 @@ fn shelve<P: Places, S: Alter>(
     }))
 }
 
-/// Brings the containers at the desk back to the shelf that nobody waits for.
+/// Moves the containers at the desk that nobody waits for back to the shelf. The command is refused if there are none.
 pub fn reshelve<P: Places, S: Alter>(
     alloc: Global,
     conn: &mut Connection<S>,

@@ -1,4 +1,4 @@
--- What the desk looks at before an order, an issue, a seat taken and a seat left, in order.
+-- The facts that the desk checks before an order, an issue, taking a seat and leaving a seat, in order.
 use Rattle.std.specs.Prelude.{ℕ, Bool, nat_le, nat_lt, List, [], ◌∷◌, Option, is_none}
 use Rattle.isad_core.specs.Limits.{most_orders}
 use Rattle.desk_core.specs.declared.refusal.Refusal.TheVariants.{UnknownTicket, UnknownContainer, TicketExpired, NotAvailable, AlreadyOrdered, DailyLimit, NoSeatFree, AlreadySeated, NotSeated, HoldsContainers, NotAtDesk, NotFirst, HandsFull, Full}

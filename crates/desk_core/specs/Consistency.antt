@@ -1,4 +1,4 @@
--- The definitions of the desk's causes, row by row, as they are judged from the values at hand.
+-- The definitions of the desk's causes, row by row, as they are checked from the values at hand.
 use Rattle.std.specs.Prelude.{ℕ, ℤ, Bool, not, ◌&&◌, ◌||◌, cond, List, Option, None, nat_eq, nat_le, slice_get, slice_index, ◌-◌}
 use Rattle.std.specs.List.{list_any}
 use Rattle.std.specs.Option.{option_map_or, unwrap_or}
@@ -33,13 +33,13 @@ is_fit_permit s tickets row =
 
 -- ---- orders
 
--- the order by itself
+-- the order is valid by itself
 abbrev pub is_fit_order : Around → OrderRow → Bool
 is_fit_order s row =
     is_between 1 s.readers row.ticket && (list_any (nat_eq row.container) s.containers && (is_between 1 4 row.state
     && (is_day_number row.day && int_le row.day s.day)))
 
--- who placed it, and when
+-- who placed the order, and when
 abbrev pub placing : OrderRow → ℕ × ℤ
 placing row = (row.ticket, row.day)
 
@@ -49,7 +49,7 @@ placing_cmp a b = ordering_then (nat_cmp a.0 b.0) (int_cmp a.1 b.1)
 abbrev pub waits_or_is_out : OrderRow → Bool
 waits_or_is_out row = is_between 1 2 row.state
 
--- who asks for what
+-- who asks for which container
 abbrev pub asking : OrderRow → ℕ × ℕ
 asking row = (row.ticket, row.container)
 
@@ -58,17 +58,17 @@ asking_cmp a b = ordering_then (nat_cmp a.0 b.0) (nat_cmp a.1 b.1)
 
 -- ---- by number
 
--- the order with this number, where the orders are numbered from 1
+-- the order with this number; the orders are numbered from 1
 abbrev pub nth_order : List OrderRow → ℕ → Option OrderRow
 nth_order orders n = cond (nat_le 1 n) (slice_get orders (n - 1)) None
 
 -- ---- holdings
 
--- the order with that number is out, and for that container
+-- the order with this number is out, and is for that container
 abbrev pub is_out_for : List OrderRow → ℕ → ℕ → Bool
 is_out_for orders c o = some_and (λ (order : OrderRow). nat_eq order.container c && nat_eq order.state 2) (nth_order orders o)
 
--- at the desk for nobody, or out with its order
+-- at the desk without an order, or out with an order for it that is out
 abbrev pub lies_well : List OrderRow → HoldingRow → Bool
 lies_well orders row =
     option_map_or (λ o. nat_eq row.place 2 && is_out_for orders row.container o) row.held_by (nat_eq row.place 1)
@@ -80,7 +80,7 @@ is_fit_holding s orders row = list_any (nat_eq row.container) s.containers && li
 abbrev pub holder : HoldingRow → ℕ
 holder row = unwrap_or row.held_by 0
 
--- an order that is out is told by some holding
+-- if the order is out, some holding names it
 abbrev pub is_held : Tally → OrderRow → Bool
 is_held holders order = not (nat_eq order.state 2) || nat_le 1 (times holders order.id)
 

@@ -1,4 +1,4 @@
--- What the desk's checks look at, of the values that are handed in.
+-- The facts that the desk's checks use, computed from the values that are passed in.
 use Rattle.std.specs.Prelude.{ℕ, ◌==◌, ◌&&◌, Bool, true, false, not, List, Option, Some, None, is_some, find, nat_eq, ℤ}
 use Rattle.std.specs.Int.RustNames.{int_lt}
 use Rattle.std.specs.List.{list_any, range_with_len}
@@ -52,7 +52,7 @@ is_headed_by ticket (Some container) = is_ticket ticket container.head
 
 -- ---- of the seats
 
--- the first of the seats from 1 on that is not taken
+-- the lowest seat from 1 on that is not taken
 abbrev pub free_seat : List ℕ → ℕ → Option ℕ
 free_seat taken seats = find (λ seat. not (list_any (nat_eq seat) taken)) (range_with_len 1 seats)
 
@@ -69,7 +69,7 @@ order_facts reader today ask limits = record {
   orders = ask.orders;
 }
 
--- a ticket that was not given heads no queue
+-- a ticket that was not given is first in no queue
 abbrev pub issue_facts : Option AtDesk → ℕ → Option Reader → ℤ → Limits → IssueFacts
 issue_facts container ticket reader today limits = record {
   known = is_some container;

@@ -1,5 +1,5 @@
--- Why rows of doubtful origin show no desk, causes 6 to 9: what a clerk checks in the tables of the reading room. And which keys the
--- rows have. The rows of a table are taken by its key, as they are read.
+-- Why rows of doubtful origin represent no desk, causes 6 to 9: what is checked in the tables of the reading room. Also
+-- the keys of the rows. The rows of a table are in the order of its key, as they are read.
 use Rattle.std.specs.Prelude.{◌≡◌, ◌≢◌, ◌⊎◌, ℕ, ℤ, ◌<◌, int_le, Bool, not, ◌&&◌, ◌||◌, List, [], ◌∷◌, length, count_by, is_none, nat_eq, nat_le}
 use Rattle.std.specs.Ordering.{int_eq}
 use Rattle.std.specs.List.{list_any, list_all, AllByRecursion}
@@ -11,12 +11,12 @@ use Rattle.desk_core.specs.Names.{is_name}
 
 -- ---- keys
 
--- each row stands as it should to every later one
+-- each row is related as it should be to every later one
 abbrev pub AreInOrder : {R : Type 0} → (R → R → Type 0) → List R → Type 0
 AreInOrder Before [] = Unit {0}
 AreInOrder Before (row ∷ rows) = AllByRecursion (Before row) rows × AreInOrder Before rows
 
--- No primary key stands twice, nor does a ticket on two seats. The rows are in ascending order of their keys.
+-- No primary key occurs twice, and no ticket has two seats. The rows are in ascending order of their keys.
 pub record MeetsDeskKeys (d : Desk) : Type 0 where
   pub readers : AreInOrder (λ (a b : ReaderRow). a.ticket < b.ticket) d.readers
   pub seats : AreInOrder (λ (a b : SeatRow). a.seat < b.seat) d.seats
@@ -29,7 +29,7 @@ pub record MeetsDeskKeys (d : Desk) : Type 0 where
 
 -- ---- what the desk is held against
 
--- the office's settings and day, and which units and containers there are
+-- the office's settings and day, and which units and containers exist
 pub record Around : Type 0 where
   pub seats : ℕ  -- how many seats there are
   pub daily : ℕ  -- how many orders a ticket may place in a day
@@ -43,15 +43,16 @@ is_registered d ticket = list_any (λ (row : ReaderRow). nat_eq row.ticket ticke
 
 -- ---- 6: the readers, their seats and their permits
 
--- a name that a reader may have, and a last day of the calendar
+-- the name may be a reader's, and the last day is one of the calendar
 abbrev pub is_good_reader : ReaderRow → Bool
 is_good_reader row = is_name row.name && is_day_number row.until
 
--- a seat of the office, and who sits there is registered
+-- the seat is one of the office's, and the ticket is registered
 abbrev pub is_good_seat : Around → Desk → SeatRow → Bool
 is_good_seat a d row = is_between 1 a.seats row.seat && is_registered d row.ticket
 
--- a registered ticket's, which has no more of them than it may, for a unit that is there, to a day of the calendar
+-- the ticket is registered and has no more permits than it may, the unit exists, and the last day is one of the
+-- calendar
 abbrev pub is_good_permit : Around → Desk → PermitRow → Bool
 is_good_permit a d row =
     is_registered d row.ticket && (a.is_unit row.unit && (is_day_number row.until
@@ -80,8 +81,9 @@ are_twice a b =
 abbrev pub is_of_the_day : OrderRow → OrderRow → Bool
 is_of_the_day row other = nat_eq other.ticket row.ticket && int_eq other.day row.day
 
--- A registered ticket's order for a container that is there, in one of the four states, placed on a day of the calendar that is
--- not after today. The ticket placed no more that day than it may, and has no other live order for the container.
+-- The ticket is registered, the container exists, the state is one of the four, and the order was placed on a day of
+-- the calendar that is not after today. The ticket placed no more orders that day than it may, and has no other live
+-- order for the container.
 abbrev pub is_good_order : Around → Desk → OrderRow → Bool
 is_good_order a d row =
     is_registered d row.ticket && (a.is_container row.container && (is_between 1 4 row.state
@@ -98,11 +100,11 @@ orders_are_bad a d = not (are_good_orders a d)
 
 -- ---- 8: where the containers are
 
--- the order with that number is out, and for that container
+-- the order with this number is out, and is for that container
 abbrev pub is_out_order : ℕ → ℕ → OrderRow → Bool
 is_out_order o c row = nat_eq row.id o && (nat_eq row.container c && nat_eq row.state 2)
 
--- at the desk for nobody
+-- at the desk, without an order
 abbrev pub is_at_desk : HoldingRow → Bool
 is_at_desk row = nat_eq row.place 1 && is_none row.held_by
 
@@ -118,7 +120,7 @@ abbrev pub is_holding_of : OrderRow → HoldingRow → Bool
 is_holding_of order row =
     nat_eq row.container order.container && (nat_eq row.place 2 && some_and (nat_eq order.id) row.held_by)
 
--- an order that is out has its container
+-- if the order is out, a holding has its container
 abbrev pub has_its_holding : Desk → OrderRow → Bool
 has_its_holding d order = not (nat_eq order.state 2) || list_any (is_holding_of order) d.holdings
 
@@ -130,18 +132,18 @@ holdings_are_bad a d = not (are_good_holdings a d)
 
 -- ---- 9: the runs
 
--- on a day of the calendar that is not after today, of one line or more, up to what a run takes
+-- the day is one of the calendar and not after today, and there is at least one line and no more than a run takes
 abbrev pub is_good_run : Around → Desk → RunRow → Bool
 is_good_run a d row =
     is_day_number row.day && (int_le row.day a.day
     && is_between 1 a.run_size (count_by (λ (line : RunLineRow). nat_eq line.run row.id) d.run_lines))
 
--- the line's order, with its container and its ticket
+-- the order of the line, with the line's container and ticket
 abbrev pub is_order_of_line : RunLineRow → OrderRow → Bool
 is_order_of_line line row =
     nat_eq row.id line.order_no && (nat_eq row.container line.container && nat_eq row.ticket line.ticket)
 
--- a line of a run that is there, for an order that is there
+-- the line is of a run that exists, and for an order that exists
 abbrev pub is_good_line : Desk → RunLineRow → Bool
 is_good_line d line = list_any (λ (row : RunRow). nat_eq row.id line.run) d.runs && list_any (is_order_of_line line) d.orders
 

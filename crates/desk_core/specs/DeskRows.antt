@@ -1,5 +1,5 @@
--- The desk as a register of rows: who has a ticket, who sits where, what was ordered, where the containers are that are not on
--- the shelf, what each run brought, and who may see what is closed.
+-- The desk as tables of rows: who has a ticket, who sits where, what was ordered, where the containers are that are not
+-- on the shelf, what each run brought, and who has a permit for what is closed.
 use Rattle.std.specs.Prelude.{ℕ, ℤ, ◌&&◌, cond, List, map, filter, Option, nat_eq}
 use Rattle.isad_core.specs.Texts.{Bytes}
 
@@ -25,7 +25,7 @@ pub record OrderRow : Type 0 where
   pub day : ℤ  -- when it was placed
   pub state : ℕ  -- 1 waiting, 2 out, 3 done, 4 cancelled
 
--- the row of one order gets another state
+-- the rows, with another state for one order
 abbrev pub with_state : ℕ → ℕ → List OrderRow → List OrderRow
 with_state o state rows = map (λ row. cond (nat_eq row.id o) (record row { state = state }) row) rows
 

@@ -1,13 +1,13 @@
--- How often keys stand in a list.
+-- How often keys occur in a list.
 use Rattle.std.specs.Prelude.{ℕ, Bool, List, nat_lt}
 use Rattle.std.specs.declared.cmp.Ordering.{Ordering}
 use Rattle.std.specs.List.{list_any, count_by}
 use Rattle.std.specs.Ordering.{is_eq}
 
--- how often a key stands there
+-- how often a key occurs
 abbrev pub standing : {K : Type 0} → (K → K → Ordering) → K → List K → ℕ
 standing cmp key keys = count_by (λ other. is_eq (cmp key other)) keys
 
--- whether a key stands there more than so many times
+-- whether some key occurs more than `most` times
 abbrev pub stands_over : {K : Type 0} → (K → K → Ordering) → ℕ → List K → Bool
 stands_over cmp most keys = list_any (λ key. nat_lt most (standing cmp key keys)) keys

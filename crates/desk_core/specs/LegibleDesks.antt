@@ -1,4 +1,4 @@
--- What a table can give back of a desk: names that are UTF-8, days of the calendar, and seats, states and places that there are.
+-- What a table can give back of a desk: names that are UTF-8, days of the calendar, and valid seats, states and places.
 use Rattle.std.specs.Prelude.{◌≡◌, ◌⊎◌, ℕ, ◌≤◌, ◌<◌, ◌^◌, Option, Some, None, IsUtf8, true}
 use Rattle.std.specs.List.{AllByRecursion}
 use Rattle.isad_core.specs.Days.{is_day_number}
@@ -15,12 +15,12 @@ pub record IsLegibleOrder (o : OrderRow) : Type 0 where
   pub some_state : 1 ≤ o.state
   pub state : o.state ≤ 4
 
--- at the desk, or out with an order
+-- at the desk, or out; out only with an order
 abbrev pub IsKnownPlace : ℕ → Option ℕ → Type 0
 IsKnownPlace place None = place ≡ 1
 IsKnownPlace place (Some order) = (place ≡ 1) ⊎ (place ≡ 2)
 
--- a container of a number that a table keeps, in a place that there is
+-- the container's number is one that a table can store, and its place is a valid one
 pub record IsLegibleHolding (h : HoldingRow) : Type 0 where
   pub number : IsNumber h.container
   pub place : IsKnownPlace h.place h.held_by

@@ -8,7 +8,7 @@ pub mod Orders
 pub mod Refusals
 pub mod Runs
 pub mod Slips
-pub mod Worked
+pub mod WorkedExamples
 pub mod RowRecords
 pub mod KeyCounts
 pub mod Consistency

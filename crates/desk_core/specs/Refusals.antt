@@ -3,7 +3,7 @@ use Rattle.std.specs.Prelude.{ℕ, Bool, true, false, List, [], ◌∷◌, Optio
 use Rattle.desk_core.specs.declared.refusal.Refusal.{Refusal}
 use Rattle.desk_core.specs.declared.refusal.Refusal.TheVariants.{UnknownUnit, UnknownTicket, UnknownContainer, TicketExpired, NotAvailable, AlreadyOrdered, DailyLimit, NoSeatFree, AlreadySeated, NotSeated, HoldsContainers, UnknownOrder, OrderNotWaiting, NotAtDesk, NotFirst, HandsFull, NotIssued, DayNotLater, StillIssued, IntoItself, WithReader, BadFile, Full, NothingToMove, TooDeep, UnknownRun, BadName, NoPermit}
 
--- the number by which a refusal is told
+-- the number of a refusal
 abbrev pub number_of : Refusal → ℕ
 number_of UnknownUnit = 1
 number_of UnknownTicket = 2
@@ -34,7 +34,7 @@ number_of UnknownRun = 26
 number_of BadName = 27
 number_of NoPermit = 28
 
--- the name by which it is told
+-- the name of a refusal
 abbrev pub name_of : Refusal → List ℕ
 name_of UnknownUnit = codes "UnknownUnit"
 name_of UnknownTicket = codes "UnknownTicket"
@@ -65,7 +65,7 @@ name_of UnknownRun = codes "UnknownRun"
 name_of BadName = codes "BadName"
 name_of NoPermit = codes "NoPermit"
 
--- a check of a command: the refusal that it tells, where what it looks for holds
+-- a check of a command: the refusal to return, if the check holds
 abbrev pub Check : Type 0
 Check = Option Refusal
 
@@ -77,8 +77,8 @@ abbrev pub unless : Bool → Refusal → Check
 unless true refusal = None
 unless false refusal = Some refusal
 
--- A command looks at its checks in order. The first that holds is the refusal; where none holds, the
--- command is done.
+-- A command goes through its checks in order. The first that holds is the refusal; if none holds, the command is
+-- carried out.
 abbrev pub first_that_holds : List Check → Option Refusal
 first_that_holds [] = None
 first_that_holds (Some refusal ∷ checks) = Some refusal

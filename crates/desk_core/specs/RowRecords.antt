@@ -1,4 +1,5 @@
--- The desk's rows as they were read, and what they are held against, as the definitions of the desk's causes have them.
+-- The desk's rows as they were read, and what they are checked against, as the records that the definitions of the
+-- desk's causes use.
 use Rattle.std.specs.Prelude.{◌≡◌, ℕ, true, length, nat_eq}
 use Rattle.std.specs.List.{list_any}
 use Rattle.isad_core.specs.Words.{are_numbered_from}
@@ -34,7 +35,7 @@ permit_row row = record { ticket = row.ticket; unit = row.unit; until = row.unti
 
 -- ---- what they are held against
 
--- It says the settings, the day, the units, the containers and the number of readers, who have the tickets from 1 on.
+-- It has the same settings, day, units, containers and number of readers. The readers have the tickets from 1 on.
 pub record Surrounds (s : Around) (a : causes.Around) (d : desk.Desk) : Type 0 where
   pub seats : a.seats ≡ s.seats
   pub daily : a.daily ≡ s.daily

@@ -4,16 +4,16 @@ use Rattle.std.specs.List.Sorted.{IsNonDecreasingBy, IsPermutation}
 use Rattle.desk_core.specs.declared.run.Candidate.{Candidate}
 use Rattle.desk_core.specs.Orders.{in_order}
 
--- a container waits for its first order, and that with the lesser number goes first
+-- Each container comes with its first order; the lower order number goes first.
 abbrev pub has_lesser_order : Candidate → Candidate → Bool
 has_lesser_order a b = nat_lt a.order b.order
 
--- the candidates of least order, as many as a run may take, in the order of their numbers
+-- the candidates with the lowest order numbers, as many as a run may take, in the order of these numbers
 abbrev pub run_of : List Candidate → ℕ → List Candidate
 run_of candidates most = take most (in_order has_lesser_order candidates)
 
--- a run: some of the candidates, as many as it may take or all, by rising orders, and no other candidate
--- has a lesser order than one of them
+-- A run: some of the candidates, as many as it may take or all, by ascending order number. No other candidate has a
+-- lower order number than one of them.
 pub record IsRun (candidates run : List Candidate) (most : ℕ) : Type 0 where
   pub left : List Candidate
   pub same : IsPermutation candidates (run ++ left)
@@ -21,10 +21,10 @@ pub record IsRun (candidates run : List Candidate) (most : ℕ) : Type 0 where
   pub rising : IsNonDecreasingBy (λ c. c.order) run
   pub least : All (λ taken. All (λ other. taken.order ≤ other.order) left) run
 
--- of the containers at the desk, each with whether an order waits for it, those that nobody waits for
+-- the containers at the desk that no order waits for; each comes with whether an order waits for it
 abbrev pub idle : List (ℕ × Bool) → List ℕ
 idle desk = map (λ c. c.0) (filter (λ c. not c.1) desk)
 
--- these go back to the shelf, and are told ascending
+-- the containers that go back to the shelf, ascending
 abbrev pub reshelved : List (ℕ × Bool) → List ℕ
 reshelved desk = in_order nat_lt (idle desk)

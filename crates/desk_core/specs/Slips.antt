@@ -1,4 +1,4 @@
--- The slip of a run: what the fetcher goes along the shelves with.
+-- The slip of a run: what the fetcher takes along the shelves.
 use Rattle.std.specs.Prelude.{◌≡◌, ℕ, ◌-◌, ◌||◌, Bool, nat_lt, nat_le, List, [], ◌∷◌, ◌++◌, length, filter, replicate, codes, ℤ}
 use Rattle.std.specs.Fmt.{decimal}
 use Rattle.std.specs.List.{flat_map}
@@ -13,11 +13,11 @@ use Rattle.desk_core.specs.Orders.{in_order}
 
 -- ---- the order of the lines
 
--- by bytes: the first that differs decides, and of two of which one begins the other the shorter is first
+-- by bytes: the first difference decides, and if one text is a prefix of the other, the shorter comes first
 abbrev pub bytes_order : Bytes → Bytes → Ordering
 bytes_order = slice_cmp nat_cmp
 
--- by location, name and kind, as they are kept, then by the container's number
+-- by location, name and kind, compared as stored, then by the container's number
 abbrev pub shelf_order : Candidate → Candidate → Ordering
 shelf_order a b =
     ordering_then (bytes_order a.location b.location)
@@ -37,7 +37,7 @@ begins_character b = nat_lt b 128 || nat_le 192 b
 abbrev pub characters : Bytes → ℕ
 characters text = length (filter begins_character text)
 
--- spaces up to so many places; a longer text leaves none, and is not cut
+-- spaces that pad a text to `places` characters; none for a longer text, which is not cut
 abbrev pub spaces : ℕ → Bytes → Bytes
 spaces places text = replicate (places - characters text) 32
 
@@ -67,11 +67,11 @@ abbrev pub slip : ℕ → ℤ → List Candidate → Bytes
 slip run day candidates =
     slip_head run day ++ flat_map slip_line (in_order is_shelved_before candidates)
 
--- in a text, as many as it has Unicode scalar values
+-- a text has as many characters as Unicode scalar values
 abbrev pub CountsCharacters : Type 0
 CountsCharacters = (text : Bytes) → IsUtf8 text → characters text ≡ length (chars text)
 
--- and on one line as many as are left where a carriage return and a line feed together are one
+-- on one line, it has as many as remain when a carriage return and a line feed together count as one
 abbrev pub CountsPrintedCharacters : Type 0
 CountsPrintedCharacters =
     (text : Bytes) → IsUtf8 text → characters (one_line text) ≡ length (one_line (chars text))

@@ -1,6 +1,7 @@
-//! Whether rows that were read from the desk's tables are such as a desk has. No tables.
+//! Checks whether rows that were read from the desk's tables are those of a desk. It reads no tables
+//! itself.
 //!
-//! The rows are of any origin: they may say any numbers.
+//! The rows may come from anywhere and hold any numbers.
 
 mod context;
 mod holdings;

@@ -1,4 +1,4 @@
-//! May a container be given to a ticket?
+//! May a container be issued to a ticket?
 ghost use Rattle.std.specs.Prelude.{◌≡◌};
 ghost use Rattle.std.specs.Result.{result_err};
 ghost use Rattle.std.specs.Option.{option_copied};
@@ -10,18 +10,18 @@ use crate::reader::{Limits, Place, Reader};
 use crate::refusal::Refusal;
 use isad_core::Day;
 
-/// What an issue is decided by, besides the reader.
+/// What decides an issue, besides the reader.
 #[derive(Debug, Clone, Copy, PartialEq, Eq)]
 pub struct AtDesk {
     pub place: Place,
-    /// The ticket of the first order that waits for it.
+    /// The ticket of the first order that waits for the container.
     pub head: Option<u64>,
-    /// It is open to the reader today.
+    /// Whether the container is open to the reader today.
     pub is_open: bool,
 }
 
-/// May the container be given to the ticket? `container` is none where it is not known, and `reader` is
-/// none where the ticket was not given: such a ticket is first for nothing.
+/// May the container be issued to the ticket? `container` is `None` if it is not known. `reader` is
+/// `None` if the ticket was not given; such a ticket is not first in any queue.
 pub fn may_issue(
     container: Option<&AtDesk>,
     ticket: u64,

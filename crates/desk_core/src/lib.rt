@@ -1,4 +1,4 @@
-//! The reading room's decisions, from values that are handed in. No tables.
+//! The reading room's decisions, from values that the caller passes in. It reads no tables.
 #![tactic(auto)]
 
 pub mod consistency;

@@ -11,14 +11,14 @@ use crate::refusal::Refusal;
 use isad_core::Day;
 use isad_core::limits::MOST_ORDERS;
 
-/// What an order is decided by, besides the reader.
+/// What decides an order, besides the reader.
 #[derive(Debug, Clone, Copy, PartialEq, Eq)]
 pub struct Ask {
-    /// The container is known, and open to the reader today.
+    /// Whether the container is known, and open to the reader today.
     pub is_open: bool,
-    /// An order of the ticket for the container waits or is out.
+    /// Whether an order of the ticket for the container waits or is out.
     pub already: bool,
-    /// How many orders the ticket placed today, cancelled ones too.
+    /// How many orders the ticket placed today, including cancelled ones.
     pub placed: u32,
     /// How many orders there are, of all tickets.
     pub orders: u64,

@@ -2,7 +2,7 @@
 
 use isad_core::Day;
 
-/// A reader, as the desk knows a ticket.
+/// What the desk knows of the reader who has a ticket.
 #[derive(Debug, Clone, Copy, PartialEq, Eq)]
 pub struct Reader {
     pub ticket: u64,
@@ -19,19 +19,19 @@ pub struct Reader {
 pub enum Place {
     Shelf,
     Desk,
-    /// With a reader, by this order.
+    /// Out with a reader, by this order.
     Out(u64),
 }
 
-/// How much the reading room allows.
+/// The limits of the reading room.
 #[derive(Debug, Clone, Copy, PartialEq, Eq)]
 pub struct Limits {
-    /// How many seats there are.
+    /// The number of seats.
     pub seats: u32,
-    /// How many orders a ticket may place in a day.
+    /// The most orders that a ticket may place in a day.
     pub daily: u32,
-    /// How many containers may be out with a ticket.
+    /// The most containers that may be out with a ticket.
     pub hands: u32,
-    /// How many containers a run takes.
+    /// The most containers that a run takes.
     pub run: u32,
 }

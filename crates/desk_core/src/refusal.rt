@@ -2,7 +2,7 @@
 ghost use Rattle.std.specs.Prelude.{◌≡◌};
 ghost use Rattle.desk_core.specs.Refusals.{name_of, number_of};
 
-/// A refusal, in the order of its number.
+/// A refusal. The variants are in the order of their numbers.
 #[derive(Debug, Clone, Copy, PartialEq, Eq)]
 pub enum Refusal {
     /// The unit, or the parent that is named, is not known.
@@ -17,11 +17,11 @@ pub enum Refusal {
     NotAvailable,
     /// An order of this ticket for the container waits or is out.
     AlreadyOrdered,
-    /// The ticket has placed as many orders today as it may, cancelled ones too.
+    /// The ticket has placed as many orders today as it may, including cancelled ones.
     DailyLimit,
     /// Every seat is taken.
     NoSeatFree,
-    /// The ticket has a seat.
+    /// The ticket already has a seat.
     AlreadySeated,
     /// The ticket has no seat.
     NotSeated,
@@ -29,27 +29,27 @@ pub enum Refusal {
     HoldsContainers,
     /// No such order was placed.
     UnknownOrder,
-    /// The order waits no more.
+    /// The order is no longer waiting.
     OrderNotWaiting,
     /// The container is on the shelf, or out.
     NotAtDesk,
-    /// The first waiting order is another ticket's, or none waits.
+    /// The first waiting order is another ticket's, or no order waits.
     NotFirst,
-    /// As many containers are out with the ticket as may be.
+    /// As many containers are out with the ticket as the limit allows.
     HandsFull,
     /// The container is not out.
     NotIssued,
-    /// The day that is to be opened is not after today.
+    /// The day to be opened is not after today.
     DayNotLater,
     /// A container is still out.
     StillIssued,
     /// The parent is the unit itself, or lies below it.
     IntoItself,
-    /// A container that is out would not be open to its reader: the lowest such.
+    /// A container that is out would no longer be open to its reader. It is the lowest such container.
     WithReader { container: u64 },
-    /// The first faulty row of a file, and its least cause.
+    /// The first faulty row of a file, and its lowest cause.
     BadFile { row: u32, cause: u8 },
-    /// There are as many as there may be.
+    /// The limit is reached.
     Full,
     /// There is no container to move.
     NothingToMove,
@@ -57,7 +57,7 @@ pub enum Refusal {
     TooDeep,
     /// No such run was made.
     UnknownRun,
-    /// The name is not one that is taken.
+    /// The name is not valid.
     BadName,
     /// The ticket has no permit for the unit.
     NoPermit,
@@ -100,7 +100,7 @@ impl Refusal {
         }
     }
 
-    /// Its name, as it is told to whoever asked.
+    /// Its name, as shown to whoever asked.
     pub fn name(self) -> &'static str
         ensures { result.now ≡ name_of self }
     {

@@ -1,26 +1,26 @@
-//! What a run takes to the desk, and what goes back to the shelf.
+//! What a run brings to the desk, and what goes back to the shelf.
 ghost use Rattle.std.specs.Prelude.{◌≡◌, IfOk};
 ghost use Rattle.desk_core.specs.Runs.{idle, reshelved, run_of};
 
 use isad_core::Text;
 use std::alloc::{AllocError, Global};
 
-/// A container that a run may take, with the order that waits first for it.
+/// A container that a run may take, with the first order that waits for it.
 #[derive(Debug, Clone, PartialEq, Drop)]
 pub struct Candidate {
     pub container: u64,
     pub order: u64,
     /// The ticket of the order.
     pub ticket: u64,
-    /// Where the container stands, or the empty text.
+    /// The location of the container, or the empty text.
     pub location: Text,
-    /// What is written on it.
+    /// The text that is written on it.
     pub name: Text,
-    /// Of what kind it is, or the empty text.
+    /// The kind of the container, or the empty text.
     pub kind: Text,
 }
 
-/// What a run of at most `max` containers takes: those of least order, in that order.
+/// What a run of at most `max` containers takes: those with the lowest order numbers, in that order.
 pub fn pick_run(
     alloc: Global,
     candidates: &[Candidate],
@@ -38,8 +38,8 @@ pub fn pick_run(
     Ok(run)
 }
 
-/// The containers at the desk that nobody waits for, ascending. Each comes with whether an order waits
-/// for it.
+/// The containers at the desk that no order waits for, ascending. `desk` has each container with
+/// whether an order waits for it.
 pub fn pick_reshelve(alloc: Global, desk: &[(u64, bool)]) -> Result<Vec<u64>, AllocError>
     ensures { IfOk result (λ containers. containers.items ≡ reshelved desk.now) }
 {

@@ -1,4 +1,4 @@
-//! May a reader sit down, or leave?
+//! May a reader take a seat, or leave it?
 ghost use Rattle.std.specs.Prelude.{◌≡◌, IfOk, Some};
 ghost use Rattle.std.specs.Result.{result_err};
 ghost use Rattle.std.specs.Option.{option_copied};
@@ -11,7 +11,7 @@ use crate::reader::{Limits, Reader};
 use crate::refusal::Refusal;
 use isad_core::Day;
 
-/// May the reader sit down, and on which seat? `taken` has the taken seats, ascending.
+/// May the reader take a seat, and which one? `taken` has the taken seats, ascending.
 pub fn may_sit(
     reader: Option<&Reader>,
     today: Day,
@@ -36,7 +36,7 @@ pub fn may_sit(
     least_free_seat(taken, limits.seats).ok_or(Refusal::NoSeatFree)
 }
 
-/// The least seat from 1 to `seats` that is not taken.
+/// The lowest seat from 1 to `seats` that is not taken.
 fn least_free_seat(taken: &[u32], seats: u32) -> Option<u32>
     requires { IsNonDecreasing taken.now }
     ensures { result ≡ free_seat taken.now seats }
@@ -53,7 +53,7 @@ fn least_free_seat(taken: &[u32], seats: u32) -> Option<u32>
     if least <= seats { Some(least) } else { None }
 }
 
-/// May the reader leave, and which seat becomes free?
+/// May the reader leave the seat, and which seat becomes free?
 pub fn may_leave(reader: Option<&Reader>) -> Result<u32, Refusal>
     ensures refused { result_err result
         ≡ first_that_holds (leave_seat_checks (leave_seat_facts (option_copied reader.entry))) }

@@ -9,8 +9,8 @@ use isad_core::{Day, Text, one_line};
 use std::alloc::{AllocError, Global};
 use std::cmp::Ordering;
 
-/// The text of a run's slip: a line that names the run and its day, then a line for each container in
-/// the order in which they stand on the shelves.
+/// The text of a run's slip: a line with the run and its day, then a line for each container, in shelf
+/// order.
 pub fn slip_text(
     alloc: Global,
     run: u64,
@@ -28,8 +28,7 @@ pub fn slip_text(
     Ok(slip)
 }
 
-/// Where one container stands against another: by location, name and kind as they are kept, then by
-/// number.
+/// The shelf order of two containers: by location, name and kind, compared as stored, then by number.
 fn shelf_order(a: &Candidate, b: &Candidate) -> Ordering
     ensures { result ≡ spec.shelf_order a.now b.now }
 {
@@ -61,7 +60,7 @@ fn push_line(alloc: Global, slip: &mut Vec<u8>, candidate: &Candidate) -> Result
     slip.extend_from_slice(numbers.as_bytes())
 }
 
-/// The columns of numbers, to the end of the line.
+/// The columns of numbers, up to the end of the line.
 fn numbers_of(alloc: Global, candidate: &Candidate) -> Result<String, AllocError>
     ensures { IfOk result (λ numbers. string_bytes numbers ≡ spec.slip_numbers candidate.now) }
 {
@@ -71,7 +70,7 @@ fn numbers_of(alloc: Global, candidate: &Candidate) -> Result<String, AllocError
     format!(in alloc; " {container:>6} {order:>8} {ticket:>7}\n")
 }
 
-/// A text on one line, and spaces up to so many places. A longer text is not cut.
+/// A text on one line, padded with spaces to `places` characters. A longer text is not cut.
 fn push_at_left(
     alloc: Global,
     slip: &mut Vec<u8>,
@@ -86,7 +85,7 @@ fn push_at_left(
     push_spaces(slip, places.saturating_sub(characters(&line)))
 }
 
-/// How many characters a text has.
+/// The number of characters of a text.
 fn characters(text: &[u8]) -> usize
     ensures { result ≡ spec.characters text.now }
 {

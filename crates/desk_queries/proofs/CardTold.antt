@@ -22,14 +22,14 @@ use Rattle.office_core.specs.SoundOffice.{IsSoundOffice}
 use Rattle.office_core.specs.State.{Cancelled, Done, End, Order, Reader, State, container_of, is_by, order_out, seat_of, waits}
 use Rattle.office_core.specs.Words.{numbered, some_and, stands}
 use Rattle.office_core.specs.declared.query.Query.TheVariants as query
-use Rattle.state_encoding.specs.DeskShown.{order_from, order_row, order_rows, rows_from, state_number}
-use Rattle.state_encoding.specs.Reading.{tables}
+use Rattle.state_encoding.specs.DeskEncoding.{order_from, order_row, order_rows, rows_from, state_number}
+use Rattle.state_encoding.specs.OfficeRows.{tables}
 use Rattle.state_encoding.proofs.DeskLookups.{flipped}
 use Rattle.state_encoding.proofs.Members.{in_filter, to_from}
 use Rattle.state_encoding.proofs.NumberedRows.{in_rows}
 use Rattle.refinement.proofs.CardsShown.{card, card_shown}
 use Rattle.refinement.proofs.QueuesShown.{told_rows}
-use Rattle.desk_queries.specs.Told.{card_data, live_data}
+use Rattle.desk_queries.specs.JsonValues.{card_data, live_data}
 use Rattle.desk_queries.proofs.Lists.{no_float}
 
 -- ---- none of it is a number with a fraction

@@ -13,10 +13,10 @@ use Rattle.office_core.specs.Json.{count, fields}
 use Rattle.office_core.specs.Queries.{issued_json}
 use Rattle.office_core.specs.State.{Order, State, containers}
 use Rattle.office_core.specs.Words.{numbered}
-use Rattle.state_encoding.specs.DeskShown.{holding_row, order_row, order_rows}
-use Rattle.state_encoding.specs.Reading.{tables}
+use Rattle.state_encoding.specs.DeskEncoding.{holding_row, order_row, order_rows}
+use Rattle.state_encoding.specs.OfficeRows.{tables}
 use Rattle.refinement.proofs.RowsOfLists.{found_row}
-use Rattle.desk_queries.specs.Told.{loan_data}
+use Rattle.desk_queries.specs.JsonValues.{loan_data}
 
 module _ (s : State) where
   -- one that is out, with the order of that number

@@ -5,10 +5,8 @@ use Rattle.std.specs.List.{AllByRecursion}
 use Rattle.std.specs.Ordering.{int_cmp}
 use Rattle.std.proofs.lemmas.Simd.{map-map}
 use Rattle.tree_core.specs.Versions.{Version}
-use Rattle.desk_core.specs.DeskRows.{ReaderRow}
 use Rattle.desk_core.specs.declared.refusal.Refusal.TheVariants.{UnknownTicket}
 use Rattle.desk_store.specs.Permits.{by_unit, permits_of}
-use Rattle.desk_store.specs.Readers.{reader_with}
 use Rattle.desk_store.specs.declared.reader_permits.Permit.{Permit as Told}
 use Rattle.office_core.specs.Json.{list}
 use Rattle.office_core.specs.Queries.{answer, known_json, permit_json}
@@ -18,16 +16,13 @@ use Rattle.office_core.specs.State.{Permit, Reader, State, is_ticket}
 use Rattle.office_core.specs.Words.{numbered}
 use Rattle.office_core.specs.declared.query.Answer.TheVariants.{Json, Unknown}
 use Rattle.office_core.specs.declared.query.Query.TheVariants as query
-use Rattle.state_encoding.specs.DeskShown.{reader_row}
-use Rattle.state_encoding.specs.Reading.{tables}
-use Rattle.state_encoding.proofs.DeskLookups.{is_some-map}
+use Rattle.state_encoding.specs.OfficeRows.{tables}
 use Rattle.office_tables.specs.Order.{IsOrdered, Rises}
 use Rattle.office_tables.proofs.Sorted.{only_order}
 use Rattle.office_tables.proofs.numbered.Counted.{below_less}
 use Rattle.serde_json.specs.Written.{compact_text}
 use Rattle.refinement.proofs.PermitsShown.{permits_shown, told_of, by_unit_total}
-use Rattle.refinement.proofs.RowsOfLists.{found_row}
-use Rattle.desk_queries.specs.Told.{permit_data}
+use Rattle.desk_queries.specs.JsonValues.{permit_data}
 
 above : (u : ℕ) (permits : List Permit) → AllByRecursion (λ (p : Permit). u < p.unit) permits → AllByRecursion (λ (p : Told). int_cmp (pos u) (pos p.unit) ≡ Less) (map told_of permits)
 above u [] all = tt
@@ -45,9 +40,6 @@ module _ (version : Version) (s : State) (sound : IsSoundOffice s) (t : ℕ) whe
       let it : IsOrdered by_unit (map told_of (s.permits t)) all = subst (λ (l : List Told). IsOrdered by_unit l all) shown ordered in
       ap (map permit_data) (only_order by_unit by_unit_total (map told_of (s.permits t)) all (rises (s.permits t) (sound.sound.desk.permits.by_unit t)) it.1 it.0)
       ∙ map-map permit_data told_of (s.permits t)
-
-  pub known_ticket : is_some (reader_with t (tables version s).desk) ≡ is_ticket s t
-  known_ticket = ap is_some (found_row reader_row (λ (r : ReaderRow). r.ticket) (λ n x. refl) t s.readers) ∙ is_some-map (reader_row t) (numbered s.readers t)
 
   pub no_ticket : is_ticket s t ≡ false → Unknown UnknownTicket ≡ answer s (query.ReaderPermits t)
   no_ticket none = at (numbered s.readers t) none

@@ -20,11 +20,11 @@ use Rattle.office_core.specs.declared.query.Query.TheVariants as query
 use Rattle.office_core.specs.SoundOffice.{IsSoundOffice}
 use Rattle.office_core.specs.State.{State, order_out}
 use Rattle.office_core.specs.Words.{numbered}
-use Rattle.state_encoding.specs.DeskShown.{order_rows}
-use Rattle.state_encoding.specs.Reading.{tables}
+use Rattle.state_encoding.specs.DeskEncoding.{order_rows}
+use Rattle.state_encoding.specs.OfficeRows.{tables}
 use Rattle.refinement.proofs.QueuesShown.{place_shown, told_queue, waits_in}
 use Rattle.refinement.proofs.StacksShown.{box_row, stacks_of}
-use Rattle.desk_queries.specs.Told.{queue_data, waiting_data}
+use Rattle.desk_queries.specs.JsonValues.{queue_data, waiting_data}
 use Rattle.desk_queries.proofs.Lists.{no_float}
 
 -- none of it is a number with a fraction

@@ -24,8 +24,8 @@ use Rattle.office_core.specs.Words.{numbered}
 use Rattle.office_core.specs.declared.query.Answer.{Answer}
 use Rattle.office_core.specs.declared.query.Answer.TheVariants.{Text, Unknown}
 use Rattle.office_core.specs.declared.query.Query.TheVariants as query
-use Rattle.state_encoding.specs.DeskShown.{lines_from, rows_from, run_line_row, run_row}
-use Rattle.state_encoding.specs.Reading.{line_from, run_from, tables}
+use Rattle.state_encoding.specs.DeskEncoding.{lines_from, rows_from, run_line_row, run_row}
+use Rattle.state_encoding.specs.OfficeRows.{line_from, run_from, tables}
 use Rattle.state_encoding.proofs.DeskLookups.{flipped, some_is}
 use Rattle.state_encoding.proofs.Members.{all_in, all_of_in, in_append, in_filter, in_map}
 use Rattle.state_encoding.proofs.NumberedRows.{numbered-map, numbered-rows, stands_at}

@@ -9,19 +9,19 @@ use isad_core::{Day, List};
 use serde_json::{Value, json};
 use std::alloc::{AllocError, Global};
 
-/// A thing that is told in JSON.
+/// A thing that can be written as JSON.
 pub(crate) trait Told {
     ghost use Rattle.serde_json.specs.Data.{Data};
 
-    /// The value that stands for it.
+    /// The JSON value that represents it.
     ghost told: { Self → Data };
 
-    /// That value.
+    /// Builds this value.
     fn value(&self, alloc: Global) -> Result<Value, AllocError>
         ensures { IfOk result (λ v. view v ≡ told self.now) };
 }
 
-/// A list of such things.
+/// The JSON array of these things.
 pub(crate) fn values_of<T: Told>(alloc: Global, things: &[T]) -> Result<Value, AllocError>
     ensures { IfOk result (λ v. view v ≡ list (map T.told things.now)) }
 {
@@ -32,7 +32,7 @@ pub(crate) fn values_of<T: Told>(alloc: Global, things: &[T]) -> Result<Value, A
     Ok(Value::Array(values))
 }
 
-/// The date of a day.
+/// The date of a day, as a JSON string.
 pub(crate) fn day_value(alloc: Global, day: Day) -> Result<Value, AllocError>
     ensures { IfOk result (λ v. view v ≡ date day) }
 {
@@ -41,7 +41,7 @@ pub(crate) fn day_value(alloc: Global, day: Day) -> Result<Value, AllocError>
     json!(in alloc; text)
 }
 
-/// The bytes of a value that has no number with a fraction.
+/// The bytes of a JSON value. It must not contain a number with a fraction.
 pub(crate) fn text_of(alloc: Global, value: &Value) -> Result<List<u8>, AllocError>
     requires whole { has_float (view value.now) ≡ false }
     ensures { IfOk result (λ text. text ≡ compact_text (view value.now)) }
@@ -50,7 +50,7 @@ pub(crate) fn text_of(alloc: Global, value: &Value) -> Result<List<u8>, AllocErr
     Ok(List(text.into_bytes()))
 }
 
-/// The bytes of a list of such things, of which none has a number with a fraction.
+/// The bytes of the JSON array of these things. None of them may contain a number with a fraction.
 pub(crate) fn list_text<T: Told>(alloc: Global, things: &[T]) -> Result<List<u8>, AllocError>
     requires whole { has_float (list (map T.told things.now)) ≡ false }
     ensures { IfOk result (λ text. text ≡ compact_text (list (map T.told things.now))) }

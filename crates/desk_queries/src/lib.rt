@@ -1,5 +1,5 @@
-//! The questions of the desk over an office's tables, each within a transaction, and what is told of
-//! a command as JSON.
+//! The questions of the desk over an office's tables, each within a transaction, and the replies to
+//! commands as JSON.
 #![tactic(auto)]
 
 mod json_values;

@@ -15,7 +15,7 @@ use sqlite::{Alter, Connection};
 use std::alloc::{AllocError, Global};
 
 impl Told for Loan {
-    ghost use Rattle.desk_queries.specs.Told.{loan_data};
+    ghost use Rattle.desk_queries.specs.JsonValues.{loan_data};
 
     ghost told = { loan_data };
 
@@ -24,7 +24,7 @@ impl Told for Loan {
     }
 }
 
-/// The containers that are out, each with its order and whose that is.
+/// The containers that are out, each with its order and the ticket of that order, as JSON.
 pub fn issued_now<P: Places, S: Alter>(
     alloc: Global,
     conn: &mut Connection<S>,

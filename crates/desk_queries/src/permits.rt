@@ -15,7 +15,7 @@ use sqlite::{Alter, Connection};
 use std::alloc::{AllocError, Global};
 
 impl Told for Permit {
-    ghost use Rattle.desk_queries.specs.Told.{permit_data};
+    ghost use Rattle.desk_queries.specs.JsonValues.{permit_data};
 
     ghost told = { permit_data };
 
@@ -25,7 +25,7 @@ impl Told for Permit {
     }
 }
 
-/// The permits of a ticket, by their units.
+/// The permits of a ticket, in order of unit, as JSON. The answer is `Unknown` if the ticket was not given.
 pub fn reader_permits<P: Places, S: Alter>(
     alloc: Global,
     conn: &mut Connection<S>,

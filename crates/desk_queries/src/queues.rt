@@ -10,7 +10,7 @@ ghost use Rattle.office_core.specs.State.{order_out};
 ghost use Rattle.office_core.specs.declared.query.Query.TheVariants as query;
 ghost use Rattle.office_tables.specs.Step.{InTransaction};
 ghost use Rattle.refinement.specs.QueryAnswers.{AnswersQuery};
-ghost use Rattle.desk_queries.specs.Told.{queue_data};
+ghost use Rattle.desk_queries.specs.JsonValues.{queue_data};
 
 use crate::json_values::{Told, text_of, values_of};
 use catalogue_store::Places;
@@ -24,7 +24,7 @@ use sqlite::{Alter, Connection};
 use std::alloc::{AllocError, Global};
 
 impl Told for WaitingOrder {
-    ghost use Rattle.desk_queries.specs.Told.{waiting_data};
+    ghost use Rattle.desk_queries.specs.JsonValues.{waiting_data};
 
     ghost told = { waiting_data };
 
@@ -33,7 +33,7 @@ impl Told for WaitingOrder {
     }
 }
 
-/// The order that a container is out with, where it is out.
+/// The order that a container is out with, or null if it is not out.
 fn out_value(place: Place) -> Value
     ensures { view result ≡ or_null (option_map count (order_out place)) }
 {
@@ -54,7 +54,7 @@ fn name_of(place: Place) -> &'static str
     }
 }
 
-/// What is told of a container.
+/// The JSON object of a container: its name, where it is, and who waits for it.
 fn queue_value(alloc: Global, container: u64, queue: &ContainerQueue) -> Result<Value, AllocError>
     ensures { IfOk result (λ v. view v ≡ queue_data container queue.now) }
 {
@@ -71,7 +71,7 @@ fn queue_value(alloc: Global, container: u64, queue: &ContainerQueue) -> Result<
     })
 }
 
-/// The same as bytes.
+/// The bytes of that object.
 fn queue_text(alloc: Global, container: u64, queue: &ContainerQueue) -> Result<List<u8>, AllocError>
     ensures { IfOk result (λ text. text ≡ compact_text (queue_data container queue.now)) }
 {
@@ -79,7 +79,7 @@ fn queue_text(alloc: Global, container: u64, queue: &ContainerQueue) -> Result<L
     text_of(alloc, &value)
 }
 
-/// Where a container is, and who waits for it.
+/// Where a container is, and who waits for it, as JSON. The answer is `Unknown` if the container is not known.
 pub fn queue<P: Places, S: Alter>(
     alloc: Global,
     conn: &mut Connection<S>,

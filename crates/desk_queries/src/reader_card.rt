@@ -8,7 +8,7 @@ ghost use Rattle.office_core.specs.Json.{count, or_null};
 ghost use Rattle.office_core.specs.declared.query.Query.TheVariants as query;
 ghost use Rattle.office_tables.specs.Step.{InTransaction};
 ghost use Rattle.refinement.specs.QueryAnswers.{AnswersQuery};
-ghost use Rattle.desk_queries.specs.Told.{card_data};
+ghost use Rattle.desk_queries.specs.JsonValues.{card_data};
 
 use crate::json_values::{Told, day_value, text_of, values_of};
 use catalogue_store::Places;
@@ -20,7 +20,7 @@ use serde_json::{Value, json};
 use sqlite::{Alter, Connection};
 use std::alloc::{AllocError, Global};
 
-/// What has become of an order that has not ended.
+/// The name of the state of an order that has not ended.
 fn state_name(is_out: bool) -> &'static str
     ensures { result.now ≡ cond is_out (codes "out") (codes "waiting") }
 {
@@ -28,7 +28,7 @@ fn state_name(is_out: bool) -> &'static str
 }
 
 impl Told for LiveOrder {
-    ghost use Rattle.desk_queries.specs.Told.{live_data};
+    ghost use Rattle.desk_queries.specs.JsonValues.{live_data};
 
     ghost told = { live_data };
 
@@ -38,7 +38,7 @@ impl Told for LiveOrder {
     }
 }
 
-/// The seat on which a reader sits, where there is one.
+/// The seat of a reader, or null if the reader has none.
 fn seat_value(seat: Option<u32>) -> Value
     ensures { view result ≡ or_null (option_map count seat) }
 {
@@ -48,7 +48,7 @@ fn seat_value(seat: Option<u32>) -> Value
     }
 }
 
-/// What is told of a reader.
+/// The JSON object of a reader's card.
 fn card_value(alloc: Global, card: &ReaderCard) -> Result<Value, AllocError>
     ensures { IfOk result (λ v. view v ≡ card_data card.now) }
 {
@@ -60,7 +60,7 @@ fn card_value(alloc: Global, card: &ReaderCard) -> Result<Value, AllocError>
     json!(in alloc; {"name": name, "orders": orders, "seat": seat, "ticket": ticket, "until": until})
 }
 
-/// The same as bytes.
+/// The bytes of that object.
 fn card_text(alloc: Global, card: &ReaderCard) -> Result<List<u8>, AllocError>
     ensures { IfOk result (λ text. text ≡ compact_text (card_data card.now)) }
 {
@@ -68,7 +68,8 @@ fn card_text(alloc: Global, card: &ReaderCard) -> Result<List<u8>, AllocError>
     text_of(alloc, &value)
 }
 
-/// What is known of a reader today, with the orders of his ticket that wait or are out.
+/// A reader's name, last day and seat, and the orders of the ticket that wait or are out, as JSON. The answer is
+/// `Unknown` if the ticket was not given.
 pub fn reader_orders<P: Places, S: Alter>(
     alloc: Global,
     conn: &mut Connection<S>,

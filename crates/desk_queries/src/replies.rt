@@ -1,4 +1,4 @@
-//! What is told of a command, as JSON.
+//! The replies to commands, as JSON.
 
 ghost use Rattle.std.specs.Prelude.{◌≡◌, [], ◌∷◌, codes, map, IfOk};
 ghost use Rattle.serde_json.specs.View.{view};
@@ -34,14 +34,14 @@ impl Told for Remark {
     }
 }
 
-/// A number under a key.
+/// A JSON object with a number under one key.
 fn numbered(alloc: Global, key: &str, number: u64) -> Result<Value, AllocError>
     ensures { IfOk result (λ v. view v ≡ fields ((key.now, count number) ∷ [])) }
 {
     json!(in alloc; {key: number})
 }
 
-/// A list of numbers under a key.
+/// A JSON object with a list of numbers under one key.
 fn listed(alloc: Global, key: &str, numbers: &[u64]) -> Result<Value, AllocError>
     ensures { IfOk result (λ v. view v ≡ fields ((key.now, list (map count numbers.now)) ∷ [])) }
 {
@@ -49,7 +49,7 @@ fn listed(alloc: Global, key: &str, numbers: &[u64]) -> Result<Value, AllocError
     json!(in alloc; {key: values})
 }
 
-/// A day under its key.
+/// A JSON object with a day under the key `day`.
 fn opened(alloc: Global, day: Day) -> Result<Value, AllocError>
     ensures { IfOk result (λ v. view v ≡ fields ((codes "day", date day) ∷ [])) }
 {
@@ -57,7 +57,7 @@ fn opened(alloc: Global, day: Day) -> Result<Value, AllocError>
     json!(in alloc; {"day": day})
 }
 
-/// What is told of a file that was taken in.
+/// The reply to an import of a file.
 fn imported(
     alloc: Global,
     changed: u64,
@@ -78,7 +78,7 @@ fn imported(
     })
 }
 
-/// What is told of a permit.
+/// The reply to a command that granted a permit.
 fn permitted(alloc: Global, ticket: u64, unit: u64, until: Day) -> Result<Value, AllocError>
     ensures { IfOk result (λ v. view v ≡ done_json (done.Permit ticket unit until)) }
 {
@@ -86,7 +86,7 @@ fn permitted(alloc: Global, ticket: u64, unit: u64, until: Day) -> Result<Value,
     json!(in alloc; {"ticket": ticket, "unit": unit, "until": until})
 }
 
-/// What is told of a command that was done.
+/// The reply to a command that was done.
 fn done_value(alloc: Global, done: &Done) -> Result<Value, AllocError>
     ensures { IfOk result (λ v. view v ≡ done_json done.now) }
 {
@@ -129,7 +129,7 @@ fn done_value(alloc: Global, done: &Done) -> Result<Value, AllocError>
     }
 }
 
-/// What is told of a command that was refused.
+/// The reply to a command that was refused.
 fn refusal_value(alloc: Global, why: Refusal) -> Result<Value, AllocError>
     ensures { IfOk result (λ v. view v ≡ refusal_json why) }
 {
@@ -146,7 +146,7 @@ fn refusal_value(alloc: Global, why: Refusal) -> Result<Value, AllocError>
     }
 }
 
-/// What is told of a command, done or refused.
+/// The reply to a command, done or refused.
 fn reply_value(alloc: Global, reply: &Result<Done, Refusal>) -> Result<Value, AllocError>
     ensures { IfOk result (λ v. view v ≡ reply_json reply.now) }
 {
@@ -156,7 +156,7 @@ fn reply_value(alloc: Global, reply: &Result<Done, Refusal>) -> Result<Value, Al
     }
 }
 
-/// The bytes that tell of a command, done or refused. There is no fault but want of memory.
+/// The bytes of the reply to a command, done or refused. The call fails only for want of memory.
 pub fn json_of(alloc: Global, reply: &Result<Done, Refusal>) -> Result<List<u8>, AllocError>
     ensures { IfOk result (λ text. text ≡ reply_text reply.now) }
 {

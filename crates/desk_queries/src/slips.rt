@@ -13,7 +13,8 @@ use office_tables::StoreFault;
 use sqlite::{Alter, Connection};
 use std::alloc::Global;
 
-/// The slip of a run: what it brought, in the order in which the containers stand on the shelves.
+/// The slip of a run: what it brought, in the order in which the containers stand on the shelves. The answer is
+/// `Unknown` if there was no such run.
 pub fn run_slip<P: Places, S: Alter>(
     alloc: Global,
     conn: &mut Connection<S>,

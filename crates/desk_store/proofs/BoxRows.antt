@@ -5,7 +5,7 @@ use Rattle.std.specs.Prelude.{IsSome, option_map, option_to_list, slice_get}
 use Rattle.std.specs.Cmp.{IsTotalOrder, on_total, int_cmp_total}
 use Rattle.std.specs.List.{AllByRecursion}
 use Rattle.std.specs.Ordering.{int_cmp}
-use Rattle.isad_core.specs.Legible.{IsLegibleBox}
+use Rattle.isad_core.specs.LegibleValues.{IsLegibleBox}
 use Rattle.isad_core.specs.declared.values.BoxKey.{BoxKey}
 use Rattle.sqlite.specs.declared.types.Value.TheVariants.{Int, Text}
 use Rattle.sqlite.specs.Order.{Row}
@@ -19,12 +19,12 @@ use Rattle.sqlite_sql.specs.declared.ops.BinaryOp.TheVariants.{Compare}
 use Rattle.sqlite_sql.specs.declared.ops.CompareOp.TheVariants.{Eq}
 use Rattle.sqlite_tied.specs.Compute.{everything}
 use Rattle.tree_core.specs.Versions.{Version, Links, Spans}
-use Rattle.office_tables.specs.Asking.{Finds, Misses}
+use Rattle.office_tables.specs.Query.{Finds, Misses}
 use Rattle.office_tables.specs.Faults.{IsUnlimited, HasCause}
-use Rattle.office_tables.specs.Meaning.{Means}
+use Rattle.office_tables.specs.StatementMeaning.{Means}
 use Rattle.office_tables.specs.Order.{IsOrdered}
 use Rattle.office_tables.specs.Schema.{schema, container}
-use Rattle.office_tables.specs.Shared.{container_row}
+use Rattle.office_tables.specs.SharedRows.{container_row}
 use Rattle.office_tables.specs.Step.{Holds}
 use Rattle.office_tables.specs.declared.fault.StoreFault.{StoreFault}
 use Rattle.office_tables.proofs.Reading.{first_shown}

@@ -22,9 +22,9 @@ use Rattle.tree_core.specs.Versions.{Version, Links, Spans}
 use Rattle.isad_core.specs.Days.{is_day_number}
 use Rattle.isad_core.specs.declared.values.BoxKey.{BoxKey}
 use Rattle.desk_core.specs.DeskRows.{RunRow}
-use Rattle.office_tables.specs.Asking.{Finds, Misses}
+use Rattle.office_tables.specs.Query.{Finds, Misses}
 use Rattle.office_tables.specs.Faults.{IsUnlimited, HasCause}
-use Rattle.office_tables.specs.Meaning.{Means}
+use Rattle.office_tables.specs.StatementMeaning.{Means}
 use Rattle.office_tables.specs.Order.{IsOrdered}
 use Rattle.office_tables.specs.Schema.{schema, run}
 use Rattle.office_tables.specs.Step.{Holds}

@@ -1,4 +1,4 @@
--- A reader's card: its parts are read one after another, and nothing is changed between them.
+-- A reader's card, and the holder of a ticket: the parts are read one after another, and nothing is changed between them.
 use Rattle.std.proofs.Common.{◌≡◌, ℕ, ℤ, suc, ◌+◌, ◌<◌, ◌≤◌, ◌^◌, ◌&&◌, true, false, Bool, cond, nat_eq, List, [], ◌∷◌, map, filter, length, find, Some, None, refl, sym, ap, subst, ◌∙◌, arith}
 use Rattle.std.specs.Prelude.{nat_lt, option_map, slice_get}
 use Rattle.std.specs.List.{AllByRecursion, count_by}
@@ -7,13 +7,17 @@ use Rattle.std.proofs.lemmas.List.{length-map}
 use Rattle.std.proofs.lemmas.List.Sums.{length-filter, count_by-le-length}
 use Rattle.isad_core.specs.Limits.{most_orders}
 use Rattle.desk_core.specs.DeskRows.{Desk, ReaderRow, SeatRow, OrderRow}
-use Rattle.desk_store.specs.Readers.{is_live, live_orders, held_with, seat_of, placed_on, card_of}
-use Rattle.office_tables.specs.Numbered.{AreCounted}
+use Rattle.desk_core.specs.declared.reader.Reader.{Reader}
+use Rattle.desk_core.proofs.Counts.{count_map}
+use Rattle.desk_store.specs.Readers.{is_live, live_orders, held_with, seat_of, placed_on, card_of, ticket_holder}
+use Rattle.office_tables.specs.RowNumbers.{AreCounted}
 use Rattle.desk_store.specs.declared.reader_summary.LiveOrder.{LiveOrder}
+use Rattle.desk_store.specs.declared.reader_summary.OrderLine.{OrderLine}
 use Rattle.desk_store.specs.declared.reader_summary.ReaderCard.{ReaderCard}
 use Rattle.desk_store.specs.declared.readers.NamedReader.{NamedReader}
 use Rattle.desk_store.specs.declared.taken_seats.TakenSeat.{TakenSeat}
 use Rattle.office_tables.proofs.numbered.Counted.{counted_within}
+use Rattle.desk_store.proofs.CardRows.{line_of}
 use Rattle.desk_store.proofs.ReaderRows.{named}
 use Rattle.desk_store.proofs.SeatRows.{taken}
 
@@ -59,16 +63,28 @@ out_of_live t xs =
     sym (length-filter (λ (l : LiveOrder). l.is_out) (map live_line (filter (λ (o : OrderRow). nat_eq t o.ticket && is_live o) xs)))
     ∙ same_out t xs ∙ length-filter (λ (o : OrderRow). nat_eq t o.ticket && nat_eq o.state 2) xs
 
+-- the lines of the orders tell the same
+pub out_of_lines : (t : ℕ) (xs : List OrderRow) → count_by (λ (l : OrderLine). nat_eq l.state 2) (map line_of (filter (λ (o : OrderRow). nat_eq t o.ticket && is_live o) xs)) ≡ count_by (λ (o : OrderRow). nat_eq t o.ticket && nat_eq o.state 2) xs
+out_of_lines t xs =
+    let kept = filter (λ (o : OrderRow). nat_eq t o.ticket && is_live o) xs in
+    count_map (λ (l : OrderLine). nat_eq l.state 2) line_of kept ∙ sym (count_map (λ (l : LiveOrder). l.is_out) live_line kept) ∙ out_of_live t xs
+
 -- a ticket has fewer orders than can be told
 few_kept : (p : OrderRow → Bool) (xs : List OrderRow) → length (filter p xs) ≤ length xs
 few_kept p xs = subst (λ n. n ≤ length xs) (sym (length-filter p xs)) (count_by-le-length p xs)
 
-pub few_live : (t : ℕ) (d : Desk) → length d.orders ≤ most_orders → length (live_orders t d) < 2 ^ 32
-few_live t d few =
+few_told : {X : Type 0} (f : OrderRow → X) (t : ℕ) (d : Desk) → length d.orders ≤ most_orders → length (map f (filter (λ (o : OrderRow). nat_eq t o.ticket && is_live o) d.orders)) < 2 ^ 32
+few_told f t d few =
     let kept = filter (λ (o : OrderRow). nat_eq t o.ticket && is_live o) d.orders in
-    let same = length-map kept live_line in
+    let same = length-map kept f in
     let fewer = few_kept (λ (o : OrderRow). nat_eq t o.ticket && is_live o) d.orders in
     omega (arith, same, fewer, few)
+
+pub few_live : (t : ℕ) (d : Desk) → length d.orders ≤ most_orders → length (live_orders t d) < 2 ^ 32
+few_live = few_told live_line
+
+pub few_lines : (t : ℕ) (d : Desk) → length d.orders ≤ most_orders → length (map line_of (filter (λ (o : OrderRow). nat_eq t o.ticket && is_live o) d.orders)) < 2 ^ 32
+few_lines = few_told line_of
 
 -- ---- the card
 
@@ -98,3 +114,13 @@ card_with t today d x = record {
 pub card_told : (t : ℕ) (today : ℤ) (d : Desk) (rows : List NamedReader) → rows ≡ map named (filter (λ (r : ReaderRow). nat_eq t r.ticket) d.readers) → option_map (card_with t today d) (slice_get rows 0) ≡ card_of t today d
 card_told t today d rows are =
     ap (λ l. option_map (card_with t today d) (slice_get l 0)) are ∙ sym (first_told named (card_with t today d) (λ (r : ReaderRow). nat_eq t r.ticket) d.readers)
+
+-- ---- the holder
+
+-- the holder that the ticket's row makes
+abbrev pub holder_with : ℕ → Desk → NamedReader → Reader
+holder_with t d x = record { ticket = t; until = x.until; seat = seat_of t d; held = held_with t d }
+
+pub holder_told : (t : ℕ) (d : Desk) (rows : List NamedReader) → rows ≡ map named (filter (λ (r : ReaderRow). nat_eq t r.ticket) d.readers) → option_map (holder_with t d) (slice_get rows 0) ≡ ticket_holder t d
+holder_told t d rows are =
+    ap (λ l. option_map (holder_with t d) (slice_get l 0)) are ∙ sym (first_told named (holder_with t d) (λ (r : ReaderRow). nat_eq t r.ticket) d.readers)

@@ -12,7 +12,7 @@ use Rattle.sqlite_sql.specs.declared.ops.CompareOp.TheVariants.{Lt}
 use Rattle.sqlite_value.specs.declared.keys.Key.{Key}
 use Rattle.sqlite_value.specs.Keys.{ascending}
 use Rattle.sqlite_value.proofs.OrderLemmas.{value_cmp-Int}
-use Rattle.office_tables.specs.Asking.{Finds}
+use Rattle.office_tables.specs.Query.{Finds}
 use Rattle.office_tables.specs.Order.{IsOrdered}
 use Rattle.office_tables.proofs.Queries.{asking}
 use Rattle.office_tables.proofs.statements.SelectOf.{select_finds, select_faults}
@@ -35,15 +35,15 @@ use Rattle.sqlite_tied.specs.Compute.{everything}
 use Rattle.tree_core.specs.Versions.{Version, Links, Spans}
 use Rattle.isad_core.specs.Limits.{most_orders}
 use Rattle.desk_core.specs.DeskRows.{OrderRow}
-use Rattle.office_tables.specs.Asking.{FindsFirst, Misses}
+use Rattle.office_tables.specs.Query.{FindsFirst, Misses}
 use Rattle.office_tables.specs.Faults.{IsUnlimited, HasCause}
-use Rattle.office_tables.specs.Meaning.{Means}
+use Rattle.office_tables.specs.StatementMeaning.{Means}
 use Rattle.office_tables.specs.Schema.{schema, orders}
 use Rattle.office_tables.specs.Step.{Holds}
 use Rattle.office_tables.specs.declared.fault.StoreFault.{StoreFault}
 use Rattle.office_tables.proofs.Tests.{both, same_number, eq_ints}
 use Rattle.desk_store.specs.Rows.{order_cells}
-use Rattle.office_tables.specs.Numbered.{AreCounted}
+use Rattle.office_tables.specs.RowNumbers.{AreCounted}
 use Rattle.office_tables.proofs.statements.CountOf.{counting, count_finds, count_faults}
 use Rattle.office_tables.proofs.statements.LastOf.{last_of, last_finds, last_faults}
 

@@ -7,8 +7,8 @@ use Rattle.desk_core.specs.DeskRows.{Desk, ReaderRow, SeatRow, OrderRow, Holding
 use Rattle.office_tables.specs.Step.{OnlyTouches}
 use Rattle.desk_store.specs.Rows.{reader_cells, seat_cells, order_cells, holding_cells, run_cells, run_line_cells}
 use Rattle.office_tables.specs.Permits.{permit_cells}
-use Rattle.desk_store.specs.Represents.{RepresentsDesk, IsNumberOf}
-use Rattle.office_tables.specs.Numbered.{AreCounted, AreByNumber, HasNumbered}
+use Rattle.desk_store.specs.Representation.{RepresentsDesk, IsNumberOf}
+use Rattle.office_tables.specs.RowNumbers.{AreCounted, AreByNumber, HasNumbered}
 use Rattle.office_tables.specs.Schema as tables
 use Rattle.office_tables.proofs.numbered.OwnNumbers.{still_numbered}
 use Rattle.desk_store.proofs.NumbersOf.{widened}

@@ -33,17 +33,17 @@ use Rattle.tree_core.specs.Versions.{Version, Links, Spans}
 use Rattle.desk_core.specs.DeskRows.{Desk, HoldingRow}
 use Rattle.desk_core.specs.declared.reader.Place.TheVariants.{Shelf}
 use Rattle.office_tables.specs.Calls.{Makes}
-use Rattle.office_tables.specs.Changing.{Leaves, Ran}
+use Rattle.office_tables.specs.ChangeStatement.{Leaves, Ran}
 use Rattle.office_tables.specs.Faults.{FaultsHaveCause, IsUnlimited, HasCause}
-use Rattle.office_tables.specs.Meaning.{Means}
+use Rattle.office_tables.specs.StatementMeaning.{Means}
 use Rattle.office_tables.specs.Schema.{schema, holding}
 use Rattle.office_tables.specs.Schema as tables
 use Rattle.office_tables.specs.Step.{Goes, Holds, HasRows, OnlyTouches, PutsRow}
 use Rattle.office_tables.specs.declared.fault.StoreFault.{StoreFault}
 use Rattle.desk_store.specs.Holdings.{put_down, with_place}
 use Rattle.desk_store.specs.Rows.{holding_cells}
-use Rattle.desk_store.specs.Represents.{RepresentsDesk, RepresentsDeskAlone, IsLegible}
-use Rattle.office_tables.specs.Numbered.{AreByNumber}
+use Rattle.desk_store.specs.Representation.{RepresentsDesk, RepresentsDeskAlone, IsLegible}
+use Rattle.office_tables.specs.RowNumbers.{AreByNumber}
 use Rattle.office_tables.proofs.Calls.{early, goes_then, cut_then, on_ok_then, on_err_then}
 use Rattle.office_tables.proofs.Casts.{cast_int, cast_null, cast_maybe}
 use Rattle.office_tables.proofs.Causes.{still_unlimited}

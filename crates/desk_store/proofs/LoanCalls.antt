@@ -6,7 +6,7 @@ use Rattle.std.proofs.lemmas.List.{take_more, take_all}
 use Rattle.std.proofs.lemmas.List.Elements.{filter_map-append}
 use Rattle.desk_core.specs.DeskRows.{OrderRow, HoldingRow}
 use Rattle.desk_store.specs.Holdings.{ticket_of, loan_by, issued_by}
-use Rattle.office_tables.specs.Numbered.{AreCounted}
+use Rattle.office_tables.specs.RowNumbers.{AreCounted}
 use Rattle.desk_store.specs.declared.holdings.Loan.{Loan}
 use Rattle.desk_store.specs.declared.loans.HoldingLine.{HoldingLine}
 use Rattle.desk_store.proofs.CardCalls.{first_told, unknown}

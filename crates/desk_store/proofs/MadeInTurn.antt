@@ -13,7 +13,7 @@ use Rattle.desk_core.specs.declared.reader.Place.{Place}
 use Rattle.desk_core.specs.declared.reader.Place.TheVariants.{Shelf, Desk as AtTheDesk, Out}
 use Rattle.desk_store.specs.Holdings.{placed_at, put_down, with_place}
 use Rattle.desk_store.specs.Orders.{state_number, with_order_state}
-use Rattle.desk_store.specs.Represents.{IsLegible, RepresentsDeskAlone}
+use Rattle.desk_store.specs.Representation.{IsLegible, RepresentsDeskAlone}
 use Rattle.desk_store.specs.declared.orders.OrderState.{OrderState}
 use Rattle.desk_store.specs.declared.orders.OrderState.TheVariants.{Waiting, «Out» as WithReader, Done, Cancelled}
 use Rattle.office_tables.specs.Calls.{Updates}

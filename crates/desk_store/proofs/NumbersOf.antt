@@ -3,7 +3,7 @@ use Rattle.std.proofs.Common.{◌≡◌, ◌≤◌, ◌<◌, ℕ, false, nat_eq,
 use Rattle.std.specs.List.{AllByRecursion}
 use Rattle.std.proofs.lemmas.Bool.Decides.{nat_tests}
 use Rattle.sqlite_trees.proofs.ListLemmas.{all_weaker}
-use Rattle.desk_store.specs.Represents.{IsNumberOf}
+use Rattle.desk_store.specs.Representation.{IsNumberOf}
 
 module _ {R A : Type 0} (number : A → ℕ) where
   -- where there are more rows, they still do

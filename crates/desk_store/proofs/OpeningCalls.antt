@@ -7,11 +7,11 @@ use Rattle.sqlite.specs.State.{State, HasCleanDisk}
 use Rattle.sqlite_trees.specs.declared.store.Store as store
 use Rattle.desk_core.specs.DeskRows.{Desk, SeatRow}
 use Rattle.office_tables.specs.Calls.{Makes}
-use Rattle.office_tables.specs.Changing.{Leaves}
+use Rattle.office_tables.specs.ChangeStatement.{Leaves}
 use Rattle.office_tables.specs.Faults.{FaultsHaveCause}
 use Rattle.office_tables.specs.Schema.{seat, office}
 use Rattle.office_tables.specs.Schema as tables
-use Rattle.office_tables.specs.Shared.{OfficeRow, office_cells}
+use Rattle.office_tables.specs.SharedRows.{OfficeRow, office_cells}
 use Rattle.office_tables.specs.Step.{Goes, Holds, HasRows, OnlyTouches}
 use Rattle.office_tables.specs.declared.fault.StoreFault.{StoreFault}
 use Rattle.office_tables.proofs.Calls.{early, goes_then, cut_then, on_ok_then, on_err_then}
@@ -19,11 +19,11 @@ use Rattle.office_tables.proofs.Causes.{still_unlimited}
 use Rattle.office_tables.proofs.LaterCauses.{last_cause}
 use Rattle.office_tables.proofs.Touching.{touched_again, touched_wider}
 use Rattle.office_tables.proofs.numbered.OwnNumbers.{still_numbered}
-use Rattle.desk_store.specs.Opening.{RepresentsBoth, IsLegibleHouse, opened}
+use Rattle.desk_store.specs.OfficeDay.{RepresentsBoth, IsLegibleHouse, opened}
 use Rattle.desk_store.specs.Rows.{seat_cells, run_line_cells}
 use Rattle.office_tables.specs.Permits.{permit_cells}
-use Rattle.desk_store.specs.Represents.{RepresentsDesk}
-use Rattle.office_tables.specs.Numbered.{AreByNumber}
+use Rattle.desk_store.specs.Representation.{RepresentsDesk}
+use Rattle.office_tables.specs.RowNumbers.{AreByNumber}
 use Rattle.desk_store.proofs.Frames.{with_seats}
 use Rattle.office_tables.proofs.Sparing.{untouched, untouched_last, last_touched}
 

@@ -15,16 +15,16 @@ use Rattle.sqlite_sql.specs.declared.ops.CompareOp.TheVariants.{Eq}
 use Rattle.sqlite_tied.specs.Compute.{everything}
 use Rattle.tree_core.specs.Versions.{Version, Links, Spans}
 use Rattle.desk_core.specs.DeskRows.{SeatRow}
-use Rattle.office_tables.specs.Changing.{Ran}
+use Rattle.office_tables.specs.ChangeStatement.{Ran}
 use Rattle.office_tables.specs.Faults.{IsUnlimited, HasCause}
-use Rattle.office_tables.specs.Meaning.{Means}
+use Rattle.office_tables.specs.StatementMeaning.{Means}
 use Rattle.office_tables.specs.Schema.{schema, seat, office}
 use Rattle.office_tables.specs.Schema as tables
-use Rattle.office_tables.specs.Shared.{OfficeRow, office_cells}
+use Rattle.office_tables.specs.SharedRows.{OfficeRow, office_cells}
 use Rattle.office_tables.specs.Step.{Holds, HasRows, OnlyTouches}
 use Rattle.office_tables.specs.declared.fault.StoreFault.{StoreFault}
 use Rattle.desk_store.specs.Rows.{seat_cells}
-use Rattle.office_tables.specs.Numbered.{AreByNumber}
+use Rattle.office_tables.specs.RowNumbers.{AreByNumber}
 use Rattle.office_tables.proofs.Casts.{cast_int, cast_null}
 use Rattle.office_tables.proofs.Queries.{choosing}
 use Rattle.office_tables.proofs.statements.DeleteOf.{delete_leaves, delete_faults}

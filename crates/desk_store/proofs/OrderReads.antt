@@ -18,9 +18,9 @@ use Rattle.sqlite_trees.proofs.ListLemmas.{all_weaker}
 use Rattle.tree_core.specs.Versions.{Version, Links, Spans}
 use Rattle.isad_core.specs.Days.{is_day_number}
 use Rattle.desk_core.specs.DeskRows.{OrderRow}
-use Rattle.office_tables.specs.Asking.{Finds, Misses}
+use Rattle.office_tables.specs.Query.{Finds, Misses}
 use Rattle.office_tables.specs.Faults.{IsUnlimited, HasCause}
-use Rattle.office_tables.specs.Meaning.{Means}
+use Rattle.office_tables.specs.StatementMeaning.{Means}
 use Rattle.office_tables.specs.Order.{IsOrdered}
 use Rattle.office_tables.specs.Schema.{schema, orders}
 use Rattle.office_tables.specs.Step.{Holds}
@@ -31,7 +31,7 @@ use Rattle.office_tables.proofs.statements.SelectOf.{select_finds, select_faults
 use Rattle.office_tables.proofs.Tests.{only, same_number, by_one_int}
 use Rattle.desk_store.specs.Orders.{state_number, IsThere}
 use Rattle.desk_store.specs.Rows.{order_cells}
-use Rattle.desk_store.specs.Represents.{IsLegibleOrder}
+use Rattle.desk_store.specs.Representation.{IsLegibleOrder}
 use Rattle.desk_store.specs.declared.orders.OrderEntry.{OrderEntry}
 use Rattle.desk_store.specs.declared.orders.PlacedOrder.{PlacedOrder}
 use Rattle.desk_store.proofs.CardRows.{by_order, in_order}

@@ -31,17 +31,17 @@ use Rattle.tree_core.specs.Versions.{Version, Links, Spans}
 use Rattle.isad_core.specs.Limits.{most_orders}
 use Rattle.desk_core.specs.DeskRows.{OrderRow, with_state}
 use Rattle.office_tables.specs.Calls.{Makes}
-use Rattle.office_tables.specs.Changing.{Leaves, Ran}
+use Rattle.office_tables.specs.ChangeStatement.{Leaves, Ran}
 use Rattle.office_tables.specs.Faults.{FaultsHaveCause, IsUnlimited, HasCause}
-use Rattle.office_tables.specs.Meaning.{Means}
+use Rattle.office_tables.specs.StatementMeaning.{Means}
 use Rattle.office_tables.specs.Schema.{schema, orders}
 use Rattle.office_tables.specs.Schema as tables
 use Rattle.office_tables.specs.Step.{Holds, HasRows, OnlyTouches, PutsRow}
 use Rattle.office_tables.specs.declared.fault.StoreFault.{StoreFault}
 use Rattle.desk_store.specs.Orders.{state_number, with_order, with_order_state, IsNextOrder}
 use Rattle.desk_store.specs.Rows.{order_cells}
-use Rattle.desk_store.specs.Represents.{RepresentsDeskAlone, IsLegible}
-use Rattle.office_tables.specs.Numbered.{AreCounted}
+use Rattle.desk_store.specs.Representation.{RepresentsDeskAlone, IsLegible}
+use Rattle.office_tables.specs.RowNumbers.{AreCounted}
 use Rattle.desk_store.specs.declared.orders.OrderState.{OrderState}
 use Rattle.office_tables.proofs.Calls.{on_ok_then}
 use Rattle.office_tables.proofs.Casts.{cast_int, cast_null}

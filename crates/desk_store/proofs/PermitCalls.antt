@@ -20,7 +20,7 @@ use Rattle.sqlite_trees.proofs.ListLemmas.{all-filter}
 use Rattle.sqlite_trees.specs.declared.store.Store as store
 use Rattle.desk_core.specs.DeskRows.{Desk, PermitRow}
 use Rattle.office_tables.specs.Calls.{Makes}
-use Rattle.office_tables.specs.Changing.{Leaves}
+use Rattle.office_tables.specs.ChangeStatement.{Leaves}
 use Rattle.office_tables.specs.Faults.{FaultsHaveCause}
 use Rattle.office_tables.specs.Order.{IsOrdered}
 use Rattle.office_tables.specs.Step.{Goes, PutsRow, OnlyTouches}
@@ -32,8 +32,8 @@ use Rattle.office_tables.proofs.Puts.{has_at}
 use Rattle.office_tables.proofs.Rows.{had}
 use Rattle.desk_store.specs.Permits.{by_unit, is_permit, without_permit, with_permit, granted, permits_of, revoked, HasUnitRow, MayHave}
 use Rattle.office_tables.specs.Permits.{permit_cells}
-use Rattle.desk_store.specs.Represents.{RepresentsDesk, RepresentsDeskAlone, IsLegible, IsNumberOf}
-use Rattle.office_tables.specs.Numbered.{HasNumbered}
+use Rattle.desk_store.specs.Representation.{RepresentsDesk, RepresentsDeskAlone, IsLegible, IsNumberOf}
+use Rattle.office_tables.specs.RowNumbers.{HasNumbered}
 use Rattle.office_tables.specs.Schema as tables
 use Rattle.desk_store.specs.declared.reader_permits.Permit.{Permit}
 use Rattle.desk_store.proofs.NumbersOf.{none_after}

@@ -29,10 +29,10 @@ use Rattle.sqlite_value.specs.Keys.{ascending, joined, first_key, plain}
 use Rattle.tree_core.specs.Versions.{Version, Links, Spans}
 use Rattle.isad_core.specs.Days.{is_day_number}
 use Rattle.desk_core.specs.DeskRows.{PermitRow}
-use Rattle.office_tables.specs.Asking.{Finds, Misses}
-use Rattle.office_tables.specs.Changing.{Ran}
+use Rattle.office_tables.specs.Query.{Finds, Misses}
+use Rattle.office_tables.specs.ChangeStatement.{Ran}
 use Rattle.office_tables.specs.Faults.{IsUnlimited, HasCause}
-use Rattle.office_tables.specs.Meaning.{Means}
+use Rattle.office_tables.specs.StatementMeaning.{Means}
 use Rattle.office_tables.specs.Order.{IsOrdered}
 use Rattle.office_tables.specs.Schema.{schema, to_unit, unit, permit}
 use Rattle.office_tables.specs.Schema as tables
@@ -40,7 +40,7 @@ use Rattle.office_tables.specs.Step.{OnlyTouches, PutsRow}
 use Rattle.office_tables.specs.declared.fault.StoreFault.{StoreFault}
 use Rattle.desk_store.specs.Permits.{is_permit, without_permit, HasUnitRow}
 use Rattle.office_tables.specs.Permits.{permit_cells}
-use Rattle.office_tables.specs.Numbered.{HasNumbered}
+use Rattle.office_tables.specs.RowNumbers.{HasNumbered}
 use Rattle.desk_store.specs.declared.reader_permits.Permit.{Permit}
 use Rattle.office_tables.proofs.Calls.{on_ok_then}
 use Rattle.office_tables.proofs.Casts.{cast_int, cast_null}

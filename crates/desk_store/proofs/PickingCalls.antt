@@ -6,8 +6,8 @@ use Rattle.std.specs.Ordering.{int_cmp}
 use Rattle.sqlite_trees.proofs.ListLemmas.{ascending-filter, ascending-map, filter-map}
 use Rattle.desk_core.specs.DeskRows.{Desk, OrderRow, HoldingRow}
 use Rattle.desk_store.specs.Holdings.{waits_for, is_on_shelf, is_first, candidates_of}
-use Rattle.desk_store.specs.Picking.{is_earliest, is_new}
-use Rattle.office_tables.specs.Numbered.{AreByNumber, AreCounted}
+use Rattle.desk_store.specs.RunCandidates.{is_earliest, is_new}
+use Rattle.office_tables.specs.RowNumbers.{AreByNumber, AreCounted}
 use Rattle.desk_store.specs.declared.holdings.FirstOrder.{FirstOrder}
 use Rattle.desk_store.specs.declared.loans.HoldingLine.{HoldingLine}
 use Rattle.office_tables.proofs.numbered.Counted.{counted_rises}

@@ -13,8 +13,8 @@ use Rattle.sqlite_rules.proofs.ListLemmas.{all_has}
 use Rattle.desk_core.proofs.Tests.{not_or}
 use Rattle.office_tables.proofs.Puts.{has_at}
 use Rattle.office_tables.proofs.numbered.Counted.{less_below}
-use Rattle.desk_store.specs.Picking.{is_earliest, is_new}
-use Rattle.office_tables.specs.Numbered.{AreByNumber}
+use Rattle.desk_store.specs.RunCandidates.{is_earliest, is_new}
+use Rattle.office_tables.specs.RowNumbers.{AreByNumber}
 use Rattle.desk_store.specs.declared.holdings.FirstOrder.{FirstOrder}
 
 -- ---- a set of numbers

@@ -20,9 +20,9 @@ use Rattle.tree_core.specs.Versions.{Version, Links, Spans}
 use Rattle.desk_core.specs.DeskRows.{HoldingRow}
 use Rattle.desk_core.specs.declared.reader.Place.{Place}
 use Rattle.desk_core.specs.declared.reader.Place.TheVariants.{Shelf, Desk as AtTheDesk, Out}
-use Rattle.office_tables.specs.Asking.{Finds, Misses}
+use Rattle.office_tables.specs.Query.{Finds, Misses}
 use Rattle.office_tables.specs.Faults.{IsUnlimited, HasCause}
-use Rattle.office_tables.specs.Meaning.{Means}
+use Rattle.office_tables.specs.StatementMeaning.{Means}
 use Rattle.office_tables.specs.Order.{IsOrdered}
 use Rattle.office_tables.specs.Schema.{schema, holding}
 use Rattle.office_tables.specs.Step.{Holds}
@@ -33,7 +33,7 @@ use Rattle.office_tables.proofs.statements.SelectOf.{select_finds, select_faults
 use Rattle.office_tables.proofs.Tests.{only, same_number, by_one_int}
 use Rattle.desk_store.specs.Orders.{IsAt}
 use Rattle.desk_store.specs.Rows.{holding_cells}
-use Rattle.desk_store.specs.Represents.{IsKnownPlace, IsLegibleHolding}
+use Rattle.desk_store.specs.Representation.{IsKnownPlace, IsLegibleHolding}
 use Rattle.desk_store.specs.declared.queues.PlaceEntry.{PlaceEntry}
 use Rattle.desk_store.proofs.CardRows.{in_order}
 use Rattle.desk_store.proofs.LoanRows.{by_container}

@@ -24,7 +24,7 @@ use Rattle.office_tables.proofs.LaterCauses.{next_cause}
 use Rattle.office_tables.proofs.Puts.{put_rows}
 use Rattle.desk_store.specs.Readers.{next_ticket, with_reader}
 use Rattle.desk_store.specs.Rows.{reader_cells}
-use Rattle.desk_store.specs.Represents.{RepresentsDesk, RepresentsDeskAlone, IsLegible}
+use Rattle.desk_store.specs.Representation.{RepresentsDesk, RepresentsDeskAlone, IsLegible}
 use Rattle.office_tables.proofs.numbered.Counted.{counted_more, counted_free, put_end}
 use Rattle.desk_store.proofs.Frames.{with_readers}
 use Rattle.office_tables.proofs.Sparing.{untouched, looked_spares}

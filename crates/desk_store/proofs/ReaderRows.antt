@@ -33,10 +33,10 @@ use Rattle.sqlite_value.specs.Keys.{ascending, joined}
 use Rattle.tree_core.specs.Versions.{Version, Links, Spans}
 use Rattle.isad_core.specs.Limits.{most_tickets}
 use Rattle.desk_core.specs.DeskRows.{ReaderRow}
-use Rattle.office_tables.specs.Asking.{Finds, FindsFirst, Misses}
-use Rattle.office_tables.specs.Changing.{Ran}
+use Rattle.office_tables.specs.Query.{Finds, FindsFirst, Misses}
+use Rattle.office_tables.specs.ChangeStatement.{Ran}
 use Rattle.office_tables.specs.Faults.{IsUnlimited, HasCause}
-use Rattle.office_tables.specs.Meaning.{Means}
+use Rattle.office_tables.specs.StatementMeaning.{Means}
 use Rattle.office_tables.specs.Order.{IsOrdered}
 use Rattle.office_tables.specs.Schema.{schema, reader}
 use Rattle.office_tables.specs.Schema as tables
@@ -44,8 +44,8 @@ use Rattle.office_tables.specs.Step.{Holds, HasRows, OnlyTouches, PutsRow}
 use Rattle.office_tables.specs.declared.fault.StoreFault.{StoreFault}
 use Rattle.desk_store.specs.Readers.{renewed}
 use Rattle.desk_store.specs.Rows.{reader_cells}
-use Rattle.desk_store.specs.Represents.{IsLegibleReader}
-use Rattle.office_tables.specs.Numbered.{AreCounted}
+use Rattle.desk_store.specs.Representation.{IsLegibleReader}
+use Rattle.office_tables.specs.RowNumbers.{AreCounted}
 use Rattle.desk_store.specs.declared.readers.NamedReader.{NamedReader}
 use Rattle.office_tables.proofs.Casts.{cast_int, cast_null}
 use Rattle.office_tables.proofs.InsertCauses.{IsWelcome}

@@ -9,7 +9,7 @@ use Rattle.isad_core.specs.Limits.{IsNumber}
 use Rattle.desk_core.specs.DeskRows.{Desk, OrderRow, HoldingRow}
 use Rattle.office_tables.proofs.Puts.{has_at}
 use Rattle.desk_store.specs.Holdings.{waits_for, at_desk_of}
-use Rattle.desk_store.specs.Represents.{IsLegibleHolding}
+use Rattle.desk_store.specs.Representation.{IsLegibleHolding}
 
 abbrev pub is_at_desk : HoldingRow → Bool
 is_at_desk h = nat_eq 1 h.place

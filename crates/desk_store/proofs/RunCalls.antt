@@ -25,8 +25,8 @@ use Rattle.office_tables.proofs.Puts.{put_rows}
 use Rattle.office_tables.proofs.Touching.{touched_again, touched_wider}
 use Rattle.desk_store.specs.Rows.{run_cells, run_line_cells}
 use Rattle.desk_store.specs.Runs.{next_run, line_of, with_run, TakesEachOnce}
-use Rattle.desk_store.specs.Represents.{RepresentsDesk, RepresentsDeskAlone, IsLegible, IsNumberOf}
-use Rattle.office_tables.specs.Numbered.{HasNumbered}
+use Rattle.desk_store.specs.Representation.{RepresentsDesk, RepresentsDeskAlone, IsLegible, IsNumberOf}
+use Rattle.office_tables.specs.RowNumbers.{HasNumbered}
 use Rattle.office_tables.specs.Schema as tables
 use Rattle.desk_store.specs.declared.holdings.FirstOrder.{FirstOrder}
 use Rattle.office_tables.proofs.numbered.Counted.{counted_more, counted_free, put_end}

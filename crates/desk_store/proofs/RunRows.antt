@@ -30,16 +30,16 @@ use Rattle.sqlite_trees.proofs.ListLemmas.{all_of}
 use Rattle.tree_core.specs.Versions.{Version, Links, Spans}
 use Rattle.isad_core.specs.Limits.{most_runs}
 use Rattle.desk_core.specs.DeskRows.{RunRow, RunLineRow}
-use Rattle.office_tables.specs.Asking.{Finds, FindsFirst, Misses}
-use Rattle.office_tables.specs.Changing.{Ran}
+use Rattle.office_tables.specs.Query.{Finds, FindsFirst, Misses}
+use Rattle.office_tables.specs.ChangeStatement.{Ran}
 use Rattle.office_tables.specs.Faults.{IsUnlimited, HasCause}
-use Rattle.office_tables.specs.Meaning.{Means}
+use Rattle.office_tables.specs.StatementMeaning.{Means}
 use Rattle.office_tables.specs.Schema.{schema, run, run_line}
 use Rattle.office_tables.specs.Schema as tables
 use Rattle.office_tables.specs.Step.{Holds, OnlyTouches, PutsRow}
 use Rattle.office_tables.specs.declared.fault.StoreFault.{StoreFault}
 use Rattle.desk_store.specs.Rows.{run_cells, run_line_cells}
-use Rattle.office_tables.specs.Numbered.{AreCounted, HasNumbered}
+use Rattle.office_tables.specs.RowNumbers.{AreCounted, HasNumbered}
 use Rattle.desk_store.specs.declared.runs.TakenLine.{TakenLine}
 use Rattle.office_tables.proofs.Calls.{on_ok_then}
 use Rattle.office_tables.proofs.Casts.{cast_int, cast_null}

@@ -8,7 +8,7 @@ use Rattle.sqlite_trees.proofs.ListLemmas.{ascending-filter}
 use Rattle.sqlite_trees.specs.declared.store.Store as store
 use Rattle.desk_core.specs.DeskRows.{SeatRow}
 use Rattle.office_tables.specs.Calls.{Makes}
-use Rattle.office_tables.specs.Changing.{Leaves}
+use Rattle.office_tables.specs.ChangeStatement.{Leaves}
 use Rattle.office_tables.specs.Faults.{FaultsHaveCause}
 use Rattle.office_tables.specs.Schema.{seat}
 use Rattle.office_tables.specs.Schema as tables
@@ -18,8 +18,8 @@ use Rattle.office_tables.proofs.Calls.{on_ok_then}
 use Rattle.office_tables.proofs.Puts.{put_rows, put_rises}
 use Rattle.desk_store.specs.Rows.{seat_cells}
 use Rattle.desk_store.specs.Seats.{MayTake, with_seat}
-use Rattle.desk_store.specs.Represents.{RepresentsDeskAlone, IsLegible}
-use Rattle.office_tables.specs.Numbered.{AreByNumber}
+use Rattle.desk_store.specs.Representation.{RepresentsDeskAlone, IsLegible}
+use Rattle.office_tables.specs.RowNumbers.{AreByNumber}
 use Rattle.desk_store.proofs.Frames.{with_seats}
 use Rattle.office_tables.proofs.Sparing.{untouched_last}
 

@@ -20,9 +20,9 @@ use Rattle.sqlite_trees.proofs.ListLemmas.{all_of}
 use Rattle.tree_core.specs.Versions.{Version, Links, Spans}
 use Rattle.isad_core.specs.Limits.{most_orders}
 use Rattle.desk_core.specs.DeskRows.{OrderRow}
-use Rattle.office_tables.specs.Asking.{Finds, FindsFirst, Misses}
+use Rattle.office_tables.specs.Query.{Finds, FindsFirst, Misses}
 use Rattle.office_tables.specs.Faults.{IsUnlimited, HasCause}
-use Rattle.office_tables.specs.Meaning.{Means}
+use Rattle.office_tables.specs.StatementMeaning.{Means}
 use Rattle.office_tables.specs.Order.{IsOrdered}
 use Rattle.office_tables.specs.Schema.{schema, orders}
 use Rattle.office_tables.specs.Step.{Holds}

@@ -4,13 +4,13 @@ use Rattle.std.specs.List.{list_any}
 use Rattle.desk_core.specs.declared.reader.Place.{Place}
 use Rattle.desk_core.specs.declared.reader.Place.TheVariants.{Shelf, Desk as AtTheDesk, Out}
 use Rattle.desk_core.specs.DeskRows.{Desk, HoldingRow, OrderRow}
-use Rattle.office_tables.specs.Put.{put_by}
+use Rattle.office_tables.specs.OrderedInsertion.{put_by}
 use Rattle.desk_store.specs.declared.holdings.Loan.{Loan}
 use Rattle.desk_store.specs.declared.holdings.FirstOrder.{FirstOrder}
 
 -- ---- a container goes to another place
 
--- the order that it is out with
+-- the order that a container in this place is out with
 abbrev pub by_order : Place → Option ℕ
 by_order Shelf = None
 by_order AtTheDesk = None
@@ -19,7 +19,7 @@ by_order (Out o) = Some o
 abbrev pub put_down : HoldingRow → List HoldingRow → List HoldingRow
 put_down = put_by (λ (h : HoldingRow). pos h.container)
 
--- on the shelf it has no row
+-- a container on the shelf has no row
 abbrev pub placed_at : ℕ → Place → List HoldingRow → List HoldingRow
 placed_at c Shelf holdings = filter (λ h. not (nat_eq c h.container)) holdings
 placed_at c AtTheDesk holdings = put_down (record { container = c; place = 1; held_by = None }) holdings
@@ -28,31 +28,31 @@ placed_at c (Out o) holdings = put_down (record { container = c; place = 2; held
 abbrev pub with_place : ℕ → Place → Desk → Desk
 with_place c place d = record d { holdings = placed_at c place d.holdings }
 
--- ---- those that are with readers
+-- ---- containers that are with readers
 
 -- the ticket of an order
 abbrev pub ticket_of : List OrderRow → ℕ → Option ℕ
 ticket_of orders o = option_map (λ (row : OrderRow). row.ticket) (find (λ (row : OrderRow). nat_eq o row.id) orders)
 
--- a container that is out with an order, where it is one: with whom
+-- the loan of a container that is held by this order; none without an order, or if there is no such order
 abbrev pub loan_by : List OrderRow → ℕ → Option ℕ → Option Loan
 loan_by orders c held_by =
     option_and_then (λ o. option_map (λ t. record { container = c; order = o; ticket = t }) (ticket_of orders o)) held_by
 
--- the container is out: with which order, and with whom
+-- the loan of the container in this row
 abbrev pub issued_by : List OrderRow → HoldingRow → Option Loan
 issued_by orders h = loan_by orders h.container h.held_by
 
--- by their numbers
+-- the containers that are with readers, by number
 abbrev pub issued_of : Desk → List Loan
 issued_of d = filter_map (issued_by d.orders) d.holdings
 
--- ---- those that may move
+-- ---- containers that may move
 
 abbrev pub waits_for : ℕ → OrderRow → Bool
 waits_for c o = nat_eq 1 o.state && nat_eq c o.container
 
--- the containers at the desk, by number, each with whether an order waits for it
+-- the containers at the desk, by number, each with a flag: whether an order waits for it
 abbrev pub at_desk_of : Desk → List (ℕ × Bool)
 at_desk_of d =
     map (λ (h : HoldingRow). (h.container, list_any (waits_for h.container) d.orders)) (filter (λ h. nat_eq 1 h.place) d.holdings)
@@ -60,11 +60,12 @@ at_desk_of d =
 abbrev pub is_on_shelf : Desk → ℕ → Bool
 is_on_shelf d c = not (list_any (λ (h : HoldingRow). nat_eq c h.container) d.holdings)
 
--- no order that waits for its container came before it
+-- the order waits, and no order that waits for its container came before it
 abbrev pub is_first : Desk → OrderRow → Bool
 is_first d o = nat_eq 1 o.state && not (list_any (λ other. waits_for o.container other && nat_lt other.id o.id) d.orders)
 
--- what a run may take: the containers on the shelf for which an order waits, each with the first of them, by these orders
+-- what a run may take: the containers on the shelf for which an order waits, each with its first order, sorted by the
+-- numbers of these orders
 abbrev pub candidates_of : Desk → List FirstOrder
 candidates_of d =
     map (λ (o : OrderRow). record { container = o.container; order = o.id; ticket = o.ticket })

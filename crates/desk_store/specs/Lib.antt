@@ -1,12 +1,12 @@
-pub mod Making
+pub mod TableCreation
 pub mod Rows
-pub mod Represents
+pub mod Representation
 pub mod Readers
 pub mod Seats
 pub mod Orders
 pub mod Holdings
 pub mod Runs
 pub mod Permits
-pub mod Opening
+pub mod OfficeDay
 pub mod Stacks
-pub mod Picking
+pub mod RunCandidates

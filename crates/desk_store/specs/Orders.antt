@@ -13,21 +13,21 @@ use Rattle.desk_store.specs.declared.queues.ContainerQueue.{ContainerQueue}
 
 -- ---- orders
 
--- an order waits, is out, is done or is cancelled
+-- the number that represents a state in the table
 abbrev pub state_number : OrderState → ℕ
 state_number Waiting = 1
 state_number WithReader = 2
 state_number Done = 3
 state_number Cancelled = 4
 
--- the order as it was placed, in the state that it is in
+-- the order has the ticket, the container, the day and the state of its row
 abbrev pub IsOrder : OrderRow → PlacedOrder → Type 0
 IsOrder row o = (o.ticket ≡ row.ticket) × (o.container ≡ row.container) × (o.day ≡ row.day) × (state_number o.state ≡ row.state)
 
 abbrev pub order_with : ℕ → Desk → Option OrderRow
 order_with o d = find (λ (row : OrderRow). nat_eq o row.id) d.orders
 
--- what is told of an order that may be there
+-- the answer about an order that may exist: the order, or none
 abbrev pub IsThere : Option OrderRow → Option PlacedOrder → Type 0
 IsThere None found = found ≡ None
 IsThere (Some row) None = ⊥
@@ -38,17 +38,17 @@ abbrev pub with_order : ℕ → ℕ → ℤ → Desk → Desk
 with_order t c day d =
     record d { orders = d.orders ++ record { id = suc (length d.orders); ticket = t; container = c; day = day; state = 1 } ∷ [] }
 
--- there may be one more, and this is its number
+-- one more order is allowed, and this is its number
 abbrev pub IsNextOrder : ℕ → Desk → Type 0
 IsNextOrder o d = (length d.orders < most_orders) × (o ≡ suc (length d.orders))
 
--- the order is in another state from now on
+-- the desk with the order in this state
 abbrev pub with_order_state : ℕ → OrderState → Desk → Desk
 with_order_state o state d = record d { orders = with_state o (state_number state) d.orders }
 
 -- ---- the queue of a container
 
--- its orders that wait, by number
+-- the orders that wait for the container, by number
 abbrev pub queue_of : ℕ → Desk → List WaitingOrder
 queue_of c d =
     map (λ (o : OrderRow). record { order = o.id; ticket = o.ticket })
@@ -64,7 +64,7 @@ IsAt (Some h) Shelf = ⊥
 abbrev pub holding_of : ℕ → Desk → Option HoldingRow
 holding_of c d = find (λ (h : HoldingRow). nat_eq c h.container) d.holdings
 
--- what is told of a container that is known: what is written on it, where it is, and who waits for it
+-- the answer about a container that is known: its name, where it is, and the orders that wait for it
 pub record IsQueue (c : ℕ) (d : Desk) (box : BoxKey) (q : ContainerQueue) : Type 0 where
   pub name : q.name ≡ box.name
   pub place : IsAt (holding_of c d) q.place

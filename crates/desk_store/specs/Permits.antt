@@ -8,7 +8,7 @@ use Rattle.sqlite.specs.Tree.{Trees, rowid}
 use Rattle.sqlite_rules.specs.Lists.{Has}
 use Rattle.desk_core.specs.DeskRows.{Desk, PermitRow}
 use Rattle.office_tables.specs.Schema as tables
-use Rattle.desk_store.specs.Represents.{IsNumberOf}
+use Rattle.desk_store.specs.Representation.{IsNumberOf}
 use Rattle.desk_store.specs.declared.reader_permits.Permit.{Permit}
 
 -- the units for which a ticket has a permit, each with its last day
@@ -19,14 +19,14 @@ permits_of t d =
 abbrev pub by_unit : Permit → Permit → Ordering
 by_unit a b = int_cmp (pos a.unit) (pos b.unit)
 
--- the ticket's permit for the unit
+-- the row is the ticket's permit for the unit
 abbrev pub is_permit : ℕ → ℕ → PermitRow → Bool
 is_permit t u p = nat_eq t p.ticket && nat_eq u p.unit
 
 abbrev pub without_permit : ℕ → ℕ → List PermitRow → List PermitRow
 without_permit t u permits = filter (λ p. not (is_permit t u p)) permits
 
--- the ticket has a permit for the unit to this day, and no other for it
+-- the ticket has a permit for the unit up to this day, and no other permit for the unit
 abbrev pub granted : ℕ → ℕ → ℤ → List PermitRow → List PermitRow
 granted t u until permits = record { ticket = t; unit = u; until = until } ∷ without_permit t u permits
 
@@ -40,6 +40,6 @@ revoked t u d = record d { permits = without_permit t u d.permits }
 abbrev pub HasUnitRow : ℕ → Trees → Type 0
 HasUnitRow u db = (row : Row) × Has (db tables.unit.tree) row × (rowid row ≡ Int (pos u))
 
--- a ticket that was given may have a permit for a unit that is catalogued
+-- the ticket was given and the unit is catalogued, so the ticket may have a permit for the unit
 abbrev pub MayHave : ℕ → ℕ → Trees → Desk → Type 0
 MayHave t u db d = IsNumberOf d.readers t × HasUnitRow u db

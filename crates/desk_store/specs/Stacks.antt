@@ -1,17 +1,17 @@
--- The desk beside the containers, which are the catalogue's.
+-- The desk together with the containers, which belong to the catalogue.
 use Rattle.std.specs.Prelude.{◌≡◌, ◌≤◌, ⊤, ℕ, nat_eq, List, length, map, find, Option, Some, None, IsPermutation}
 use Rattle.std.specs.List.{AllByRecursion, AllZip}
 use Rattle.sqlite.specs.Effect.{Database}
-use Rattle.isad_core.specs.Legible.{IsLegibleBox}
+use Rattle.isad_core.specs.LegibleValues.{IsLegibleBox}
 use Rattle.isad_core.specs.Limits.{most_containers}
 use Rattle.isad_core.specs.declared.values.BoxKey.{BoxKey}
 use Rattle.desk_core.specs.DeskRows.{Desk, RunRow, RunLineRow}
 use Rattle.office_tables.specs.Schema as tables
-use Rattle.office_tables.specs.Shared.{container_row}
+use Rattle.office_tables.specs.SharedRows.{container_row}
 use Rattle.desk_store.specs.Orders.{IsQueue}
 use Rattle.desk_store.specs.Runs.{lines_of, IsCandidate}
-use Rattle.desk_store.specs.Represents.{RepresentsDesk, IsLegible}
-use Rattle.office_tables.specs.Numbered.{AreCounted}
+use Rattle.desk_store.specs.Representation.{RepresentsDesk, IsLegible}
+use Rattle.office_tables.specs.RowNumbers.{AreCounted}
 use Rattle.desk_store.specs.declared.queues.ContainerQueue.{ContainerQueue}
 use Rattle.desk_core.specs.declared.run.Candidate.{Candidate}
 use Rattle.desk_store.specs.declared.runs.Brought.{Brought}
@@ -39,7 +39,7 @@ box_with c stacks = find (λ (b : ℕ × BoxKey). nat_eq c b.0) stacks.boxes
 
 -- ---- a container and who waits for it
 
--- what is told of a container that may be known
+-- the answer about a container that may be known: its queue, or none
 abbrev pub IsQueued : ℕ → Stacks → Option (ℕ × BoxKey) → Option ContainerQueue → Type 0
 IsQueued c stacks None found = found ≡ None
 IsQueued c stacks (Some box) None = ⊥
@@ -47,7 +47,7 @@ IsQueued c stacks (Some box) (Some q) = IsQueue c stacks.desk box.1 q
 
 -- ---- what a run brought
 
--- what is told of a line of a run: the line, with what is written on its container
+-- the answer about a line of a run: the line, with what is written on its container
 abbrev pub IsToldLine : Stacks → TakenLine → Candidate → Type 0
 IsToldLine stacks l = IsCandidate stacks.boxes (record { run = 0; container = l.container; order_no = l.order; ticket = l.ticket })
 
@@ -58,7 +58,7 @@ pub record IsBrought (stacks : Stacks) (run : RunRow) (told : Brought) : Type 0 
   pub are : IsPermutation (map (λ (l : RunLineRow). record { container = l.container; order = l.order_no; ticket = l.ticket }) (lines_of run.id stacks.desk)) lines
   pub tell : AllZip (IsToldLine stacks) lines told.lines
 
--- what is told of a run that may have been made
+-- the answer about a run that may have been made: what it brought, or none
 abbrev pub IsToldRun : Stacks → Option RunRow → Option Brought → Type 0
 IsToldRun stacks None found = found ≡ None
 IsToldRun stacks (Some run) None = ⊥

@@ -1,19 +1,19 @@
-//! What is written on containers. Their table is the catalogue's.
+//! What is written on containers. Their table belongs to the catalogue.
 
 ghost use Rattle.std.specs.Prelude.{◌≡◌, ℕ, nat_eq, List, map, filter, IfOk, IfSome, ⊤, option_map};
 ghost use Rattle.std.specs.List.{AllByRecursion};
 ghost use Rattle.sqlite.specs.Held.{state};
 ghost use Rattle.sqlite.specs.State.{HasCleanDisk};
-ghost use Rattle.isad_core.specs.Legible.{IsLegibleBox};
+ghost use Rattle.isad_core.specs.LegibleValues.{IsLegibleBox};
 ghost use Rattle.isad_core.specs.declared.values.BoxKey.{BoxKey};
 ghost use Rattle.isad_core.specs.Limits.{IsNumber};
-ghost use Rattle.office_tables.specs.Asking.{Reads};
+ghost use Rattle.office_tables.specs.Query.{Reads};
 ghost use Rattle.office_tables.specs.Calls.{Tells};
 ghost use Rattle.office_tables.specs.Faults.{FaultsHaveCause};
 ghost use Rattle.office_tables.specs.Schema as tables;
-ghost use Rattle.office_tables.specs.Shared.{container_row};
+ghost use Rattle.office_tables.specs.SharedRows.{container_row};
 ghost use Rattle.office_tables.specs.Step.{InOffice, Holds};
-ghost use Rattle.office_tables.specs.Numbered.{AreCounted};
+ghost use Rattle.office_tables.specs.RowNumbers.{AreCounted};
 ghost use Rattle.desk_store.specs.Stacks.{RepresentsQueues, IsLegibleStacks, box_with};
 
 use isad_core::BoxKey;
@@ -23,7 +23,7 @@ use office_tables::{StoreFault, find};
 use sqlite::{Alter, Connection};
 use std::alloc::Global;
 
-/// What is written on the container with a number: one, or none. It is found by the number of its row.
+/// What is written on the container with this number: one item, or none. The row is found by its number.
 fn boxes_with<S: Alter>(
     alloc: Global,
     conn: &mut Connection<S>,
@@ -48,7 +48,7 @@ fn boxes_with<S: Alter>(
     )
 }
 
-/// What is written on the container with a number, or none where it is not known.
+/// What is written on the container with this number, or none if the container is not known.
 pub(crate) fn box_of<S: Alter>(
     alloc: Global,
     conn: &mut Connection<S>,

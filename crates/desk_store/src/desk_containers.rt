@@ -4,22 +4,22 @@ ghost use Rattle.std.specs.Prelude.{◌≡◌, nat_eq, List, map, filter, IfOk, 
 ghost use Rattle.sqlite.specs.Held.{state};
 ghost use Rattle.sqlite.specs.State.{HasCleanDisk};
 ghost use Rattle.desk_core.specs.DeskRows.{HoldingRow};
-ghost use Rattle.office_tables.specs.Asking.{Reads};
+ghost use Rattle.office_tables.specs.Query.{Reads};
 ghost use Rattle.office_tables.specs.Calls.{Tells};
 ghost use Rattle.office_tables.specs.Faults.{FaultsHaveCause};
 ghost use Rattle.office_tables.specs.Schema as tables;
 ghost use Rattle.office_tables.specs.Step.{InOffice, Holds};
 ghost use Rattle.desk_store.specs.Holdings.{at_desk_of};
 ghost use Rattle.desk_store.specs.Rows.{holding_cells};
-ghost use Rattle.desk_store.specs.Represents.{RepresentsDeskAlone, IsLegible};
-ghost use Rattle.office_tables.specs.Numbered.{AreByNumber};
+ghost use Rattle.desk_store.specs.Representation.{RepresentsDeskAlone, IsLegible};
+ghost use Rattle.office_tables.specs.RowNumbers.{AreByNumber};
 
 use crate::waiting_orders::is_awaited;
 use office_tables::{StoreFault, find};
 use sqlite::{Alter, Connection};
 use std::alloc::Global;
 
-/// The containers at the desk, by number. The table is read whole: it has a row for each container
+/// The containers at the desk, by number. This reads the whole table, which has a row for each container
 /// that is not on the shelf.
 fn desk_lines<S: Alter>(alloc: Global, conn: &mut Connection<S>) -> Result<Vec<u64>, StoreFault>
     requires inside { InOffice (state S.Store conn.old) }
@@ -39,7 +39,7 @@ fn desk_lines<S: Alter>(alloc: Global, conn: &mut Connection<S>) -> Result<Vec<u
     )
 }
 
-/// The containers at the desk, by number, each with whether an order waits for it.
+/// The containers at the desk, by number. The flag is true if an order waits for the container.
 pub fn at_desk<S: Alter>(
     alloc: Global,
     conn: &mut Connection<S>,

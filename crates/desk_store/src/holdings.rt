@@ -7,21 +7,21 @@ ghost use Rattle.sqlite.specs.State.{HasCleanDisk};
 ghost use Rattle.isad_core.specs.Limits.{IsNumber};
 ghost use Rattle.desk_core.specs.DeskRows.{HoldingRow};
 ghost use Rattle.office_tables.specs.Calls.{Makes};
-ghost use Rattle.office_tables.specs.Changing.{Leaves};
+ghost use Rattle.office_tables.specs.ChangeStatement.{Leaves};
 ghost use Rattle.office_tables.specs.Faults.{FaultsHaveCause};
 ghost use Rattle.office_tables.specs.Schema as tables;
 ghost use Rattle.office_tables.specs.Step.{InOffice, Holds, HasRows, OnlyTouches, PutsRow};
 ghost use Rattle.desk_store.specs.Holdings.{by_order, with_place};
 ghost use Rattle.desk_store.specs.Rows.{holding_cells};
-ghost use Rattle.desk_store.specs.Represents.{RepresentsDeskAlone, IsLegible};
-ghost use Rattle.office_tables.specs.Numbered.{AreByNumber};
+ghost use Rattle.desk_store.specs.Representation.{RepresentsDeskAlone, IsLegible};
+ghost use Rattle.office_tables.specs.RowNumbers.{AreByNumber};
 
 use desk_core::Place;
 use office_tables::value::{number, number_or_null};
 use office_tables::{StoreFault, change};
 use sqlite::{Alter, Connection};
 
-/// A container that is with a reader, by an order of the reader's ticket.
+/// A container that is out with a reader, with the order that it is out with and the ticket of that order.
 #[derive(Debug, Clone, Copy, PartialEq, Eq)]
 pub struct Loan {
     pub container: u64,
@@ -37,7 +37,7 @@ pub struct FirstOrder {
     pub ticket: u64,
 }
 
-/// Takes a container out of the table, as if it stood on the shelf. It is found by its number.
+/// Deletes the row of a container, as if the container were on the shelf. The row is found by its number.
 fn clear_holding<S: Alter>(conn: &mut Connection<S>, container: u64) -> Result<(), StoreFault>
     requires inside { InOffice (state S.Store conn.old) }
     requires number { IsNumber container }
@@ -59,7 +59,7 @@ fn clear_holding<S: Alter>(conn: &mut Connection<S>, container: u64) -> Result<(
     )
 }
 
-/// Puts a container that has no row where it is now.
+/// Inserts a row for a container that has none, with the place where the container is now.
 fn insert_holding<S: Alter>(
     conn: &mut Connection<S>,
     container: u64,
@@ -86,7 +86,7 @@ fn insert_holding<S: Alter>(
     )
 }
 
-/// Brings a container to another place. On the shelf it has no row.
+/// Moves a container to a place. A container on the shelf has no row.
 pub fn set_place<S: Alter>(
     conn: &mut Connection<S>,
     container: u64,

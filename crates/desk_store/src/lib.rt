@@ -18,6 +18,7 @@ mod run_lines;
 mod runs;
 mod table_creation;
 mod taken_seats;
+mod ticket_holders;
 mod waiting_orders;
 
 pub use blank::is_blank;
@@ -36,3 +37,4 @@ pub use run_lines::run;
 pub use runs::{Brought, record_run};
 pub use table_creation::create_desk;
 pub use taken_seats::{TakenSeat, seats, set_seat};
+pub use ticket_holders::ticket_holder;

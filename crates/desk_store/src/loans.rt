@@ -5,15 +5,15 @@ ghost use Rattle.sqlite.specs.Held.{state};
 ghost use Rattle.sqlite.specs.State.{HasCleanDisk};
 ghost use Rattle.isad_core.specs.Limits.{IsNumber};
 ghost use Rattle.desk_core.specs.DeskRows.{HoldingRow, OrderRow};
-ghost use Rattle.office_tables.specs.Asking.{Reads};
+ghost use Rattle.office_tables.specs.Query.{Reads};
 ghost use Rattle.office_tables.specs.Calls.{Tells};
 ghost use Rattle.office_tables.specs.Faults.{FaultsHaveCause};
 ghost use Rattle.office_tables.specs.Schema as tables;
 ghost use Rattle.office_tables.specs.Step.{InOffice, Holds};
 ghost use Rattle.desk_store.specs.Holdings.{issued_of, loan_by, ticket_of};
 ghost use Rattle.desk_store.specs.Rows.{holding_cells, order_cells};
-ghost use Rattle.desk_store.specs.Represents.{RepresentsDeskAlone, IsLegible};
-ghost use Rattle.office_tables.specs.Numbered.{AreByNumber, AreCounted};
+ghost use Rattle.desk_store.specs.Representation.{RepresentsDeskAlone, IsLegible};
+ghost use Rattle.office_tables.specs.RowNumbers.{AreByNumber, AreCounted};
 
 use crate::holdings::Loan;
 use office_tables::from_row::FromRow;
@@ -22,7 +22,7 @@ use office_tables::{StoreFault, find};
 use sqlite::{Alter, Connection, Row};
 use std::alloc::Global;
 
-/// What the table tells of a container that is not on the shelf.
+/// A container that is not on the shelf, as its row shows it.
 #[derive(Debug, Clone, Copy, PartialEq, Eq, Drop)]
 pub(crate) struct HoldingLine {
     pub container: u64,
@@ -47,7 +47,7 @@ impl FromRow for HoldingLine {
     }
 }
 
-/// The containers that are not on the shelf, by number. The table is read whole: it has a row for
+/// The containers that are not on the shelf, by number. This reads the whole table, which has a row for
 /// each of them.
 pub(crate) fn holding_lines<S: Alter>(
     alloc: Global,
@@ -70,7 +70,7 @@ pub(crate) fn holding_lines<S: Alter>(
     )
 }
 
-/// The ticket of an order: one, or none. An order is found by its number.
+/// The ticket of an order: one item, or none. The order is found by its number.
 pub(crate) fn tickets_of<S: Alter>(
     alloc: Global,
     conn: &mut Connection<S>,
@@ -94,7 +94,7 @@ pub(crate) fn tickets_of<S: Alter>(
     )
 }
 
-/// The ticket that placed an order, where there is such an order.
+/// The ticket that placed an order, or none if there is no such order.
 fn holder_of<S: Alter>(
     alloc: Global,
     conn: &mut Connection<S>,
@@ -111,7 +111,7 @@ fn holder_of<S: Alter>(
     Ok(found.first().copied())
 }
 
-/// With whom a container is that is out, where it is.
+/// The loan of the container in this line, or none if the line has no order or there is no such order.
 fn loan_of<S: Alter>(
     alloc: Global,
     conn: &mut Connection<S>,

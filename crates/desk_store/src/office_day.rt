@@ -1,25 +1,25 @@
-//! A new day begins.
+//! Opening a new day.
 
 ghost use Rattle.std.specs.Prelude.{List, [], ◌∷◌, OnOk, ⊤};
 ghost use Rattle.sqlite.specs.Held.{state};
 ghost use Rattle.sqlite.specs.State.{HasCleanDisk};
 ghost use Rattle.desk_core.specs.DeskRows.{SeatRow};
 ghost use Rattle.office_tables.specs.Calls.{Makes};
-ghost use Rattle.office_tables.specs.Changing.{Leaves};
+ghost use Rattle.office_tables.specs.ChangeStatement.{Leaves};
 ghost use Rattle.office_tables.specs.Faults.{FaultsHaveCause};
 ghost use Rattle.office_tables.specs.Schema as tables;
-ghost use Rattle.office_tables.specs.Shared.{OfficeRow, office_cells};
+ghost use Rattle.office_tables.specs.SharedRows.{OfficeRow, office_cells};
 ghost use Rattle.office_tables.specs.Step.{InOffice, Holds, HasRows, OnlyTouches};
-ghost use Rattle.desk_store.specs.Opening.{RepresentsBoth, IsLegibleHouse, opened};
+ghost use Rattle.desk_store.specs.OfficeDay.{RepresentsBoth, IsLegibleHouse, opened};
 ghost use Rattle.desk_store.specs.Rows.{seat_cells};
-ghost use Rattle.office_tables.specs.Numbered.{AreByNumber};
+ghost use Rattle.office_tables.specs.RowNumbers.{AreByNumber};
 
 use isad_core::Day;
 use office_tables::value::day;
 use office_tables::{StoreFault, change};
 use sqlite::{Alter, Connection};
 
-/// Frees all seats. The table has a row for each taken seat, and is emptied.
+/// Frees all seats: deletes all rows of the table, which has a row for each taken seat.
 fn free_seats<S: Alter>(conn: &mut Connection<S>) -> Result<(), StoreFault>
     requires inside { InOffice (state S.Store conn.old) }
     ensures leaves { Leaves (state S.Store conn.old) (state S.Store conn.new) result }

@@ -1,4 +1,4 @@
-//! Orders are placed, and go from one state to the next.
+//! Placing orders and changing their states.
 
 ghost use Rattle.std.specs.Prelude.{◌≡◌, ◌≤◌, nat_eq, false, List, [], ◌∷◌, map, OnOk, ⊤};
 ghost use Rattle.std.specs.List.{list_any};
@@ -7,14 +7,14 @@ ghost use Rattle.sqlite.specs.State.{HasCleanDisk};
 ghost use Rattle.isad_core.specs.Limits.{IsNumber};
 ghost use Rattle.desk_core.specs.DeskRows.{OrderRow, with_state};
 ghost use Rattle.office_tables.specs.Calls.{Makes};
-ghost use Rattle.office_tables.specs.Changing.{Leaves};
+ghost use Rattle.office_tables.specs.ChangeStatement.{Leaves};
 ghost use Rattle.office_tables.specs.Faults.{FaultsHaveCause};
 ghost use Rattle.office_tables.specs.Schema as tables;
 ghost use Rattle.office_tables.specs.Step.{InOffice, Holds, HasRows, OnlyTouches, PutsRow};
 ghost use Rattle.desk_store.specs.Orders.{state_number, with_order, with_order_state, IsNextOrder};
 ghost use Rattle.desk_store.specs.Rows.{order_cells};
-ghost use Rattle.desk_store.specs.Represents.{RepresentsDeskAlone, IsLegible};
-ghost use Rattle.office_tables.specs.Numbered.{AreCounted};
+ghost use Rattle.desk_store.specs.Representation.{RepresentsDeskAlone, IsLegible};
+ghost use Rattle.office_tables.specs.RowNumbers.{AreCounted};
 
 use crate::orders::OrderState;
 use isad_core::Day;
@@ -22,7 +22,7 @@ use office_tables::value::{day, number};
 use office_tables::{StoreFault, change};
 use sqlite::{Alter, Connection};
 
-/// Puts an order under a number that was not given. It waits.
+/// Inserts an order under a number that was not given yet. The order waits.
 fn insert_order<S: Alter>(
     conn: &mut Connection<S>,
     order: u64,
@@ -50,7 +50,8 @@ fn insert_order<S: Alter>(
     )
 }
 
-/// Places an order, under the number after the last. It adds this one row, whatever the number.
+/// Places an order under the number after the last. If the call succeeds, it adds exactly this row, whatever the
+/// number.
 pub fn append_order<S: Alter>(
     conn: &mut Connection<S>,
     order: u64,
@@ -72,7 +73,7 @@ pub fn append_order<S: Alter>(
     insert_order(conn, order, ticket, container, on)
 }
 
-/// The number that stands in the table for a state.
+/// The number that represents a state in the table.
 fn number_of(next: OrderState) -> u64
     ensures number { result ≡ state_number next }
     ensures small { result ≤ 4 }
@@ -85,7 +86,7 @@ fn number_of(next: OrderState) -> u64
     }
 }
 
-/// Gives an order another state. It is found by its number.
+/// Sets the state of an order, which is found by its number.
 fn set_state<S: Alter>(conn: &mut Connection<S>, order: u64, next: u64) -> Result<(), StoreFault>
     requires inside { InOffice (state S.Store conn.old) }
     requires number { IsNumber order }
@@ -108,7 +109,7 @@ fn set_state<S: Alter>(conn: &mut Connection<S>, order: u64, next: u64) -> Resul
     )
 }
 
-/// Brings an order into another state: it is out, done or cancelled.
+/// Sets the state of an order: any state is accepted, usually out, done or cancelled.
 pub fn end_order<S: Alter>(
     conn: &mut Connection<S>,
     order: u64,

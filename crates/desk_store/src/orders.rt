@@ -7,15 +7,15 @@ ghost use Rattle.sqlite.specs.Held.{state};
 ghost use Rattle.sqlite.specs.State.{HasCleanDisk};
 ghost use Rattle.isad_core.specs.Limits.{IsNumber};
 ghost use Rattle.desk_core.specs.DeskRows.{OrderRow};
-ghost use Rattle.office_tables.specs.Asking.{Reads};
+ghost use Rattle.office_tables.specs.Query.{Reads};
 ghost use Rattle.office_tables.specs.Calls.{Tells};
 ghost use Rattle.office_tables.specs.Faults.{FaultsHaveCause};
 ghost use Rattle.office_tables.specs.Schema as tables;
 ghost use Rattle.office_tables.specs.Step.{InOffice, Holds};
 ghost use Rattle.desk_store.specs.Orders.{state_number, order_with, IsThere};
 ghost use Rattle.desk_store.specs.Rows.{order_cells};
-ghost use Rattle.desk_store.specs.Represents.{IsLegibleOrder, RepresentsDeskAlone, IsLegible};
-ghost use Rattle.office_tables.specs.Numbered.{AreCounted};
+ghost use Rattle.desk_store.specs.Representation.{IsLegibleOrder, RepresentsDeskAlone, IsLegible};
+ghost use Rattle.office_tables.specs.RowNumbers.{AreCounted};
 
 use isad_core::Day;
 use isad_core::limits::MOST_ORDERS;
@@ -25,7 +25,7 @@ use office_tables::{StoreFault, find};
 use sqlite::{Alter, Connection, Row};
 use std::alloc::Global;
 
-/// What has become of an order.
+/// The state of an order.
 #[derive(Debug, Clone, Copy, PartialEq, Eq)]
 pub enum OrderState {
     Waiting,
@@ -51,7 +51,7 @@ pub struct WaitingOrder {
     pub ticket: u64,
 }
 
-/// What the table tells of an order.
+/// The row of an order, without its number.
 #[derive(Debug, Clone, Copy, PartialEq, Eq, Drop)]
 struct OrderEntry {
     ticket: u64,
@@ -84,7 +84,7 @@ impl FromRow for OrderEntry {
     }
 }
 
-/// The order with a number: one, or none. It is found by the number of its row.
+/// The order with this number: one item, or none. It is found by the number of its row.
 fn orders_with<S: Alter>(
     alloc: Global,
     conn: &mut Connection<S>,
@@ -110,7 +110,7 @@ fn orders_with<S: Alter>(
 }
 
 impl OrderEntry {
-    /// The order, where it is in a state that there is.
+    /// The order with its state decoded. Fails with `StoreFault::Schema` if there is no such state.
     fn placed(&self) -> Result<PlacedOrder, StoreFault>
         ensures ticket { IfOk result (λ o. o.ticket ≡ self.now.ticket) }
         ensures container { IfOk result (λ o. o.container ≡ self.now.container) }
@@ -135,7 +135,7 @@ impl OrderEntry {
     }
 }
 
-/// The order with a number, or none where it was not placed.
+/// The order with this number, or none if no such order was placed.
 pub fn order<S: Alter>(
     alloc: Global,
     conn: &mut Connection<S>,

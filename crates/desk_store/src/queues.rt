@@ -5,15 +5,15 @@ ghost use Rattle.sqlite.specs.Held.{state};
 ghost use Rattle.sqlite.specs.State.{HasCleanDisk};
 ghost use Rattle.isad_core.specs.Limits.{IsNumber};
 ghost use Rattle.desk_core.specs.DeskRows.{HoldingRow};
-ghost use Rattle.office_tables.specs.Asking.{Reads};
+ghost use Rattle.office_tables.specs.Query.{Reads};
 ghost use Rattle.office_tables.specs.Calls.{Tells};
 ghost use Rattle.office_tables.specs.Faults.{FaultsHaveCause};
 ghost use Rattle.office_tables.specs.Schema as tables;
 ghost use Rattle.office_tables.specs.Step.{InOffice, Holds};
 ghost use Rattle.desk_store.specs.Orders.{holding_of, IsAt};
 ghost use Rattle.desk_store.specs.Rows.{holding_cells};
-ghost use Rattle.desk_store.specs.Represents.{IsKnownPlace, RepresentsDeskAlone, IsLegible};
-ghost use Rattle.office_tables.specs.Numbered.{AreByNumber};
+ghost use Rattle.desk_store.specs.Representation.{IsKnownPlace, RepresentsDeskAlone, IsLegible};
+ghost use Rattle.office_tables.specs.RowNumbers.{AreByNumber};
 ghost use Rattle.desk_store.specs.Stacks.{RepresentsQueues, IsLegibleStacks, box_with, IsQueued};
 
 use crate::container_labels::box_of;
@@ -27,17 +27,17 @@ use office_tables::{StoreFault, find};
 use sqlite::{Alter, Connection, Row};
 use std::alloc::Global;
 
-/// A container, and who waits for it.
+/// A container, and the orders that wait for it.
 #[derive(Debug, Drop)]
 pub struct ContainerQueue {
-    /// What is written on it.
+    /// The name that is written on it.
     pub name: Text,
     pub place: Place,
-    /// By number.
+    /// The orders that wait for it, by number.
     pub waiting: List<WaitingOrder>,
 }
 
-/// Where the table says that a container is.
+/// The place of a container, as its row shows it.
 #[derive(Debug, Clone, Copy, PartialEq, Eq, Drop)]
 struct PlaceEntry {
     /// 1 at the desk, 2 out.
@@ -64,7 +64,8 @@ impl FromRow for PlaceEntry {
 }
 
 impl PlaceEntry {
-    /// The place, where it is one that there is.
+    /// Decodes the place. Fails with `StoreFault::Schema` if there is no such place, or if the container is out
+    /// without an order.
     fn place(&self) -> Result<Place, StoreFault>
         ensures place { IfOk result
             (IsAt (Some (record { container = 0; place = self.now.place; held_by = self.now.held_by }))) }
@@ -79,7 +80,7 @@ impl PlaceEntry {
     }
 }
 
-/// Where the table says that a container is: one row, or none. It is found by the number of its row.
+/// The row with the place of a container: one row, or none. It is found by the container's number.
 fn places_with<S: Alter>(
     alloc: Global,
     conn: &mut Connection<S>,
@@ -104,7 +105,7 @@ fn places_with<S: Alter>(
     )
 }
 
-/// Where a container is. On the shelf it has no row.
+/// Where a container is. A container without a row is on the shelf.
 fn place_of<S: Alter>(
     alloc: Global,
     conn: &mut Connection<S>,
@@ -122,7 +123,7 @@ fn place_of<S: Alter>(
     }
 }
 
-/// What is written on a container, where it is, and who waits for it; none where it is not known.
+/// The name of a container, where it is, and the orders that wait for it; none if the container is not known.
 pub fn queue<S: Alter>(
     alloc: Global,
     conn: &mut Connection<S>,

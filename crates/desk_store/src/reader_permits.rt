@@ -8,7 +8,7 @@ ghost use Rattle.sqlite.specs.State.{HasCleanDisk};
 ghost use Rattle.isad_core.specs.Limits.{IsNumber};
 ghost use Rattle.desk_core.specs.DeskRows.{PermitRow};
 ghost use Rattle.office_tables.specs.Calls.{Makes, Tells};
-ghost use Rattle.office_tables.specs.Changing.{Leaves};
+ghost use Rattle.office_tables.specs.ChangeStatement.{Leaves};
 ghost use Rattle.office_tables.specs.Faults.{FaultsHaveCause};
 ghost use Rattle.office_tables.specs.Order.{IsOrdered};
 ghost use Rattle.office_tables.specs.Schema as tables;
@@ -16,8 +16,8 @@ ghost use Rattle.office_tables.specs.Step.{InOffice, OnlyTouches, PutsRow};
 ghost use Rattle.desk_store.specs.Permits.{permits_of, by_unit, is_permit, without_permit, with_permit, granted};
 ghost use Rattle.desk_store.specs.Permits.{revoked, HasUnitRow, MayHave};
 ghost use Rattle.office_tables.specs.Permits.{permit_cells};
-ghost use Rattle.desk_store.specs.Represents.{RepresentsDeskAlone, IsLegible};
-ghost use Rattle.office_tables.specs.Numbered.{HasNumbered};
+ghost use Rattle.desk_store.specs.Representation.{RepresentsDeskAlone, IsLegible};
+ghost use Rattle.office_tables.specs.RowNumbers.{HasNumbered};
 
 use crate::readers::MOST_TICKETS;
 use isad_core::Day;
@@ -27,7 +27,7 @@ use office_tables::{StoreFault, change, find};
 use sqlite::{Alter, Connection, Row};
 use std::alloc::Global;
 
-/// A permit for a unit, to a day inclusive.
+/// A permit for a unit, up to and including a day.
 #[derive(Debug, Clone, Copy, PartialEq, Eq, Drop)]
 pub struct Permit {
     pub unit: u64,
@@ -55,7 +55,7 @@ impl FromRow for Permit {
     }
 }
 
-/// The permits of a ticket, by their units. They are found by the ticket, with which the primary key begins.
+/// The permits of a ticket, in order of unit. They are found by the ticket, the first column of the primary key.
 fn permits_with<S: Alter>(
     alloc: Global,
     conn: &mut Connection<S>,
@@ -74,7 +74,7 @@ fn permits_with<S: Alter>(
     )
 }
 
-/// The permits of a ticket, by their units: none where the ticket was not given.
+/// The permits of a ticket, in order of unit. A ticket that was not given has none.
 pub fn permits<S: Alter>(
     alloc: Global,
     conn: &mut Connection<S>,
@@ -120,7 +120,7 @@ fn insert_permit<S: Alter>(
     )
 }
 
-/// Takes a ticket's permit for a unit, where it has one. It is found by its primary key.
+/// Deletes a ticket's permit for a unit, if it has one. The permit is found by its primary key.
 fn clear_permit<S: Alter>(
     conn: &mut Connection<S>,
     ticket: u64,
@@ -146,8 +146,8 @@ fn clear_permit<S: Alter>(
     )
 }
 
-/// Gives a ticket a permit for a unit to a day, in place of the one that it has. No other permit is touched, whatever the
-/// ticket and the unit; the table refuses a unit that is not catalogued.
+/// Gives a ticket a permit for a unit up to a day, in place of the one that it may have for this unit. No other permit
+/// is touched, whatever the ticket and the unit. The table refuses a unit that is not catalogued.
 pub fn grant<S: Alter>(
     conn: &mut Connection<S>,
     ticket: u64,
@@ -169,7 +169,7 @@ pub fn grant<S: Alter>(
     insert_permit(conn, ticket, unit, until)
 }
 
-/// Takes a ticket's permit for a unit back.
+/// Revokes a ticket's permit for a unit, if it has one.
 pub fn revoke<S: Alter>(conn: &mut Connection<S>, ticket: u64, unit: u64) -> Result<(), StoreFault>
     requires inside { InOffice (state S.Store conn.old) }
     requires small { IsNumber ticket }

@@ -1,4 +1,4 @@
-//! What the desk knows of a ticket.
+//! What the desk knows about a ticket.
 
 ghost use Rattle.std.specs.Prelude.{◌≡◌, ◌<◌, ◌≤◌, ◌^◌, ◌&&◌, nat_eq, List as Rows, length, map, filter};
 ghost use Rattle.std.specs.Prelude.{option_map, slice_get, IfOk, IfSome, ⊤};
@@ -8,15 +8,15 @@ ghost use Rattle.sqlite.specs.Held.{state};
 ghost use Rattle.sqlite.specs.State.{HasCleanDisk};
 ghost use Rattle.isad_core.specs.Limits.{IsNumber, most_orders};
 ghost use Rattle.desk_core.specs.DeskRows.{OrderRow};
-ghost use Rattle.office_tables.specs.Asking.{Reads};
+ghost use Rattle.office_tables.specs.Query.{Reads};
 ghost use Rattle.office_tables.specs.Calls.{Tells};
 ghost use Rattle.office_tables.specs.Faults.{FaultsHaveCause};
 ghost use Rattle.office_tables.specs.Schema as tables;
 ghost use Rattle.office_tables.specs.Step.{InOffice, Holds};
 ghost use Rattle.desk_store.specs.Readers.{is_live, live_orders, placed_on, card_of};
 ghost use Rattle.desk_store.specs.Rows.{order_cells};
-ghost use Rattle.desk_store.specs.Represents.{RepresentsDeskAlone, IsLegible};
-ghost use Rattle.office_tables.specs.Numbered.{AreCounted};
+ghost use Rattle.desk_store.specs.Representation.{RepresentsDeskAlone, IsLegible};
+ghost use Rattle.office_tables.specs.RowNumbers.{AreCounted};
 
 use crate::readers::{MOST_TICKETS, NamedReader, readers_with};
 use crate::taken_seats::{TakenSeat, seats_with};
@@ -33,7 +33,7 @@ use std::alloc::{AllocError, Global};
 pub struct LiveOrder {
     pub order: u64,
     pub container: u64,
-    /// It is out; otherwise it waits.
+    /// True if it is out, false if it waits.
     pub is_out: bool,
 }
 
@@ -42,15 +42,15 @@ pub struct LiveOrder {
 pub struct ReaderCard {
     pub reader: Reader,
     pub name: Text,
-    /// By number.
+    /// The orders that wait or are out, by number.
     pub live: List<LiveOrder>,
-    /// How many orders the ticket placed on the day, ended ones too.
+    /// How many orders the ticket placed on the day, including those that have ended.
     pub placed: u32,
-    /// How many orders there are, of all tickets.
+    /// How many orders all tickets have placed so far.
     pub orders: u64,
 }
 
-/// What the table tells of an order that has not ended.
+/// An order that has not ended, as its row shows it.
 #[derive(Debug, Clone, Copy, PartialEq, Eq, Drop)]
 pub(crate) struct OrderLine {
     pub order: u64,
@@ -76,8 +76,8 @@ impl FromRow for OrderLine {
     }
 }
 
-/// The orders of a ticket that wait or are out, by number. They are found by the index of the
-/// orders by ticket and state, so that those that have ended are not looked at.
+/// The orders of a ticket that wait or are out, by number. The index of the orders by ticket and state
+/// finds them, so orders that have ended are not read.
 pub(crate) fn live_lines<S: Alter>(
     alloc: Global,
     conn: &mut Connection<S>,
@@ -102,7 +102,7 @@ pub(crate) fn live_lines<S: Alter>(
     )
 }
 
-/// How many orders there are, of all tickets: the greatest number, which is at the table's end.
+/// How many orders all tickets have placed so far. This is the greatest number of an order, in the table's last row.
 pub(crate) fn last_order<S: Alter>(conn: &mut Connection<S>) -> Result<u32, StoreFault>
     requires inside { InOffice (state S.Store conn.old) }
     ensures reads { Reads (state S.Store conn.old) (state S.Store conn.new) result }
@@ -116,8 +116,8 @@ pub(crate) fn last_order<S: Alter>(conn: &mut Connection<S>) -> Result<u32, Stor
     find_number(conn, "SELECT id FROM orders ORDER BY id DESC LIMIT 1", &[])
 }
 
-/// How many orders a ticket placed on a day, ended ones too. They are counted by the index of the
-/// orders by ticket and day, so that those of other days are not looked at.
+/// How many orders a ticket placed on a day, including those that have ended. They are counted by the index
+/// of the orders by ticket and day, so orders of other days are not read.
 pub(crate) fn placed_on<S: Alter>(
     conn: &mut Connection<S>,
     ticket: u64,
@@ -139,7 +139,8 @@ pub(crate) fn placed_on<S: Alter>(
     )
 }
 
-/// What the orders tell of a ticket on a day.
+/// The orders of a ticket on a day: those that wait or are out, how many it placed on the day, and how many
+/// all tickets have placed so far.
 #[derive(Debug, Drop)]
 struct TicketOrders {
     live: List<LiveOrder>,
@@ -147,7 +148,7 @@ struct TicketOrders {
     orders: u64,
 }
 
-/// The orders that these rows tell.
+/// The orders in these rows.
 fn live_in(alloc: Global, lines: &[OrderLine]) -> Result<List<LiveOrder>, AllocError>
     ensures { IfOk result (λ live. live ≡ map (λ (o : OrderLine).
         record { order = o.order; container = o.container; is_out = nat_eq o.state 2 }) lines.now) }
@@ -171,14 +172,15 @@ fn count_out(live: &[LiveOrder]) -> u32
     u32::try_from(out).unwrap_or(u32::MAX)
 }
 
-/// The seat that the first of these rows tells.
-fn seat_in(seats: &[TakenSeat]) -> Option<u32>
+/// The seat in the first of these rows, or none if there is no row.
+pub(crate) fn seat_in(seats: &[TakenSeat]) -> Option<u32>
     ensures { result ≡ option_map (λ s. s.seat) (slice_get seats.now 0) }
 {
     seats.first().map(|taken| taken.seat)
 }
 
-/// What the orders tell of a ticket: those that wait or are out, and how many it placed on the day.
+/// The orders of a ticket that wait or are out, how many it placed on the day, and how many all tickets have
+/// placed so far.
 fn orders_of<S: Alter>(
     alloc: Global,
     conn: &mut Connection<S>,
@@ -201,7 +203,7 @@ fn orders_of<S: Alter>(
     })
 }
 
-/// A reader's card on a day, or none where the ticket was not given.
+/// A reader's card on a day, or none if the ticket was not given.
 pub fn reader<S: Alter>(
     alloc: Global,
     conn: &mut Connection<S>,

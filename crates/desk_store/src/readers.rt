@@ -1,22 +1,22 @@
 //! Tickets and their readers.
 
-ghost use Rattle.std.specs.Prelude.{◌≡◌, ◌<◌, ◌≤◌, nat_eq, false, List, [], ◌∷◌, map};
+ghost use Rattle.std.specs.Prelude.{◌≡◌, ◌<◌, ◌≤◌, nat_eq, true, false, List, [], ◌∷◌, map};
 ghost use Rattle.std.specs.Prelude.{filter, length, OnOk, IfOk, IfSome, is_some, slice_get, ⊤};
 ghost use Rattle.std.specs.List.{AllByRecursion, list_any};
 ghost use Rattle.sqlite.specs.Held.{state};
 ghost use Rattle.sqlite.specs.State.{HasCleanDisk};
 ghost use Rattle.isad_core.specs.Limits.{IsNumber, most_tickets};
 ghost use Rattle.desk_core.specs.DeskRows.{Desk, ReaderRow};
-ghost use Rattle.office_tables.specs.Asking.{Reads};
+ghost use Rattle.office_tables.specs.Query.{Reads};
 ghost use Rattle.office_tables.specs.Calls.{Makes, Tells};
-ghost use Rattle.office_tables.specs.Changing.{Leaves};
+ghost use Rattle.office_tables.specs.ChangeStatement.{Leaves};
 ghost use Rattle.office_tables.specs.Faults.{FaultsHaveCause};
 ghost use Rattle.office_tables.specs.Schema as tables;
 ghost use Rattle.office_tables.specs.Step.{InOffice, Holds, HasRows, OnlyTouches, PutsRow};
 ghost use Rattle.desk_store.specs.Readers.{next_ticket, reader_with, with_reader, renewed, with_last_day};
 ghost use Rattle.desk_store.specs.Rows.{reader_cells};
-ghost use Rattle.desk_store.specs.Represents.{IsLegibleReader, RepresentsDesk, RepresentsDeskAlone, IsLegible};
-ghost use Rattle.office_tables.specs.Numbered.{AreCounted};
+ghost use Rattle.desk_store.specs.Representation.{IsLegibleReader, RepresentsDesk, RepresentsDeskAlone, IsLegible};
+ghost use Rattle.office_tables.specs.RowNumbers.{AreCounted};
 
 use isad_core::{Day, Text, limits};
 use office_tables::from_row::FromRow;
@@ -25,10 +25,10 @@ use office_tables::{StoreFault, change, find, find_number};
 use sqlite::{Alter, Connection, Row};
 use std::alloc::Global;
 
-/// How many tickets there may ever be.
+/// The greatest number of tickets that may ever be given.
 pub(crate) const MOST_TICKETS: u32 = limits::MOST_TICKETS as u32;
 
-/// What the table tells of a ticket.
+/// The row of a reader, without the ticket.
 #[derive(Debug, Drop)]
 pub(crate) struct NamedReader {
     pub name: Text,
@@ -57,7 +57,7 @@ impl FromRow for NamedReader {
     }
 }
 
-/// The reader with a ticket: one, or none. A ticket is the number of its row.
+/// The reader with this ticket: one item, or none. A ticket is the number of its row.
 pub(crate) fn readers_with<S: Alter>(
     alloc: Global,
     conn: &mut Connection<S>,
@@ -81,7 +81,7 @@ pub(crate) fn readers_with<S: Alter>(
     )
 }
 
-/// How many tickets were given: the greatest of them, which is at the table's end.
+/// How many tickets were given. This is the greatest ticket, in the table's last row.
 fn last_ticket<S: Alter>(conn: &mut Connection<S>) -> Result<u32, StoreFault>
     requires inside { InOffice (state S.Store conn.old) }
     ensures reads { Reads (state S.Store conn.old) (state S.Store conn.new) result }
@@ -99,7 +99,7 @@ fn last_ticket<S: Alter>(conn: &mut Connection<S>) -> Result<u32, StoreFault>
     )
 }
 
-/// Adds a reader under a ticket that was not given.
+/// Inserts a reader under a ticket that was not given yet.
 fn insert_reader<S: Alter>(
     conn: &mut Connection<S>,
     ticket: u64,
@@ -124,7 +124,7 @@ fn insert_reader<S: Alter>(
     )
 }
 
-/// Gives a ticket another last day. It is found by its number.
+/// Sets the last day of a ticket, which is found by its number.
 fn set_last_day<S: Alter>(
     conn: &mut Connection<S>,
     ticket: u64,
@@ -150,7 +150,7 @@ fn set_last_day<S: Alter>(
     )
 }
 
-/// Renews a ticket to another last day, earlier or later.
+/// Sets the last day of a ticket. It may be earlier or later than before.
 pub fn renew<S: Alter>(conn: &mut Connection<S>, ticket: u64, until: Day) -> Result<(), StoreFault>
     requires inside { InOffice (state S.Store conn.old) }
     requires small { IsNumber ticket }
@@ -160,7 +160,7 @@ pub fn renew<S: Alter>(conn: &mut Connection<S>, ticket: u64, until: Day) -> Res
     set_last_day(conn, ticket, until)
 }
 
-/// The next ticket, or none where none is left.
+/// The next ticket, or none if no ticket is left.
 fn next_number<S: Alter>(conn: &mut Connection<S>) -> Result<Option<u64>, StoreFault>
     requires inside { InOffice (state S.Store conn.old) }
     ensures reads { Reads (state S.Store conn.old) (state S.Store conn.new) result }
@@ -178,7 +178,7 @@ fn next_number<S: Alter>(conn: &mut Connection<S>) -> Result<Option<u64>, StoreF
     }
 }
 
-/// Adds a reader: the new ticket, or none where no ticket is left.
+/// Adds a reader. Returns the new ticket, or none if no ticket is left.
 pub fn add_reader<S: Alter>(
     conn: &mut Connection<S>,
     name: &Text,
@@ -197,7 +197,7 @@ pub fn add_reader<S: Alter>(
     Ok(Some(ticket))
 }
 
-/// Whether there is such a row.
+/// Whether there is a row.
 fn is_there(rows: &[NamedReader]) -> bool
     ensures { result ≡ is_some (slice_get rows.now 0) }
 {
@@ -213,6 +213,7 @@ pub fn is_registered<S: Alter>(
     requires inside { InOffice (state S.Store conn.old) }
     ensures tells { Tells S.Store RepresentsDeskAlone IsLegible conn.old conn.new result (λ _. ⊤)
         (λ _ d known. known ≡ is_some (reader_with ticket d)) }
+    ensures small { IfOk result (λ known. known ≡ true → IsNumber ticket) }
 {
     if ticket > u64::from(MOST_TICKETS) {
         return Ok(false);

@@ -5,16 +5,16 @@ ghost use Rattle.std.specs.List.{list_any};
 ghost use Rattle.sqlite.specs.Held.{state};
 ghost use Rattle.sqlite.specs.State.{HasCleanDisk};
 ghost use Rattle.desk_core.specs.DeskRows.{OrderRow};
-ghost use Rattle.office_tables.specs.Asking.{Reads};
+ghost use Rattle.office_tables.specs.Query.{Reads};
 ghost use Rattle.office_tables.specs.Calls.{Tells};
 ghost use Rattle.office_tables.specs.Faults.{FaultsHaveCause};
 ghost use Rattle.office_tables.specs.Schema as tables;
 ghost use Rattle.office_tables.specs.Step.{InOffice, Holds};
 ghost use Rattle.desk_store.specs.Holdings.{candidates_of};
-ghost use Rattle.desk_store.specs.Picking.{is_earliest, is_new};
+ghost use Rattle.desk_store.specs.RunCandidates.{is_earliest, is_new};
 ghost use Rattle.desk_store.specs.Rows.{order_cells};
-ghost use Rattle.desk_store.specs.Represents.{RepresentsDeskAlone, IsLegible};
-ghost use Rattle.office_tables.specs.Numbered.{AreByNumber, AreCounted};
+ghost use Rattle.desk_store.specs.Representation.{RepresentsDeskAlone, IsLegible};
+ghost use Rattle.office_tables.specs.RowNumbers.{AreByNumber, AreCounted};
 ghost use Rattle.desk_store.specs.declared.holdings.FirstOrder.{FirstOrder};
 
 use crate::holdings::FirstOrder;
@@ -42,8 +42,8 @@ impl FromRow for FirstOrder {
     }
 }
 
-/// The orders that wait, by number. They are found by the index of the orders by state and
-/// container, so that those that have ended are not looked at.
+/// The orders that wait, by number. The index of the orders by state and container finds them, so orders
+/// that have ended are not read.
 fn waiting_orders<S: Alter>(
     alloc: Global,
     conn: &mut Connection<S>,
@@ -66,7 +66,7 @@ fn waiting_orders<S: Alter>(
     )
 }
 
-/// Keeps the number of a container, and says whether it is new.
+/// Adds the number of a container to the set. Returns whether it is new.
 fn keep(known: &mut BTreeSet<u64>, container: u64) -> Result<bool, AllocError>
     ensures new { IfOk result (λ new. new ≡ not (list_any (nat_eq container) known.old.keys)) }
     ensures kept { OnOk result ((c : ℕ)
@@ -88,7 +88,8 @@ fn absent(alloc: Global, lines: &[HoldingLine]) -> Result<BTreeSet<u64>, AllocEr
     Ok(known)
 }
 
-/// Of these orders, which rise, the first for each container that is not known.
+/// The first of these orders for each container that is not known. The orders must be in ascending order of
+/// their numbers.
 fn firsts(
     alloc: Global,
     known: BTreeSet<u64>,
@@ -108,8 +109,8 @@ fn firsts(
     Ok(firsts)
 }
 
-/// What a run may take: the containers on the shelf for which an order waits, each with the first
-/// of them, by these orders.
+/// What a run may take: the containers on the shelf for which an order waits, each with its first order,
+/// sorted by the numbers of these orders.
 pub fn candidates<S: Alter>(
     alloc: Global,
     conn: &mut Connection<S>,

@@ -1,4 +1,4 @@
-//! What runs brought.
+//! What runs brought to the desk.
 
 ghost use Rattle.std.specs.Prelude.{◌≡◌, nat_eq, true, List as Rows, map, filter, IfOk};
 ghost use Rattle.std.specs.List.{AllByRecursion, AllZip};
@@ -7,15 +7,16 @@ ghost use Rattle.sqlite.specs.State.{HasCleanDisk};
 ghost use Rattle.isad_core.specs.Days.{is_day_number};
 ghost use Rattle.isad_core.specs.Limits.{IsNumber};
 ghost use Rattle.desk_core.specs.DeskRows.{RunRow};
-ghost use Rattle.office_tables.specs.Asking.{Reads};
+ghost use Rattle.office_tables.specs.Query.{Reads};
 ghost use Rattle.office_tables.specs.Calls.{Tells};
 ghost use Rattle.office_tables.specs.Faults.{FaultsHaveCause};
 ghost use Rattle.office_tables.specs.Schema as tables;
 ghost use Rattle.office_tables.specs.Step.{InOffice, Holds};
 ghost use Rattle.desk_store.specs.Rows.{run_cells};
 ghost use Rattle.desk_store.specs.Runs.{run_with};
-ghost use Rattle.office_tables.specs.Numbered.{AreCounted};
-ghost use Rattle.desk_store.specs.Stacks.{RepresentsQueues, IsLegibleStacks, AreKnown, IsToldRun, IsToldLine, IsKnownLine};
+ghost use Rattle.office_tables.specs.RowNumbers.{AreCounted};
+ghost use Rattle.desk_store.specs.Stacks.{RepresentsQueues, IsLegibleStacks, AreKnown};
+ghost use Rattle.desk_store.specs.Stacks.{IsToldRun, IsToldLine, IsKnownLine};
 
 use crate::container_labels::box_of;
 use crate::runs::{Brought, MOST_RUNS, TakenLine, lines_with};
@@ -51,7 +52,7 @@ impl FromRow for RunDay {
     }
 }
 
-/// The day of a run: one, or none. A run is found by the number of its row.
+/// The day of a run: one item, or none. A run is found by the number of its row.
 fn days_with<S: Alter>(
     alloc: Global,
     conn: &mut Connection<S>,
@@ -76,7 +77,7 @@ fn days_with<S: Alter>(
     )
 }
 
-/// A line of a run with what is written on its container.
+/// A line of a run, with what is written on its container.
 fn candidate<S: Alter>(
     alloc: Global,
     conn: &mut Connection<S>,
@@ -99,7 +100,7 @@ fn candidate<S: Alter>(
     })
 }
 
-/// These lines with what is written on their containers.
+/// These lines, each with what is written on its container.
 fn candidates_of<S: Alter>(
     alloc: Global,
     conn: &mut Connection<S>,
@@ -118,7 +119,7 @@ fn candidates_of<S: Alter>(
     Ok(told)
 }
 
-/// What a run brought: its day, and its lines with what is written on their containers; none where
+/// What a run brought: its day, and its lines, each with what is written on its container. Returns none if
 /// there was no such run.
 pub fn run<S: Alter>(
     alloc: Global,

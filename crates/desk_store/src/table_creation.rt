@@ -1,4 +1,4 @@
-//! The tables are made.
+//! Creating the desk's tables.
 
 ghost use Rattle.std.specs.Prelude.{◌≡◌, [], Err, OnOk, OnErr, IfErr};
 ghost use Rattle.sqlite.specs.Held.{state};
@@ -8,13 +8,13 @@ ghost use Rattle.office_tables.specs.Creation.{IsMaking};
 ghost use Rattle.office_tables.specs.Faults.{HasCause};
 ghost use Rattle.office_tables.specs.Schema.{no_schema, desk_schema};
 ghost use Rattle.office_tables.specs.Step.{Continues, IsAborted};
-ghost use Rattle.desk_store.specs.Making.{reader_schema, order_schema, run_schema};
+ghost use Rattle.desk_store.specs.TableCreation.{reader_schema, order_schema, run_schema};
 
 use crate::blank::is_blank;
 use office_tables::{StoreFault, create_table};
 use sqlite::{Alter, Connection};
 
-/// Makes the tables of the readers and of the seats that are taken.
+/// Creates the tables of the readers and of the taken seats.
 fn create_readers<S: Alter>(conn: &mut Connection<S>) -> Result<(), StoreFault>
     ensures made { (start : Database) → IsMaking [] no_schema start (state S.Store conn.old)
         → OnOk result (Continues (state S.Store conn.old) (state S.Store conn.new) × IsMaking [] reader_schema start
@@ -35,7 +35,7 @@ fn create_readers<S: Alter>(conn: &mut Connection<S>) -> Result<(), StoreFault>
     )
 }
 
-/// Makes the table of the orders.
+/// Creates the table of the orders.
 fn create_orders<S: Alter>(conn: &mut Connection<S>) -> Result<(), StoreFault>
     ensures made { (start : Database) → IsMaking [] reader_schema start (state S.Store conn.old)
         → OnOk result (Continues (state S.Store conn.old) (state S.Store conn.new) × IsMaking [] order_schema start
@@ -52,7 +52,7 @@ fn create_orders<S: Alter>(conn: &mut Connection<S>) -> Result<(), StoreFault>
     )
 }
 
-/// Makes the tables of the containers that are not on the shelf, and of the runs.
+/// Creates the tables of the containers that are not on the shelf, and of the runs.
 fn create_runs<S: Alter>(conn: &mut Connection<S>) -> Result<(), StoreFault>
     ensures made { (start : Database) → IsMaking [] order_schema start (state S.Store conn.old)
         → OnOk result (Continues (state S.Store conn.old) (state S.Store conn.new) × IsMaking [] run_schema start
@@ -77,7 +77,7 @@ fn create_runs<S: Alter>(conn: &mut Connection<S>) -> Result<(), StoreFault>
     )
 }
 
-/// Makes the table of the permits.
+/// Creates the table of the permits.
 fn create_permits<S: Alter>(conn: &mut Connection<S>) -> Result<(), StoreFault>
     ensures made { (start : Database) → IsMaking [] run_schema start (state S.Store conn.old)
         → OnOk result (Continues (state S.Store conn.old) (state S.Store conn.new) × IsMaking [] desk_schema start
@@ -94,7 +94,7 @@ fn create_permits<S: Alter>(conn: &mut Connection<S>) -> Result<(), StoreFault>
     )
 }
 
-/// Makes the desk's tables, where there are none.
+/// Creates the desk's tables in a store that has no tables.
 fn make_desk<S: Alter>(conn: &mut Connection<S>) -> Result<(), StoreFault>
     ensures made { (start : Database) → IsMaking [] no_schema start (state S.Store conn.old)
         → OnOk result (Continues (state S.Store conn.old) (state S.Store conn.new) × IsMaking [] desk_schema start
@@ -111,8 +111,8 @@ fn make_desk<S: Alter>(conn: &mut Connection<S>) -> Result<(), StoreFault>
     create_permits(conn)
 }
 
-/// Makes the desk's tables in a store that has nothing yet; any other store is left as it is. They
-/// come before the catalogue's.
+/// Creates the desk's tables in a store that is still empty. Any other store is left unchanged, and the call
+/// fails with `StoreFault::Schema`. The desk's tables must be created before the catalogue's.
 pub fn create_desk<S: Alter>(conn: &mut Connection<S>) -> Result<(), StoreFault>
     ensures there { ((state S.Store conn.old).now.schema ≡ no_schema → ⊥)
         → (result ≡ Err StoreFault.Schema) × (conn.new ≡ conn.old) }

@@ -1,4 +1,4 @@
-//! Who sits where.
+//! The seats that are taken, and who has them.
 
 ghost use Rattle.std.specs.Prelude.{◌≡◌, ◌<◌, ◌^◌, not, nat_eq, false, List, [], ◌∷◌, map, filter, OnOk};
 ghost use Rattle.std.specs.Prelude.{IfOk, IfSome, ⊤};
@@ -7,16 +7,16 @@ ghost use Rattle.sqlite.specs.Held.{state};
 ghost use Rattle.sqlite.specs.State.{HasCleanDisk};
 ghost use Rattle.isad_core.specs.Limits.{IsNumber};
 ghost use Rattle.desk_core.specs.DeskRows.{SeatRow};
-ghost use Rattle.office_tables.specs.Asking.{Reads};
+ghost use Rattle.office_tables.specs.Query.{Reads};
 ghost use Rattle.office_tables.specs.Calls.{Makes, Tells};
-ghost use Rattle.office_tables.specs.Changing.{Leaves};
+ghost use Rattle.office_tables.specs.ChangeStatement.{Leaves};
 ghost use Rattle.office_tables.specs.Faults.{FaultsHaveCause};
 ghost use Rattle.office_tables.specs.Schema as tables;
 ghost use Rattle.office_tables.specs.Step.{InOffice, Holds, HasRows, OnlyTouches, PutsRow};
 ghost use Rattle.desk_store.specs.Rows.{seat_cells};
 ghost use Rattle.desk_store.specs.Seats.{taken_seats, with_seat, MayTake};
-ghost use Rattle.desk_store.specs.Represents.{RepresentsDeskAlone, IsLegible};
-ghost use Rattle.office_tables.specs.Numbered.{AreByNumber};
+ghost use Rattle.desk_store.specs.Representation.{RepresentsDeskAlone, IsLegible};
+ghost use Rattle.office_tables.specs.RowNumbers.{AreByNumber};
 ghost use Rattle.desk_store.specs.declared.taken_seats.TakenSeat.{TakenSeat};
 
 use office_tables::from_row::FromRow;
@@ -48,7 +48,7 @@ impl FromRow for TakenSeat {
     }
 }
 
-/// The seats that are taken, by number. The table is read whole: it has a row for each taken seat.
+/// The seats that are taken, by number. This reads the whole table, which has a row for each of them.
 pub fn seats<S: Alter>(
     alloc: Global,
     conn: &mut Connection<S>,
@@ -65,7 +65,7 @@ pub fn seats<S: Alter>(
     )
 }
 
-/// The seat of a ticket: one, or none. Seats are found by their tickets, which are unique.
+/// The seat of a ticket: one item, or none. Seats are found by their tickets, which are unique.
 pub(crate) fn seats_with<S: Alter>(
     alloc: Global,
     conn: &mut Connection<S>,
@@ -90,7 +90,7 @@ pub(crate) fn seats_with<S: Alter>(
     )
 }
 
-/// Takes a seat that is free for a ticket that has none.
+/// Gives a free seat to a ticket that has none.
 fn insert_seat<S: Alter>(conn: &mut Connection<S>, seat: u64, ticket: u64) -> Result<(), StoreFault>
     requires inside { InOffice (state S.Store conn.old) }
     requires number { IsNumber seat }
@@ -127,7 +127,8 @@ fn clear_seat<S: Alter>(conn: &mut Connection<S>, seat: u64) -> Result<(), Store
     change(conn, "DELETE FROM seat WHERE seat = ?1", &[number(seat)])
 }
 
-/// Gives a free seat to a ticket, or frees it. The table refuses a seat that is taken, and a ticket that has one.
+/// Gives a free seat to a ticket, or frees the seat if `who` is none. The table refuses a seat that is taken, and a
+/// ticket that has a seat.
 pub fn set_seat<S: Alter>(
     conn: &mut Connection<S>,
     seat: u32,

@@ -1,4 +1,4 @@
-//! Who waits for what.
+//! The orders that wait for containers.
 
 ghost use Rattle.std.specs.Prelude.{◌≡◌, ◌≤◌, List as Rows, length, map, filter, IfOk};
 ghost use Rattle.std.specs.List.{count_by, list_any};
@@ -6,15 +6,15 @@ ghost use Rattle.sqlite.specs.Held.{state};
 ghost use Rattle.sqlite.specs.State.{HasCleanDisk};
 ghost use Rattle.isad_core.specs.Limits.{IsNumber, most_orders};
 ghost use Rattle.desk_core.specs.DeskRows.{OrderRow};
-ghost use Rattle.office_tables.specs.Asking.{Reads};
+ghost use Rattle.office_tables.specs.Query.{Reads};
 ghost use Rattle.office_tables.specs.Calls.{Tells};
 ghost use Rattle.office_tables.specs.Faults.{FaultsHaveCause};
 ghost use Rattle.office_tables.specs.Schema as tables;
 ghost use Rattle.office_tables.specs.Step.{InOffice, Holds};
 ghost use Rattle.desk_store.specs.Holdings.{waits_for};
 ghost use Rattle.desk_store.specs.Rows.{order_cells};
-ghost use Rattle.desk_store.specs.Represents.{RepresentsDeskAlone, IsLegible};
-ghost use Rattle.office_tables.specs.Numbered.{AreCounted};
+ghost use Rattle.desk_store.specs.Representation.{RepresentsDeskAlone, IsLegible};
+ghost use Rattle.office_tables.specs.RowNumbers.{AreCounted};
 
 use crate::orders::WaitingOrder;
 use office_tables::from_row::FromRow;
@@ -39,8 +39,8 @@ impl FromRow for WaitingOrder {
     }
 }
 
-/// The orders that wait for a container, by number. They are found by the index of the orders by
-/// state and container, in which they stand by number.
+/// The orders that wait for a container, by number. The index of the orders by state and container finds
+/// them, in this order.
 pub(crate) fn waiting_for<S: Alter>(
     alloc: Global,
     conn: &mut Connection<S>,
@@ -64,7 +64,7 @@ pub(crate) fn waiting_for<S: Alter>(
     )
 }
 
-/// How many orders wait for a container. They are counted by the same index.
+/// How many orders wait for a container, counted by the same index.
 fn count_waiting<S: Alter>(conn: &mut Connection<S>, container: u64) -> Result<u32, StoreFault>
     requires inside { InOffice (state S.Store conn.old) }
     requires small { IsNumber container }

@@ -12,7 +12,7 @@ use Rattle.isad_core.specs.declared.values.BoxKey.{BoxKey}
 use Rattle.isad_core.specs.Boxes.{distinct, is_same}
 use Rattle.isad_core.proofs.BoxLemmas.{distinct_more}
 use Rattle.atom_csv.proofs.BoxLemmas.{same_compared}
-use Rattle.catalogue_core.specs.Merging.{number_in}
+use Rattle.catalogue_core.specs.CatalogueMerge.{number_in}
 use Rattle.catalogue_core.proofs.DistinctFront.{found_any, known_distinct}
 use Rattle.catalogue_core.proofs.Imported.{same_box}
 use Rattle.finding_aids.specs.Numbers.{AreNumbered, Texts, compared, number_at}

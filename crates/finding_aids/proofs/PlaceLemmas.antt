@@ -10,7 +10,7 @@ use Rattle.isad_core.specs.Limits.{most_deep}
 use Rattle.isad_core.specs.Texts.{Bytes}
 use Rattle.atom_csv.specs.declared.file.Row.{Row}
 use Rattle.tree_core.specs.Forest.{Empty}
-use Rattle.catalogue_core.specs.Merging.{cause_at, faults_below, has_legacy}
+use Rattle.catalogue_core.specs.CatalogueMerge.{cause_at, faults_below, has_legacy}
 use Rattle.finding_aids.specs.declared.previews.places.RowPosition.{RowPosition}
 use Rattle.finding_aids.specs.Places.{AllPlaced, IsPlaced, IsPlacing, depth_below, faults, index_of, place_at, place_of}
 

@@ -11,15 +11,15 @@ use Rattle.isad_core.specs.Limits.{most_deep}
 use Rattle.isad_core.specs.Texts.{Bytes}
 use Rattle.atom_csv.specs.declared.file.Row.{Row}
 use Rattle.tree_core.specs.Forest.{Forest, Empty, Node, each, join}
-use Rattle.catalogue_core.specs.Merging.{New, branches, new_unit, has_legacy, number_of, numbered_from}
-use Rattle.catalogue_core.specs.Publishing.{PublicUnit, Told, public_of}
+use Rattle.catalogue_core.specs.CatalogueMerge.{New, branches, new_unit, has_legacy, number_of, numbered_from}
+use Rattle.catalogue_core.specs.PublicForest.{PublicUnit, Told, public_of}
 use Rattle.finding_aids.specs.declared.previews.places.RowPosition.{RowPosition}
 use Rattle.finding_aids.specs.declared.previews.trees.Slot.{Slot}
 use Rattle.finding_aids.specs.declared.previews.trees.Tree.{Tree}
 use Rattle.finding_aids.specs.declared.previews.trees.Tree.TheViews.{out-Tree}
 use Rattle.finding_aids.specs.declared.previews.trees.Tree.TheFolds.{fold_out-Tree}
 use Rattle.finding_aids.specs.Places.{AllPlaced, ArePlaced, IsPlaced, depth_below, index_of}
-use Rattle.finding_aids.specs.Planting.{grove, height, height_of_all, height_step, highest, in_order, planted, side_by_side, rest_of, seen_below, tree_of, tree_step}
+use Rattle.finding_aids.specs.RowTrees.{grove, height, height_of_all, height_step, highest, in_order, planted, side_by_side, rest_of, seen_below, tree_of, tree_step}
 use Rattle.finding_aids.specs.Slots.{HasGrown, IsBelow, depth_at, grown_at}
 use Rattle.finding_aids.proofs.PlaceLemmas.{as_many, depth_below-named, depth_by, from_last-reverse, index_of_within, reverse-push, rows_to}
 

@@ -5,20 +5,20 @@ use Rattle.std.specs.Prelude.{not, filter, unwrap_or}
 use Rattle.std.specs.BTreeMap.{BTreeMap}
 use Rattle.std.specs.List.{flat_map}
 use Rattle.isad_core.specs.Texts.{Bytes}
-use Rattle.isad_core.specs.Printed.{aid}
+use Rattle.isad_core.specs.PrintedDescriptions.{aid}
 use Rattle.isad_core.specs.declared.values.BoxKey.{BoxKey}
 use Rattle.atom_csv.specs.declared.file.Row.{Row}
-use Rattle.atom_csv.specs.Reads.{IsBad}
+use Rattle.atom_csv.specs.ReadProgress.{IsBad}
 use Rattle.atom_csv.specs.declared.file.FileFault.{FileFault}
 use Rattle.atom_csv.specs.declared.file.FileFault.TheVariants.{Bad, Memory}
 use Rattle.isad_core.specs.Boxes.{distinct}
 use Rattle.tree_core.specs.Forest.{Forest, Empty}
-use Rattle.catalogue_core.specs.Merging.{box_number, empty_catalogue, is_known, merge, merged, numbered_from, or_first}
-use Rattle.catalogue_core.specs.Publishing.{PublicUnit}
+use Rattle.catalogue_core.specs.CatalogueMerge.{box_number, empty_catalogue, is_known, merge, merged, numbered_from, or_first}
+use Rattle.catalogue_core.specs.PublicForest.{PublicUnit}
 use Rattle.catalogue_core.specs.Aids.{Repository, shown_by}
 use Rattle.finding_aids.specs.Numbers.{AreNumbered, Texts, number_by}
 use Rattle.finding_aids.specs.Places.{faults}
-use Rattle.finding_aids.specs.Planting.{grove, seen_below}
+use Rattle.finding_aids.specs.RowTrees.{grove, seen_below}
 use Rattle.finding_aids.specs.Preview.{after_merging}
 use Rattle.finding_aids.specs.declared.previews.trees.Tree.{Tree}
 

@@ -5,14 +5,14 @@ use Rattle.std.proofs.lemmas.Grind.{flat_map-append}
 use Rattle.std.proofs.lemmas.List.{append-nil, map-append, take_more}
 use Rattle.isad_core.specs.Limits.{most_deep}
 use Rattle.isad_core.specs.Texts.{Bytes}
-use Rattle.isad_core.specs.Printed.{aid, unit_lines}
+use Rattle.isad_core.specs.PrintedDescriptions.{aid, unit_lines}
 use Rattle.isad_core.specs.Values.{identifier}
 use Rattle.isad_core.specs.declared.values.BoxKey.{BoxKey}
 use Rattle.isad_core.specs.declared.display.Shown.{Shown}
 use Rattle.tree_core.specs.Forest.{Forest, Empty, Node, join}
-use Rattle.catalogue_core.specs.Publishing.{PublicUnit}
+use Rattle.catalogue_core.specs.PublicForest.{PublicUnit}
 use Rattle.catalogue_core.specs.Aids.{Repository, identifier_of, shown_by, shown_told, shown_unit_by}
-use Rattle.finding_aids.specs.Planting.{grove, height, height_of_all, side_by_side, tree_of}
+use Rattle.finding_aids.specs.RowTrees.{grove, height, height_of_all, side_by_side, tree_of}
 use Rattle.finding_aids.specs.declared.previews.trees.Tree.{Tree}
 use Rattle.finding_aids.specs.declared.previews.trees.Tree.TheViews.{out-Tree}
 use Rattle.finding_aids.proofs.PlantLemmas.{height-parts, length-push, side_by_side-push, tree_of-parts}

@@ -1,5 +1,5 @@
 pub mod Numbers
 pub mod Places
-pub mod Planting
+pub mod RowTrees
 pub mod Preview
 pub mod Slots

@@ -1,14 +1,14 @@
 -- What a file would show if it were published: the finding aids of all its top units.
 use Rattle.std.specs.Prelude.{ℕ, pos, Result, Ok, Err, []}
 use Rattle.isad_core.specs.Texts.{Bytes}
-use Rattle.isad_core.specs.Printed.{aid}
-use Rattle.atom_csv.specs.FileOf.{file_of}
+use Rattle.isad_core.specs.PrintedDescriptions.{aid}
+use Rattle.atom_csv.specs.FileContents.{file_of}
 use Rattle.atom_csv.specs.declared.file.File.{File}
-use Rattle.catalogue_core.specs.Merging.{Catalogue, empty_catalogue, merge}
-use Rattle.catalogue_core.specs.Publishing.{public_of}
+use Rattle.catalogue_core.specs.CatalogueMerge.{Catalogue, empty_catalogue, merge}
+use Rattle.catalogue_core.specs.PublicForest.{public_of}
 use Rattle.catalogue_core.specs.Aids.{Repository, shown_below}
 
--- the finding aids of a catalogue without closures, so that the day is of no account
+-- the finding aids of a catalogue without closures, so that the day does not matter
 abbrev pub aids_of : Repository → Catalogue → Bytes
 aids_of at s = aid (shown_below at s.containers [] 0 (public_of (pos 0) s.forest))
 

@@ -6,7 +6,7 @@ use Rattle.atom_csv.specs.declared.file.Row.{Row}
 use Rattle.finding_aids.specs.declared.previews.trees.Slot.{Slot}
 use Rattle.finding_aids.specs.declared.previews.trees.Tree.{Tree}
 use Rattle.finding_aids.specs.Places.{AllPlaced}
-use Rattle.finding_aids.specs.Planting.{height_of_all, planted, rest_of, seen_below}
+use Rattle.finding_aids.specs.RowTrees.{height_of_all, planted, rest_of, seen_below}
 
 abbrev pub children_at : List Slot → ℕ → List Tree
 children_at slots index = option_map_or (λ (slot : Slot). slot.children.items) (slice_get slots index) []
@@ -16,17 +16,17 @@ abbrev pub grown_at : List Slot → List Tree → Option ℕ → List Tree
 grown_at slots tops None = tops
 grown_at slots tops (Some index) = children_at slots index
 
--- the top, or the place of a slot
+-- the place is the top or that of a slot
 abbrev pub IsBelow : ℕ → Option ℕ → Type 0
 IsBelow n None = Unit {0}
 IsBelow n (Some index) = index < n
 
--- how deep the row with this index lies; the top is 0
+-- the depth of the row with this index; 0 for the top
 abbrev pub depth_at : List Slot → Option ℕ → ℕ
 depth_at slots None = 0
 depth_at slots (Some index) = option_map_or (λ (slot : Slot). slot.place.depth) (slice_get slots index) 0
 
--- the slots are those of the first rows, and what has grown is what the public sees of the others
+-- the slots are those of the first rows, and what has grown is what the public would see of the others
 pub record HasGrown (rows : List Row) (slots : List Slot) (tops : List Tree) : Type 0 where
   pub few : length slots ≤ length rows
   pub placed : AllPlaced (reverse (take (length slots) rows)) (reverse (map (λ (slot : Slot). slot.place) slots))

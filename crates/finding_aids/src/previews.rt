@@ -1,7 +1,7 @@
 //! What a file would show if it were published.
 ghost use Rattle.std.specs.Prelude.{◌≡◌, [], IfErr, IfOk, Ok, Err};
-ghost use Rattle.atom_csv.specs.Reads.{IsBad};
-ghost use Rattle.catalogue_core.specs.Merging.{empty_catalogue, merge};
+ghost use Rattle.atom_csv.specs.ReadProgress.{IsBad};
+ghost use Rattle.catalogue_core.specs.CatalogueMerge.{empty_catalogue, merge};
 ghost use Rattle.finding_aids.specs.Preview.{after_merging, preview_of};
 
 mod aid_printer;
@@ -17,13 +17,13 @@ use atom_csv::{FileFault, Row, read_file};
 use std::alloc::Global;
 
 /// The finding aids that a file would give in an office that has nothing yet: those of all its
-/// published top units in file order, in one text. Its units are not counted against any limit but
-/// that of their depth.
+/// published top units in file order, in one text. Its units are not counted against any limit except
+/// that on depth.
 pub fn preview(alloc: Global, file: &[u8], country: &str, repo: &str) -> Result<Vec<u8>, FileFault>
     ensures text { IfOk result (λ text.
         preview_of (record { country = country.now; repo = repo.now }) file.now ≡ Ok text.items) }
 
-    // The first row that has a cause, and its lowest cause: of the file, and else of its merge.
+    // The first row with a cause, and its lowest cause: of the file or, if it has none, of its merge.
     ensures bad { IfErr result (λ e. IsBad e (λ row cause.
         preview_of (record { country = country.now; repo = repo.now }) file.now ≡ Err (row, cause))) }
 {

@@ -2,7 +2,7 @@
 use Rattle.std.proofs.Common.{refl}
 use Rattle.sqlite.specs.State.{State}
 use Rattle.tree_core.specs.Versions.{Version}
-use Rattle.office_tables.specs.Changing.{IsOurs}
+use Rattle.office_tables.specs.ChangeStatement.{IsOurs}
 use Rattle.office_tables.specs.Step.{InTransaction}
 use Rattle.office_tables.proofs.RowWrites.{ours_in}
 use Rattle.catalogue_statements.proofs.UnitWrites.{insert_unit_text, insert_unit_command, insert_unit_means}

@@ -1,4 +1,4 @@
-//! The catalogue's tables as no call writes them, in either version. What is wrong is told by its cause.
+//! Rows of the catalogue's tables that no call writes, in either version. What is wrong is found, with its cause.
 
 ghost use Rattle.std.specs.Prelude.{OnOk};
 ghost use Rattle.sqlite.specs.Held.{state};
@@ -22,7 +22,7 @@ use std::test::Fail;
 enum Row {
     /// A number, a source, a number there, a level and whether it is a draft; it is not closed.
     Unit,
-    /// A unit that goes.
+    /// A unit that is removed.
     Gone,
     /// A unit and its level.
     Level,
@@ -41,7 +41,7 @@ enum Row {
 /// A row, whatever its cells are.
 type Write = (Row, &'static [ValueRef<'static>]);
 
-/// Writes by a statement of the catalogue's.
+/// Writes a row with one of the catalogue's statements.
 #[tactic(auto, using(crate::proofs::Going::went_on))]
 fn put<P: Places, S: Alter>(
     conn: &mut Connection<S>,
@@ -96,8 +96,8 @@ fn put_all<P: Places, S: Alter>(
     Ok(())
 }
 
-/// Two below a top, of which one is a draft, and another top of another source; what some are called, and two
-/// containers, of which the first unit has both.
+/// Two units below a top, one of them a draft, and another top of another source; an element of three of them; and two
+/// containers, both of them the first unit's and one also the third's.
 const CATALOGUE: [Write; 12] = [
     (
         Row::Unit,
@@ -145,7 +145,7 @@ const SPANS: [offices::Row; 4] = [
     [Int(4), Int(7), Int(8)],
 ];
 
-/// The cause that is told, where this is the number of the next unit, or 0.
+/// The cause that the check finds if `next` is the number of the next unit, or 0.
 fn told<P: CheckedPlaces, S: Alter>(
     alloc: Global,
     conn: &mut Connection<S>,
@@ -160,7 +160,7 @@ fn told<P: CheckedPlaces, S: Alter>(
     })
 }
 
-/// The same of the catalogue with these rows too.
+/// The same for the catalogue with these rows added.
 fn told_with<P: CheckedPlaces, S: Alter>(
     alloc: Global,
     conn: &mut Connection<S>,
@@ -190,7 +190,7 @@ fn told_over_spans(alloc: Global, writes: &[Write], next: u64) -> Result<u8, Fai
     Ok(cause)
 }
 
-/// The next number, what is written into the catalogue, and the cause that is told in either version, or 0.
+/// The next number, what is written into the catalogue, and the cause that is found in either version, or 0.
 type Case = (u64, &'static [Write], u8);
 
 fn see(rt: &impl Abort, alloc: Global, cases: &[Case]) -> Result<(), Fail> {
@@ -203,13 +203,13 @@ fn see(rt: &impl Abort, alloc: Global, cases: &[Case]) -> Result<(), Fail> {
     Ok(())
 }
 
-/// The text of 64 letters.
+/// A text of 64 characters.
 const LONG: ValueRef<'static> = Text(
     b"0123456789abcdef0123456789abcdef0123456789abcdef0123456789abcdef",
 );
 
-/// As it is; the first and the last day of the calendar; the first and the last of the elements; a container with
-/// nothing in it, and a name that another has elsewhere; the longest name of a source.
+/// The catalogue as it is; the first and the last day of the calendar; the first and the last of the elements; a
+/// container with nothing in it, and a name that another container has elsewhere; the longest name of a source.
 #[test]
 fn sound_catalogues_are_not_doubted(rt: HostRuntime) -> Result<(), Fail> {
     let cases: [Case; 10] = [
@@ -245,11 +245,11 @@ fn sound_catalogues_are_not_doubted(rt: HostRuntime) -> Result<(), Fail> {
     see(&rt, rt.alloc(), &cases)
 }
 
-/// Unit 4 goes, and its place stays.
+/// Unit 4 is removed, and its place stays.
 const GONE: Write = (Row::Gone, &[Int(4)]);
 
 /// Numbers that are not below the next; a unit without a place, and a place without a unit; neither draft nor
-/// published; days of no calendar.
+/// published; days outside the calendar.
 #[test]
 fn doubtful_units_are_told(rt: HostRuntime) -> Result<(), Fail> {
     let cases: [Case; 12] = [
@@ -269,7 +269,7 @@ fn doubtful_units_are_told(rt: HostRuntime) -> Result<(), Fail> {
     see(&rt, rt.alloc(), &cases)
 }
 
-/// Names that no source has, numbers there that are blank, and texts that are not UTF-8.
+/// Names that no source can have, numbers there that are blank, and texts that are not UTF-8.
 #[test]
 fn doubtful_names_are_told(rt: HostRuntime) -> Result<(), Fail> {
     let cases: [Case; 8] = [
@@ -365,7 +365,7 @@ fn doubtful_names_are_told(rt: HostRuntime) -> Result<(), Fail> {
     see(&rt, rt.alloc(), &cases)
 }
 
-/// Elements that are none, the level among them, and texts that are blank or not UTF-8.
+/// Invalid elements, the level among them, and texts that are blank or not UTF-8.
 #[test]
 fn doubtful_elements_are_told(rt: HostRuntime) -> Result<(), Fail> {
     let cases: [Case; 7] = [
@@ -385,8 +385,8 @@ const THIRD_BOX: Write = (
     &[Int(3), Text(b"Box 3"), Text(b""), Text(b"")],
 );
 
-/// A number left out, or none; a blank name, and texts that are not UTF-8; a place left out, or none, and containers
-/// that are not there.
+/// A number that is skipped or invalid; a blank name, and texts that are not UTF-8; a place that is skipped or invalid,
+/// and containers that do not exist.
 #[test]
 fn doubtful_containers_are_told(rt: HostRuntime) -> Result<(), Fail> {
     let cases: [Case; 16] = [
@@ -471,19 +471,19 @@ fn doubtful_containers_are_told(rt: HostRuntime) -> Result<(), Fail> {
     see(&rt, rt.alloc(), &cases)
 }
 
-/// An element that is none.
+/// An invalid element.
 const NO_ELEMENT: Write = (Row::Element, &[Int(2), Int(27), Text(b"x")]);
 
-/// A container in a place that is none.
+/// A container in a place that is not allowed.
 const NO_PLACE: Write = (Row::Housing, &[Int(2), Int(2), Int(2)]);
 
 /// Neither draft nor published.
 const NO_STATUS: Write = (Row::Draft, &[Int(1), Int(2)]);
 
-/// A unit whose parent is not there.
+/// A unit whose parent does not exist.
 const LOST: offices::Row = [Int(5), Int(9), Int(1)];
 
-/// Two that cross.
+/// Two units whose spans cross.
 const CROSSING: [offices::Row; 2] = [[Int(5), Int(9), Int(11)], [Int(6), Int(10), Int(12)]];
 
 fn told_of_lost_links(alloc: Global, writes: &[Write]) -> Result<u8, Fail> {
@@ -504,7 +504,7 @@ fn told_of_crossing_spans(alloc: Global, writes: &[Write]) -> Result<u8, Fail> {
     Ok(cause)
 }
 
-/// Of several causes the first is told, whichever was written first; that of the places before all.
+/// Of several causes the first is found, whichever was written first; that of the places comes before all others.
 #[test]
 fn the_first_doubt_is_told(rt: HostRuntime) -> Result<(), Fail> {
     let cases: [Case; 4] = [

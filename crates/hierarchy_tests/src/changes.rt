@@ -1,4 +1,4 @@
-//! A forest that changes, in either version, and what is told of its places then.
+//! A forest that changes, in either version, and the answers about its places afterwards.
 
 ghost use Rattle.std.specs.Prelude.{OnOk};
 ghost use Rattle.sqlite.specs.Held.{state};
@@ -17,13 +17,13 @@ use std::test::Fail;
 /// A change of the forest.
 #[derive(Clone, Copy)]
 enum Change {
-    /// The unit goes to the last place below the other, or to the last top.
+    /// Moves the unit to the last place below the other, or to the last place of the tops.
     Move(u32, Option<u32>),
-    /// The unit goes away with all below it.
+    /// Removes the unit with all below it.
     Cut(u32),
 }
 
-/// What is asked of the places.
+/// What is asked about the places.
 #[derive(Clone, Copy)]
 enum Question {
     All,
@@ -32,7 +32,8 @@ enum Question {
     Below(Option<u32>),
     /// Whether the first is the second, or lies below it.
     IsBelow(u32, u32),
-    /// Which units are there, in the order of their numbers, and how deep the deepest lies; a dash for doubtful places.
+    /// Which units have a place, in the order of their numbers, and the depth of the deepest; a dash for doubtful
+    /// places.
     Judged,
 }
 
@@ -101,7 +102,7 @@ fn answer<P: CheckedPlaces, S: Alter>(
     Ok(shown(alloc, &units)?)
 }
 
-/// The answer in a new office with a forest, when these changes are done.
+/// The answer in a new office with a forest, after these changes.
 fn told_of<P: CheckedPlaces>(
     alloc: Global,
     forest: &[Place],
@@ -128,7 +129,8 @@ fn see(rt: &impl Abort, alloc: Global, forest: &[Place], cases: &[Case]) -> Resu
     Ok(())
 }
 
-/// The forest has the tops 7, 6 and 1; below 7 are 2, with 3 and in it 4, and 5; below 1 are 10, 9 and 8.
+/// The forest has the tops 7, 6 and 1; below 7 are 2, which has 3 below it and 4 below that, and 5; below 1 are 10, 9
+/// and 8.
 #[test]
 fn a_forest_is_told(rt: HostRuntime) -> Result<(), Fail> {
     let cases: [Case; 15] = [
@@ -151,8 +153,8 @@ fn a_forest_is_told(rt: HostRuntime) -> Result<(), Fail> {
     see(&rt, rt.alloc(), &FOREST, &cases)
 }
 
-/// A branch comes last below its new parent, or last of the tops, in the order that it has; one that comes back does not
-/// come to where it was. What is cut leaves no gap.
+/// A branch comes last below its new parent, or last of the tops, and keeps its own order. One that is moved back does
+/// not return to its old place. What is cut leaves no gap.
 #[test]
 fn branches_move_and_go(rt: HostRuntime) -> Result<(), Fail> {
     use Change::{Cut, Move};
@@ -188,7 +190,7 @@ fn branches_move_and_go(rt: HostRuntime) -> Result<(), Fail> {
     see(&rt, rt.alloc(), &FOREST, &cases)
 }
 
-/// Six tops, the other units below the first.
+/// Six tops, with the other units below the first.
 fn wide_forest(alloc: Global) -> Result<Vec<Place>, AllocError> {
     let mut forest = Vec::new(alloc);
     for unit in 1..31 {
@@ -197,12 +199,12 @@ fn wide_forest(alloc: Global) -> Result<Vec<Place>, AllocError> {
     Ok(forest)
 }
 
-/// The units by their numbers, of which none lies lower than the second level.
+/// The units by their numbers; none lies below the second level.
 const WHOLE: &str =
     "1 2 3 4 5 6 7 8 9 10 11 12 13 14 15 16 17 18 19 20 21 22 23 24 25 26 27 28 29 30 to 2;";
 
-/// Nested sets look for the rows of few numbers otherwise than for those of many. Few go down and up, past the next
-/// sibling and into it; many go down and up, with a branch of one unit and with the branch of most units.
+/// Nested sets find the rows of few numbers in another way than those of many. Few numbers go down and up, past the
+/// next sibling and into it; many go down and up, with a branch of one unit and with the branch of most units.
 #[test]
 fn few_and_many_numbers_change(rt: HostRuntime) -> Result<(), Fail> {
     use Change::{Cut, Move};

@@ -1,4 +1,4 @@
-//! The tests of either version: of what is told of places, and of tables of doubtful origin.
+//! The tests of either version: of the answers about places, and of tables of doubtful origin.
 #![tactic(auto)]
 
 #[cfg(test)]

@@ -1,4 +1,4 @@
-//! Links as no call writes them.
+//! Links that no call writes.
 
 ghost use Rattle.std.specs.Prelude.{OnOk};
 ghost use Rattle.sqlite.specs.Held.{state};
@@ -29,7 +29,7 @@ pub(crate) fn put_all<S: Alter>(conn: &mut Connection<S>, rows: &[Row]) -> Resul
     Ok(())
 }
 
-/// What is told of a new office with these rows.
+/// The units and the height in a new office with these rows, or a dash if they are doubtful.
 fn told_of(alloc: Global, rows: &[Row]) -> Result<String, Fail> {
     let mut conn = Connection::open_in_memory(alloc)?;
     new_office::<LinkPlaces, _>(alloc, &mut conn)?;
@@ -48,7 +48,8 @@ fn told_of_all(alloc: Global, cases: &[&'static [Row]]) -> Result<String, Fail> 
 
 const TOP: Row = [Int(1), Null, Int(1)];
 
-/// No units; one; two below one another beside a top; the deepest in the second tree, the greatest number first.
+/// No units; one; two below one another under a top, and another top; the deepest in the second tree; the highest
+/// number.
 #[test]
 fn links_of_forests(rt: HostRuntime) -> Result<(), Fail> {
     let cases: [&'static [Row]; 5] = [
@@ -77,8 +78,8 @@ fn links_of_forests(rt: HostRuntime) -> Result<(), Fail> {
     Ok(())
 }
 
-/// Numbers that no unit has, and places of none; a parent without a row; a place twice, left out, and one too low; a
-/// way that leads round.
+/// Invalid numbers of units and of parents; a parent without a row; places that are too large or negative, a place that
+/// occurs twice, is skipped or is too low; circles.
 #[test]
 fn doubtful_links(rt: HostRuntime) -> Result<(), Fail> {
     let cases: [&'static [Row]; 14] = [

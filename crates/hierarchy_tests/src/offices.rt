@@ -1,4 +1,4 @@
-//! An office in either version, and what is told of its places.
+//! An office in either version, and what the check of its places finds.
 
 ghost use Rattle.std.specs.Prelude.{◌≡◌, IfOk, OnOk};
 ghost use Rattle.sqlite.specs.Held.{state};
@@ -36,7 +36,7 @@ fn settings(alloc: Global) -> Result<OfficeRow, StoreFault>
     })
 }
 
-/// Begins a transaction and makes the tables of an office, where there are none.
+/// Begins a transaction and makes the tables of an office. There must be none yet.
 fn open_office<P: Places, S: Alter>(
     alloc: Global,
     conn: &mut Connection<S>,
@@ -50,7 +50,7 @@ fn open_office<P: Places, S: Alter>(
     create::<P, S>(conn, &row)
 }
 
-/// An office in a store that has nothing else.
+/// Makes an office in a store that has nothing else.
 pub(crate) fn new_office<P: Places, S: Alter>(
     alloc: Global,
     conn: &mut Connection<S>,
@@ -63,7 +63,7 @@ pub(crate) fn new_office<P: Places, S: Alter>(
     open_office::<P, S>(alloc, conn)
 }
 
-/// The units and the height, or a dash where they are doubtful.
+/// The units and the height, or a dash if they are doubtful.
 fn shown(alloc: Global, placed: Option<Placed>) -> Result<String, Fail> {
     let mut text = String::new(alloc);
     let Some(placed) = placed else {
@@ -77,7 +77,7 @@ fn shown(alloc: Global, placed: Option<Placed>) -> Result<String, Fail> {
     Ok(text)
 }
 
-/// What is told of the places of an office.
+/// What the check of the places of an office finds.
 pub(crate) fn told<P: CheckedPlaces, S: Alter>(
     alloc: Global,
     conn: &mut Connection<S>,

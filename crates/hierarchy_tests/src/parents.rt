@@ -15,10 +15,10 @@ use std::alloc::Global;
 use std::process::Abort;
 use std::test::Fail;
 
-/// A unit, and the one that it comes last below, if any.
+/// A unit, and its parent, below which it comes last, or none.
 pub(crate) type Place = (u32, Option<u32>);
 
-/// A chain of four, of which the second has a sibling; a top alone; three below one top.
+/// A chain of four, whose second unit has a sibling; a top alone; three units below one top.
 pub(crate) const FOREST: [Place; 10] = [
     (7, None),
     (2, Some(7)),
@@ -93,7 +93,7 @@ fn told<P: Places, S: Alter>(
     Ok(text)
 }
 
-/// The same in a new office with the forest.
+/// The same, in a new office with the forest.
 fn told_of<P: Places>(alloc: Global, units: &[u64]) -> Result<String, Fail> {
     let mut conn = Connection::open_in_memory(alloc)?;
     new_office::<P, _>(alloc, &mut conn)?;
@@ -101,7 +101,7 @@ fn told_of<P: Places>(alloc: Global, units: &[u64]) -> Result<String, Fail> {
     told::<P, _>(alloc, &mut conn, units)
 }
 
-/// Units, and what is told of them in either version.
+/// Units, and the units right above them in either version.
 type Case = (&'static [u64], &'static str);
 
 fn see(rt: &impl Abort, alloc: Global, cases: &[Case]) -> Result<(), Fail> {

@@ -1,4 +1,4 @@
-//! Spans as no call writes them.
+//! Spans that no call writes.
 
 ghost use Rattle.std.specs.Prelude.{OnOk};
 ghost use Rattle.sqlite.specs.Held.{state};
@@ -30,7 +30,7 @@ pub(crate) fn put_all<S: Alter>(conn: &mut Connection<S>, rows: &[Row]) -> Resul
     Ok(())
 }
 
-/// What is told of a new office with these rows.
+/// The units and the height in a new office with these rows, or a dash if they are doubtful.
 fn told_of(alloc: Global, rows: &[Row]) -> Result<String, Fail> {
     let mut conn = Connection::open_in_memory(alloc)?;
     new_office::<SpanPlaces, _>(alloc, &mut conn)?;
@@ -49,7 +49,7 @@ fn told_of_all(alloc: Global, cases: &[&'static [Row]]) -> Result<String, Fail> 
 
 const TOP: Row = [Int(1), Int(1), Int(2)];
 
-/// No units; one; two below one and a top; the deepest in the second tree, the greatest number first.
+/// No units; one; two below a top, and another top; the deepest in the second tree, the greatest number first.
 #[test]
 fn spans_of_forests(rt: HostRuntime) -> Result<(), Fail> {
     let cases: [&'static [Row]; 4] = [
@@ -73,8 +73,8 @@ fn spans_of_forests(rt: HostRuntime) -> Result<(), Fail> {
     Ok(())
 }
 
-/// Numbers that no unit has, and places of none; two that begin at once, one that ends where it begins, a number left
-/// out, two that cross.
+/// Invalid numbers of units and of places; two spans that begin at the same number, one that ends where it begins, a
+/// number that is skipped, two that cross.
 #[test]
 fn doubtful_spans(rt: HostRuntime) -> Result<(), Fail> {
     let cases: [&'static [Row]; 11] = [

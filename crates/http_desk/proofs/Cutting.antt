@@ -7,7 +7,7 @@ use Rattle.http_messages.specs.declared.head_scan.HeadScanState.TheVariants.{Lea
 use Rattle.http_messages.specs.declared.head_scan.Scan.{Scan}
 use Rattle.http_messages.specs.declared.head_scan.Scan.TheVariants.{Whole, Open}
 use Rattle.http_messages.specs.declared.status.Status.{Status}
-use Rattle.http_messages.specs.Ending.{scan}
+use Rattle.http_messages.specs.HeadScan.{scan}
 use Rattle.http_messages.specs.Heads.{Request, Verdict, Refused, Accepted, Judges, verdict_on, body_length}
 use Rattle.http_desk.specs.Messages.{longest_head, HasHead, Message, Begins, Last, Nothing, HeadCut, BodyCut, NoHead, Refuses, Answers, Fails, Stands}
 use Rattle.http_desk.specs.Laws.{is_busy}

@@ -6,9 +6,9 @@ use Rattle.http_desk.specs.declared.session_end.Next.TheVariants.{Goes, Ends}
 use Rattle.http_desk.specs.declared.session_end.Ended.TheVariants as ends
 use Rattle.http_desk.specs.declared.output.Sent.{Sent}
 use Rattle.http_desk.specs.declared.output.Sent.TheVariants.{All, Failed, Bound}
-use Rattle.http_desk.specs.Quiet.{is_read_fault, is_write_fault, send_failed, IsFlushed, TakesTurns}
+use Rattle.http_desk.specs.StreamFaults.{is_read_fault, is_write_fault, send_failed, IsFlushed, TakesTurns}
 use Rattle.http_desk.specs.Streams.{Stream}
-use Rattle.http_desk.specs.Talking.{IsNoEnd, after_answer, after_sending}
+use Rattle.http_desk.specs.Exchanges.{IsNoEnd, after_answer, after_sending}
 
 no_read : (sent : Sent) (next : Next) → is_read_fault next ≡ false → is_read_fault (after_sending sent next) ≡ false
 no_read All next e = e

@@ -4,7 +4,7 @@ use Rattle.isad_core.specs.Texts.{Bytes}
 use Rattle.office_core.specs.State.{State}
 use Rattle.office_core.specs.MixedRuns.{Asked, ToDo, ToTell}
 use Rattle.http_desk.specs.declared.session_end.Ended.{Ended}
-use Rattle.http_desk.specs.Keeping.{IsAccepted, AllLeaveOpen, LastLeavesOpen, LeavesOpen}
+use Rattle.http_desk.specs.AcceptedMessages.{IsAccepted, AllLeaveOpen, LastLeavesOpen, LeavesOpen}
 use Rattle.http_desk.specs.Messages.{Message, Last, Nothing, HeadCut, BodyCut, NoHead, Refuses, Answers, Fails}
 use Rattle.http_desk.specs.Session.{Session, state_after, state_after_all}
 use Rattle.http_desk.specs.Runs.{Visit, ByHttp, Directly, Happens, AllHappen, VisitLeavesOpen, VisitsLeaveOpen}

@@ -4,7 +4,7 @@ use Rattle.std.proofs.Math.Seq.{take-append_seam}
 use Rattle.http_messages.specs.declared.head_scan.HeadScanState.{HeadScanState}
 use Rattle.http_messages.specs.declared.head_scan.HeadScanState.TheVariants.{Lead, LeadReturn, Start, StartReturn, Middle}
 use Rattle.http_messages.specs.declared.head_scan.Scan.TheVariants.{Open}
-use Rattle.http_messages.specs.Ending.{scan}
+use Rattle.http_messages.specs.HeadScan.{scan}
 use Rattle.http_desk.specs.Messages.{IsBlank, IsHeadCut}
 
 -- an open head is nothing but empty lines, or it has begun

@@ -10,10 +10,10 @@ use Rattle.office_core.specs.State.{State}
 use Rattle.http_desk.specs.declared.session_end.Ended.{Ended}
 use Rattle.http_desk.specs.declared.session_end.Next.{Next}
 use Rattle.http_desk.specs.declared.session_end.Next.TheVariants.{Goes, Ends}
-use Rattle.http_desk.specs.Keeping.{IsAccepted, AllLeaveOpen}
+use Rattle.http_desk.specs.AcceptedMessages.{IsAccepted, AllLeaveOpen}
 use Rattle.http_desk.specs.Messages.{Message, Cuts}
 use Rattle.http_desk.specs.Session.{most_answers, StaysOpen, message_text, state_after, text_after_all, state_after_all}
-use Rattle.http_desk.specs.Talking.{GoesOn, Turn, Through, Exchange, Keeps, Talks}
+use Rattle.http_desk.specs.Exchanges.{GoesOn, Turn, Through, Exchange, Keeps, Talks}
 use Rattle.http_desk.proofs.Turns.{LastTurn, begins_more}
 use Rattle.http_desk.proofs.Leaks.{cuts_more, text_append}
 use Rattle.http_desk.proofs.Openings.{last_accepted, last_open}

@@ -15,14 +15,14 @@ use Rattle.http_desk.specs.declared.output.Sent.{Sent}
 use Rattle.http_desk.specs.declared.output.Sent.TheVariants.{All, Failed, Bound as OutOfTurns}
 use Rattle.http_messages.specs.declared.status.Status.{Status}
 use Rattle.http_messages.specs.declared.status.Status.TheVariants.{Busy, Fine}
-use Rattle.http_messages.specs.Ending.{scan}
+use Rattle.http_messages.specs.HeadScan.{scan}
 use Rattle.http_messages.specs.Heads.{Request, Verdict, Accepted, Judges, is_head, body_length}
 use Rattle.http_messages.specs.Answers.{Answer, error, answer_text, answered}
 use Rattle.http_desk.specs.Messages.{longest_head, HasHead, Message, Begins, Last, Nothing, HeadCut, BodyCut, Answers, Fails, Stands, MayFail, IsBlank, IsHeadCut}
-use Rattle.http_desk.specs.Keeping.{IsAccepted, LastLeavesOpen}
+use Rattle.http_desk.specs.AcceptedMessages.{IsAccepted, LastLeavesOpen}
 use Rattle.http_desk.specs.Session.{IsFront, Stops, IsClosing, closes, leave_if, refusal, message_text, state_after, last_text, state_after_last}
-use Rattle.http_desk.specs.Sending.{Sends}
-use Rattle.http_desk.specs.Talking.{Turn, Through, Exchange, AtEndIf, Refused, Replies, after_sending}
+use Rattle.http_desk.specs.AnswerOutput.{Sends}
+use Rattle.http_desk.specs.Exchanges.{Turn, Through, Exchange, AtEndIf, Refused, Replies, after_sending}
 use Rattle.http_messages.proofs.Scans.{scan_take_more}
 
 -- ---- heads

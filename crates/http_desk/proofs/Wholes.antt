@@ -6,11 +6,11 @@ use Rattle.office_core.specs.State.{State}
 use Rattle.http_desk.specs.declared.session_end.Ended.{Ended}
 use Rattle.http_desk.specs.declared.session_end.Ended.TheVariants.{End, Closed, Cut, ReadFault, WriteFault, Bound}
 use Rattle.http_desk.specs.declared.session_end.Next.TheVariants.{Ends}
-use Rattle.http_messages.specs.Ending.{scan}
+use Rattle.http_messages.specs.HeadScan.{scan}
 use Rattle.http_messages.specs.Heads.{Verdict}
 use Rattle.http_desk.specs.Messages.{longest_head, Last, Nothing, HeadCut, BodyCut, NoHead, Refuses, Answers, Fails, Stands, SomeHead, IsTooLong}
 use Rattle.http_desk.specs.Session.{IsClosing}
-use Rattle.http_desk.specs.Talking.{AtEndIf, Keeps, Talks, TalksWhole}
+use Rattle.http_desk.specs.Exchanges.{AtEndIf, Keeps, Talks, TalksWhole}
 use Rattle.http_desk.proofs.Turns.{head_more, begins_more}
 use Rattle.http_desk.proofs.Sessions.{cuts_longer}
 

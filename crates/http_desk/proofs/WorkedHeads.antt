@@ -10,7 +10,7 @@ use Rattle.httparse.specs.Grammar.{Field, IsField, RequestHead, IsRequestHead, p
 use Rattle.isad_core.specs.Texts.{Bytes}
 use Rattle.office_core.specs.State.{State}
 use Rattle.http_messages.specs.declared.head_scan.Scan.TheVariants.{Whole}
-use Rattle.http_messages.specs.Ending.{scan}
+use Rattle.http_messages.specs.HeadScan.{scan}
 use Rattle.http_messages.specs.Heads.{Request, Verdict, Accepted, verdict_on}
 use Rattle.http_messages.proofs.Scans.{scan_take_more}
 use Rattle.http_desk.specs.declared.session_end.Ended.TheVariants.{End, Cut}

@@ -10,12 +10,12 @@ use Rattle.serde_json.proofs.OnLiterals.{serde_json_on_literals}
 use Rattle.isad_core.specs.Days.{day_text}
 use Rattle.atom_csv.specs.Columns.{columns}
 use Rattle.atom_csv.specs.Values.{described}
-use Rattle.catalogue_core.specs.Housing.{is_open}
+use Rattle.catalogue_core.specs.ContainerContents.{is_open}
 use Rattle.catalogue_core.specs.Intake.{take}
 use Rattle.office_core.specs.State.{State}
 use Rattle.http_desk.specs.Messages.{Message}
 use Rattle.http_desk.specs.Session.{message_text, state_after}
-use Rattle.http_desk.specs.Worked.{filled, with_draft, fonds_list, not_found}
+use Rattle.http_desk.specs.WorkedExamples.{filled, with_draft, fonds_list, not_found}
 use Rattle.http_desk.specs.WorkedSessions.{one_unit}
 use Rattle.http_desk.proofs.WorkedHeads.{asks_for, orders_at}
 

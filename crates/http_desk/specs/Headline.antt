@@ -1,4 +1,4 @@
--- What holds of an office, whoever comes to it, by HTTP or by a call.
+-- What holds for an office after any sessions over HTTP and any calls.
 use Rattle.std.specs.Prelude.{◌≡◌, ◌++◌, IsOk, List, Option, Some, None}
 use Rattle.std.specs.List.{AllByRecursion}
 use Rattle.std.specs.Io.KnownBytes.{Consumes, Appends}
@@ -20,11 +20,11 @@ use Rattle.http_desk.specs.declared.session_end.Ended.{Ended}
 use Rattle.http_desk.specs.Runs.{HasCarriedOut, Visit, ByHttp, Directly, Replied, Answered, CallsNameDays, CallsNameTexts}
 use Rattle.http_desk.specs.Runs.{AllHappen, AllBring, IsVisited, AreVisits, VisitsLeaveOpen}
 use Rattle.http_desk.specs.Session.{Session}
-use Rattle.http_desk.specs.Talking.{Talks}
+use Rattle.http_desk.specs.Exchanges.{Talks}
 
--- ---- what a session is to the machine
+-- ---- what a session means to the machine
 
--- Every session has the machine carry out a list of commands.
+-- In every session the machine carries out a list of commands.
 abbrev pub SessionsRunTheMachine : Type 0
 SessionsRunTheMachine =
     (s new : State) (input output : Bytes) (end : Ended) (session : Session s input output end new)
@@ -32,7 +32,7 @@ SessionsRunTheMachine =
 
 -- ---- what makes a visit
 
--- What `talk` promises of a peer, `apply` of a command and `ask` of a question, each with its outcome, makes a visit.
+-- What `talk` promises for a peer, `apply` for a command and `ask` for a question makes a visit, for each outcome.
 pub record MakeVisits {M : Type 0} (represents : M → State → Type 0) (is_intact is_open : M → Type 0) : Type 0 where
   pub talk : (left left_after held held_after : Option Bytes) (old new : M) (end : Ended)
       → Talks represents is_intact is_open left left_after held held_after old end new → (is_intact new → is_intact old)
@@ -53,9 +53,9 @@ pub record MakeVisits {M : Type 0} (represents : M → State → Type 0) (is_int
       → (is_intact new → (s : State) → represents old s → represents new s)
       → IsVisited represents is_intact is_open old new (Directly asked None)
 
--- ---- what holds of all of them
+-- ---- what holds for all of them
 
--- what holds of a state
+-- what holds for a state
 pub record KeepsTheRules (s : State) : Type 0 where
   pub sound : IsSound s
   pub apart : OutApart s  -- no container is with two readers
@@ -63,8 +63,8 @@ pub record KeepsTheRules (s : State) : Type 0 where
   pub open_to_holders : OpenToHolders s  -- what is out is open, on that day, to the reader who has it
   pub shown : ShowsOnlyPublished s  -- what the public is shown is printed from published units alone
 
--- Visits make one run of the machine, and the rules are kept at each point of it. An office that is sound with its
--- texts at first is so at each point.
+-- Visits make one run of the machine, and the rules are kept at each point of it. If the office was sound at first and
+-- its texts and those of the calls are UTF-8, it is so at each point.
 pub record IsOneRun (s : State) (visits : List Visit) (new : State) : Type 0 where
   pub commands : List Command
   pub bring : AllBring s visits commands new
@@ -81,8 +81,8 @@ VisitsRunTheMachine =
     (s new : State) (visits : List Visit) → AllHappen s visits new → AllByRecursion CallsNameDays visits → IsSound s
     → IsOneRun s visits new
 
--- From a sound state on, whatever sessions and calls there were, what the office shows is what the machine has.
--- Where the last of them was a command that was accepted, the office is open.
+-- After any sessions and calls from a sound state on, the office represents the machine's state. If the last message or
+-- call was a command that was accepted, the office is open.
 abbrev pub TheHeadline : {M : Type 0} → (M → State → Type 0) → (M → Type 0) → (M → Type 0) → Type 0
 TheHeadline {M} represents is_intact is_open =
     (visits : List Visit) (old new : M) → AreVisits represents is_intact is_open old new visits

@@ -10,7 +10,7 @@ use Rattle.http_messages.specs.Targets.{path_of}
 use Rattle.http_desk.specs.Messages.{Message, Cuts, Last, Nothing, HeadCut, BodyCut, NoHead, Refuses, Answers, Fails}
 use Rattle.http_desk.specs.Session.{IsFront, Session, text_after_all}
 
--- 503 stands in this place
+-- the answer in this place is 503
 abbrev pub is_busy : Last → Bool
 is_busy Nothing = false
 is_busy HeadCut = false
@@ -20,7 +20,7 @@ is_busy (Refuses status bare) = false
 is_busy (Answers message) = false
 is_busy (Fails leave bare) = true
 
--- the session was busy
+-- the session ended with 503
 abbrev pub was_busy : {s new : State} {input out : Bytes} {end : Ended} → Session s input out end new → Bool
 was_busy session = is_busy session.stops.last
 
@@ -33,7 +33,7 @@ HasEnded ReadFault = ⊥
 HasEnded WriteFault = ⊥
 HasEnded Bound = ⊥
 
--- ---- without 503 and without a fault, the state and the input say what is written, how it ends, and what state is left
+-- ---- without 503 and without a fault, the state and the input determine the output, the end and the new state
 
 pub record IsSame (out out2 : Bytes) (end fin : Ended) (new new2 : State) : Type 0 where
   pub output : out ≡ out2
@@ -46,7 +46,7 @@ AreDetermined =
     (a : Session s input out end new) (b : Session s input out2 fin new2)
     → HasEnded end → HasEnded fin → was_busy a ≡ false → was_busy b ≡ false → IsSame out out2 end fin new new2
 
--- ---- nothing that is not public shows in the bytes of a session of the public
+-- ---- the bytes of a session of the public show only what is public
 
 -- a GET under /public
 pub record IsPublicGet (message : Message) : Type 0 where
@@ -66,7 +66,7 @@ until_busy {s} {new} {input} {out} {end} session = if_busy (was_busy session) ou
     if_busy true all = text_after_all s session.messages
     if_busy false all = all
 
--- the bytes are equal as far as neither answers 503: without it all of them are, and so are the ends
+-- the bytes are equal up to the first 503: without a 503 all bytes are equal, and so are the ends
 pub record AreAlike {s t new new2 : State} {input out out2 : Bytes} {end fin : Ended}
     (a : Session s input out end new) (b : Session t input out2 fin new2) : Type 0 where
   pub first : was_busy a ≡ true → was_busy b ≡ false → IsFront (until_busy a) out2

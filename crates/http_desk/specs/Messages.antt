@@ -5,7 +5,7 @@ use Rattle.http_messages.specs.declared.head_scan.HeadScanState.{HeadScanState}
 use Rattle.http_messages.specs.declared.head_scan.HeadScanState.TheVariants.{Lead}
 use Rattle.http_messages.specs.declared.head_scan.Scan.TheVariants.{Whole, Open}
 use Rattle.http_messages.specs.declared.status.Status.{Status}
-use Rattle.http_messages.specs.Ending.{scan}
+use Rattle.http_messages.specs.HeadScan.{scan}
 use Rattle.http_messages.specs.Heads.{Request, Verdict, Refused, Accepted, Judges, is_head, body_length}
 
 -- ---- heads
@@ -13,11 +13,11 @@ use Rattle.http_messages.specs.Heads.{Request, Verdict, Refused, Accepted, Judge
 abbrev pub longest_head : ℕ
 longest_head = 16384
 
--- nothing is there but empty lines, fewer bytes than a head may have
+-- the input has only empty lines, and fewer bytes than a head may have
 abbrev pub IsBlank : Bytes → Type 0
 IsBlank input = (length input < longest_head) × (scan input ≡ Open Lead)
 
--- a head has begun and doesn't end, in fewer bytes than it may have
+-- a head has begun and has not ended, and the input has fewer bytes than a head may have
 abbrev pub IsHeadCut : Bytes → Type 0
 IsHeadCut input = (length input < longest_head) × (place : HeadScanState) × (place ≢ Lead) × (scan input ≡ Open place)
 
@@ -25,7 +25,8 @@ IsHeadCut input = (length input < longest_head) × (place : HeadScanState) × (p
 abbrev pub IsTooLong : Bytes → Type 0
 IsTooLong input = (longest_head ≤ length input) × (place : HeadScanState) × (scan (take longest_head input) ≡ Open place)
 
--- a block ends in its first empty line, within the limit, and that is its worth; the empty lines before it count
+-- the input begins with a block that ends with the empty line after a head, within the limit, and this is the verdict
+-- on it; the empty lines before the head belong to the block
 pub record HasHead (input block : Bytes) (verdict : Verdict) (more : Bytes) : Type 0 where
   pub ends : scan (take longest_head input) ≡ Whole (length block)
   pub whole : input ≡ block ++ more
@@ -37,7 +38,7 @@ pub record Message : Type 0 where
   pub request : Request
   pub body : Bytes
 
--- the input begins with that message, and goes on with the rest
+-- the input begins with this message, and goes on with the rest
 pub record Begins (input : Bytes) (message : Message) (rest : Bytes) : Type 0 where
   pub block : Bytes
   pub head : HasHead input block (Accepted message.request) (message.body ++ rest)
@@ -60,7 +61,7 @@ pub data Last : Type 0 where
   -- the office is busy: 503 is answered, after 100 Continue or without it, with its body or without it
   Fails : Bool → Bool → Last
 
--- a head that came whole; one that is refused has no request
+-- whether a whole head waits for 100 Continue; a refused head does not
 abbrev pub waits : Verdict → Bool
 waits (Refused status bare) = false
 waits (Accepted request) = request.waits
@@ -69,12 +70,12 @@ abbrev pub is_bare : Verdict → Bool
 is_bare (Refused status bare) = bare
 is_bare (Accepted request) = is_head request.method
 
--- a head that came whole passes
+-- the input begins with a whole head that passes this test
 abbrev pub SomeHead : Bytes → (Verdict → Bool) → Type 0
 SomeHead input test = (block more : Bytes) × (verdict : Verdict) × HasHead input block verdict more
     × (test verdict ≡ true)
 
--- 100 Continue stands only where it is due, and the body of 503 is left out only for a HEAD
+-- 100 Continue is written only if it is due, and the body of 503 is left out only for a HEAD
 pub record MayFail (input : Bytes) (leave bare : Bool) : Type 0 where
   pub leave_due : leave ≡ true → SomeHead input waits
   pub to_head : bare ≡ true → SomeHead input is_bare

@@ -1,4 +1,4 @@
--- What a session has the machine do, and how sessions and calls make one run of the machine.
+-- What the machine does in a session, and how sessions and calls make one run of the machine.
 use Rattle.std.specs.Prelude.{◌≡◌, ◌++◌, IsOk, List, [], ◌∷◌, Option, Some, None}
 use Rattle.std.specs.List.{AllByRecursion}
 use Rattle.isad_core.specs.Texts.{Bytes}
@@ -13,14 +13,14 @@ use Rattle.office_core.specs.Soundness.{NamesDays}
 use Rattle.office_core.specs.State.{State}
 use Rattle.http_messages.specs.Answers.{Answer, of_reply, of_told, answered}
 use Rattle.http_desk.specs.declared.session_end.Ended.{Ended}
-use Rattle.http_desk.specs.Keeping.{LeavesOpen}
+use Rattle.http_desk.specs.AcceptedMessages.{LeavesOpen}
 use Rattle.http_desk.specs.Messages.{Message, Last, Nothing, HeadCut, BodyCut, NoHead, Refuses, Answers, Fails}
 use Rattle.http_desk.specs.Session.{Session, message_answer, state_after}
-use Rattle.http_desk.specs.Talking.{Through}
+use Rattle.http_desk.specs.Exchanges.{Through}
 
 -- ---- one message
 
--- what a message is to the machine
+-- what a message means to the machine
 pub data Meaning : Type 0 where
   Puts : Asked → Meaning  -- a command or a question
   Fixed : Answer → Meaning  -- neither: it has this answer, whatever the state is
@@ -31,11 +31,11 @@ carried_out s (Puts (ToDo command)) = (of_reply (machine.step s command).1, (mac
 carried_out s (Puts (ToTell query)) = (of_told (answer s query), s)
 carried_out s (Fixed told) = (told, s)
 
--- in every state the message is answered so
+-- in every state, the answer to the message is this meaning carried out
 abbrev pub Means : Message → Meaning → Type 0
 Means message meaning = (s : State) → answered s message.request message.body ≡ carried_out s meaning
 
--- one by one
+-- the messages have these meanings, one by one
 abbrev pub AllMean : List Message → List Meaning → Type 0
 AllMean [] [] = Unit {0}
 AllMean [] (meaning ∷ meanings) = ⊥
@@ -51,7 +51,7 @@ commands_among (Fixed told ∷ later) = commands_among later
 
 -- ---- the messages of a session
 
--- the last place may have a message, too
+-- the message in the last place, if there is one
 abbrev pub message_in : Last → List Message
 message_in Nothing = []
 message_in HeadCut = []
@@ -66,7 +66,7 @@ abbrev pub all_messages : {s new : State} {input output : Bytes} {end : Ended} �
     → List Message
 all_messages session = session.messages ++ message_in session.stops.last
 
--- their answers, each in the state that those before it left
+-- the answers to messages, each in the state that those before it left
 abbrev pub answers_of : State → List Message → List Answer
 answers_of s [] = []
 answers_of s (message ∷ later) = message_answer s message ∷ answers_of (state_after s message) later
@@ -75,9 +75,9 @@ abbrev pub machines_answers : State → List Meaning → List Answer
 machines_answers s [] = []
 machines_answers s (meaning ∷ later) = (carried_out s meaning).0 ∷ machines_answers (carried_out s meaning).1 later
 
--- A session has the machine carry out these commands: those that its messages are, in their order. The answers are the
--- machine's, the state at the end is the machine's, every day that is named is of the calendar, and every text that is
--- named is UTF-8.
+-- In a session the machine carries out these commands: those among the meanings of its messages, in order. The answers
+-- are the machine's, and so is the state at the end. Every day that the commands name is in the calendar, and every
+-- text is UTF-8.
 pub record HasCarriedOut {s new : State} {input output : Bytes} {end : Ended}
     (session : Session s input output end new) (commands : List Command) : Type 0 where
   pub meanings : List Meaning
@@ -90,7 +90,7 @@ pub record HasCarriedOut {s new : State} {input output : Bytes} {end : Ended}
 
 -- ---- sessions and calls, one after the other
 
--- what a call is told
+-- what a call answers
 pub data Heard : Type 0 where
   Replied : machine.Reply → Bytes → Heard  -- the reply to a command, and its JSON
   Answered : Told → Heard  -- the answer to a question
@@ -99,29 +99,29 @@ abbrev pub heard_of : State → Asked → Heard
 heard_of s (ToDo command) = Replied (machine.step s command).1 (reply_text (machine.step s command).1)
 heard_of s (ToTell query) = Answered (answer s query)
 
--- how an office is come to
+-- one session or call
 pub data Visit : Type 0 where
   ByHttp : (input output : Bytes) → Ended → Visit  -- by a peer, with these bytes
   Directly : Asked → Option Heard → Visit  -- by a call; it is told nothing where the office is busy
 
--- what comes of it
+-- the visit leads from one state to another
 abbrev pub Happens : State → Visit → State → Type 0
 Happens s (ByHttp input output end) new = Session s input output end new
 Happens s (Directly asked (Some heard)) new = (heard ≡ heard_of s asked) × (new ≡ next_state s asked)
 Happens s (Directly asked None) new = new ≡ s
 
--- of all of them, one after the other
+-- the visits lead from one state to another, one after the other
 abbrev pub AllHappen : State → List Visit → State → Type 0
 AllHappen s [] new = new ≡ s
 AllHappen s (visit ∷ later) new = (mid : State) × Happens s visit mid × AllHappen mid later new
 
--- the days that a call names are of the calendar, as every `Day` is
+-- the days that a call names are in the calendar, as every `Day` is
 abbrev pub CallsNameDays : Visit → Type 0
 CallsNameDays (ByHttp input output end) = Unit {0}
 CallsNameDays (Directly (ToDo command) told) = NamesDays command
 CallsNameDays (Directly (ToTell query) told) = Unit {0}
 
--- the text that a call names is UTF-8, as every `Text` is
+-- the texts that a call names are UTF-8, as every `Text` is
 abbrev pub CallsNameTexts : Visit → Type 0
 CallsNameTexts (ByHttp input output end) = Unit {0}
 CallsNameTexts (Directly (ToDo command) told) = NamesTexts command
@@ -129,14 +129,14 @@ CallsNameTexts (Directly (ToTell query) told) = Unit {0}
 
 -- ---- which of them leave an office open
 
--- a session that does so; a command that was accepted
+-- a session that leaves the office open, or a call of a command that was accepted
 abbrev pub VisitLeavesOpen : Type 0 → (s : State) (visit : Visit) (new : State) → Happens s visit new → Type 0
 VisitLeavesOpen was_open s (ByHttp input output end) new session = LeavesOpen was_open session
 VisitLeavesOpen was_open s (Directly (ToDo command) (Some heard)) new happens = IsOk (machine.step s command).1
 VisitLeavesOpen was_open s (Directly (ToTell query) (Some heard)) new happens = ⊥
 VisitLeavesOpen was_open s (Directly asked None) new happens = ⊥
 
--- the last of them does so; where there are none, the office was open before
+-- the last visit leaves the office open; if there are no visits, it was open before
 abbrev pub VisitsLeaveOpen : Type 0 → (s : State) (visits : List Visit) (new : State) → AllHappen s visits new → Type 0
 VisitsLeaveOpen was_open s [] new same = was_open
 VisitsLeaveOpen was_open s (visit ∷ later) new (mid, happens, more) =
@@ -148,7 +148,7 @@ module _ {M : Type 0} (represents : M → State → Type 0) (is_intact is_open :
   pub record IsVisited (old new : M) (visit : Visit) : Type 0 where
     pub intact : is_intact new → is_intact old
     pub was_open : is_intact new → is_open new → is_open old
-    -- an office that this leaves open is open then
+    -- an office that the visit leaves open is open afterwards
     pub happens : Through represents is_intact old new
         (λ s t. (it : Happens s visit t) × (VisitLeavesOpen (is_open old) s visit t it → is_open new))
 
@@ -158,7 +158,7 @@ module _ {M : Type 0} (represents : M → State → Type 0) (is_intact is_open :
 
 -- ---- their commands
 
--- those of one visit: those of the session; that of a call, unless the office was busy
+-- the commands of one visit: those of a session; or the one of a call, unless the office was busy
 abbrev pub Brings : State → Visit → List Command → State → Type 0
 Brings s (ByHttp input output end) commands new =
     (session : Session s input output end new) × HasCarriedOut session commands
@@ -168,7 +168,7 @@ Brings s (Directly (ToTell query) (Some told)) commands new =
     (commands ≡ []) × Happens s (Directly (ToTell query) (Some told)) new
 Brings s (Directly asked None) commands new = (commands ≡ []) × (new ≡ s)
 
--- those of all visits, in order
+-- the commands of all visits, in order
 abbrev pub AllBring : State → List Visit → List Command → State → Type 0
 AllBring s [] commands new = (commands ≡ []) × (new ≡ s)
 AllBring s (visit ∷ later) commands new =

@@ -15,7 +15,7 @@ use Rattle.http_desk.specs.Messages.{Message, Cuts, Last, Nothing, HeadCut, Body
 abbrev pub most_answers : ℕ
 most_answers = 10000
 
--- after the answer of that number, counted from 1, the connection is closed
+-- the connection is closed after the answer with this number, counted from 1
 abbrev pub closes : ℕ → Message → Bool
 closes number message = message.request.closes || nat_eq number most_answers
 
@@ -32,12 +32,12 @@ message_answer s message = (answered s message.request message.body).0
 abbrev pub state_after : State → Message → State
 state_after s message = (answered s message.request message.body).1
 
--- 100 Continue where it is due, and the answer
+-- 100 Continue if it is due, and the answer
 abbrev pub message_text : Bool → State → Message → Bytes
 message_text closing s message =
     leave_if message.request.waits ++ answer_text (is_head message.request.method) closing (message_answer s message)
 
--- messages after whose answers the connection stays
+-- what is written for messages after whose answers the connection stays open
 abbrev pub text_after_all : State → List Message → Bytes
 text_after_all s [] = []
 text_after_all s (message ∷ messages) = message_text false s message ++ text_after_all (state_after s message) messages
@@ -46,7 +46,7 @@ abbrev pub state_after_all : State → List Message → State
 state_after_all s [] = s
 state_after_all s (message ∷ messages) = state_after_all (state_after s message) messages
 
--- what stands in the last place
+-- what is written in the last place
 abbrev pub last_text : ℕ → State → Last → Bytes
 last_text number s Nothing = []
 last_text number s HeadCut = []
@@ -92,7 +92,7 @@ EndsSo number last Cut = IsStopped last
 EndsSo number last Closed = IsClosing number last
 -- a read that fails leaves what the end of the input would leave there
 EndsSo number last ReadFault = (last ≡ Nothing) ⊎ IsStopped last
--- a write may fail, and the calls be used up, in any message's place
+-- in any message's place, a write may fail or the turns may be used up
 EndsSo number last WriteFault = Unit {0}
 EndsSo number last Bound = Unit {0}
 
@@ -100,7 +100,7 @@ EndsSo number last Bound = Unit {0}
 abbrev pub IsFront : Bytes → Bytes → Type 0
 IsFront front bytes = (rest : Bytes) × (bytes ≡ front ++ rest)
 
--- what was written in the last place: all of it, but after a fault of the writer
+-- what was written in the last place: all of the bytes, or a front of them if a write failed or the turns were used up
 abbrev pub Written : Ended → Bytes → Bytes → Type 0
 Written End bytes out = out ≡ bytes
 Written Cut bytes out = out ≡ bytes
@@ -109,7 +109,8 @@ Written ReadFault bytes out = out ≡ bytes
 Written WriteFault bytes out = IsFront out bytes
 Written Bound bytes out = IsFront out bytes
 
--- what stands at the front of an input in the place of the message of that number, ends so
+-- the session ends in the place of the message with this number: what is at the front of the input, what is written
+-- for it, how the session ends, and the state that it leaves
 pub record Stops (number : ℕ) (s : State) (input out : Bytes) (end : Ended) (new : State) : Type 0 where
   pub last : Last
   pub stands : Stands input last
@@ -117,11 +118,11 @@ pub record Stops (number : ℕ) (s : State) (input out : Bytes) (end : Ended) (n
   pub written : Written end (last_text number s last) out
   pub leaves : new ≡ state_after_last s last
 
--- the connection stays after their answers
+-- the connection stays open after the answer
 abbrev pub StaysOpen : Message → Type 0
 StaysOpen message = message.request.closes ≡ false
 
--- The input is cut into messages. Each is answered in turn, and in the place of the last the session ends.
+-- The input is cut into messages. Each is answered in turn, and the session ends in the place of the last one.
 pub record Session (s : State) (input output : Bytes) (end : Ended) (new : State) : Type 0 where
   pub messages : List Message
   pub rest : Bytes

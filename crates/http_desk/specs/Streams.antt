@@ -1,10 +1,10 @@
--- What is known of a session's reader, or of its writer, and of what each of its calls has answered.
+-- What is known of a session's reader or writer, and of the result of each of its calls.
 use Rattle.std.specs.Prelude.{◌≡◌, ℕ, Bool, true, false, Option, Result, Ok, Err}
 use Rattle.isad_core.specs.Texts.{Bytes}
 use Rattle.http_desk.specs.declared.streams.Undone.{Undone}
 use Rattle.http_desk.specs.declared.streams.Undone.TheVariants.{Failed, Interrupted}
 
--- a reader or a writer, and how its calls have gone
+-- a reader or a writer, and how its calls went
 pub record Stream : Type 0 where
   pub name : ℕ  -- which it is
   pub bytes : Option Bytes  -- what a reader still gives, or what a writer holds, where that is known
@@ -14,18 +14,18 @@ pub record Stream : Type 0 where
   pub turns : ℕ  -- so many more may be made for this message, or for this text
   pub flushed : Bool  -- all that was written was flushed, as of a reader, which writes nothing
 
--- it was not called yet
+-- it has not been called yet
 pub record IsNew (stream : Stream) : Type 0 where
   pub none_failed : stream.failed ≡ false
   pub none_interrupted : stream.interrupted ≡ false
   pub none_made : stream.calls ≡ 0
   pub none_waits : stream.flushed ≡ true
 
--- the reads of one message: a byte each of the longest head and the longest body, and one more
+-- the reads of one message: one for each byte of the longest head and of the longest body, and one more
 abbrev pub most_reads : ℕ
 most_reads = 8404993
 
--- the writes and flushes of a text, beside one for each byte
+-- the writes and flushes of a text, in addition to one for each byte
 abbrev pub more_writes : ℕ
 more_writes = 16
 

@@ -1,17 +1,17 @@
--- What worked messages mean, and what two of the worked sessions have the machine do.
+-- What worked messages mean, and what the machine does in two of the worked sessions.
 use Rattle.std.specs.Prelude.{ℕ, ◌++◌, false, [], ◌∷◌, Some, None, codes}
 use Rattle.isad_core.specs.Texts.{Bytes}
 use Rattle.office_core.specs.declared.command.Command.TheVariants as command
 use Rattle.office_core.specs.declared.query.Query.TheVariants as query
 use Rattle.office_core.specs.MixedRuns.{ToDo, ToTell}
-use Rattle.office_core.specs.Worked.{draft}
+use Rattle.office_core.specs.WorkedExamples.{draft}
 use Rattle.http_messages.specs.declared.status.Status.TheVariants.{BadRequest, NotFound, LengthRequired}
 use Rattle.http_messages.specs.Answers.{error}
 use Rattle.http_desk.specs.declared.session_end.Ended.TheVariants.{End, Cut}
 use Rattle.http_desk.specs.Messages.{Message}
 use Rattle.http_desk.specs.Runs.{Puts, Fixed, Means, HasCarriedOut}
 use Rattle.http_desk.specs.Session.{Session}
-use Rattle.http_desk.specs.Worked.{of, get, filled, with_draft, fonds_list, not_found}
+use Rattle.http_desk.specs.WorkedExamples.{of, get, filled, with_draft, fonds_list, not_found}
 use Rattle.http_desk.specs.WorkedSessions.{list_request, half_a_request, draft_request, page_request, one_unit}
 
 abbrev pub post : (target : Bytes) → ℕ → (body : Bytes) → Message

@@ -1,9 +1,9 @@
--- Whole sessions in a small office, to the byte. What comes in and what goes out was written by hand.
+-- Whole sessions in a small office, to the byte. Inputs and outputs were written by hand.
 use Rattle.std.specs.Prelude.{◌++◌, [], codes}
 use Rattle.isad_core.specs.Texts.{Bytes}
 use Rattle.http_desk.specs.declared.session_end.Ended.TheVariants.{End, Cut}
 use Rattle.http_desk.specs.Session.{Session}
-use Rattle.http_desk.specs.Worked.{filled, with_draft, fonds_list, not_found, json_text}
+use Rattle.http_desk.specs.WorkedExamples.{filled, with_draft, fonds_list, not_found, json_text}
 
 abbrev pub list_request : Bytes
 list_request = codes "GET /public/fonds HTTP/1.1\r\nHost: x\r\n\r\n"

@@ -1,15 +1,15 @@
-//! Reads more bytes into a buffer, and takes messages off it.
+//! Reads more bytes into a buffer, and takes messages from its front.
 ghost use Rattle.std.specs.Prelude.{◌≡◌, ◌≢◌, ◌+◌, ◌<◌, ◌≤◌, ◌||◌, [], length, take, drop, false, IfOk, IfErr, OnOk};
 ghost use Rattle.std.specs.Io.KnownBytes.{Consumes, IsAtEnd};
-ghost use Rattle.http_desk.specs.Gathering.{Reads};
-ghost use Rattle.http_desk.specs.Quiet.{QuietRead, QuietFill, TakesTurns, once_failed, fill_failed};
+ghost use Rattle.http_desk.specs.MessageInput.{Reads};
+ghost use Rattle.http_desk.specs.StreamFaults.{QuietRead, QuietFill, TakesTurns, once_failed, fill_failed};
 
 use crate::streams::{Source, Undone};
 use std::alloc::AllocError;
 use std::io::Read;
 use std::mem::replace;
 
-/// How a reading ended.
+/// How reading ended.
 #[derive(Clone, Copy, Debug, PartialEq, Eq, Drop)]
 pub enum Filled {
     /// At least one byte came.
@@ -20,13 +20,13 @@ pub enum Filled {
     Failed,
     /// The turns were used up.
     Bound,
-    /// There was no memory for more bytes. None is lost.
+    /// There was no memory for more bytes. No byte is lost.
     NoMemory,
 }
 
 const CHUNK: usize = 4096;
 
-/// Reads once, and again where that was interrupted, in as many turns as are left.
+/// Reads once, and again if that was interrupted, in at most as many turns as are left.
 fn read_once<R: Read>(reader: &mut Source<'_, R>, chunk: &mut [u8]) -> Result<usize, Filled>
     requires { 0 < length chunk.old }
     ensures within { IfOk result (λ n. n ≤ length chunk.new) }
@@ -49,7 +49,7 @@ fn read_once<R: Read>(reader: &mut Source<'_, R>, chunk: &mut [u8]) -> Result<us
     Err(Filled::Bound)
 }
 
-/// Reads once, and again where that was interrupted, in as many turns as are left.
+/// Reads once, and again if that was interrupted, in at most as many turns as are left.
 pub fn fill<R: Read>(reader: &mut Source<'_, R>, buffer: &mut Vec<u8>) -> Filled
     ensures got { Reads reader.old.bytes reader.new.bytes buffer.old.items buffer.new.items }
     ensures same { result ≢ Filled.More → buffer.new.items ≡ buffer.old.items }
@@ -76,7 +76,7 @@ pub fn fill<R: Read>(reader: &mut Source<'_, R>, buffer: &mut Vec<u8>) -> Filled
     }
 }
 
-/// Takes bytes off the front.
+/// Removes the first `n` bytes.
 fn remove_front(buffer: &mut Vec<u8>, n: usize)
     requires { n ≤ length buffer.old.items }
     ensures { buffer.new.items ≡ drop n buffer.old.items }
@@ -86,8 +86,8 @@ fn remove_front(buffer: &mut Vec<u8>, n: usize)
     buffer.truncate(len - n);
 }
 
-/// Takes a message off the front: a copy of its head, and its body, for which no more memory is taken. What comes after
-/// the message is left.
+/// Takes a message from the front: a copy of its head, and its body, which keeps the buffer's memory. The bytes after
+/// the message are left in the buffer.
 pub fn take_message(
     buffer: &mut Vec<u8>,
     size: usize,

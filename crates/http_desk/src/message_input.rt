@@ -1,8 +1,8 @@
 //! Gathers a head, or a body, in a buffer.
 ghost use Rattle.std.specs.Prelude.{◌≡◌, ◌+◌, ◌≤◌, ◌||◌, length, take, unwrap_or, false};
-ghost use Rattle.http_desk.specs.Quiet.{QuietHead, QuietBody, TakesTurns, head_failed, body_failed};
-ghost use Rattle.http_desk.specs.Gathering.{FindsHead, FindsBody, AtEndIfHead, AtEndIfBody, Reads};
-ghost use Rattle.http_messages.specs.Ending.{scan};
+ghost use Rattle.http_desk.specs.StreamFaults.{QuietHead, QuietBody, TakesTurns, head_failed, body_failed};
+ghost use Rattle.http_desk.specs.MessageInput.{FindsHead, FindsBody, AtEndIfHead, AtEndIfBody, Reads};
+ghost use Rattle.http_messages.specs.HeadScan.{scan};
 
 use crate::input_buffer::{Filled, fill};
 use crate::streams::Source;
@@ -13,14 +13,14 @@ use std::io::Read;
 /// How many bytes a head may have, with the empty lines before it.
 pub const HEAD_LIMIT: usize = 16384;
 
-/// What the front of the input is.
+/// What was found at the front of the input.
 #[derive(Clone, Copy, Debug, PartialEq, Eq, Drop)]
 pub enum FoundHead {
-    /// A head of that many bytes.
+    /// A head of this many bytes, with the empty lines before it.
     Whole(usize),
     /// No head ends within the limit.
     TooLong,
-    /// The input has ended with nothing but empty lines.
+    /// The input has ended, and has only empty lines.
     Blank,
     /// The input has ended within a head.
     Cut,
@@ -47,7 +47,7 @@ pub enum FoundBody {
     NoMemory,
 }
 
-/// How long the body of that head is.
+/// How many bytes the body after this head has.
 pub fn body_len(head: Head) -> usize
     ensures { result ≡ unwrap_or head.length 0 }
 {
@@ -57,7 +57,7 @@ pub fn body_len(head: Head) -> usize
     }
 }
 
-/// What the bytes so far say, where those seen before led to a place: no byte is looked at twice.
+/// Scans the bytes that were not seen yet, from the place to which those before them led. No byte is scanned twice.
 fn look(buffer: &[u8], seen: usize, place: HeadScanState) -> Scan
     requires bytes { seen ≤ length buffer.now }
     requires limit { seen ≤ 16384 }
@@ -71,7 +71,7 @@ fn look(buffer: &[u8], seen: usize, place: HeadScanState) -> Scan
     }
 }
 
-/// Reads until a whole head stands in the buffer.
+/// Reads until the buffer begins with a whole head.
 pub fn gather_head<R: Read>(reader: &mut Source<'_, R>, buffer: &mut Vec<u8>) -> FoundHead
     ensures got { Reads reader.old.bytes reader.new.bytes buffer.old.items buffer.new.items }
     ensures found { FindsHead buffer.new.items result }
@@ -109,7 +109,7 @@ pub fn gather_head<R: Read>(reader: &mut Source<'_, R>, buffer: &mut Vec<u8>) ->
     }
 }
 
-/// Reads until so many bytes stand in the buffer.
+/// Reads until the buffer has at least `end` bytes.
 pub fn gather_body<R: Read>(
     reader: &mut Source<'_, R>,
     buffer: &mut Vec<u8>,

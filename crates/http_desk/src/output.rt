@@ -1,7 +1,7 @@
 //! Writes whole answers, in few writes. Nothing here takes an allocator.
 ghost use Rattle.std.specs.Prelude.{◌≡◌, ◌≢◌, ◌+◌, ◌<◌, ◌≤◌, ◌||◌, ◌^◌, ℕ, List, [], ◌++◌, length};
 ghost use Rattle.std.specs.Prelude.{true, false};
-ghost use Rattle.http_desk.specs.Quiet.{QuietSend, TakesCalls, TakesTurns, send_failed};
+ghost use Rattle.http_desk.specs.StreamFaults.{QuietSend, TakesCalls, TakesTurns, send_failed};
 ghost use Rattle.std.specs.List.{flat_map};
 ghost use Rattle.std.specs.Io.KnownBytes.{Appends};
 ghost use Rattle.http_desk.specs.Session.{IsFront};
@@ -11,7 +11,7 @@ use crate::streams::{Sink, Undone};
 use arrayvec::ArrayVec;
 use std::io::Write;
 
-/// How a writing ended.
+/// How writing ended.
 #[derive(Clone, Copy, Debug, PartialEq, Eq, Drop)]
 pub enum Sent {
     /// All bytes were written and flushed.
@@ -25,7 +25,7 @@ pub enum Sent {
 /// How many bytes of short pieces are gathered for one write.
 const LOT: usize = 2048;
 
-/// Writes the bytes, in as many turns as are left.
+/// Writes the bytes, in at most as many turns as are left.
 fn send_piece<W: Write>(writer: &mut Sink<'_, W>, piece: &[u8]) -> Sent
     ensures all { result ≡ Sent.All → Appends writer.old.bytes writer.new.bytes piece.now }
     ensures front { (written : List ℕ) × IsFront written piece.now
@@ -49,7 +49,7 @@ fn send_piece<W: Write>(writer: &mut Sink<'_, W>, piece: &[u8]) -> Sent
     Sent::All
 }
 
-/// Flushes, in as many turns as are left.
+/// Flushes, in at most as many turns as are left.
 fn flush<W: Write>(writer: &mut Sink<'_, W>) -> Sent
     ensures nothing { Appends writer.old.bytes writer.new.bytes [] }
     ensures flushed { result ≡ Sent.All → writer.new.flushed ≡ true }
@@ -68,7 +68,7 @@ fn flush<W: Write>(writer: &mut Sink<'_, W>) -> Sent
     Sent::Bound
 }
 
-/// How many bytes the pieces have.
+/// How many bytes the pieces have in all.
 fn length_of(pieces: &[&[u8]]) -> u64
     requires { length (flat_map (λ p. p.now) pieces.now) < 2 ^ 64 }
     ensures { result ≡ length (flat_map (λ p. p.now) pieces.now) }
@@ -80,7 +80,7 @@ fn length_of(pieces: &[&[u8]]) -> u64
     length
 }
 
-/// Gathers a piece. Where there is no room for it, what was gathered is written, and then the piece.
+/// Gathers a piece. If there is no room for it, writes what was gathered, and then the piece.
 fn gather_or_send<W: Write>(
     writer: &mut Sink<'_, W>,
     lot: &mut ArrayVec<u8, LOT>,
@@ -108,8 +108,8 @@ fn gather_or_send<W: Write>(
     }
 }
 
-/// Writes the pieces one after the other and flushes, in one turn for each byte and 16 more. Pieces that fit into a
-/// lot together are one write.
+/// Writes the pieces one after the other and flushes, in at most one turn for each byte and 16 more. Pieces that fit
+/// into one lot are written together.
 pub fn send<W: Write>(writer: &mut Sink<'_, W>, pieces: &[&[u8]]) -> Sent
     requires { length (flat_map (λ p. p.now) pieces.now) + more_writes < 2 ^ 64 }
     ensures all { result ≡ Sent.All

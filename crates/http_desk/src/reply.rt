@@ -2,10 +2,10 @@
 ghost use Rattle.std.specs.Prelude.{◌≡◌, ◌≢◌, ◌+◌, ◌<◌, ◌^◌, ◌||◌, length, true, false};
 ghost use Rattle.http_messages.specs.Answers.{answer_text, continue_text};
 ghost use Rattle.http_messages.specs.Replies.{answer_in};
-ghost use Rattle.http_desk.specs.Sending.{Sends};
+ghost use Rattle.http_desk.specs.AnswerOutput.{Sends};
 ghost use Rattle.http_desk.specs.Parts.{parts_text};
 ghost use Rattle.http_desk.specs.Streams.{more_writes};
-ghost use Rattle.http_desk.specs.Quiet.{TakesCalls, send_failed};
+ghost use Rattle.http_desk.specs.StreamFaults.{TakesCalls, send_failed};
 
 use crate::output::{Sent, send};
 use crate::streams::Sink;
@@ -25,7 +25,7 @@ struct Parts<'a> {
     body: &'a [u8],
 }
 
-/// Writes an answer's parts, with what stands between them.
+/// Writes the parts of an answer, with the text between them.
 fn send_parts<W: Write>(writer: &mut Sink<'_, W>, parts: Parts<'_>) -> Sent
     requires { length (parts_text parts) + more_writes < 2 ^ 64 }
     ensures flushed { result ≡ Sent.All → writer.new.flushed ≡ true }
@@ -54,7 +54,7 @@ fn send_parts<W: Write>(writer: &mut Sink<'_, W>, parts: Parts<'_>) -> Sent
     )
 }
 
-/// Writes an answer; to HEAD it has no body.
+/// Writes an answer; without its body if `bare` is true, as for HEAD.
 pub fn send_answer<W: Write>(
     writer: &mut Sink<'_, W>,
     bare: bool,
@@ -86,7 +86,7 @@ pub fn send_answer<W: Write>(
     send_parts(writer, parts)
 }
 
-/// Writes that a body may come.
+/// Writes 100 Continue: the peer may send the body.
 pub fn send_continue<W: Write>(writer: &mut Sink<'_, W>) -> Sent
     ensures flushed { result ≡ Sent.All → writer.new.flushed ≡ true }
     ensures failed { writer.new.failed ≡ (send_failed result || writer.old.failed) }

@@ -1,4 +1,4 @@
-//! What is answered to a request.
+//! Answers to requests.
 ghost use Rattle.std.specs.Prelude.{◌&&◌, ◌≡◌, ◌≤◌, ◌+◌, [], length, take, drop, unwrap_or, IfOk, OnOk, OnErr};
 ghost use Rattle.std.specs.Prelude.{IsOk, is_none, Some, true, codes};
 ghost use Rattle.httparse.specs.Spans.{IsWithin};
@@ -8,9 +8,9 @@ ghost use Rattle.office_core.specs.Json.{reply_text};
 ghost use Rattle.office_core.specs.Queries.{answer};
 ghost use Rattle.http_messages.specs.Answers as spec;
 ghost use Rattle.http_messages.specs.Routes as routes;
-ghost use Rattle.http_messages.specs.Heard.{request_in};
+ghost use Rattle.http_messages.specs.HeadVerdict.{request_in};
 ghost use Rattle.http_messages.specs.Replies.{answer_in};
-ghost use Rattle.http_messages.specs.Routing.{route_in};
+ghost use Rattle.http_messages.specs.Router.{route_in};
 ghost use Rattle.http_messages.specs.declared.status.Status.TheVariants.{Fine};
 ghost use Rattle.office_core.specs.declared.command.Command.TheVariants as commands;
 
@@ -26,8 +26,8 @@ use isad_core::{List, Text};
 use office_core::{Answer, Busy, Command, Machine, Query, Reply};
 use std::alloc::{AllocError, Global};
 
-/// What a session answers with, beside its office: memory, and the routes that its paths are looked up in. Nothing outside
-/// this module can take of its memory but an empty buffer, and that only at the session's beginning.
+/// What a session needs for its answers besides its office: an allocator, and the routes in which paths are looked up.
+/// Outside this module the allocator serves only to make an empty buffer, at the beginning of a session.
 #[derive(Drop)]
 pub struct Means {
     alloc: Global,
@@ -40,7 +40,7 @@ impl Means {
         Ok(Means { alloc, routes })
     }
 
-    /// A buffer with nothing in it. A session makes one at its beginning; whoever is passed a `&Means` can make none.
+    /// An empty buffer. A session makes one at its beginning. With a `&Means` no buffer can be made.
     pub fn empty_buffer(&mut self) -> Vec<u8>
         ensures { result.items ≡ [] }
     {
@@ -48,7 +48,7 @@ impl Means {
     }
 }
 
-/// The answer of a reply.
+/// The answer for a reply.
 fn of_reply(reply: Reply) -> Answered
     ensures same { (r : rules.Reply) → reply.done ≡ r → reply.json ≡ reply_text r → answer_in result ≡ spec.of_reply r }
     ensures accepted { (answer_in result).status ≡ Fine → IsOk reply.done }
@@ -60,7 +60,7 @@ fn of_reply(reply: Reply) -> Answered
     }
 }
 
-/// The answer of what the office tells.
+/// The answer for the office's answer to a question.
 fn of_told(told: Answer) -> Answered
     ensures { answer_in result ≡ spec.of_told told }
 {
@@ -71,7 +71,7 @@ fn of_told(told: Answer) -> Answered
     }
 }
 
-/// Has a command carried out.
+/// Carries out a command.
 fn done<M: Machine>(alloc: Global, office: &mut M, command: Command) -> Result<Answered, Busy>
     ensures intact { M.is_intact office.new → M.is_intact office.old }
     ensures was_open { M.is_intact office.new → M.is_open office.new → M.is_open office.old }
@@ -87,7 +87,7 @@ fn done<M: Machine>(alloc: Global, office: &mut M, command: Command) -> Result<A
     }
 }
 
-/// Has a question answered.
+/// Answers a question.
 fn asked<M: Machine>(alloc: Global, office: &mut M, query: Query) -> Result<Answered, Busy>
     ensures intact { M.is_intact office.new → M.is_intact office.old }
     ensures was_open { M.is_intact office.new → M.is_open office.new → M.is_open office.old }
@@ -102,7 +102,7 @@ fn asked<M: Machine>(alloc: Global, office: &mut M, query: Query) -> Result<Answ
     }
 }
 
-/// Has a command carried out that a body may give.
+/// Carries out the command that a body gives, or answers 400 if it gives none.
 fn done_if_read<M: Machine>(
     alloc: Global,
     office: &mut M,
@@ -122,7 +122,7 @@ fn done_if_read<M: Machine>(
     }
 }
 
-/// The command of an import. The file is the body's own bytes.
+/// The command of an import. The bytes of the body become the file, without a copy.
 fn import_of(alloc: Global, source: &str, body: Vec<u8>) -> Result<Command, AllocError>
     ensures { IfOk result (λ made. made ≡ commands.Import source.now body.items) }
 {
@@ -137,14 +137,14 @@ fn has_no_length(head: Head) -> bool
     head.length.is_none()
 }
 
-/// Whether a length is missing.
+/// Whether a length is missing that a POST needs.
 fn lacks_length(post: bool, head: Head) -> bool
     ensures { result ≡ (post && is_none head.length) }
 {
     post && has_no_length(head)
 }
 
-/// Has what a route asks for carried out.
+/// Carries out what a route asks for.
 fn carried_out<M: Machine>(
     alloc: Global,
     office: &mut M,
@@ -176,7 +176,7 @@ fn carried_out<M: Machine>(
     }
 }
 
-/// Answers a request with that route.
+/// Answers a request with this route.
 fn by_route<M: Machine>(
     alloc: Global,
     office: &mut M,
@@ -206,7 +206,7 @@ fn by_route<M: Machine>(
     carried_out(alloc, office, body, route)
 }
 
-/// Answers a request whose body came whole.
+/// Answers a request whose body is complete.
 fn respond<M: Machine>(
     means: &Means,
     office: &mut M,
@@ -232,7 +232,7 @@ fn respond<M: Machine>(
     }
 }
 
-/// Takes the message off the front of the buffer, and has it answered.
+/// Removes the message from the front of the buffer, and answers it.
 fn answer_first<M: Machine>(
     means: &Means,
     office: &mut M,
@@ -261,7 +261,7 @@ fn answer_first<M: Machine>(
     }
 }
 
-/// What was answered, while it waits to be written. The buffer that the message came from is lent to it until then.
+/// An answer that waits to be written. Until then it borrows the buffer that the message came from.
 #[derive(Drop)]
 pub struct Prepared<'b> {
     answered: Result<Answered, Busy>,
@@ -269,14 +269,14 @@ pub struct Prepared<'b> {
 }
 
 impl<'b> Prepared<'b> {
-    /// What was answered.
+    /// The answer, or why the office is busy.
     pub fn answered(&self) -> &Result<Answered, Busy>
         ensures { result.now ≡ self.now.answered }
     {
         &self.answered
     }
 
-    /// Gives the buffer back. What was answered is gone then.
+    /// Returns the buffer, and drops the answer.
     pub fn into_buffer(self) -> &'b mut Vec<u8>
         ensures same_reference { result.ghost_name ≡ self.entry.buffer.ghost_name }
         ensures value { result.now ≡ self.entry.buffer.now }
@@ -286,7 +286,7 @@ impl<'b> Prepared<'b> {
     }
 }
 
-/// Takes the message off the front of the buffer, has it answered, and keeps the buffer until that is written.
+/// Removes the message from the front of the buffer and answers it. The result borrows the buffer.
 pub fn prepare<'b, M: Machine>(
     means: &Means,
     office: &mut M,

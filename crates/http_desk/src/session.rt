@@ -1,4 +1,4 @@
-//! Talks with one peer.
+//! A session with one peer.
 ghost use Rattle.std.specs.Prelude.{◌≢◌, ◌||◌, ◌<◌, true, false, ◌≡◌, ◌≤◌, ◌+◌, ◌*◌, ◌++◌};
 ghost use Rattle.std.specs.Prelude.{length, take, drop, unwrap_or, nat_eq, MatchResult};
 ghost use Rattle.std.specs.Io.KnownBytes.{Appends};
@@ -6,18 +6,18 @@ ghost use Rattle.httparse.specs.Spans.{IsWithin, span_bytes};
 ghost use Rattle.isad_core.specs.Texts.{Bytes};
 ghost use Rattle.http_messages.specs.Answers.{answer_text};
 ghost use Rattle.http_messages.specs.Heads.{Accepted, is_head};
-ghost use Rattle.http_messages.specs.Heard.{request_in};
+ghost use Rattle.http_messages.specs.HeadVerdict.{request_in};
 ghost use Rattle.http_messages.specs.Replies.{answer_in};
 ghost use Rattle.http_desk.specs.Laws.{HasEnded};
 ghost use Rattle.http_desk.specs.Messages.{HasHead};
-ghost use Rattle.http_desk.specs.Sending.{Sends};
+ghost use Rattle.http_desk.specs.AnswerOutput.{Sends};
 ghost use Rattle.http_desk.specs.Session.{leave_if, most_answers};
 ghost use Rattle.http_desk.specs.Streams.{most_reads};
-ghost use Rattle.http_desk.specs.Talking.{Turn, Through, Exchange, Talks, TalksWhole, AtEndIf, IsNoEnd};
-ghost use Rattle.http_desk.specs.Talking.{Refused, Replies, after_sending};
-ghost use Rattle.http_desk.specs.Quiet.{FlushesAll, IsFlushed, IsQuiet, NoBound, NoWriteBound};
-ghost use Rattle.http_desk.specs.Quiet.{TellsReadFault, TellsWriteFault};
-ghost use Rattle.http_desk.specs.Quiet.{TakesCalls, TakesTurns, send_failed};
+ghost use Rattle.http_desk.specs.Exchanges.{Turn, Through, Exchange, Talks, TalksWhole, AtEndIf, IsNoEnd};
+ghost use Rattle.http_desk.specs.Exchanges.{Refused, Replies, after_sending};
+ghost use Rattle.http_desk.specs.StreamFaults.{FlushesAll, IsFlushed, IsQuiet, NoBound, NoWriteBound};
+ghost use Rattle.http_desk.specs.StreamFaults.{TellsReadFault, TellsWriteFault};
+ghost use Rattle.http_desk.specs.StreamFaults.{TakesCalls, TakesTurns, send_failed};
 
 use crate::message_input::{FoundBody, FoundHead, body_len, gather_body, gather_head};
 use crate::output::Sent;
@@ -32,10 +32,10 @@ use office_core::{Busy, Machine};
 use std::alloc::Global;
 use std::io::{Read, Write};
 
-/// How many messages are answered.
+/// How many messages of a session are answered at most.
 const ANSWERS: u32 = 10_000;
 
-/// What comes next, by how the sending of an answer ended.
+/// What comes next: `next` if all of the answer was sent, and otherwise the end of the session.
 fn after(sent: Sent, next: Next) -> Next
     ensures { result ≡ after_sending sent next }
 {
@@ -46,7 +46,7 @@ fn after(sent: Sent, next: Next) -> Next
     }
 }
 
-/// Writes a fixed answer, and closes.
+/// Writes a fixed answer, after which the session ends.
 fn refuse<W: Write>(writer: &mut Sink<'_, W>, bare: bool, status: Status) -> Next
     ensures sent { Refused writer.old.bytes writer.new.bytes bare status result }
     ensures flushed { IsFlushed writer.new result }
@@ -58,8 +58,8 @@ fn refuse<W: Write>(writer: &mut Sink<'_, W>, bare: bool, status: Status) -> Nex
     after(sent, Next::Ends(Ended::Closed))
 }
 
-/// Writes the office's answer, all of it, and says what comes then. It is passed no allocator, and nothing that has one
-/// but the answer.
+/// Writes the whole answer of the office, and returns what comes next. It gets no allocator, and nothing that has one
+/// except the answer.
 fn reply<W: Write>(writer: &mut Sink<'_, W>, bare: bool, closing: bool, answer: &Answered) -> Next
     ensures sent { Replies writer.old.bytes writer.new.bytes closing
         (answer_text bare closing (answer_in answer.now)) result }
@@ -76,8 +76,8 @@ fn reply<W: Write>(writer: &mut Sink<'_, W>, bare: bool, closing: bool, answer: 
     }
 }
 
-/// Writes what was answered, all of it, or that the office is busy, and says what comes then. It is passed no allocator,
-/// and nothing that has one but the answer.
+/// Writes the whole answer, or that the office is busy, and returns what comes next. It gets no allocator, and nothing
+/// that has one except the answer.
 fn reply_or_refuse<W: Write>(
     writer: &mut Sink<'_, W>,
     bare: bool,
@@ -99,7 +99,7 @@ fn reply_or_refuse<W: Write>(
     }
 }
 
-/// Gives leave to send a body, where the head waits for it.
+/// Writes 100 Continue if the head waits for it.
 fn give_leave<W: Write>(writer: &mut Sink<'_, W>, head: Head) -> Sent
     ensures writes { writer.new.failed ≡ (send_failed result || writer.old.failed) }
     ensures turns { writer.new.interrupted ≡ false → (writer.old.interrupted ≡ false) × (result ≢ Sent.Bound) }
@@ -114,7 +114,7 @@ fn give_leave<W: Write>(writer: &mut Sink<'_, W>, head: Head) -> Sent
     }
 }
 
-/// Whether the connection is closed after the answer of that number.
+/// Whether the connection is closed after the answer with this number.
 fn is_closing(head: Head, number: u32) -> bool
     ensures { result ≡ (head.closes || nat_eq number most_answers) }
 {
@@ -129,8 +129,8 @@ fn is_bare(block: &[u8], head: Head) -> bool
     is_bare_method(head.method.of(block))
 }
 
-/// Has a whole message answered. While the answer is written the buffer is lent to it, so nothing is at hand that takes
-/// memory.
+/// Answers a whole message. The answer borrows the buffer until it is written, so nothing here can take memory while
+/// it is written.
 fn act<W: Write, M: Machine>(
     means: &Means,
     writer: &mut Sink<'_, W>,
@@ -165,7 +165,7 @@ fn act<W: Write, M: Machine>(
     next
 }
 
-/// Receives the body of an accepted head, and has the message answered.
+/// Receives the body of an accepted head, and answers the message.
 fn receive<R: Read, W: Write, M: Machine>(
     means: &Means,
     reader: &mut Source<'_, R>,
@@ -209,7 +209,7 @@ fn receive<R: Read, W: Write, M: Machine>(
     }
 }
 
-/// Reads one message, answers it, and says what comes next.
+/// Reads one message, answers it, and returns what comes next.
 fn exchange<R: Read, W: Write, M: Machine>(
     means: &Means,
     reader: &mut Source<'_, R>,
@@ -276,8 +276,8 @@ fn talk_with<R: Read, W: Write, M: Machine>(
     Ended::Closed
 }
 
-/// Answers the requests of one peer, one after the other. What came is a session's input, and what went its output.
-/// The reader and the writer tell the caller how their calls went.
+/// Answers the requests of one peer, one after the other. What was read is the input of a session, and what was written
+/// is its output. From the reader and the writer the caller can see how their calls went.
 pub fn talk<R: Read, W: Write, M: Machine>(
     alloc: Global,
     reader: &mut Source<'_, R>,
@@ -286,7 +286,7 @@ pub fn talk<R: Read, W: Write, M: Machine>(
 ) -> Ended
     ensures session { Talks M.represents M.is_intact M.is_open reader.old.bytes reader.new.bytes
         writer.old.bytes writer.new.bytes office.old result office.new }
-    // Where the reader tells its bytes, it is a session of all of them.
+    // If the reader's bytes are known, and no fault broke the session off, it is a session of all of them.
     ensures whole { TalksWhole M.represents M.is_intact M.is_open reader.old.bytes
         writer.old.bytes writer.new.bytes office.old result office.new }
     ensures intact { M.is_intact office.new → M.is_intact office.old }
@@ -294,7 +294,8 @@ pub fn talk<R: Read, W: Write, M: Machine>(
     ensures at_end { AtEndIf reader.new.bytes (Next.Ends result) }
     // All that was written was flushed, unless a fault of the writer or a bound ends the session.
     ensures flushed { FlushesAll writer.old writer.new (Next.Ends result) }
-    // Each fault comes exactly where such a call has failed, and a bound only where one was interrupted.
+    // If no such call had failed before, a read or write fault is returned exactly if one failed now. A bound is
+    // returned only if a call was interrupted.
     ensures read_fault { TellsReadFault reader.old reader.new (Next.Ends result) }
     ensures write_fault { TellsWriteFault writer.old writer.new (Next.Ends result) }
     ensures bound { reader.new.interrupted ≡ false → writer.new.interrupted ≡ false → result ≢ Ended.Bound }

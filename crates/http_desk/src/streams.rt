@@ -1,4 +1,4 @@
-//! A session's reader and its writer, with how their calls have gone. Nothing here takes an allocator.
+//! A session's reader and writer, with a record of how their calls went. Nothing here takes an allocator.
 ghost use Rattle.std.specs.Prelude.{◌≡◌, ◌≢◌, ◌+◌, ◌<◌, ◌≤◌, ◌||◌, ◌^◌, [], length, take, nat_lt, IfOk, OnErr};
 ghost use Rattle.std.specs.Io.KnownBytes.{Appends, ReadConsumes};
 ghost use Rattle.std.specs.Io.{ReadsAtMost};
@@ -17,13 +17,13 @@ pub enum Undone {
     Interrupted,
 }
 
-/// How many reads a message may take: one for each byte of the longest, and one more.
+/// How many reads a message may take: one for each byte of the longest message, and one more.
 const READS: u32 = 8_404_993;
 
-/// How many writes and flushes a text may take beside one for each byte.
+/// How many writes and flushes a text may take in addition to one for each byte.
 const MORE_WRITES: u64 = 16;
 
-/// A reader. Nothing else calls it while this stands, and nothing else counts its calls.
+/// A reader, with a record of its calls. While it is borrowed here, nothing else can call it.
 #[derive(Drop)]
 pub struct Source<'a, R: Read> {
     reader: &'a mut R,
@@ -51,7 +51,7 @@ impl<'a, R: Read> Model for Source<'a, R> {
 }
 
 impl<'a, R: Read> Source<'a, R> {
-    /// A reader that was not called yet.
+    /// A reader that has not been called yet.
     pub fn new(reader: &'a mut R) -> Source<'a, R>
         ensures same { result.name ≡ reader.entry.ghost_name }
         ensures bytes { result.bytes ≡ R.remaining reader.old }
@@ -66,7 +66,7 @@ impl<'a, R: Read> Source<'a, R> {
         }
     }
 
-    /// Gives the reader back.
+    /// Returns the reader.
     pub fn into_reader(self) -> &'a mut R
         ensures same { result.ghost_name ≡ self.entry.name }
         ensures bytes { R.remaining result.now ≡ self.entry.bytes }
@@ -75,7 +75,7 @@ impl<'a, R: Read> Source<'a, R> {
         reader
     }
 
-    /// Gives the turns of one message.
+    /// Allows the turns of one message.
     pub fn begin_message(&mut self)
         ensures { self.new ≡ record self.old { turns = most_reads } }
     {
@@ -138,7 +138,7 @@ impl<'a, R: Read> Source<'a, R> {
     }
 }
 
-/// A writer. Nothing else calls it while this stands, and nothing else counts its calls.
+/// A writer, with a record of its calls. While it is borrowed here, nothing else can call it.
 #[derive(Drop)]
 pub struct Sink<'a, W: Write> {
     writer: &'a mut W,
@@ -166,7 +166,7 @@ impl<'a, W: Write> Model for Sink<'a, W> {
 }
 
 impl<'a, W: Write> Sink<'a, W> {
-    /// A writer that was not called yet.
+    /// A writer that has not been called yet.
     pub fn new(writer: &'a mut W) -> Sink<'a, W>
         ensures same { result.name ≡ writer.entry.ghost_name }
         ensures bytes { result.bytes ≡ W.contents writer.old }
@@ -182,7 +182,7 @@ impl<'a, W: Write> Sink<'a, W> {
         }
     }
 
-    /// Gives the writer back.
+    /// Returns the writer.
     pub fn into_writer(self) -> &'a mut W
         ensures same { result.ghost_name ≡ self.entry.name }
         ensures bytes { W.contents result.now ≡ self.entry.bytes }
@@ -191,7 +191,7 @@ impl<'a, W: Write> Sink<'a, W> {
         writer
     }
 
-    /// Gives the turns of a text of so many bytes.
+    /// Allows the turns of a text of `len` bytes.
     pub fn begin_text(&mut self, len: u64)
         requires { len + more_writes < 2 ^ 64 }
         ensures { self.new ≡ record self.old { turns = len + more_writes } }

@@ -1,5 +1,5 @@
 //! Small cases of the definitions, computed.
-ghost use Rattle.http_desk.specs.Worked.{Answered};
+ghost use Rattle.http_desk.specs.WorkedExamples.{Answered};
 ghost use Rattle.http_desk.specs.WorkedRuns.{Carried};
 ghost use Rattle.http_desk.specs.WorkedSessions.{Talked};
 

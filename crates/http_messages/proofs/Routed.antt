@@ -23,7 +23,7 @@ use Rattle.http_messages.specs.declared.routes.Ending.{Ending}
 use Rattle.http_messages.specs.declared.routes.Ending.TheVariants as endings
 use Rattle.http_messages.specs.declared.body_form.Form.TheVariants as form
 use Rattle.http_messages.specs.Routes.{Route, plain, ending, plain_route, ending_route, route_of, or_else, after, is_number, is_name, is_segment, numbered, named}
-use Rattle.http_messages.specs.Routing.{plain_in, makes, beginning, table}
+use Rattle.http_messages.specs.Router.{plain_in, makes, beginning, table}
 use Rattle.http_messages.proofs.Bodies.{never_true}
 use Rattle.http_messages.proofs.Matched.{is_literal, hits, picked, all_shaped, all_apart, all_apart_from, AllBytes, first_picked, picked_apart, none_picked, both_left, both_right}
 

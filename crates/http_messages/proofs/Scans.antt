@@ -6,7 +6,7 @@ use Rattle.http_messages.specs.declared.head_scan.HeadScanState.{HeadScanState}
 use Rattle.http_messages.specs.declared.head_scan.HeadScanState.TheVariants.{Lead}
 use Rattle.http_messages.specs.declared.head_scan.Scan.{Scan}
 use Rattle.http_messages.specs.declared.head_scan.Scan.TheVariants.{Whole, Open}
-use Rattle.http_messages.specs.Ending.{scan, scan_from, one_more, next_place, found_after}
+use Rattle.http_messages.specs.HeadScan.{scan, scan_from, one_more, next_place, found_after}
 
 -- what is found after n bytes more
 abbrev pub later : ℕ → Scan → Scan

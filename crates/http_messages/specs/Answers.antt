@@ -47,7 +47,7 @@ phrase_of TooLarge = codes "Content Too Large"
 phrase_of NotImplemented = codes "Not Implemented"
 phrase_of Busy = codes "Service Unavailable"
 
--- the body of an answer that is not the office's
+-- the body of an answer that does not come from the office
 abbrev pub error_text : Status → Bytes
 error_text Fine = []
 error_text BadRequest = codes "{\"error\":\"bad request\"}"
@@ -80,7 +80,7 @@ abbrev pub close_field : Bool → Bytes
 close_field true = codes "Connection: close\r\n"
 close_field false = []
 
--- the head of an answer, after which the connection is closed or stays
+-- the head of an answer, after which the connection is closed or stays open
 unfoldable pub head_text : Bool → Answer → Bytes
 head_text closing a =
     codes "HTTP/1.1 " ++ (decimal (number_of a.status) ++ (codes " " ++ (phrase_of a.status ++ (codes "\r\n"
@@ -95,7 +95,7 @@ body_text bare a = if bare then [] else a.body
 abbrev pub answer_text : Bool → Bool → Answer → Bytes
 answer_text bare closing a = head_text closing a ++ body_text bare a
 
--- leave to send a body
+-- the peer may send the body
 unfoldable pub continue_text : Bytes
 continue_text = codes "HTTP/1.1 100 Continue\r\n\r\n"
 
@@ -126,7 +126,7 @@ carried_out s body (Does asked) = done s asked
 carried_out s body (TakesFile source) = done s (Import source body)
 carried_out s body (TakesForm asked) = done_if_read s (command_in asked body)
 
--- no route, another method, no length, the body's members, and then the command or the question
+-- the checks in order: route, method, length, members of the body; and then the command or the question
 abbrev pub by_route : State → Request → Bytes → Option Route → Answer × State
 by_route s request body None = (error NotFound, s)
 by_route s request body (Some route) =

@@ -21,9 +21,9 @@ pub record Request : Type 0 where
 abbrev pub body_length : Request → ℕ
 body_length request = unwrap_or request.length 0
 
--- what a head is worth
+-- the verdict on a head
 pub data Verdict : Type 0 where
-  -- it is answered so and the connection closed; and whether it is a HEAD, whose answer has no body
+  -- it is answered with this status and the connection closed; and whether it is a HEAD, whose answer has no body
   Refused : Status → Bool → Verdict
   Accepted : Request → Verdict
 
@@ -33,14 +33,14 @@ pub data Verdict : Type 0 where
 abbrev pub Field : Type 0
 Field = Bytes × Bytes
 
--- the field has that name, in any ASCII case
+-- the field has this name, in any ASCII case
 abbrev pub is_named : Bytes → Field → Bool
 is_named name field = str_eq_ignore_ascii_case field.0 name
 
 abbrev pub hosts : List Field → ℕ
 hosts fields = count_by (is_named (codes "host")) fields
 
--- the items of a list, which commas part
+-- the items of a list, which are separated by commas
 abbrev pub onto_first : ℕ → List Bytes → List Bytes
 onto_first b [] = (b ∷ []) ∷ []
 onto_first b (item ∷ items) = (b ∷ item) ∷ items
@@ -56,7 +56,7 @@ is_close item = begins (skip_ows item)
     begins : Bytes → Bool
     begins rest = str_eq_ignore_ascii_case (take 5 rest) (codes "close") && list_all is_ows (drop 5 rest)
 
--- a field of options, one of which is to close the connection
+-- a field of options, one of which is `close`
 abbrev pub asks_close : Field → Bool
 asks_close field = is_named (codes "connection") field && list_any is_close (list_items field.1)
 
@@ -66,20 +66,20 @@ asks_leave field = is_named (codes "expect") field && str_eq_ignore_ascii_case f
 
 -- ---- the length of a body
 
--- digits, and nothing else
+-- one or more digits, and nothing else
 abbrev pub is_digits : Bytes → Bool
 is_digits bytes = if length bytes == 0 then false else list_all is_ascii_digit bytes
 
--- the digits from the first that isn't 0
+-- the digits from the first that is not 0
 abbrev pub strip_zeros : Bytes → Bytes
 strip_zeros [] = []
 strip_zeros (b ∷ bytes) = if b == 48 then strip_zeros bytes else b ∷ bytes
 
--- the two write one number
+-- the two stand for the same number
 abbrev pub same_number : Bytes → Bytes → Bool
 same_number a b = bytes_eq (strip_zeros a) (strip_zeros b)
 
--- a field that says a length says this one
+-- the field gives this length, or gives none
 abbrev pub agrees : Bytes → Field → Bool
 agrees said field = not (is_named (codes "content-length") field) || (is_digits field.1 && same_number field.1 said)
 
@@ -135,7 +135,7 @@ IsHeadOf block head = ReadsRequest block head [] × (length head.fields ≤ 64)
 abbrev pub verdict_on : RequestHead → Verdict
 verdict_on head = weigh head.method head.target head.minor (map name_and_value head.fields)
 
--- what a block is worth; one that is no head has no method
+-- the verdict on a block; one that is not a head has no method
 abbrev pub Judges : Bytes → Verdict → Type 0
 Judges block verdict =
     ((head : RequestHead) × IsHeadOf block head × (verdict ≡ verdict_on head))

@@ -1,10 +1,10 @@
-pub mod Ending
+pub mod HeadScan
 pub mod Heads
-pub mod Heard
+pub mod HeadVerdict
 pub mod Targets
 pub mod Routes
-pub mod Routing
+pub mod Router
 pub mod Members
 pub mod Answers
 pub mod Replies
-pub mod Worked
+pub mod WorkedExamples

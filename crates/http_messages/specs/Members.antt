@@ -11,13 +11,13 @@ use Rattle.office_core.specs.declared.command.Command.TheVariants as command
 use Rattle.http_messages.specs.declared.body_form.Form.{Form}
 use Rattle.http_messages.specs.declared.body_form.Form.TheVariants as form
 
--- the value of a text in UTF-8. Of a member that stands twice the last one is kept.
+-- the JSON value of a body in UTF-8; if a member occurs twice, the last one is kept
 abbrev pub value_of : Bytes → Option Data
 value_of body = if is_utf8 body then read body else None
 
--- ---- one member, where it is there and of its kind. A value that is no object has none.
+-- ---- one member, if it is there and of its kind. A value that is not an object has none.
 
--- a whole number from 0 to 18446744073709551615, in digits alone
+-- a whole number from 0 to 18446744073709551615, in digits only
 abbrev pub as_whole : Data → Option ℕ
 as_whole value = option_and_then as_u64 (as_number value)
 
@@ -55,7 +55,7 @@ number_or_null_at key value = option_and_then (or_null as_whole) (get key value)
 abbrev pub day_or_null_at : Bytes → Data → Option (Option ℤ)
 day_or_null_at key value = option_and_then (or_null as_day) (get key value)
 
--- false where it is missing
+-- false if it is missing
 abbrev pub or_false : Option Data → Option Bool
 or_false None = Some false
 or_false (Some value) = as_bool value
@@ -93,6 +93,6 @@ command_of form.Permit v =
     of_three command.Permit (number_at (codes "ticket") v) (number_at (codes "unit") v) (day_at (codes "until") v)
 command_of form.Revoke v = of_two command.Revoke (number_at (codes "ticket") v) (number_at (codes "unit") v)
 
--- the command that a body gives the members of
+-- the command whose members a body gives, or none if it does not give them
 abbrev pub command_in : Form → Bytes → Option Command
 command_in asked body = option_and_then (command_of asked) (value_of body)

@@ -1,4 +1,4 @@
--- The answers that the code holds.
+-- What the answers in the code mean.
 use Rattle.std.specs.Prelude.{true, false, None}
 use Rattle.http_messages.specs.declared.answers.Answered.{Answered}
 use Rattle.http_messages.specs.declared.answers.Answered.TheVariants as held

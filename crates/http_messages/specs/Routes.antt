@@ -21,7 +21,7 @@ pub data Route : Type 0 where
 
 -- ---- the table
 
--- paths of one route
+-- the paths that are fixed, each with its route
 abbrev pub plain : List (Bytes × Route)
 plain =
     (codes "/desk/cancel", TakesForm form.Cancel)
@@ -61,7 +61,7 @@ numbered asks digits = option_map (λ n. Asks (asks n)) (number_in digits)
 abbrev pub is_segment : Bytes → Bool
 is_segment bytes = nat_le 1 (length bytes) && not (list_any (λ b. b == 47) bytes)
 
--- a path that is not UTF-8 has no route; what stands before the name is ASCII
+-- a path that is not UTF-8 has no route; the part before the name is ASCII
 abbrev pub is_name : Bytes → Bool
 is_name bytes = is_segment bytes && is_utf8 bytes
 
@@ -86,7 +86,7 @@ abbrev pub or_else : Option Route → Option Route → Option Route
 or_else None other = other
 or_else (Some route) other = Some route
 
--- what stands after that beginning of a path
+-- the rest of a path after this beginning
 abbrev pub after : Bytes → Bytes → Option Bytes
 after [] path = Some path
 after (a ∷ beginning) [] = None

@@ -1,22 +1,23 @@
 //! Answers, and the parts of their bytes. Nothing here takes an allocator.
 ghost use Rattle.std.specs.Prelude.{◌≡◌, ◌≤◌, length};
-ghost use Rattle.http_messages.specs.Answers.{body_text, number_of, phrase_of, error_text, type_name, allow_field, close_field};
+ghost use Rattle.http_messages.specs.Answers.{body_text, number_of, phrase_of, error_text};
+ghost use Rattle.http_messages.specs.Answers.{type_name, allow_field, close_field};
 ghost use Rattle.http_messages.specs.Replies.{answer_in};
 
 use crate::status::Status;
 use http::StatusCode;
 use isad_core::List;
 
-/// What a request is answered with.
+/// The answer to a request.
 #[derive(Debug, Drop)]
 pub enum Answered {
-    /// A text of the office's.
+    /// A text of the office.
     Text(List<u8>),
-    /// A JSON text of the office's.
+    /// A JSON text of the office.
     Json(List<u8>),
-    /// A refusal of the office's, as a JSON text.
+    /// A refusal of the office, as a JSON text.
     Refused(List<u8>),
-    /// Another method is allowed, POST or GET.
+    /// Another method is allowed: POST if true, and otherwise GET.
     NotAllowed(bool),
     /// A fixed answer.
     Error(Status),
@@ -47,7 +48,7 @@ impl Answered {
         }
     }
 
-    /// The field that says which method is allowed.
+    /// The line of the field that names the allowed method; empty if the answer has none.
     pub fn allow_line(&self) -> &'static [u8]
         ensures line { result.now ≡ allow_field (answer_in self.now).allow }
         ensures short { length result.now ≤ 40 }
@@ -136,7 +137,7 @@ pub fn type_of(is_text: bool) -> &'static [u8]
     }
 }
 
-/// The field that says that the connection is closed.
+/// The line of the field that announces that the connection is closed; empty if it stays open.
 pub fn close_line(closing: bool) -> &'static [u8]
     ensures line { result.now ≡ close_field closing }
     ensures short { length result.now ≤ 40 }
@@ -148,7 +149,7 @@ pub fn close_line(closing: bool) -> &'static [u8]
     }
 }
 
-/// The body that is written.
+/// The body that is written; none if `bare` is true.
 pub fn written_body<'a>(bare: bool, answer: &'a Answered) -> &'a [u8]
     ensures { result.now ≡ body_text bare (answer_in answer.now) }
 {

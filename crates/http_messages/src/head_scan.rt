@@ -1,32 +1,32 @@
 //! Where a head ends.
 ghost use Rattle.std.specs.Prelude.{◌≡◌};
-ghost use Rattle.http_messages.specs.Ending.{scan_from, next_place};
+ghost use Rattle.http_messages.specs.HeadScan.{scan_from, next_place};
 
-/// What a byte of a head may stand after.
+/// A place in a head: what the bytes before it are.
 #[derive(Clone, Copy, Debug, PartialEq, Eq, Drop)]
 pub enum HeadScanState {
-    /// Nothing but empty lines.
+    /// Only empty lines, or nothing.
     Lead,
     /// The same, and a CR.
     LeadReturn,
-    /// A line that isn't empty, and its end.
+    /// A line that is not empty, and its end.
     Start,
     /// The same, and a CR.
     StartReturn,
-    /// The first bytes of a line that isn't empty.
+    /// The first bytes of a line that is not empty.
     Middle,
 }
 
-/// What bytes hold of a head.
+/// How much of a head some bytes contain.
 #[derive(Clone, Copy, Debug, PartialEq, Eq, Drop)]
 pub enum Scan {
-    /// A whole head, the empty lines before it counted, of that many bytes.
+    /// A whole head of this many bytes, including the empty lines before it.
     Whole(usize),
-    /// Less than a head.
+    /// Less than a head: the bytes lead to this place.
     Open(HeadScanState),
 }
 
-/// Where a byte leads, or none where it ends the head.
+/// The place to which a byte leads, or none if it ends the head.
 fn place_after(place: HeadScanState, byte: u8) -> Option<HeadScanState>
     ensures { result ≡ next_place place byte }
 {
@@ -73,7 +73,7 @@ fn place_after(place: HeadScanState, byte: u8) -> Option<HeadScanState>
     }
 }
 
-/// What the bytes hold of a head, after those that lead to a place.
+/// How much of a head the bytes contain, after those that led to this place.
 pub fn scan_on(mut place: HeadScanState, bytes: &[u8]) -> Scan
     ensures { result ≡ scan_from place bytes.now }
 {

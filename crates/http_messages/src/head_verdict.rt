@@ -1,13 +1,15 @@
 //! Judges a request's head.
-ghost use Rattle.std.specs.Prelude.{◌≡◌, ◌+◌, ◌<◌, ◌≤◌, ◌^◌, length, map, take, count_by, All, true, false, Option, Some, None, IfSome, IfNone, drop, ◌∷◌, [], option_map, unwrap_or, min, nat_lt, ◌==◌, ◌&&◌, ◌||◌, not, codes};
+ghost use Rattle.std.specs.Prelude.{◌≡◌, ◌+◌, ◌<◌, ◌≤◌, ◌^◌, length, map, take, count_by, All, true, false, Option, Some, None};
+ghost use Rattle.std.specs.Prelude.{IfSome, IfNone, drop, ◌∷◌, [], option_map, unwrap_or, min, nat_lt, ◌==◌, ◌&&◌, ◌||◌, not, codes};
 ghost use Rattle.std.specs.List.{list_all, list_any, find};
 ghost use Rattle.std.specs.Str.{str_eq_ignore_ascii_case};
 ghost use Rattle.std.specs.Char.{is_ascii_digit};
 ghost use Rattle.std.specs.Str.Parse.{digits_value};
 ghost use Rattle.httparse.specs.Grammar.{skip_ows, is_ows};
 ghost use Rattle.httparse.specs.Spans.{IsHeaderWithin, IsWithin, header_bytes, span_bytes};
-ghost use Rattle.http_messages.specs.Heads.{is_named, is_digits, strip_zeros, same_number, agrees, asks_leave, asks_close, is_close, list_items, accept, hosts, is_head, weigh_size, weigh_length, Judges, weigh, longest_body, is_body, Refused};
-ghost use Rattle.http_messages.specs.Heard.{verdict_in, IsFit};
+ghost use Rattle.http_messages.specs.Heads.{is_named, is_digits, strip_zeros, same_number, agrees, asks_leave, asks_close, is_close, list_items, accept};
+ghost use Rattle.http_messages.specs.Heads.{hosts, is_head, weigh_size, weigh_length, Judges, weigh, longest_body, is_body, Refused};
+ghost use Rattle.http_messages.specs.HeadVerdict.{verdict_in, IsFit};
 
 use crate::digits::all_digits;
 use crate::status::Status;
@@ -18,7 +20,7 @@ use httparse::spans::{EMPTY_HEADER_SPAN, HeaderSpan, Span, parse_request};
 /// How many fields a head may have.
 pub const FIELDS: usize = 64;
 
-/// How long a body may be.
+/// How many bytes a body may have.
 pub const LONGEST: u64 = 8_388_608;
 
 /// What a session needs of a head.
@@ -26,7 +28,7 @@ pub const LONGEST: u64 = 8_388_608;
 pub struct Head {
     pub method: Span,
     pub target: Span,
-    /// The length of its body, where one is given.
+    /// The length of its body, if one is given.
     pub length: Option<u64>,
     /// Whether the body comes after 100 Continue.
     pub waits: bool,
@@ -37,7 +39,7 @@ pub struct Head {
 /// The verdict on a head.
 #[derive(Clone, Copy, Debug, PartialEq, Eq)]
 pub enum Judged {
-    /// It is answered so; and whether it is a HEAD.
+    /// It is refused with this status; and whether it is a HEAD.
     Refused(Status, bool),
     Accepted(Head),
 }
@@ -56,7 +58,7 @@ fn same_name(a: &[u8], b: &[u8]) -> bool
     a.eq_ignore_ascii_case(b)
 }
 
-/// Whether a field has that name.
+/// Whether a field has this name, in any ASCII case.
 fn is_field_named(block: &[u8], field: &HeaderSpan, name: &[u8]) -> bool
     requires { IsHeaderWithin (length block.now) field.now }
     ensures { result ≡ is_named name.now (header_bytes block.now field.now) }
@@ -64,7 +66,7 @@ fn is_field_named(block: &[u8], field: &HeaderSpan, name: &[u8]) -> bool
     same_name(field.name.of(block), name)
 }
 
-/// How many fields have that name.
+/// How many fields have this name.
 fn count_named(block: &[u8], fields: &[HeaderSpan], name: &[u8]) -> usize
     requires { All (IsHeaderWithin (length block.now)) fields.now }
     ensures { result ≡ count_by (λ h. is_named name.now (header_bytes block.now h)) fields.now }
@@ -75,7 +77,7 @@ fn count_named(block: &[u8], fields: &[HeaderSpan], name: &[u8]) -> usize
         .count()
 }
 
-/// The first value of that name.
+/// The value of the first field with this name.
 fn first_named<'b>(block: &'b [u8], fields: &[HeaderSpan], name: &[u8]) -> Option<&'b [u8]>
     requires { All (IsHeaderWithin (length block.now)) fields.now }
     ensures { option_map (λ v. v.now) result
@@ -90,7 +92,7 @@ fn first_named<'b>(block: &'b [u8], fields: &[HeaderSpan], name: &[u8]) -> Optio
     None
 }
 
-/// Whether there are digits, and nothing else.
+/// Whether the bytes are one or more digits, and nothing else.
 fn is_digits_alone(bytes: &[u8]) -> bool
     ensures { result ≡ is_digits bytes.now }
 {
@@ -101,7 +103,7 @@ fn is_digits_alone(bytes: &[u8]) -> bool
     }
 }
 
-/// The digits from the first that isn't 0.
+/// The digits from the first that is not 0.
 fn without_zeros(bytes: &[u8]) -> &[u8]
     ensures { result.now ≡ strip_zeros bytes.now }
 {
@@ -112,14 +114,14 @@ fn without_zeros(bytes: &[u8]) -> &[u8]
     rest
 }
 
-/// Whether two numerals write one number.
+/// Whether two numerals stand for the same number.
 fn is_same_number(a: &[u8], b: &[u8]) -> bool
     ensures { result ≡ same_number a.now b.now }
 {
     without_zeros(a) == without_zeros(b)
 }
 
-/// Whether a field agrees with a length that was said.
+/// Whether a field gives the same length as `said`, or gives none.
 fn is_agreed(block: &[u8], field: &HeaderSpan, said: &[u8]) -> bool
     requires { IsHeaderWithin (length block.now) field.now }
     ensures { result ≡ agrees said.now (header_bytes block.now field.now) }
@@ -132,7 +134,7 @@ fn is_agreed(block: &[u8], field: &HeaderSpan, said: &[u8]) -> bool
     }
 }
 
-/// Whether all fields agree with a length that was said.
+/// Whether no field gives another length than `said`.
 fn are_agreed(block: &[u8], fields: &[HeaderSpan], said: &[u8]) -> bool
     requires { All (IsHeaderWithin (length block.now)) fields.now }
     ensures { result ≡ list_all (λ h. agrees said.now (header_bytes block.now h)) fields.now }
@@ -140,7 +142,7 @@ fn are_agreed(block: &[u8], fields: &[HeaderSpan], said: &[u8]) -> bool
     fields.iter().all(|field| is_agreed(block, field, said))
 }
 
-/// The number that digits write, or one more than the longest body where it is more.
+/// The number that the digits stand for, but at most one more than the longest body.
 fn capped_number(digits: &[u8]) -> u64
     requires { list_all is_ascii_digit digits.now ≡ true }
     ensures { result ≡ min (digits_value 10 digits.now) 8388609 }
@@ -152,7 +154,7 @@ fn capped_number(digits: &[u8]) -> u64
     value
 }
 
-/// Whether a field waits for leave to send the body.
+/// Whether a field waits for 100 Continue.
 fn is_asking_leave(block: &[u8], field: &HeaderSpan) -> bool
     requires { IsHeaderWithin (length block.now) field.now }
     ensures { result ≡ asks_leave (header_bytes block.now field.now) }
@@ -176,7 +178,7 @@ fn is_asking_close(block: &[u8], field: &HeaderSpan) -> bool
     }
 }
 
-/// The bytes from the first that is no white space.
+/// The bytes from the first that is not white space.
 fn after_space(bytes: &[u8]) -> &[u8]
     ensures { result.now ≡ skip_ows bytes.now }
 {
@@ -193,7 +195,7 @@ fn all_space(bytes: &[u8]) -> bool
     bytes.iter().all(|b| *b == b' ' || *b == b'\t')
 }
 
-/// Whether an option is to close.
+/// Whether an option is `close`.
 fn is_close_option(item: &[u8]) -> bool
     ensures { result ≡ is_close item.now }
 {
@@ -216,7 +218,7 @@ fn first_comma(bytes: &[u8]) -> Option<usize>
     None
 }
 
-/// Whether one of the options is to close.
+/// Whether one of the options is `close`.
 fn has_close(value: &[u8]) -> bool
     ensures { result ≡ list_any is_close (list_items value.now) }
 {
@@ -230,7 +232,7 @@ fn has_close(value: &[u8]) -> bool
     is_close_option(rest)
 }
 
-/// Whether some field waits for leave to send the body.
+/// Whether some field waits for 100 Continue.
 fn asks_for_leave(block: &[u8], fields: &[HeaderSpan]) -> bool
     requires { All (IsHeaderWithin (length block.now)) fields.now }
     ensures { result ≡ list_any (λ h. asks_leave (header_bytes block.now h)) fields.now }
@@ -246,7 +248,7 @@ fn asks_to_close(block: &[u8], fields: &[HeaderSpan]) -> bool
     fields.iter().any(|field| is_asking_close(block, field))
 }
 
-/// Whether some field has that name.
+/// Whether some field has this name.
 fn has_named(block: &[u8], fields: &[HeaderSpan], name: &[u8]) -> bool
     requires { All (IsHeaderWithin (length block.now)) fields.now }
     ensures { result ≡ list_any (λ h. is_named name.now (header_bytes block.now h)) fields.now }
@@ -292,7 +294,7 @@ fn is_bare(block: &[u8], line: Line) -> bool
     is_bare_method(line.method.of(block))
 }
 
-/// A head that is refused.
+/// The verdict that refuses a head with this status.
 fn refused(block: &[u8], line: Line, status: Status) -> Judged
     requires { IsWithin (length block.now) line.method }
     ensures fit { IsFit block.now result }
@@ -301,7 +303,7 @@ fn refused(block: &[u8], line: Line, status: Status) -> Judged
     Judged::Refused(status, is_bare(block, line))
 }
 
-/// A head whose length, if it gives one, is not too long.
+/// The verdict that accepts a head. Its length, if it gives one, must not be too long.
 fn accepted(block: &[u8], fields: &[HeaderSpan], line: Line, size: Option<u64>) -> Judged
     requires method { IsWithin (length block.now) line.method }
     requires target { IsWithin (length block.now) line.target }
@@ -323,7 +325,7 @@ fn accepted(block: &[u8], fields: &[HeaderSpan], line: Line, size: Option<u64>) 
     })
 }
 
-/// The verdict on a head of that length.
+/// The verdict on a head that gives this length.
 fn weigh_size(block: &[u8], fields: &[HeaderSpan], line: Line, size: u64) -> Judged
     requires method { IsWithin (length block.now) line.method }
     requires target { IsWithin (length block.now) line.target }
@@ -340,7 +342,7 @@ fn weigh_size(block: &[u8], fields: &[HeaderSpan], line: Line, size: u64) -> Jud
     }
 }
 
-/// Whether there is one Host, or none where none is needed.
+/// Whether there is one Host field, or none if none is needed.
 fn has_allowed_hosts(block: &[u8], fields: &[HeaderSpan], minor: u8) -> bool
     requires { All (IsHeaderWithin (length block.now)) fields.now }
     ensures { result ≡ not (nat_lt 1 (hosts (map (header_bytes block.now) fields.now))
@@ -350,7 +352,7 @@ fn has_allowed_hosts(block: &[u8], fields: &[HeaderSpan], minor: u8) -> bool
     !(count > 1 || (minor == 1 && count == 0))
 }
 
-/// Whether a length that is said is not in dispute.
+/// Whether the length `said` has only digits, and all fields agree with it.
 fn is_undisputed(block: &[u8], fields: &[HeaderSpan], said: &[u8]) -> bool
     requires { All (IsHeaderWithin (length block.now)) fields.now }
     ensures { result ≡ (list_all is_ascii_digit said.now
@@ -359,7 +361,7 @@ fn is_undisputed(block: &[u8], fields: &[HeaderSpan], said: &[u8]) -> bool
     all_digits(said) && are_agreed(block, fields, said)
 }
 
-/// The verdict on the length that is said.
+/// The verdict on the length that the fields give.
 fn weigh_said(block: &[u8], fields: &[HeaderSpan], line: Line) -> Judged
     requires method { IsWithin (length block.now) line.method }
     requires target { IsWithin (length block.now) line.target }

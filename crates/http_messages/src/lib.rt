@@ -1,5 +1,5 @@
-//! Requests and answers of HTTP/1.1 (RFC 9110, RFC 9112), message by message: where a head ends and what it is worth,
-//! what a path leads to, what a body says, and the bytes of an answer.
+//! Requests and answers of HTTP/1.1 (RFC 9110, RFC 9112), message by message: where a head ends, the verdict on it, the
+//! route of a path, the command in a body, and the bytes of an answer.
 #![tactic(auto)]
 
 pub mod answers;

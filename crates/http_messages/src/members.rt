@@ -276,7 +276,7 @@ fn revoke(value: &Value) -> Option<Command>
     Some(Command::Revoke { ticket, unit })
 }
 
-/// The command of a value.
+/// The command whose members a value gives, or none if it does not give them.
 fn command_of(alloc: Global, form: Form, value: &Value) -> Result<Option<Command>, AllocError>
     ensures { IfOk result (λ o. o ≡ spec.command_of form (view value.now)) }
 {
@@ -299,7 +299,7 @@ fn command_of(alloc: Global, form: Form, value: &Value) -> Result<Option<Command
     }
 }
 
-/// The value of a body, where it is one.
+/// The JSON value of a body, or none if it is not JSON.
 fn value_of(alloc: Global, body: &[u8]) -> Result<Option<Value>, AllocError>
     ensures { IfOk result (λ o. option_map view o ≡ spec.value_of body.now) }
 {
@@ -315,7 +315,7 @@ fn value_of(alloc: Global, body: &[u8]) -> Result<Option<Value>, AllocError>
     }
 }
 
-/// The command that a body gives the members of.
+/// The command whose members a body gives, or none if it does not give them.
 pub fn command_in(alloc: Global, form: Form, body: &[u8]) -> Result<Option<Command>, AllocError>
     ensures { IfOk result (λ o. o ≡ spec.command_in form body.now) }
 {

@@ -1,11 +1,13 @@
 //! What a path leads to.
-ghost use Rattle.std.specs.Prelude.{◌≡◌, ◌&&◌, ◌==◌, ◌≤◌, [], length, map, option_map, option_and_then, if◌then◌else◌, IfOk, Some, None, true};
+ghost use Rattle.std.specs.Prelude.{◌≡◌, ◌&&◌, ◌==◌, ◌≤◌, [], length, map};
+ghost use Rattle.std.specs.Prelude.{option_map, option_and_then, if◌then◌else◌, IfOk, Some, None, true};
 ghost use Rattle.std.specs.List.{list_all, list_any};
 ghost use Rattle.std.specs.Char.{is_ascii_digit};
 ghost use Rattle.std.specs.Str.{bytes_eq, is_utf8};
 ghost use Rattle.std.specs.Str.Parse.{digits_value};
 ghost use Rattle.http_messages.specs.Routes as spec;
-ghost use Rattle.http_messages.specs.Routing.{route_in, plain_in, makes, beginning, pattern_entry, with_all, patterns, table};
+ghost use Rattle.http_messages.specs.Router.{route_in, plain_in, makes, beginning};
+ghost use Rattle.http_messages.specs.Router.{pattern_entry, with_all, patterns, table};
 
 use crate::body_form::Form;
 use crate::digits::all_digits;
@@ -60,14 +62,14 @@ pub struct Pattern {
     pub leads: Leads,
 }
 
-/// The table of the routes, ready for paths to be looked up. One serves any number of requests.
+/// The table of the routes, in which paths are looked up. One table serves any number of requests.
 #[derive(Drop)]
 pub struct Routes {
     router: Router<Leads>,
     ghost holds: { router ≡ table },
 }
 
-/// The rest of a path behind this beginning, where it begins so.
+/// The rest of a path after this beginning, or none if it begins otherwise.
 fn after<'p>(beginning: &[u8], path: &'p [u8]) -> Option<&'p [u8]>
     ensures { option_map (λ r. r.now) result ≡ spec.after beginning.now path.now }
 {
@@ -100,7 +102,7 @@ fn is_number(text: &[u8]) -> bool
     }
 }
 
-/// The number that at most ten digits write.
+/// The number that at most ten digits stand for.
 fn digits_value(digits: &[u8]) -> u64
     requires short { length digits.now ≤ 10 }
     requires all { list_all is_ascii_digit digits.now ≡ true }
@@ -113,7 +115,7 @@ fn digits_value(digits: &[u8]) -> u64
     value
 }
 
-/// The number that a path ends in.
+/// The number that a path ends in, or none if that is not 1 to 10 digits, the first not 0.
 fn number_in(text: &[u8]) -> Option<u64>
     ensures { result ≡ spec.number_in text.now }
 {
@@ -136,7 +138,7 @@ fn is_segment(text: &[u8]) -> bool
     text.len() >= 1 && !has_slash(text)
 }
 
-/// The text, where it is one.
+/// The bytes as text, or none if they are not UTF-8.
 fn text_of(bytes: &[u8]) -> Option<&str>
     ensures { option_map (λ t. t.now) result ≡ (if is_utf8 bytes.now then Some bytes.now else None) }
 {
@@ -146,7 +148,7 @@ fn text_of(bytes: &[u8]) -> Option<&str>
     }
 }
 
-/// The source that a path names: it is not empty and has no slash.
+/// The source that a path names, or none if it is empty, has a slash or is not UTF-8.
 fn name_in(bytes: &[u8]) -> Option<&str>
     ensures { option_map (λ t. t.now) result ≡ (if spec.is_name bytes.now then Some bytes.now else None) }
 {
@@ -157,7 +159,7 @@ fn name_in(bytes: &[u8]) -> Option<&str>
     }
 }
 
-/// What a path with this ending leads to, where `rest` is a number or a name as it has to be.
+/// What a path with this ending leads to, or none if `rest` is not a number or a name as the ending needs it.
 fn made(ending: Ending, rest: &[u8]) -> Option<Route<'_>>
     ensures { option_map route_in result ≡ makes ending rest.now }
 {
@@ -208,7 +210,7 @@ fn beginning(ending: Ending) -> &'static [u8]
     }
 }
 
-/// What the path leads to, where it has this ending.
+/// What the path leads to, or none if it does not have this ending.
 fn ended(ending: Ending, path: &[u8]) -> Option<Route<'_>>
     ensures { option_map route_in result ≡ option_and_then (makes ending) (spec.after (beginning ending) path.now) }
 {
@@ -399,14 +401,14 @@ pub fn is_post(route: Route<'_>) -> bool
     }
 }
 
-/// The method of a route for POST, or of one for GET.
+/// POST if `post` is true, and otherwise GET.
 pub fn method_for(post: bool) -> Method
     ensures { result ≡ spec.method_name post }
 {
     if post { Method::POST } else { Method::GET }
 }
 
-/// Whether a request's method is the one of a route for POST, or of one for GET. Case counts.
+/// Whether a request's method is POST if `post` is true, or GET otherwise. Case matters.
 pub fn is_method(method: &[u8], post: bool) -> bool
     ensures { result ≡ bytes_eq method.now (spec.method_name post) }
 {

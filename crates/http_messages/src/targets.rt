@@ -2,7 +2,7 @@
 ghost use Rattle.std.specs.Prelude.{◌≡◌};
 ghost use Rattle.http_messages.specs.Targets as spec;
 
-/// Up to the first question mark.
+/// The bytes before the first question mark.
 fn before_query(target: &[u8]) -> &[u8]
     ensures { result.now ≡ spec.before_query target.now }
 {
@@ -14,7 +14,7 @@ fn before_query(target: &[u8]) -> &[u8]
     target
 }
 
-/// From the first slash or number sign on.
+/// The bytes from the first slash or number sign on.
 fn after_authority(target: &[u8]) -> &[u8]
     ensures { result.now ≡ spec.after_authority target.now }
 {
@@ -37,7 +37,7 @@ fn is_scheme(front: &[u8]) -> bool
     front.eq_ignore_ascii_case(b"http://")
 }
 
-/// A target in absolute form loses its scheme and its authority.
+/// The target; without its scheme and authority if it is in absolute form.
 fn without_origin(target: &[u8]) -> &[u8]
     ensures { result.now ≡ spec.without_origin target.now }
 {
@@ -49,7 +49,7 @@ fn without_origin(target: &[u8]) -> &[u8]
     }
 }
 
-/// The path of a target.
+/// The path of a target, or `/` if it is empty.
 pub fn path_of(target: &[u8]) -> &[u8]
     ensures { result.now ≡ spec.path_of target.now }
 {

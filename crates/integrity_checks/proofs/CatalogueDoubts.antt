@@ -11,7 +11,7 @@ use Rattle.office_tables.specs.Schema as tables
 use Rattle.integrity_checks.specs.PlaceChecks.{places_are_doubtful}
 use Rattle.row_decoding.specs.TableRows.{catalogue_in, containers_in}
 use Rattle.integrity_checks.specs.CatalogueChecks.{units_are_doubtful, elements_are_doubtful, containers_are_doubtful, doubtful_catalogue}
-use Rattle.integrity_checks.specs.CatalogueJudging.{good_containers_in, number_of_containers, good_housings_in, doubt_of_contents}
+use Rattle.integrity_checks.specs.CatalogueJudgments.{good_containers_in, number_of_containers, good_housings_in, doubt_of_contents}
 use Rattle.integrity_checks.specs.declared.catalogue_doubt.CatalogueDoubt.{CatalogueDoubt}
 use Rattle.integrity_checks.specs.declared.catalogue_doubt.CatalogueDoubt.TheVariants.{Places, Units, Elements, Containers}
 

@@ -12,7 +12,7 @@ use Rattle.office_tables.specs.DeskCells.{read_reader, read_seat, read_permit}
 use Rattle.office_tables.specs.Schema as tables
 use Rattle.row_decoding.specs.TableRows.{desk_in, readers_in}
 use Rattle.integrity_checks.specs.DeskChecks.{orders_are_doubtful, holdings_are_doubtful, runs_are_doubtful, doubt_of_past, doubt_of_orders, doubt_of_desk}
-use Rattle.integrity_checks.specs.DeskJudging.{good_seats_in, good_permits_in, good_holdings_in, good_runs_in, doubt_beside_readers}
+use Rattle.integrity_checks.specs.DeskJudgments.{good_seats_in, good_permits_in, good_holdings_in, good_runs_in, doubt_beside_readers}
 use Rattle.integrity_checks.specs.ReaderRows.{number_registered}
 use Rattle.integrity_checks.specs.declared.desk_doubt.DeskDoubt.TheVariants.{Readers, Orders, Holdings, Runs}
 use Rattle.integrity_checks.proofs.Surroundings.{not_doubtful, all_read_well}

@@ -8,7 +8,7 @@ use Rattle.sqlite_trees.proofs.ListLemmas.{all_weaker}
 use Rattle.tree_core.proofs.Lists.{eqb_comm}
 use Rattle.catalogue_core.specs.CatalogueRows.{HousingRow, housings_of}
 use Rattle.office_tables.proofs.ByNumber.{Up}
-use Rattle.integrity_checks.specs.Filled.{higher, are_filled}
+use Rattle.integrity_checks.specs.HousingPlaces.{higher, are_filled}
 use Rattle.integrity_checks.proofs.Tested.{all_same}
 
 abbrev pub unit_of : HousingRow → ℕ

@@ -25,7 +25,7 @@ use Rattle.catalogue_core.specs.CatalogueCauses.{are_good_container_rows}
 use Rattle.catalogue_core.specs.CatalogueRows.{ContainerRow}
 use Rattle.office_tables.specs.Cells.{has_unread, number_in, text_in}
 use Rattle.office_tables.specs.CatalogueCells.{read_container}
-use Rattle.office_tables.specs.Meaning.{Means}
+use Rattle.office_tables.specs.StatementMeaning.{Means}
 use Rattle.office_tables.specs.Schema as tables
 use Rattle.office_tables.proofs.ByNumber.{read_by_number, length_read, length_ordered}
 use Rattle.office_tables.proofs.CellTexts.{from_first}
@@ -33,7 +33,7 @@ use Rattle.office_tables.proofs.Queries.{asking}
 use Rattle.row_decoding.specs.Readings.{by_rowid}
 use Rattle.row_decoding.specs.TableRows.{by, containers_in}
 use Rattle.integrity_checks.specs.ScanAnswers.{is_numbered, is_container_answer, are_container_answers}
-use Rattle.integrity_checks.specs.CatalogueJudging.{good_containers_in, number_of_containers}
+use Rattle.integrity_checks.specs.CatalogueJudgments.{good_containers_in, number_of_containers}
 use Rattle.row_decoding.proofs.Alike.{all_alike, alike_then, ordered_alike, read_alike}
 use Rattle.integrity_checks.proofs.Scans.{show}
 use Rattle.row_decoding.proofs.ToldCells.{is_number}

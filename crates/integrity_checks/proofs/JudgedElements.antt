@@ -20,7 +20,7 @@ use Rattle.catalogue_core.specs.CatalogueCauses.{unit_numbers, is_good_element}
 use Rattle.catalogue_core.specs.CatalogueRows.{ElementRow}
 use Rattle.office_tables.specs.Cells.{has_unread}
 use Rattle.office_tables.specs.CatalogueCells.{read_unit, read_element}
-use Rattle.office_tables.specs.Meaning.{Means}
+use Rattle.office_tables.specs.StatementMeaning.{Means}
 use Rattle.office_tables.specs.Schema as tables
 use Rattle.office_tables.proofs.Queries.{asking}
 use Rattle.row_decoding.specs.TableRows.{then_by, catalogue_in}

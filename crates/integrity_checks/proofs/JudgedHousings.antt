@@ -28,7 +28,7 @@ use Rattle.catalogue_core.specs.CatalogueCauses.{unit_numbers, is_good_housing}
 use Rattle.catalogue_core.specs.CatalogueRows.{HousingRow}
 use Rattle.office_tables.specs.Cells.{has_unread}
 use Rattle.office_tables.specs.CatalogueCells.{read_unit, read_housing}
-use Rattle.office_tables.specs.Meaning.{Means}
+use Rattle.office_tables.specs.StatementMeaning.{Means}
 use Rattle.office_tables.specs.Schema as tables
 use Rattle.office_tables.proofs.ByNumber.{Up, up_read}
 use Rattle.office_tables.proofs.CellTexts.{from_first}
@@ -37,8 +37,8 @@ use Rattle.row_decoding.specs.Readings.{by_rowid}
 use Rattle.row_decoding.proofs.TableReads.{same_rows}
 use Rattle.row_decoding.specs.TableRows.{then_by, catalogue_in, containers_in}
 use Rattle.integrity_checks.specs.ScanAnswers.{is_placed, read_placed, said_placed}
-use Rattle.integrity_checks.specs.Filled.{higher, are_filled, AreHoused}
-use Rattle.integrity_checks.specs.CatalogueJudging.{good_housings_in}
+use Rattle.integrity_checks.specs.HousingPlaces.{higher, are_filled, AreHoused}
+use Rattle.integrity_checks.specs.CatalogueJudgments.{good_housings_in}
 use Rattle.row_decoding.proofs.Alike.{Alike, permuted, alike_then, all_alike, filter_alike, ordered_alike, read_alike}
 use Rattle.integrity_checks.proofs.FilledUnits.{unit_of, rows_of, higher_is, filled_judged}
 use Rattle.integrity_checks.proofs.Scans.{show}

@@ -30,7 +30,7 @@ use Rattle.desk_core.specs.Orders.{in_order}
 use Rattle.office_tables.specs.Cells.{has_unread, number_in, whole_in, text_in}
 use Rattle.office_tables.specs.DeskCells.{read_reader}
 use Rattle.office_tables.specs.Faults.{fault_of, IsUnlimited, HasCause}
-use Rattle.office_tables.specs.Meaning.{Means}
+use Rattle.office_tables.specs.StatementMeaning.{Means}
 use Rattle.office_tables.specs.Schema.{schema, reader}
 use Rattle.office_tables.proofs.Causes.{read_cause, none_refuse, sums_nothing}
 use Rattle.office_tables.proofs.CellTexts.{from_first}

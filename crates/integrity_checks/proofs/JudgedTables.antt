@@ -18,7 +18,7 @@ use Rattle.desk_core.specs.declared.consistency.context.Around.{Around}
 use Rattle.desk_core.specs.RowRecords.{Surrounds}
 use Rattle.row_decoding.specs.TableRows.{by, desk_in}
 use Rattle.integrity_checks.specs.DeskChecks.{orders_are_doubtful}
-use Rattle.integrity_checks.specs.DeskJudging.{good_seats_in, good_permits_in, good_holdings_in, good_runs_in, AreOrdersOf}
+use Rattle.integrity_checks.specs.DeskJudgments.{good_seats_in, good_permits_in, good_holdings_in, good_runs_in, AreOrdersOf}
 use Rattle.row_decoding.specs.Readings.{AreRead, by_rowid, in_any_order}
 use Rattle.row_decoding.proofs.Alike.{Alike, keyed_alike}
 use Rattle.integrity_checks.proofs.DesksAlike.{seats_alike, permits_alike, orders_alike, holdings_alike, runs_alike}

@@ -21,7 +21,7 @@ use Rattle.catalogue_core.specs.CatalogueRows.{UnitRow, places_said}
 use Rattle.catalogue_core.specs.Moves.{height}
 use Rattle.office_tables.specs.Cells.{has_unread}
 use Rattle.office_tables.specs.CatalogueCells.{read_unit}
-use Rattle.office_tables.specs.Meaning.{Means}
+use Rattle.office_tables.specs.StatementMeaning.{Means}
 use Rattle.office_tables.specs.Schema as tables
 use Rattle.office_tables.proofs.Queries.{asking}
 use Rattle.row_decoding.specs.Readings.{AreGathered}
@@ -30,7 +30,7 @@ use Rattle.row_decoding.specs.TableRows.{by, places_in, catalogue_in}
 use Rattle.integrity_checks.specs.PlaceChecks.{AreUnitsPlaced}
 use Rattle.integrity_checks.specs.ScanAnswers.{is_described, read_described, said_described}
 use Rattle.integrity_checks.specs.CatalogueChecks.{units_are_doubtful}
-use Rattle.integrity_checks.specs.CatalogueJudging.{are_good_numbers}
+use Rattle.integrity_checks.specs.CatalogueJudgments.{are_good_numbers}
 use Rattle.row_decoding.proofs.Alike.{Alike, permuted, alike_then, alike_back, any_alike, all_alike, length_alike, ordered_alike, read_alike}
 use Rattle.integrity_checks.proofs.Scans.{show}
 use Rattle.integrity_checks.proofs.Tested.{said_shown, unread_shown, unread_tested, same_tested}

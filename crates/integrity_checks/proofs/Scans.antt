@@ -9,8 +9,8 @@ use Rattle.sqlite.specs.Command.TheVariants.{Select}
 use Rattle.sqlite.specs.State.{State, HasCleanDisk, Shown}
 use Rattle.sqlite_value.specs.declared.keys.Key.{Key}
 use Rattle.tree_core.specs.Versions.{Version}
-use Rattle.office_tables.specs.Asking.{IsOurQuery}
-use Rattle.office_tables.specs.Meaning.{Means}
+use Rattle.office_tables.specs.Query.{IsOurQuery}
+use Rattle.office_tables.specs.StatementMeaning.{Means}
 use Rattle.office_tables.specs.Schema.{schema}
 use Rattle.office_tables.proofs.Errors.{keeps}
 use Rattle.office_tables.proofs.Gatherings.{our_plain}

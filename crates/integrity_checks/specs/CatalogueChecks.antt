@@ -1,5 +1,5 @@
--- Whether the catalogue's tables can be a catalogue's, whatever their cells are. Each table has one cause, which also holds where
--- some row of it cannot be read.
+-- Whether the catalogue's tables can be a catalogue's, whatever their cells are. Each table has one cause, which also
+-- holds if some row of it cannot be read.
 use Rattle.std.specs.Prelude.{ℕ, Bool, ◌||◌, cond, Option, Some, None}
 use Rattle.sqlite.specs.Tree.{Trees}
 use Rattle.tree_core.specs.Versions.{Version}
@@ -12,7 +12,7 @@ use Rattle.integrity_checks.specs.PlaceChecks.{places_are_doubtful}
 use Rattle.integrity_checks.specs.declared.catalogue_doubt.CatalogueDoubt.{CatalogueDoubt}
 use Rattle.integrity_checks.specs.declared.catalogue_doubt.CatalogueDoubt.TheVariants.{Places, Units, Elements, Containers}
 
--- the number of the cause, of ten for which an office's tables are refused
+-- the number of the cause, among the ten for which an office's tables are refused
 abbrev pub cause_of : CatalogueDoubt → ℕ
 cause_of Places = 2
 cause_of Units = 3
@@ -32,7 +32,7 @@ containers_are_doubtful version db = containers_are_unread db || containers_are_
 
 -- ---- the first of them
 
--- why the tables are no catalogue's, where this is the number of the next unit
+-- why the tables cannot be a catalogue's, if `next` is the number of the next unit
 abbrev pub doubtful_catalogue : Version → ℕ → Trees → Option CatalogueDoubt
 doubtful_catalogue version next db =
     cond (places_are_doubtful version db) (Some Places)

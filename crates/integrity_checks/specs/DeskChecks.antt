@@ -1,5 +1,5 @@
--- Whether the reading room's tables can be a desk's, whatever their cells are. Each table has one cause, which also holds where
--- some row of it cannot be read.
+-- Whether the reading room's tables can be a desk's, whatever their cells are. Each table has one cause, which also
+-- holds if some row of it cannot be read.
 use Rattle.std.specs.Prelude.{ℕ, ℤ, Bool, ◌||◌, cond, List, filter_map, Option, Some, None}
 use Rattle.sqlite.specs.Order.{Row}
 use Rattle.sqlite.specs.Tree.{Trees}
@@ -14,7 +14,7 @@ use Rattle.row_decoding.specs.Readings.{read_number}
 use Rattle.integrity_checks.specs.declared.desk_doubt.DeskDoubt.{DeskDoubt}
 use Rattle.integrity_checks.specs.declared.desk_doubt.DeskDoubt.TheVariants.{Readers, Orders, Holdings, Runs}
 
--- the number of the cause, of ten for which an office's tables are refused
+-- the number of the cause, among the ten for which an office's tables are refused
 abbrev pub cause_of : DeskDoubt → ℕ
 cause_of Readers = 6
 cause_of Orders = 7
@@ -27,7 +27,7 @@ cause_of Runs = 9
 abbrev pub is_numbered : List Row → ℕ → Bool
 is_numbered table n = stands n (filter_map read_number table)
 
--- what the desk is held against: the limits and the day of the office, and the units and containers of the tables
+-- what the desk is checked against: the limits and the day of the office, and the units and containers of the tables
 abbrev pub around_in : Limits → ℤ → Trees → Around
 around_in limits today db =
     record {
@@ -64,6 +64,6 @@ doubt_of_orders a db = cond (orders_are_doubtful a db) (Some Orders) (doubt_of_p
 abbrev pub doubt_of_desk : Around → Trees → Option DeskDoubt
 doubt_of_desk a db = cond (registration_is_doubtful a db) (Some Readers) (doubt_of_orders a db)
 
--- why the tables are no desk's, of an office with these limits on this day
+-- why the tables cannot be those of a desk, in an office with these limits on this day
 abbrev pub doubtful_desk : Limits → ℤ → Trees → Option DeskDoubt
 doubtful_desk limits today db = doubt_of_desk (around_in limits today db) db

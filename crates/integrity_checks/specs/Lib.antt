@@ -1,9 +1,9 @@
 pub mod ReaderRows
 pub mod DeskChecks
-pub mod DeskJudging
+pub mod DeskJudgments
 pub mod PlaceChecks
 pub mod GoodPlaces
 pub mod CatalogueChecks
 pub mod ScanAnswers
-pub mod Filled
-pub mod CatalogueJudging
+pub mod HousingPlaces
+pub mod CatalogueJudgments

@@ -13,12 +13,12 @@ use Rattle.office_tables.specs.DeskCells.{read_reader}
 use Rattle.office_tables.specs.Schema as tables
 use Rattle.row_decoding.specs.TableRows.{readers_in}
 
--- tickets were given from 1 on, up to the most that there may be, each to a reader with a name, to a day of the calendar
+-- tickets are numbered from 1 on, are not too many, and each has a reader with a name and a last day of the calendar
 abbrev pub are_registered_well : List ReaderRow → Bool
 are_registered_well readers =
     are_numbered_from (λ (row : ReaderRow). row.ticket) 1 readers && (nat_le (length readers) most_tickets && list_all is_good_reader readers)
 
--- some row of a reader cannot be read, or they are such as no desk has
+-- some row of a reader cannot be read, or no desk can have the rows
 abbrev pub readers_are_doubtful : Trees → Bool
 readers_are_doubtful db = has_unread read_reader (db tables.reader.tree) || not (are_registered_well (readers_in db))
 

@@ -1,5 +1,5 @@
--- What the cells say that a query shows of a row of the catalogue: they are put back to their places in the table's row. And what
--- can be judged of a row alone.
+-- What the cells mean that a query shows of a row of the catalogue: they are put back in their places in the table's
+-- row. Also what can be judged from a row alone.
 use Rattle.std.specs.Prelude.{ℕ, suc, Bool, true, false, not, cond, ◌&&◌, List, [], ◌∷◌, length, Option, Some, None, is_some, nat_eq, nat_le}
 use Rattle.std.specs.Option.{option_map_or}
 use Rattle.sqlite.specs.declared.types.Value.TheVariants.{Null}
@@ -13,23 +13,24 @@ use Rattle.catalogue_core.specs.Sources.{is_source}
 use Rattle.office_tables.specs.Cells.{from, text_in, flag_in, whole_in, or_null_in}
 use Rattle.office_tables.specs.CatalogueCells.{read_unit, read_element, read_container, read_housing}
 
--- what a row says, where it passes
+-- the contents of a row, if it passes
 abbrev pub passed : {X : Type 0} → (X → Bool) → X → Option X
 passed good x = cond (good x) (Some x) None
 
 -- ---- units
 
--- it has a source, a number there and a level that are none too long, and no closure but until a day
+-- it has the name of a source, a number there that is not blank, a number and a level that are not too long, and a
+-- closure only until a day of the calendar
 abbrev pub is_described : UnitRow → Bool
 is_described row =
     is_source row.source && (not (is_blank_text row.legacy)
     && (nat_le (length row.legacy) most_bytes && (nat_le (length row.level) most_bytes && is_some_day row.until)))
 
--- the number of the unit of a row, where the rest of it is such as a unit has
+-- the number of the unit in a row, if the rest of it can be a unit's
 abbrev pub read_described : Row → Option ℕ
 read_described row = from (read_unit row) (λ unit. cond (is_described unit) (Some unit.id) None)
 
--- the same of a row that a query shows: the cells but for the number, in the order in which they are read
+-- the same for a row that a query shows: the cells except the number, in the order in which they are read
 abbrev pub is_described_answer : Row → Bool
 is_described_answer cells =
     is_some (flag_in (column cells 4)) && (option_map_or is_some_day (or_null_in whole_in (column cells 5)) false
@@ -43,7 +44,7 @@ said_described cells =
 
 -- ---- elements
 
--- one of the 26 elements but the level, and a text that is not blank
+-- one of the 26 elements except the level, and a text that is not blank
 abbrev pub is_good_value : ElementRow → Bool
 is_good_value row = is_between 1 26 row.k && (not (nat_eq row.k 4) && not (is_blank_text row.value))
 
@@ -70,7 +71,7 @@ abbrev pub are_container_answers : ℕ → List Row → Bool
 are_container_answers n [] = true
 are_container_answers n (row ∷ rows) = is_container_answer n row && are_container_answers (suc n) rows
 
--- ---- what lies in them
+-- ---- what is in them
 
 -- the place and the container have numbers from 1 on
 abbrev pub is_placed : HousingRow → Bool

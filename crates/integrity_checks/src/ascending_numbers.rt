@@ -1,4 +1,4 @@
-//! Numbers that ascend.
+//! Numbers in ascending order.
 
 ghost use Rattle.std.specs.Prelude.{◌≡◌};
 ghost use Rattle.std.specs.List.Sorted.{IsPermutation};
@@ -7,7 +7,7 @@ ghost use Rattle.catalogue_core.specs.CatalogueCauses.{all_stand_in};
 
 use std::marker::Model;
 
-/// Numbers, which a clause sees as their list.
+/// Numbers in ascending order, perhaps with repetitions. Contracts see them as a list.
 #[derive(Drop)]
 pub(crate) struct Ascending {
     numbers: Vec<u64>,
@@ -25,7 +25,7 @@ impl Model for Ascending {
 }
 
 impl Ascending {
-    /// These numbers, which may come in any order.
+    /// Sorts these numbers, which may be in any order.
     pub(crate) fn sorted(mut numbers: Vec<u64>) -> Ascending
         ensures { IsPermutation numbers.items result }
     {

@@ -4,14 +4,14 @@ ghost use Rattle.std.specs.Prelude.{◌≡◌, not, false, IfOk};
 ghost use Rattle.sqlite.specs.Held.{state};
 ghost use Rattle.sqlite.specs.State.{HasCleanDisk};
 ghost use Rattle.tree_core.specs.Versions.{Version};
-ghost use Rattle.office_tables.specs.Asking.{Reads};
+ghost use Rattle.office_tables.specs.Query.{Reads};
 ghost use Rattle.office_tables.specs.CatalogueCells.{read_unit};
 ghost use Rattle.office_tables.specs.Cells.{has_unread};
 ghost use Rattle.office_tables.specs.Faults.{FaultsHaveCause};
 ghost use Rattle.office_tables.specs.Schema as tables;
 ghost use Rattle.office_tables.specs.Step.{InOffice, InTransaction};
 ghost use Rattle.integrity_checks.specs.CatalogueChecks.{containers_are_doubtful, doubtful_catalogue};
-ghost use Rattle.integrity_checks.specs.CatalogueJudging.{doubt_of_contents};
+ghost use Rattle.integrity_checks.specs.CatalogueJudgments.{doubt_of_contents};
 
 use crate::catalogue_doubt::CatalogueDoubt;
 use crate::containers::numbered;
@@ -23,7 +23,7 @@ use office_tables::StoreFault;
 use sqlite::{Alter, Connection};
 use std::alloc::Global;
 
-/// Whether the containers, and what lies in them, are such as a catalogue has, where each unit can be read.
+/// Whether the containers, and what is in them, can be a catalogue's. Assumes that each unit can be read.
 fn containers_are_good<S: Alter>(conn: &mut Connection<S>) -> Result<bool, StoreFault>
     requires inside { InOffice (state S.Store conn.old) }
     ensures reads { Reads (state S.Store conn.old) (state S.Store conn.new) result }
@@ -38,7 +38,7 @@ fn containers_are_good<S: Alter>(conn: &mut Connection<S>) -> Result<bool, Store
     housings_are_good(conn, containers)
 }
 
-/// What is doubtful of the elements, and then of the containers, where each unit can be read.
+/// The first of the elements and the containers that is doubtful, or none. Assumes that each unit can be read.
 fn check_contents<S: Alter>(conn: &mut Connection<S>) -> Result<Option<CatalogueDoubt>, StoreFault>
     requires inside { InOffice (state S.Store conn.old) }
     ensures reads { Reads (state S.Store conn.old) (state S.Store conn.new) result }
@@ -56,8 +56,9 @@ fn check_contents<S: Alter>(conn: &mut Connection<S>) -> Result<Option<Catalogue
     Ok(None)
 }
 
-/// The first part of the catalogue whose rows are such as no catalogue has, where this is the number of the next unit,
-/// or none. All tables are read whole; no more is held at once than the places, or the numbers of the units.
+/// The first part of the catalogue whose rows no catalogue can have, or none. `next` is the number of the next unit.
+/// Reads all tables completely, unless a doubt is found before. Holds no more at once than the places, or the numbers
+/// of the units.
 pub fn load_check<P: CheckedPlaces, S: Alter>(
     alloc: Global,
     conn: &mut Connection<S>,

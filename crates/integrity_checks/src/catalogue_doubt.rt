@@ -1,16 +1,16 @@
-//! Why the catalogue's tables can be no catalogue's.
+//! Why the catalogue's tables cannot be those of a catalogue.
 
 ghost use Rattle.std.specs.Prelude.{◌≡◌};
 ghost use Rattle.integrity_checks.specs.CatalogueChecks.{cause_of};
 
-/// The part of the catalogue whose rows are such as no catalogue has.
+/// The part of the catalogue whose rows no catalogue can have.
 #[derive(Clone, Copy, Debug, PartialEq, Eq)]
 pub enum CatalogueDoubt {
-    /// Where the units stand.
+    /// The places of the units.
     Places,
     Units,
     Elements,
-    /// The containers, and what lies in them.
+    /// The containers, and what is in them.
     Containers,
 }
 

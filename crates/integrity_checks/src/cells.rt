@@ -1,4 +1,4 @@
-//! What cells of doubtful origin say of units and their texts.
+//! Reads cells of any origin as parts of units and their texts.
 
 ghost use Rattle.std.specs.Prelude.{◌≡◌, not, false, length, nat_le, is_some, option_map};
 ghost use Rattle.std.specs.Option.{option_map_or};
@@ -14,7 +14,7 @@ use isad_core::is_blank;
 use isad_core::limits::MOST_BYTES;
 use sqlite::types::ValueRef;
 
-/// A text, which is UTF-8.
+/// The text in the cell, if it is one in UTF-8.
 fn text_in(value: ValueRef<'_>) -> Option<&str>
     ensures { option_map (λ t. t.now) result ≡ text_said (owned value.entry) }
 {
@@ -44,7 +44,7 @@ pub(crate) fn tells(value: ValueRef<'_>) -> bool
     }
 }
 
-/// Whether it is a text of no more bytes than a file tells.
+/// Whether it is a text of at most `MOST_BYTES` bytes.
 pub(crate) fn is_short(value: ValueRef<'_>) -> bool
     ensures { result ≡ option_map_or (λ t. nat_le (length t) most_bytes) (text_said (owned value.entry)) false }
 {

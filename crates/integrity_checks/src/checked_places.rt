@@ -1,4 +1,4 @@
-//! The check of the places, for each way of keeping them.
+//! The check of the places, for each way to store them.
 
 ghost use Rattle.std.specs.Prelude.{◌≡◌, IfOk, IfSome, is_none};
 ghost use Rattle.sqlite.specs.Held.{state};
@@ -6,7 +6,7 @@ ghost use Rattle.sqlite.specs.State.{HasCleanDisk};
 ghost use Rattle.sqlite.specs.Tree.{Trees};
 ghost use Rattle.catalogue_core.specs.Moves.{height as height_of};
 ghost use Rattle.catalogue_core.specs.CatalogueRows.{places_said};
-ghost use Rattle.office_tables.specs.Asking.{Reads};
+ghost use Rattle.office_tables.specs.Query.{Reads};
 ghost use Rattle.office_tables.specs.Faults.{FaultsHaveCause};
 ghost use Rattle.office_tables.specs.Step.{InTransaction};
 ghost use Rattle.row_completeness.specs.WholePlaces.{RepresentsWhatItSays};
@@ -23,13 +23,13 @@ use std::alloc::Global;
 pub struct Placed {
     /// Their numbers, ascending.
     pub units: Vec<u64>,
-    /// How deep the deepest lies, where a top is 1. Without units it is 0.
+    /// The depth of the deepest unit. A top has depth 1. Without units it is 0.
     pub height: u64,
 }
 
-/// A way of keeping places that can tell whether rows of any cells are such as it keeps.
+/// A way to store places that can check whether rows with any cells can be its own.
 pub trait CheckedPlaces: Places {
-    /// Reads the rows of the places, unless they are such as no office has. All rows are held while it runs.
+    /// Reads the rows of the places. Returns none if no office can have them. Holds all rows while it runs.
     fn check<S: Alter>(
         alloc: Global,
         conn: &mut Connection<S>,
@@ -44,6 +44,6 @@ pub trait CheckedPlaces: Places {
             placed.height ≡ height_of (places_said (places_in Self.version (state S.Store conn.old).now.trees)))) }
         ensures faults { FaultsHaveCause (state S.Store conn.old) (state S.Store conn.new) result };
 
-    /// Rows that are whole, and such as an office can have, show the forest that they say.
+    /// Rows that are complete, and that an office can have, represent the forest that they describe.
     ghost shows_said: { (db : Trees) → RepresentsWhatItSays Self.represents Self.version db };
 }

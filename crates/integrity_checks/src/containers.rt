@@ -3,11 +3,11 @@
 ghost use Rattle.std.specs.Prelude.{◌≡◌, IfOk};
 ghost use Rattle.sqlite.specs.Held.{state};
 ghost use Rattle.sqlite.specs.State.{HasCleanDisk};
-ghost use Rattle.office_tables.specs.Asking.{Reads};
+ghost use Rattle.office_tables.specs.Query.{Reads};
 ghost use Rattle.office_tables.specs.Faults.{FaultsHaveCause};
 ghost use Rattle.office_tables.specs.Step.{InOffice};
 ghost use Rattle.integrity_checks.specs.ScanAnswers.{is_container_answer};
-ghost use Rattle.integrity_checks.specs.CatalogueJudging.{number_of_containers};
+ghost use Rattle.integrity_checks.specs.CatalogueJudgments.{number_of_containers};
 
 use crate::cells::{is_text, tells};
 use isad_core::limits::MOST_CONTAINERS;
@@ -15,7 +15,7 @@ use office_tables::{Gathering, StoreFault, gather};
 use row_decoding::{cell, number_in};
 use sqlite::{Alter, Connection, Row};
 
-/// Whether the cells of a row say the container with this number.
+/// Whether the cells of a row are those of a container with this number.
 fn is_container(row: &Row, number: u64) -> bool
     ensures { result ≡ is_container_answer number row.now }
 {
@@ -25,7 +25,7 @@ fn is_container(row: &Row, number: u64) -> bool
     id == number && tells(cell(row, 1)) && is_text(cell(row, 2)) && is_text(cell(row, 3))
 }
 
-/// The containers that were taken, in the order of their numbers.
+/// The containers taken so far, in the order of their numbers.
 #[derive(Drop)]
 struct Containers {
     count: u64,
@@ -51,7 +51,7 @@ impl Gathering for Containers {
     }
 }
 
-/// How many containers there are, unless their rows are such as no catalogue has. The table is read whole, row by row.
+/// The number of containers, or none if no catalogue can have their rows. Reads the whole table, row by row.
 pub(crate) fn numbered<S: Alter>(conn: &mut Connection<S>) -> Result<Option<u64>, StoreFault>
     requires inside { InOffice (state S.Store conn.old) }
     ensures reads { Reads (state S.Store conn.old) (state S.Store conn.new) result }

@@ -4,12 +4,12 @@ ghost use Rattle.std.specs.Prelude.{◌≡◌, false, IfOk, map};
 ghost use Rattle.sqlite.specs.Held.{state};
 ghost use Rattle.sqlite.specs.State.{HasCleanDisk};
 ghost use Rattle.desk_core.specs.DeskCauses.{Around as Held, orders_are_bad};
-ghost use Rattle.office_tables.specs.Asking.{Reads};
+ghost use Rattle.office_tables.specs.Query.{Reads};
 ghost use Rattle.office_tables.specs.Faults.{FaultsHaveCause};
 ghost use Rattle.office_tables.specs.Step.{InOffice};
 ghost use Rattle.row_decoding.specs.TableRows.{desk_in};
 ghost use Rattle.integrity_checks.specs.DeskChecks.{doubt_of_past, doubt_of_orders, doubtful_desk};
-ghost use Rattle.integrity_checks.specs.DeskJudging.{AreOrdersOf, doubt_beside_readers};
+ghost use Rattle.integrity_checks.specs.DeskJudgments.{AreOrdersOf, doubt_beside_readers};
 ghost use Rattle.desk_core.specs.RowRecords.{Surrounds, order_row};
 
 use crate::desk_doubt::DeskDoubt;
@@ -25,7 +25,7 @@ use row_decoding::orders;
 use sqlite::{Alter, Connection};
 use std::alloc::Global;
 
-/// What is doubtful of the holdings and the runs, beside these orders.
+/// The first of the holdings and the runs that is doubtful with these orders, or none.
 fn check_past<S: Alter>(
     alloc: Global,
     conn: &mut Connection<S>,
@@ -50,7 +50,7 @@ fn check_past<S: Alter>(
     Ok(None)
 }
 
-/// What is doubtful of the orders, and then of the rest.
+/// The first of the orders, the holdings and the runs that is doubtful, or none.
 fn check_orders<S: Alter>(
     alloc: Global,
     conn: &mut Connection<S>,
@@ -72,7 +72,7 @@ fn check_orders<S: Alter>(
     check_past(alloc, conn, around, &all.rows)
 }
 
-/// What is doubtful of the seats and the permits, and then of the rest.
+/// The first part that is doubtful, or none: the seats and the permits, then the orders and the rest.
 fn check_cards<S: Alter>(
     alloc: Global,
     conn: &mut Connection<S>,
@@ -94,8 +94,8 @@ fn check_cards<S: Alter>(
     check_orders(alloc, conn, around)
 }
 
-/// The first part of the desk whose rows are such as no desk of an office with these limits has on
-/// this day, or none. All tables are read whole; the rows but the readers' are kept while it runs.
+/// The first part of the desk whose rows no desk of an office with these limits can have on this day, or none. Reads
+/// all tables completely, unless a doubt is found before. Rows other than the readers' are held in memory.
 pub fn load_check_desk<S: Alter>(
     alloc: Global,
     conn: &mut Connection<S>,

@@ -1,15 +1,15 @@
-//! Why the reading room's tables can be no desk's.
+//! Why the reading room's tables cannot be those of a desk.
 
 ghost use Rattle.std.specs.Prelude.{◌≡◌};
 ghost use Rattle.integrity_checks.specs.DeskChecks.{cause_of};
 
-/// The part of the desk whose rows are such as no desk has.
+/// The part of the desk whose rows no desk can have.
 #[derive(Clone, Copy, Debug, PartialEq, Eq)]
 pub enum DeskDoubt {
     /// Readers, seats or permits.
     Readers,
     Orders,
-    /// Where the containers are.
+    /// The places of the containers.
     Holdings,
     Runs,
 }

@@ -1,16 +1,16 @@
-//! Whether the rows of a table of the desk can all be read and are such as a desk has.
+//! Whether all rows of a table of the desk can be read and can be a desk's.
 
 ghost use Rattle.std.specs.Prelude.{◌≡◌, ◌&&◌, false, IfOk, Some, map};
 ghost use Rattle.sqlite.specs.Held.{state};
 ghost use Rattle.sqlite.specs.State.{HasCleanDisk};
 ghost use Rattle.desk_core.specs.DeskCauses.{Around as Held, orders_are_bad};
-ghost use Rattle.office_tables.specs.Asking.{Reads};
+ghost use Rattle.office_tables.specs.Query.{Reads};
 ghost use Rattle.office_tables.specs.Faults.{FaultsHaveCause};
 ghost use Rattle.office_tables.specs.Step.{InOffice};
 ghost use Rattle.row_decoding.specs.TableRows.{desk_in};
 ghost use Rattle.integrity_checks.specs.DeskChecks.{around_in};
-ghost use Rattle.integrity_checks.specs.DeskJudging.{AreOrdersOf, good_seats_in, good_permits_in};
-ghost use Rattle.integrity_checks.specs.DeskJudging.{good_holdings_in, good_runs_in};
+ghost use Rattle.integrity_checks.specs.DeskJudgments.{AreOrdersOf, good_seats_in, good_permits_in};
+ghost use Rattle.integrity_checks.specs.DeskJudgments.{good_holdings_in, good_runs_in};
 ghost use Rattle.integrity_checks.specs.ReaderRows.{number_registered};
 ghost use Rattle.desk_core.specs.RowRecords.{Surrounds, order_row};
 
@@ -24,7 +24,7 @@ use row_decoding::{container_numbers, holdings, permits, run_lines, runs, seats,
 use sqlite::{Alter, Connection};
 use std::alloc::Global;
 
-/// What the desk is held against, where its readers are so many.
+/// Reads what the desk is checked against. `readers` is the number of its readers.
 pub(crate) fn surroundings<S: Alter>(
     alloc: Global,
     conn: &mut Connection<S>,
@@ -53,7 +53,7 @@ pub(crate) fn surroundings<S: Alter>(
     })
 }
 
-/// Whether the seats are.
+/// Whether all seats can be read and can be a desk's.
 pub(crate) fn seats_are_good<S: Alter>(
     alloc: Global,
     conn: &mut Connection<S>,
@@ -71,7 +71,7 @@ pub(crate) fn seats_are_good<S: Alter>(
     Ok(all.are_read && are_good)
 }
 
-/// Whether the permits are.
+/// Whether all permits can be read and can be a desk's.
 pub(crate) fn permits_are_good<S: Alter>(
     alloc: Global,
     conn: &mut Connection<S>,
@@ -89,7 +89,7 @@ pub(crate) fn permits_are_good<S: Alter>(
     Ok(all.are_read && are_good)
 }
 
-/// Whether the holdings are, beside these orders.
+/// Whether all holdings can be read and can be a desk's with these orders.
 pub(crate) fn holdings_are_good<S: Alter>(
     alloc: Global,
     conn: &mut Connection<S>,
@@ -110,7 +110,7 @@ pub(crate) fn holdings_are_good<S: Alter>(
     Ok(all.are_read && are_good)
 }
 
-/// Whether the runs and their lines are, beside these orders.
+/// Whether all runs and their lines can be read and can be a desk's with these orders.
 pub(crate) fn runs_are_good<S: Alter>(
     alloc: Global,
     conn: &mut Connection<S>,

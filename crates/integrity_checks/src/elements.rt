@@ -4,7 +4,7 @@ ghost use Rattle.std.specs.Prelude.{◌≡◌, not, false, IfOk};
 ghost use Rattle.sqlite.specs.Held.{state};
 ghost use Rattle.sqlite.specs.State.{HasCleanDisk};
 ghost use Rattle.tree_core.specs.Versions.{Version};
-ghost use Rattle.office_tables.specs.Asking.{Reads};
+ghost use Rattle.office_tables.specs.Query.{Reads};
 ghost use Rattle.office_tables.specs.CatalogueCells.{read_unit};
 ghost use Rattle.office_tables.specs.Cells.{has_unread};
 ghost use Rattle.office_tables.specs.Faults.{FaultsHaveCause};
@@ -18,7 +18,8 @@ use office_tables::{Gathering, StoreFault, gather};
 use row_decoding::{cell, number_in};
 use sqlite::{Alter, Connection, Row};
 
-/// Whether the cells of a row say an element of a unit: one of 26 but the level, and a text that is not blank.
+/// Whether the cells of a row are those of an element of a unit: one of the 26 except the level, with a text that is
+/// not blank.
 fn is_element(row: &Row) -> bool
     ensures { result ≡ is_element_answer row.now }
 {
@@ -31,7 +32,7 @@ fn is_element(row: &Row) -> bool
     1 <= k && k <= 26 && k != 4 && tells(cell(row, 2))
 }
 
-/// The elements that were taken.
+/// The elements taken so far.
 #[derive(Drop)]
 struct Elements {
     are_good: bool,
@@ -52,7 +53,7 @@ impl Gathering for Elements {
     }
 }
 
-/// Whether the elements are such as a catalogue has, where each unit can be read. The table is read whole, row by row.
+/// Whether the elements can be a catalogue's. Assumes that each unit can be read. Reads the whole table, row by row.
 pub(crate) fn elements_are_good<S: Alter>(conn: &mut Connection<S>) -> Result<bool, StoreFault>
     requires inside { InOffice (state S.Store conn.old) }
     ensures reads { Reads (state S.Store conn.old) (state S.Store conn.new) result }

@@ -1,19 +1,19 @@
-//! Whether what lies in the containers can be a catalogue's, whatever the cells are.
+//! Whether what is in the containers can be a catalogue's, whatever the cells are.
 
 ghost use Rattle.std.specs.Prelude.{◌≡◌, false, nat_le, length, option_map, IfOk};
 ghost use Rattle.sqlite.specs.Held.{state};
 ghost use Rattle.sqlite.specs.State.{HasCleanDisk};
 ghost use Rattle.tree_core.specs.Versions.{Version};
-ghost use Rattle.office_tables.specs.Asking.{Reads};
+ghost use Rattle.office_tables.specs.Query.{Reads};
 ghost use Rattle.office_tables.specs.CatalogueCells.{read_unit};
 ghost use Rattle.office_tables.specs.Cells.{has_unread};
 ghost use Rattle.office_tables.specs.Faults.{FaultsHaveCause};
 ghost use Rattle.office_tables.specs.Schema as tables;
 ghost use Rattle.office_tables.specs.Step.{InOffice};
 ghost use Rattle.integrity_checks.specs.ScanAnswers.{said_placed};
-ghost use Rattle.integrity_checks.specs.Filled.{higher as higher_of, housed};
+ghost use Rattle.integrity_checks.specs.HousingPlaces.{higher as higher_of, housed};
 ghost use Rattle.row_decoding.specs.TableRows.{containers_in};
-ghost use Rattle.integrity_checks.specs.CatalogueJudging.{good_housings_in};
+ghost use Rattle.integrity_checks.specs.CatalogueJudgments.{good_housings_in};
 
 use office_tables::{Gathering, StoreFault, gather};
 use row_decoding::{cell, number_in};
@@ -27,7 +27,7 @@ struct Housed {
     container: u64,
 }
 
-/// What a row says, where its place and its container have numbers from 1 on.
+/// The contents of a row, if its place and its container have numbers from 1 on.
 fn housed_in(row: &Row) -> Option<Housed>
     ensures { option_map housed result ≡ said_placed row.now }
 {
@@ -51,10 +51,10 @@ fn higher(a: u64, b: u64) -> u64
     if a <= b { b } else { a }
 }
 
-/// The rows that were taken, those of a unit one after the other.
+/// The rows taken so far, with those of each unit together.
 #[derive(Drop)]
 struct Housings {
-    /// Each row says something, and no place of a unit before the last is above the number of the unit's rows.
+    /// Each row has contents, and no place of a unit before the last is above the number of that unit's rows.
     are_good: bool,
     /// The unit of the last row, how many rows it has, and the highest place among them.
     unit: u64,
@@ -74,7 +74,7 @@ impl Housings {
 }
 
 impl Gathering for Housings {
-    ghost use Rattle.integrity_checks.specs.Filled.{AreHoused};
+    ghost use Rattle.integrity_checks.specs.HousingPlaces.{AreHoused};
 
     ghost holds = { λ rows all. AreHoused rows all.are_good all.unit all.count all.highest all.last };
 
@@ -102,8 +102,8 @@ impl Gathering for Housings {
     }
 }
 
-/// Whether what lies in so many containers is such as a catalogue has, where each unit can be read. The table is read
-/// whole, row by row.
+/// Whether what is in the containers can be a catalogue's. `containers` is their number. Assumes that each unit can be
+/// read. Reads the whole table, row by row.
 pub(crate) fn housings_are_good<S: Alter>(
     conn: &mut Connection<S>,
     containers: u64,
@@ -116,7 +116,7 @@ pub(crate) fn housings_are_good<S: Alter>(
         → IfOk result (λ good. good ≡ good_housings_in version (state S.Store conn.old).now.trees) }
     ensures faults { FaultsHaveCause (state S.Store conn.old) (state S.Store conn.new) result }
 {
-    // The rows of an open connection keep the foreign keys of its tables: what lies in a container is of a unit.
+    // The rows of an open connection keep the foreign keys of its tables: what is in a container belongs to a unit.
     let _ = conn.schema();
     let all = gather(
         conn,

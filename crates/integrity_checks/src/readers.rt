@@ -7,7 +7,7 @@ ghost use Rattle.sqlite.specs.Value.{owned};
 ghost use Rattle.sqlite.specs.State.{HasCleanDisk};
 ghost use Rattle.isad_core.specs.Days.{is_day_number};
 ghost use Rattle.desk_core.specs.Names.{is_name as is_name_of};
-ghost use Rattle.office_tables.specs.Asking.{Reads};
+ghost use Rattle.office_tables.specs.Query.{Reads};
 ghost use Rattle.office_tables.specs.Cells.{whole_in, text_in};
 ghost use Rattle.office_tables.specs.Faults.{FaultsHaveCause};
 ghost use Rattle.office_tables.specs.Step.{InOffice};
@@ -43,7 +43,7 @@ fn tells_name(value: ValueRef<'_>) -> bool
     }
 }
 
-/// Whether the cells of a row say the reader with this ticket.
+/// Whether the cells of a row are those of a reader with this ticket.
 fn is_reader(row: &Row, ticket: u64) -> bool
     ensures { result ≡ is_reader_answer ticket row.now }
 {
@@ -53,11 +53,11 @@ fn is_reader(row: &Row, ticket: u64) -> bool
     number == ticket && is_day(cell(row, 1)) && tells_name(cell(row, 2))
 }
 
-/// The readers that were taken, in the order of their tickets.
+/// The readers taken so far, in the order of their tickets.
 #[derive(Drop)]
 struct Readers {
     count: u64,
-    /// Their tickets were given from 1 on, and each has a name and a last day.
+    /// Their tickets are numbered from 1 on, and each has a name and a last day.
     are_good: bool,
 }
 
@@ -79,8 +79,7 @@ impl Gathering for Readers {
     }
 }
 
-/// How many readers there are, unless their rows are such as no desk has. The table is read whole,
-/// row by row.
+/// The number of readers, or none if no desk can have their rows. Reads the whole table, row by row.
 pub(crate) fn registered<S: Alter>(conn: &mut Connection<S>) -> Result<Option<u64>, StoreFault>
     requires inside { InOffice (state S.Store conn.old) }
     ensures reads { Reads (state S.Store conn.old) (state S.Store conn.new) result }

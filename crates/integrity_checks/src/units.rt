@@ -7,14 +7,14 @@ ghost use Rattle.sqlite.specs.State.{HasCleanDisk};
 ghost use Rattle.tree_core.specs.Versions.{Version};
 ghost use Rattle.catalogue_core.specs.CatalogueRows.{places_said};
 ghost use Rattle.catalogue_core.specs.Moves.{height as height_of};
-ghost use Rattle.office_tables.specs.Asking.{Reads};
+ghost use Rattle.office_tables.specs.Query.{Reads};
 ghost use Rattle.office_tables.specs.Faults.{FaultsHaveCause};
 ghost use Rattle.office_tables.specs.Step.{InOffice};
 ghost use Rattle.row_decoding.specs.TableRows.{places_in};
 ghost use Rattle.integrity_checks.specs.PlaceChecks.{AreUnitsPlaced};
 ghost use Rattle.integrity_checks.specs.ScanAnswers.{is_described_answer, said_described};
 ghost use Rattle.integrity_checks.specs.CatalogueChecks.{units_are_doubtful};
-ghost use Rattle.integrity_checks.specs.CatalogueJudging.{are_good_numbers};
+ghost use Rattle.integrity_checks.specs.CatalogueJudgments.{are_good_numbers};
 
 use crate::ascending_numbers::Ascending;
 use crate::cells::{is_day_or_null, is_flag, is_short, tells, tells_source};
@@ -24,10 +24,10 @@ use row_decoding::{cell, number_in};
 use sqlite::{Alter, Connection, Row};
 use std::alloc::Global;
 
-/// How many units an office has at most.
+/// The maximum number of units of an office.
 const MOST_UNITS: usize = limits::MOST_UNITS as usize;
 
-/// Whether the cells of a row, but for its number, are such as a unit has.
+/// Whether the cells of a row, apart from its number, can be a unit's.
 fn is_described(row: &Row) -> bool
     ensures { result ≡ is_described_answer row.now }
 {
@@ -39,7 +39,7 @@ fn is_described(row: &Row) -> bool
         && is_short(cell(row, 3))
 }
 
-/// The number of the unit that a row says, where the rest of the row is such as a unit has.
+/// The number of the unit in a row, if the rest of the row can be a unit's.
 fn described_in(row: &Row) -> Option<u64>
     ensures { result ≡ said_described row.now }
 {
@@ -51,11 +51,11 @@ fn described_in(row: &Row) -> Option<u64>
     }
 }
 
-/// The units that were taken.
+/// The units taken so far.
 #[derive(Drop)]
 struct Units {
     numbers: Vec<u64>,
-    /// Each row but for its number is such as a unit has.
+    /// Each row has a number, and the rest of it can be a unit's.
     are_good: bool,
 }
 
@@ -81,7 +81,8 @@ fn are_below(numbers: &[u64], next: u64) -> bool
     numbers.iter().all(|number| *number < next)
 }
 
-/// Whether these are the numbers of the units that have a place, below the next, not too many, and none lies too deep.
+/// Whether these are the numbers of the units that have a place, are below the next number and not too many, and no
+/// unit lies too deep.
 fn are_good(units: &Ascending, places: &Ascending, height: u64, next: u64) -> bool
     ensures { result ≡ are_good_numbers next places.now height units.now }
 {
@@ -92,7 +93,7 @@ fn are_good(units: &Ascending, places: &Ascending, height: u64, next: u64) -> bo
         && height <= MOST_DEEP
 }
 
-/// The same of numbers that may come in any order.
+/// The same for numbers in any order.
 fn are_placed(numbers: Vec<u64>, placed: Vec<u64>, height: u64, next: u64) -> bool
     ensures { result ≡ are_good_numbers next placed.items height numbers.items }
 {
@@ -101,8 +102,8 @@ fn are_placed(numbers: Vec<u64>, placed: Vec<u64>, height: u64, next: u64) -> bo
     are_good(&units, &places, height, next)
 }
 
-/// Whether the units are such as a catalogue has, where these have a place, the deepest lies so deep, and this is the
-/// number of the next one. The table is read whole, row by row; the numbers are held while it runs.
+/// Whether the units can be a catalogue's, if the units `placed` have a place, the deepest lies at `height`, and `next`
+/// is the number of the next unit. Reads the whole table, row by row. Holds the numbers while it runs.
 pub(crate) fn units_are_good<S: Alter>(
     alloc: Global,
     conn: &mut Connection<S>,

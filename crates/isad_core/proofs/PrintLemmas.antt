@@ -2,7 +2,7 @@
 use Rattle.std.proofs.Common.{◌≡◌, ℕ, zero, suc, ◌+◌, ◌<◌, ◌++◌, ◌∷◌, [], List, length, take, get_or, ap, refl, add-one, append_assoc, ◌∙◌}
 use Rattle.std.specs.List.{flat_map}
 use Rattle.std.proofs.lemmas.List.{flat_map_more, take_more}
-use Rattle.isad_core.specs.Printed.{indent}
+use Rattle.isad_core.specs.PrintedDescriptions.{indent}
 
 indent_suc : (depth : ℕ) → indent depth ++ 32 ∷ 32 ∷ [] ≡ 32 ∷ 32 ∷ indent depth
 indent_suc zero = refl

@@ -1,9 +1,9 @@
--- Which containers are one, and lists in which each stands once.
+-- When two containers are the same, and lists in which each container occurs once.
 use Rattle.std.specs.Prelude.{Bool, ◌&&◌, not, List, [], ◌∷◌, filter}
 use Rattle.std.specs.Str.{bytes_eq}
 use Rattle.isad_core.specs.declared.values.BoxKey.{BoxKey}
 
--- one container: the same name, location and kind
+-- the same container: the same name, location and kind
 abbrev pub is_same : BoxKey → BoxKey → Bool
 is_same a b =
     bytes_eq a.name b.name && (bytes_eq a.location b.location && bytes_eq a.kind b.kind)

@@ -10,7 +10,6 @@ abbrev pub separated : ℕ → List Bytes → Bytes
 separated before [] = []
 separated before (id ∷ ids) = before ∷ id ++ separated 47 ids
 
--- the code of a unit, where the identifiers are those of the units from the top down to it: blank
--- ones are left out
+-- the code of a unit; the identifiers are those of the units from the top down to it, and blank ones are left out
 abbrev pub code_of : Bytes → Bytes → List Bytes → Bytes
 code_of country repo ids = country ++ 32 ∷ repo ++ separated 32 (filter is_nonblank ids)

@@ -1,10 +1,10 @@
--- Days: their numbers, counted from 1 January 1970, and their dates as ISO 8601 writes them.
+-- Days: their numbers, counted from 1 January 1970, and their dates in the ISO 8601 form.
 use Rattle.std.specs.Prelude.{ℕ, Bool, ◌+◌, ◌-◌, ◌*◌, ◌/◌, ◌%◌, ◌==◌, ◌&&◌, ◌||◌, ◌++◌, nat_lt, nat_le, if◌then◌else◌, [], ◌∷◌, Option, Some, None, option_map, option_and_then, ℤ, pos, neg_ℤ, ◌+ℤ◌, ◌≤ℤ◌, unsigned_abs}
 use Rattle.std.specs.Int.RustNames.{int_le}
 use Rattle.jiff_core.specs.Calendar.{days_in_month, days_from_civil}
 use Rattle.isad_core.specs.Texts.{Bytes}
 
--- a number from 1900-01-01 to 9999-12-31
+-- the number of a day from 1900-01-01 to 9999-12-31
 abbrev pub IsDayNumber : ℤ → Type 0
 IsDayNumber n = (neg_ℤ (pos 25567) ≤ℤ n) × (n ≤ℤ pos 2932896)
 
@@ -17,7 +17,7 @@ is_day_number n = int_le (neg_ℤ (pos 25567)) n && int_le n (pos 2932896)
 abbrev pub digit : ℕ → Option ℕ
 digit b = if nat_lt b 48 || nat_lt 57 b then None else Some (b - 48)
 
--- the number that two digits write
+-- the number that two ASCII digits write
 abbrev pub two_digits : ℕ → ℕ → Option ℕ
 two_digits high low = option_and_then (λ h. option_map (λ l. h * 10 + l) (digit low)) (digit high)
 
@@ -26,13 +26,13 @@ abbrev pub is_civil : ℕ → ℕ → ℕ → Bool
 is_civil year month day = nat_le 1 month && (nat_le month 12
     && (nat_le 1 day && nat_le day (days_in_month (pos year) month)))
 
--- the number of a day, where the calendar has it and it is in range
+-- the number of a day, if the calendar has it and it is in range
 abbrev pub number_of_date : ℕ → ℕ → ℕ → Option ℤ
 number_of_date year month day =
     if is_civil year month day && is_day_number (days_from_civil (pos year) month day)
     then Some (days_from_civil (pos year) month day) else None
 
--- the number of the day that a text writes: YYYY-MM-DD, ten bytes
+-- the number of the day that a text gives as YYYY-MM-DD, in ten bytes
 abbrev pub day_of : Bytes → Option ℤ
 day_of (a ∷ b ∷ c ∷ d ∷ x ∷ e ∷ f ∷ y ∷ g ∷ h ∷ []) =
     if (x == 45) && (y == 45)
@@ -49,8 +49,8 @@ pub record YearMonthDay : Type 0 where
   pub month : ℕ
   pub day : ℕ
 
--- How many days a day lies after 1 March of the year -10000. Years that begin in March end with
--- their leap day, and from there on no number is negative.
+-- How many days a day lies after 1 March of the year -10000. Years that begin in March end with their leap day, and no
+-- day from there on has a negative number.
 abbrev pub days_after_first_march : ℤ → ℕ
 days_after_first_march number = unsigned_abs (number +ℤ pos 4371893)
 
@@ -65,7 +65,7 @@ march_year days = 100 * ((4 * days + 3) / 146097) + in_century days / 1461
 abbrev pub day_of_march_year : ℕ → ℕ
 day_of_march_year days = in_century days % 1461 / 4
 
--- the month from 3 for March to 14 for February, and the day in it, of a day of such a year
+-- the month, from 3 for March to 14 for February, and the day of the month, for a day of such a year
 abbrev pub march_month : ℕ → ℕ
 march_month day = (5 * day + 461) / 153
 

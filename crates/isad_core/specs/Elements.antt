@@ -61,8 +61,8 @@ name_of ArchivistsNote = codes "Archivist's Note"
 name_of Rules = codes "Rules or Conventions"
 name_of DescriptionDates = codes "Date(s) of descriptions"
 
--- what is told of a higher unit holds of its parts, and is not told again (ISAD(G) 2.4): these are the
--- elements that a unit without them takes from the nearest unit above
+-- What is given for a higher unit applies to its parts and is not repeated (ISAD(G) 2.4). These are the elements that a
+-- unit without them takes from the nearest unit above that has them.
 abbrev pub is_found_above : Element → Bool
 is_found_above Creator = true
 is_found_above CreatorHistory = true
@@ -91,7 +91,7 @@ is_found_above Note = false
 is_found_above ArchivistsNote = false
 is_found_above DescriptionDates = false
 
--- all of them, in the standard's order
+-- all elements, in the standard's order
 abbrev pub elements : List Element
 elements = ReferenceCode ∷ Title ∷ Dates ∷ Level ∷ Extent ∷ Creator
     ∷ CreatorHistory ∷ ArchivalHistory ∷ Acquisition ∷ Scope ∷ Appraisal ∷ Accruals

@@ -3,11 +3,11 @@ use Rattle.std.specs.Prelude.{ℕ, Bool, not, ◌==◌, Option, List, [], ◌∷
 use Rattle.std.specs.Str.{str_eq_ignore_ascii_case}
 use Rattle.isad_core.specs.Texts.{Bytes}
 
--- `Sub-series` and `Subseries` name one level
+-- hyphens do not matter: `Sub-series` and `Subseries` name the same level
 abbrev pub without_hyphens : Bytes → Bytes
 without_hyphens = filter (λ b. not (b == 45))
 
--- a text names a level, in either case of ASCII letters
+-- a text names a level; the case of ASCII letters does not matter
 abbrev pub names_level : Bytes → Bytes → Bool
 names_level text name = str_eq_ignore_ascii_case (without_hyphens text) name
 

@@ -4,9 +4,9 @@ pub mod Days
 pub mod Elements
 pub mod Levels
 pub mod Limits
-pub mod Printed
+pub mod PrintedDescriptions
 pub mod Texts
 pub mod Values
-pub mod Worked
-pub mod Legible
+pub mod WorkedExamples
+pub mod LegibleValues
 pub mod Words

@@ -1,4 +1,4 @@
--- Texts as they are kept and as they are printed.
+-- Texts as they are stored and as they are printed.
 use Rattle.std.specs.Prelude.{ℕ, Bool, ◌==◌, ◌&&◌, ◌||◌, if◌then◌else◌, List, [], ◌∷◌, map}
 use Rattle.std.specs.List.{list_all}
 
@@ -14,11 +14,11 @@ is_line_break b = (b == 13) || (b == 10)
 abbrev pub is_space : ℕ → Bool
 is_space b = (b == 32) || (b == 9) || is_line_break b
 
--- a text with no more than spaces, tabs and line breaks
+-- a text that contains nothing but spaces, tabs and line breaks
 abbrev pub is_blank_text : Bytes → Bool
 is_blank_text = list_all is_space
 
--- a carriage return and a line feed together are one line break
+-- a carriage return followed by a line feed becomes one line break
 abbrev pub single_breaks : Bytes → Bytes
 single_breaks [] = []
 single_breaks (a ∷ []) = a ∷ []

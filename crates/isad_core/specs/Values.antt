@@ -6,7 +6,7 @@ use Rattle.isad_core.specs.declared.element.Element.{Element}
 use Rattle.isad_core.specs.declared.element.Element.TheVariants.{ReferenceCode, Title, Dates, Level, Extent, Creator, CreatorHistory, ArchivalHistory, Acquisition, Scope, Appraisal, Accruals, Arrangement, Access, Reproduction, Language, Physical, FindingAids, Originals, Copies, RelatedUnits, PublicationNote, Note, ArchivistsNote, Rules, DescriptionDates}
 use Rattle.isad_core.specs.declared.values.Values.{Values}
 
--- the place of an element's text among the texts, which leave out the level
+-- the place of an element's text among the texts; the level has none
 abbrev pub place : Element → Option ℕ
 place ReferenceCode = Some 0
 place Title = Some 1
@@ -35,7 +35,7 @@ place ArchivistsNote = Some 22
 place Rules = Some 23
 place DescriptionDates = Some 24
 
--- the text of an element other than the level, where there is one
+-- the text of an element other than the level, if there is one
 abbrev pub text_at : Option ℕ → Values → Option Bytes
 text_at None values = None
 text_at (Some i) values = unwrap_or (slice_get values.texts i) None
@@ -43,21 +43,21 @@ text_at (Some i) values = unwrap_or (slice_get values.texts i) None
 abbrev pub text_of : Element → Values → Option Bytes
 text_of element values = text_at (place element) values
 
--- the same, where none is the empty text
+-- the text of the reference code, or the empty text if there is none
 abbrev pub identifier : Values → Bytes
 identifier values = unwrap_or (text_of ReferenceCode values) []
 
 abbrev pub title : Values → Bytes
 title values = unwrap_or (text_of Title values) []
 
--- the elements that have a line of their own: code, title and level stand in the head line
+-- the elements that have a line of their own; code, title and level are in the head line
 abbrev pub line_elements : List Element
 line_elements = Dates ∷ Extent ∷ Creator ∷ CreatorHistory ∷ ArchivalHistory ∷ Acquisition ∷ Scope
     ∷ Appraisal ∷ Accruals ∷ Arrangement ∷ Access ∷ Reproduction ∷ Language ∷ Physical ∷ FindingAids
     ∷ Originals ∷ Copies ∷ RelatedUnits ∷ PublicationNote ∷ Note ∷ ArchivistsNote ∷ Rules
     ∷ DescriptionDates ∷ []
 
--- the line of an element, where the unit has it
+-- the line of an element, if the unit has it
 abbrev pub line_of : Values → Element → Option (Element × Bytes)
 line_of values element = option_map (λ text. (element, text)) (text_of element values)
 

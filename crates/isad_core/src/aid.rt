@@ -1,8 +1,8 @@
 //! Finding aids.
 ghost use Rattle.std.specs.Prelude.{◌≡◌, ◌++◌, ◌+◌, IfOk, OnOk};
 ghost use Rattle.std.specs.List.{flat_map};
-ghost use Rattle.isad_core.specs.Printed.{aid, body_lines, full_lines, unit_lines};
-ghost use Rattle.isad_core.specs.Printed.{container_text, element_text, indent, line};
+ghost use Rattle.isad_core.specs.PrintedDescriptions.{aid, body_lines, full_lines, unit_lines};
+ghost use Rattle.isad_core.specs.PrintedDescriptions.{container_text, element_text, indent, line};
 
 use crate::display::{Body, Shown};
 use crate::element::Element;
@@ -10,7 +10,7 @@ use crate::print::{end_line, push_container, push_element, push_head_line, push_
 use crate::text::Text;
 use std::alloc::{AllocError, Global};
 
-/// The finding aid of units that stand in the order of their walk, each with its depth.
+/// The finding aid of units in walk order, each with its depth.
 pub fn aid_text(alloc: Global, units: &[Shown]) -> Result<Vec<u8>, AllocError>
     ensures { IfOk result (λ text. text.items ≡ aid units.now) }
 {
@@ -42,7 +42,7 @@ fn push_body(out: &mut Vec<u8>, depth: u64, body: &Body) -> Result<(), AllocErro
     }
 }
 
-/// The elements, and then the containers.
+/// The elements, then the containers.
 fn push_full(
     out: &mut Vec<u8>,
     depth: u64,

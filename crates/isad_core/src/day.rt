@@ -9,7 +9,7 @@ ghost use Rattle.jiff_core.specs.Calendar.{IsCivilDate};
 use jiff_core::civil::Date;
 use std::marker::Model;
 
-/// A day from 1900-01-01 to 9999-12-31, which clauses see as its number, counted from 1970-01-01.
+/// A day from 1900-01-01 to 9999-12-31. Its model is its number, counted from 1970-01-01.
 #[derive(Debug, Clone, Copy, PartialEq, Eq, PartialOrd, Ord)]
 pub struct Day {
     number: i32,
@@ -29,7 +29,8 @@ impl Model for Day {
 }
 
 impl Day {
-    /// The day of a date as ISO 8601 writes it: YYYY-MM-DD, ten bytes and no other form.
+    /// Parses a date in the ISO 8601 form YYYY-MM-DD, exactly ten bytes. Returns `None` if the text has
+    /// another form, if the calendar has no such day, or if the day is out of range.
     pub fn parse(text: &str) -> Option<Day>
         ensures { result ≡ day_of text.now }
     {
@@ -43,7 +44,7 @@ impl Day {
         on_date(century, rest, month, day)
     }
 
-    /// The day of that number, where it is in range.
+    /// The day with this number, or `None` if it is out of range.
     pub fn from_number(number: i32) -> Option<Day>
         ensures { result ≡ (if is_day_number number then Some number else None) }
     {
@@ -54,7 +55,7 @@ impl Day {
         }
     }
 
-    /// Its number: days since 1970-01-01, negative before it.
+    /// Its number: days since 1970-01-01, negative for earlier days.
     pub fn number(self) -> i32
         ensures number { result ≡ self }
         ensures range { IsDayNumber result }
@@ -62,7 +63,7 @@ impl Day {
         self.number
     }
 
-    /// Its date as ISO 8601 writes it: YYYY-MM-DD.
+    /// Its date in the ISO 8601 form YYYY-MM-DD.
     #[tactic(auto, unfolding(crate::specs::Days::day_text))]
     pub fn text(self) -> [u8; 10]
         ensures text { result ≡ day_text self }
@@ -77,7 +78,7 @@ impl Day {
     }
 }
 
-/// The value of a digit.
+/// The value of an ASCII digit, or `None` if the byte is no digit.
 fn digit(byte: u8) -> Option<u8>
     ensures value { result ≡ spec.digit byte }
 {
@@ -88,7 +89,7 @@ fn digit(byte: u8) -> Option<u8>
     }
 }
 
-/// The number that two digits write.
+/// The number that two ASCII digits write, or `None` if a byte is no digit.
 fn two_digits(high: u8, low: u8) -> Option<u8>
     ensures value { result ≡ spec.two_digits high low }
     ensures bound { IfSome result (λ n. n ≤ 99) }
@@ -98,7 +99,7 @@ fn two_digits(high: u8, low: u8) -> Option<u8>
     Some(high * 10 + low)
 }
 
-/// That date, where the calendar has it.
+/// The date, if the calendar has it.
 fn calendar_date(century: u8, rest: u8, month: u8, day: u8) -> Option<Date>
     requires century { century ≤ 99 }
     requires rest { rest ≤ 99 }
@@ -112,7 +113,7 @@ fn calendar_date(century: u8, rest: u8, month: u8, day: u8) -> Option<Date>
     Date::new(year as i16, month as i8, day as i8).ok()
 }
 
-/// The day of that date, where the calendar has it and it is in range.
+/// The day of this date, if the calendar has it and it is in range.
 fn on_date(century: u8, rest: u8, month: u8, day: u8) -> Option<Day>
     requires century { century ≤ 99 }
     requires rest { rest ≤ 99 }
@@ -126,7 +127,7 @@ fn on_date(century: u8, rest: u8, month: u8, day: u8) -> Option<Day>
     }
 }
 
-/// The year, the month and the day in it, of the date with that number.
+/// The year, the month, and the day of the month, for the day with this number.
 fn civil(number: i32) -> (u16, u8, u8)
     requires { IsDayNumber number }
     ensures date { record { year = result.0; month = result.1; day = result.2 } ≡ date_of number }
@@ -140,7 +141,7 @@ fn civil(number: i32) -> (u16, u8, u8)
     (date.year as u16, date.month, date.day)
 }
 
-/// The two digits of a number below 100.
+/// The two ASCII digits of a number below 100.
 fn digits(n: u8) -> (u8, u8)
     requires { n ≤ 99 }
     ensures { result.0 ∷ result.1 ∷ [] ≡ in_two_digits n }

@@ -41,7 +41,7 @@ pub enum Element {
 }
 
 impl Element {
-    /// Its number in the standard, as `3.1.2`.
+    /// Its number in the standard, such as `3.1.2`.
     pub fn number(self) -> &'static str
         ensures { result.now ≡ number_of self }
     {
@@ -109,8 +109,8 @@ impl Element {
         }
     }
 
-    /// Whether a unit that lacks it takes it from the nearest unit above that has it: what is
-    /// common to the parts is told once, at the highest level that it fits (ISAD(G) 2.4).
+    /// Whether a unit that lacks it takes it from the nearest unit above that has it. What is common to
+    /// the parts is given once, at the highest level that it fits (ISAD(G) 2.4).
     pub fn found_above(self) -> bool
         ensures { result ≡ is_found_above self }
     {

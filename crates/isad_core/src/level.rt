@@ -2,8 +2,8 @@
 ghost use Rattle.std.specs.Prelude.{◌≡◌};
 ghost use Rattle.isad_core.specs.Levels.{names_level, rank_of};
 
-/// How far a level lies from the top of its fonds: 1 for a fonds or a collection, 6 for an item.
-/// ASCII case and hyphens make no difference; other texts are levels without a rank.
+/// The rank of a level: 1 for a fonds or a collection, down to 6 for an item. ASCII case and hyphens do
+/// not matter. Any other text is a level without a rank.
 pub fn rank(level: &str) -> Option<u8>
     ensures { result ≡ rank_of level.now }
 {

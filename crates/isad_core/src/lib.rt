@@ -1,4 +1,4 @@
-//! What a description is and how it prints: elements, levels, days, codes and texts, by ISAD(G).
+//! Descriptions and how they are printed: elements, levels, days, codes and texts, by ISAD(G).
 #![tactic(auto)]
 
 mod aid;

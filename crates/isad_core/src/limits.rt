@@ -1,28 +1,40 @@
-//! How much an office has at most. `specs/Limits.antt` has the same numbers for contracts.
+//! The limits of an office. `specs/Limits.antt` has the same numbers for contracts.
 
-/// Units at a time.
+/// The most units at a time.
 pub const MOST_UNITS: u64 = 200_000;
 
-/// Unit numbers that are ever given.
+/// The most unit numbers that are ever given.
 pub const MOST_UNIT_NUMBERS: u64 = 100_000_000;
 
-/// Units that stand above one another, the lowest among them.
+/// The most units above one another, including the lowest.
 pub const MOST_DEEP: u64 = 64;
 
-/// Bytes of a text that a file tells.
+/// The most bytes of a text in a file.
 pub const MOST_BYTES: usize = 65_535;
 
-/// Containers that are ever numbered.
+/// The most containers that are ever numbered.
 pub const MOST_CONTAINERS: u64 = 100_000;
 
-/// Tickets that are ever given.
+/// The most seats of a reading room.
+pub const MOST_SEATS: u64 = 200;
+
+/// The most orders that a ticket may place in a day.
+pub const MOST_DAILY: u64 = 50;
+
+/// The most containers that may be out with a ticket.
+pub const MOST_HANDS: u64 = 10;
+
+/// The most containers that a run takes.
+pub const MOST_RUN_SIZE: u64 = 100;
+
+/// The most tickets that are ever given.
 pub const MOST_TICKETS: u64 = 1_000_000;
 
-/// Permits of one ticket.
+/// The most permits of one ticket.
 pub const MOST_PERMITS: u64 = 100;
 
-/// Orders that are ever placed.
+/// The most orders that are ever placed.
 pub const MOST_ORDERS: u64 = 10_000_000;
 
-/// Runs that are ever made.
+/// The most runs that are ever made.
 pub const MOST_RUNS: u64 = 1_000_000;

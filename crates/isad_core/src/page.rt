@@ -1,8 +1,8 @@
 //! Pages of one unit, and lists of units.
 ghost use Rattle.std.specs.Prelude.{◌≡◌, ◌++◌, ◌∷◌, IfOk, OnOk, codes, decimal};
 ghost use Rattle.std.specs.List.{flat_map};
-ghost use Rattle.isad_core.specs.Printed.{container_text, head_line, indent, line, origin, page};
-ghost use Rattle.isad_core.specs.Printed.{found_container, found_element, numbered_line, unit_below};
+ghost use Rattle.isad_core.specs.PrintedDescriptions.{container_text, head_line, indent, line, origin, page};
+ghost use Rattle.isad_core.specs.PrintedDescriptions.{found_container, found_element, numbered_line, unit_below};
 
 use crate::display::{Page, Shown};
 use crate::element::Element;

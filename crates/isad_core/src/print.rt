@@ -1,7 +1,8 @@
-//! What is printed of a unit, appended to the bytes so far.
+//! Prints the parts of a unit, appended to the bytes so far.
 ghost use Rattle.std.specs.Prelude.{◌≡◌, ◌≤◌, ◌++◌, ◌∷◌, [], IfOk, OnOk, codes, decimal, length};
 ghost use Rattle.isad_core.specs.Days.{day_text};
-ghost use Rattle.isad_core.specs.Printed.{container_text, element_text, head_line, heading, indent, or_dash, origin};
+ghost use Rattle.isad_core.specs.PrintedDescriptions.{container_text, element_text, head_line, heading};
+ghost use Rattle.isad_core.specs.PrintedDescriptions.{indent, or_dash, origin};
 ghost use Rattle.isad_core.specs.Texts.{spaced};
 ghost use Rattle.isad_core.specs.Texts as spec;
 
@@ -12,14 +13,14 @@ use crate::text::{Text, is_blank};
 use itoa::Buffer;
 use std::alloc::{AllocError, Global};
 
-/// A text.
+/// Appends a text.
 pub fn push(out: &mut Vec<u8>, text: &str) -> Result<(), AllocError>
     ensures { OnOk result (out.new.items ≡ out.old.items ++ text.now) }
 {
     out.extend_from_slice(text.as_bytes())
 }
 
-/// A number.
+/// Appends a number in decimal.
 pub fn push_number(out: &mut Vec<u8>, number: u64) -> Result<(), AllocError>
     ensures { OnOk result (out.new.items ≡ out.old.items ++ decimal number) }
 {
@@ -27,7 +28,7 @@ pub fn push_number(out: &mut Vec<u8>, number: u64) -> Result<(), AllocError>
     push(out, buffer.format(number))
 }
 
-/// A byte on one line.
+/// A byte as it is printed on one line: a space for CR or LF.
 fn on_one_line(byte: u8) -> u8
     ensures { result ≡ spaced byte }
 {
@@ -38,7 +39,7 @@ fn on_one_line(byte: u8) -> u8
     }
 }
 
-/// What follows the first byte of a text, or follows CR and LF together.
+/// The rest of a text after its first byte, or after the CRLF that it starts with.
 fn after(first: u8, others: &[u8]) -> &[u8]
     ensures rest { spec.one_line (first ∷ others.now) ≡ spaced first ∷ spec.one_line result.now }
     ensures shorter { length result.now ≤ length others.now }
@@ -49,7 +50,7 @@ fn after(first: u8, others: &[u8]) -> &[u8]
     }
 }
 
-/// A text on one line.
+/// Appends a text on one line.
 pub fn push_one_line(out: &mut Vec<u8>, text: &str) -> Result<(), AllocError>
     ensures { OnOk result (out.new.items ≡ out.old.items ++ spec.one_line text.now) }
 {
@@ -61,7 +62,7 @@ pub fn push_one_line(out: &mut Vec<u8>, text: &str) -> Result<(), AllocError>
     Ok(())
 }
 
-/// A text as it is printed on one line: each CRLF, and each other CR or LF, is one space.
+/// A text as it is printed on one line: each CRLF, and each other CR or LF, becomes one space.
 pub fn one_line(alloc: Global, text: &str) -> Result<Vec<u8>, AllocError>
     ensures { IfOk result (λ line. line.items ≡ spec.one_line text.now) }
 {
@@ -70,7 +71,7 @@ pub fn one_line(alloc: Global, text: &str) -> Result<Vec<u8>, AllocError>
     Ok(out)
 }
 
-/// A text on one line, or a dash for a blank one.
+/// Appends a text on one line, or a dash if it is blank.
 pub fn push_or_dash(out: &mut Vec<u8>, text: &str) -> Result<(), AllocError>
     ensures { OnOk result (out.new.items ≡ out.old.items ++ or_dash text.now) }
 {
@@ -81,7 +82,7 @@ pub fn push_or_dash(out: &mut Vec<u8>, text: &str) -> Result<(), AllocError>
     }
 }
 
-/// Two spaces for each step down.
+/// Appends two spaces for each step down.
 #[tactic(auto, using(crate::proofs::PrintLemmas::indent_more))]
 pub fn push_indent(out: &mut Vec<u8>, depth: u64) -> Result<(), AllocError>
     ensures { OnOk result (out.new.items ≡ out.old.items ++ indent depth) }
@@ -92,14 +93,14 @@ pub fn push_indent(out: &mut Vec<u8>, depth: u64) -> Result<(), AllocError>
     Ok(())
 }
 
-/// The end of a line.
+/// Appends the end of a line.
 pub fn end_line(out: &mut Vec<u8>) -> Result<(), AllocError>
     ensures { OnOk result (out.new.items ≡ out.old.items ++ 10 ∷ []) }
 {
     push(out, "\n")
 }
 
-/// Until when a unit is closed.
+/// Appends until when a unit is closed.
 fn push_closed(out: &mut Vec<u8>, day: Day) -> Result<(), AllocError>
     ensures { OnOk result (out.new.items ≡ out.old.items ++ codes "closed until " ++ day_text day) }
 {
@@ -107,14 +108,14 @@ fn push_closed(out: &mut Vec<u8>, day: Day) -> Result<(), AllocError>
     push_day(out, day)
 }
 
-/// The date of a day.
+/// Appends the date of a day.
 fn push_day(out: &mut Vec<u8>, day: Day) -> Result<(), AllocError>
     ensures { OnOk result (out.new.items ≡ out.old.items ++ day_text day) }
 {
     out.extend_from_slice(&day.text())
 }
 
-/// The title of a unit, or until when it is closed.
+/// Appends the title of a unit, or until when it is closed.
 fn push_heading(out: &mut Vec<u8>, title: &str, body: &Body) -> Result<(), AllocError>
     ensures { OnOk result (out.new.items ≡ out.old.items ++ heading title.now body.now) }
 {
@@ -124,7 +125,7 @@ fn push_heading(out: &mut Vec<u8>, title: &str, body: &Body) -> Result<(), Alloc
     }
 }
 
-/// The head line of a unit, without its end.
+/// Appends the head line of a unit, without the end of the line.
 pub fn push_head_line(out: &mut Vec<u8>, unit: &Shown) -> Result<(), AllocError>
     ensures { OnOk result (out.new.items ≡ out.old.items ++ head_line unit.now) }
 {
@@ -135,7 +136,7 @@ pub fn push_head_line(out: &mut Vec<u8>, unit: &Shown) -> Result<(), AllocError>
     push_heading(out, unit.title.as_str(), &unit.body)
 }
 
-/// An element with its value.
+/// Appends an element with its value.
 pub fn push_element(out: &mut Vec<u8>, element: Element, value: &Text) -> Result<(), AllocError>
     ensures { OnOk result (out.new.items ≡ out.old.items ++ element_text element value.now) }
 {
@@ -146,7 +147,7 @@ pub fn push_element(out: &mut Vec<u8>, element: Element, value: &Text) -> Result
     push_one_line(out, value.as_str())
 }
 
-/// A container with its name.
+/// Appends a container with its name.
 pub fn push_container(out: &mut Vec<u8>, number: u64, name: &Text) -> Result<(), AllocError>
     ensures { OnOk result (out.new.items ≡ out.old.items ++ container_text number name.now) }
 {
@@ -156,7 +157,7 @@ pub fn push_container(out: &mut Vec<u8>, number: u64, name: &Text) -> Result<(),
     push_one_line(out, name.as_str())
 }
 
-/// From which unit a value is, where it was found above.
+/// Appends the code of the unit that a value is from, if it was found above.
 pub fn push_origin(out: &mut Vec<u8>, code: &Option<Text>) -> Result<(), AllocError>
     ensures { OnOk result (out.new.items ≡ out.old.items ++ origin code.now) }
 {

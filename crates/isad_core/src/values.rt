@@ -1,4 +1,4 @@
-//! What a file tells of a unit.
+//! The values of a unit's description, and its containers.
 ghost use Rattle.std.specs.Prelude.{◌≡◌, ◌<◌, ◌++◌, IfOk, IfSome, OnOk, option_copied, option_to_list};
 ghost use Rattle.isad_core.specs.Values.{line_of, lines_among, own_lines, place, text_of};
 
@@ -7,14 +7,14 @@ use crate::list::List;
 use crate::text::Text;
 use std::alloc::{AllocError, Global};
 
-/// A container as it is known: what it is called, where it stands, and of what kind it is.
+/// What identifies a container: the text written on it, its location, and its kind.
 #[derive(Debug, PartialEq, Eq, PartialOrd, Ord, Drop)]
 pub struct BoxKey {
-    /// What is written on it. Rows of a file name no container by a blank text.
+    /// The text that is written on it. In a row of a file, a blank text names no container.
     pub name: Text,
-    /// Where it stands, or the empty text.
+    /// Its location, or the empty text.
     pub location: Text,
-    /// Of what kind it is, or the empty text.
+    /// Its kind, or the empty text.
     pub kind: Text,
 }
 
@@ -25,12 +25,12 @@ pub struct Values {
     pub level: Text,
     /// The texts of the 25 other elements in the standard's order, none of them blank.
     pub texts: [Option<Text>; 25],
-    /// The unit's containers in its order, none of them twice.
+    /// The unit's containers, in the unit's order, each once.
     pub boxes: List<BoxKey>,
 }
 
-/// The elements that have a line of their own, in the standard's order: code, title and level stand
-/// in the head line.
+/// The elements that have a line of their own, in the standard's order. Code, title and level are in
+/// the head line.
 pub const LINE_ELEMENTS: [Element; 23] = [
     Element::Dates,
     Element::Extent,
@@ -73,7 +73,7 @@ impl Values {
         self.lines_among(alloc, LINE_ELEMENTS.as_slice())
     }
 
-    /// Those of these elements that the unit has, each with its text.
+    /// The elements among these that the unit has, each with its text.
     fn lines_among(
         &self,
         alloc: Global,
@@ -89,7 +89,7 @@ impl Values {
     }
 }
 
-/// Adds the line of an element, where the unit has it.
+/// Adds the line of an element, if the unit has it.
 fn push_line(
     lines: &mut List<(Element, Text)>,
     values: &Values,

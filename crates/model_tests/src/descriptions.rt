@@ -57,7 +57,7 @@ fn levels_have_ranks(rt: HostRuntime) {
     }
 }
 
-/// The elements with their numbers and names, and whether a unit without one has it from above.
+/// The elements with their numbers and names, and whether a unit without one takes it from above.
 const ELEMENTS: [(Element, &str, &str, bool); 26] = [
     (Element::ReferenceCode, "3.1.1", "Reference code(s)", false),
     (Element::Title, "3.1.2", "Title", false),
@@ -248,7 +248,7 @@ fn elements_have_texts(rt: HostRuntime) -> Result<(), Fail> {
     Ok(())
 }
 
-/// Title and level stand in no line.
+/// Title and level have no line of their own.
 #[test]
 fn values_have_lines(rt: HostRuntime) -> Result<(), Fail> {
     let wanted = [

@@ -1,4 +1,4 @@
-//! The desk's days, as they were worked out by hand.
+//! Days at the desk, worked out by hand.
 
 ghost use Rattle.std.specs.List.Sorted.{IsNonDecreasing};
 
@@ -41,7 +41,7 @@ fn reader(rt: &impl Abort, ticket: Option<Ticket>) -> Option<Reader> {
     })
 }
 
-/// What ticket 1 asks for, with so many orders today.
+/// A request of ticket 1, which has placed `placed` orders today.
 fn asking(placed: u32) -> Ask {
     Ask {
         is_open: true,
@@ -51,7 +51,7 @@ fn asking(placed: u32) -> Ask {
     }
 }
 
-/// A candidate's container, order and ticket, where it stands and what is written on it.
+/// A candidate's container, order and ticket, its location and its name.
 type Waiting = (u64, u64, u64, &'static str, &'static str);
 
 fn candidates(alloc: Global, rows: &[Waiting]) -> Result<Vec<Candidate>, AllocError> {
@@ -111,7 +111,7 @@ fn refusals_have_their_numbers_and_names(rt: HostRuntime) {
     }
 }
 
-/// What ticket 1 asks for where it may have nothing: it has three orders.
+/// A request of ticket 1 for a container that is not open to it; it has placed three orders.
 const CLOSED: Ask = Ask {
     is_open: false,
     already: false,
@@ -126,7 +126,7 @@ const AGAIN: Ask = Ask {
     orders: 3,
 };
 
-/// The first order of a day, after so many of all readers.
+/// The first order of a day, after `orders` orders of all readers.
 fn after(orders: u64) -> Ask {
     Ask {
         is_open: true,
@@ -139,14 +139,14 @@ fn after(orders: u64) -> Ask {
 #[test]
 fn orders_are_placed_within_the_limits(rt: HostRuntime) {
     let cases: [(&str, &str, Ask, Result<(), Refusal>); 10] = [
-        // three orders, and no fourth; a new day begins anew
+        // three orders, and no fourth; a new day starts from zero
         (NEW_YEARS_EVE, TODAY, asking(2), Ok(())),
         (NEW_YEARS_EVE, TODAY, asking(3), Err(Refusal::DailyLimit)),
         (NEW_YEARS_EVE, TOMORROW, asking(0), Ok(())),
-        // the last day is a day
+        // the last day is included
         (TODAY, TODAY, asking(0), Ok(())),
         (TODAY, TOMORROW, asking(0), Err(Refusal::TicketExpired)),
-        // of several, the first is told
+        // of several refusals, the reply is the first
         (TODAY, TOMORROW, CLOSED, Err(Refusal::TicketExpired)),
         (NEW_YEARS_EVE, TODAY, CLOSED, Err(Refusal::NotAvailable)),
         (NEW_YEARS_EVE, TODAY, AGAIN, Err(Refusal::AlreadyOrdered)),
@@ -197,7 +197,7 @@ fn at_desk(container: Option<Container>) -> Option<AtDesk> {
     })
 }
 
-/// May this container be issued today, to this ticket of this reader?
+/// Whether this container may be issued today to this ticket of this reader.
 fn issue(
     rt: &impl Abort,
     container: Option<Container>,
@@ -224,11 +224,11 @@ fn containers_are_issued_in_turn(rt: HostRuntime) {
         (FOR_ANN, 1, Some(ANN), Ok(())),
         (WITH_ANN, 2, Some(BOB), Err(Refusal::NotAtDesk)),
         (FOR_BOB, 2, Some(BOB_SEATED), Ok(())),
-        // a ticket that was not given is first for nothing
+        // a ticket that does not exist is first for no container
         (FOR_ANN, 1, None, Err(Refusal::NotFirst)),
         (None, 1, Some(ANN), Err(Refusal::UnknownContainer)),
         (FOR_NOBODY, 1, Some(ANN), Err(Refusal::NotFirst)),
-        // of several, the first is told
+        // of several refusals, the reply is the first
         (FOR_ANN, 1, Some(ANN_FULL), Err(Refusal::HandsFull)),
         (WITHHELD, 1, Some(ANN_FULL), Err(Refusal::HandsFull)),
         (WITHHELD, 1, Some(ANN), Err(Refusal::NotAvailable)),
@@ -243,7 +243,7 @@ const STANDING: Ticket = (3, NEW_YEARS_EVE, None, 0);
 
 const LATE: Ticket = (1, "2024-02-29", Some(1), 0);
 
-/// May this reader sit down today, where these seats are taken?
+/// Whether this reader may take a seat today, if these seats are taken, and which.
 fn sit(rt: &impl Abort, holder: Option<Ticket>, taken: &[u32]) -> Result<u32, Refusal>
     requires { IsNonDecreasing taken.now }
 {
@@ -288,7 +288,7 @@ fn seats_are_left(rt: HostRuntime) {
     }
 }
 
-/// What a run takes of these.
+/// What a run takes of these candidates.
 fn run_of(alloc: Global, rows: &[Waiting], most: u32) -> Result<Vec<Candidate>, AllocError> {
     let candidates = candidates(alloc, rows)?;
     pick_run(alloc, &candidates, most)
@@ -328,7 +328,7 @@ fn what_nobody_waits_for_goes_back(rt: HostRuntime) -> Result<(), Fail> {
     Ok(())
 }
 
-/// The slip of a run of these.
+/// The slip of a run of these candidates.
 fn slip_of(
     alloc: Global,
     number: u64,
@@ -354,7 +354,7 @@ fn a_slip_goes_along_the_shelves(rt: HostRuntime) -> Result<(), Fail> {
              Strongroom 1         Box 2                 2        2       1\n\
              Strongroom 2         Box 1                 1        1       1\n",
         ),
-        // bytes decide the order, characters the places; nothing is cut, and a line stays a line
+        // bytes decide the order, characters the columns; nothing is cut, and each entry stays on one line
         (
             12,
             &[

@@ -116,12 +116,12 @@ fn files_are_told(rt: HostRuntime) -> Result<(), Fail> {
             "2 1 - published [Fonds] 1=HUL 2=Hull Dock Company\n\
              3 2 1 published [Series] 1=1 2=Minutes\ntranslations 0",
         ),
-        // The first row with a legacyId has its language: the others tell it again.
+        // The first row with a legacyId sets its language; the others are translations.
         (
             b"legacyId,culture,title\n1,en,Minutes\n1,fr,Registres\n1,fr,Actes\n2,,Maps\n",
             "2 1 - draft [] 2=Minutes\n5 2 - draft [] 2=Maps\ntranslations 2",
         ),
-        // A translation may have a slug alone.
+        // A translation may have only a slug.
         (
             b"legacyId,culture,parentId,qubitParentSlug\n1,en,,\n1,fr,,hull\n2,en,1,hull\n",
             "2 1 - draft []\n4 2 1 draft []\ntranslations 1",
@@ -131,7 +131,7 @@ fn files_are_told(rt: HostRuntime) -> Result<(), Fail> {
               1,,HUL,Dock,published,Smith|NULL|Jones\n2,1,,Maps,Published,\n",
             "2 1 - published [] 1=HUL 2=Dock 6=Smith; Jones\n3 2 1 published [] 2=Maps\ntranslations 0",
         ),
-        // Languages stand before scripts, wherever their columns stand.
+        // Languages come before scripts, wherever their columns are.
         (
             b"script,legacyId,language,title\nLatin| NULL |Greek,1,en|| fr ,NULL|a\n",
             "2 1 - draft [] 2=NULL|a 16=en; fr; Latin; Greek\ntranslations 0",
@@ -140,23 +140,23 @@ fn files_are_told(rt: HostRuntime) -> Result<(), Fail> {
             b"script,legacyId\nLatin,1\n",
             "2 1 - draft [] 16=Latin\ntranslations 0",
         ),
-        // A mark, CRLF, and a quoted field over two lines.
+        // A byte order mark, CRLF, and a quoted field over two lines.
         (
             b"\xef\xbb\xbflegacyId,parentId,qubitParentSlug,accessionNumber,identifier,title,\
               levelOfDescription,scopeAndContent,publicationStatus,culture\r\n\
               7,,,,MB,Mill Board,Fonds,\"Line one\r\nline \"\"two\"\"\",Published,en\r\n",
             "2 7 - published [Fonds] 1=MB 2=Mill Board 10=Line one\r\nline \"two\"\ntranslations 0",
         ),
-        // The mark is skipped before quotes are read.
+        // The byte order mark is skipped before quotes are read.
         (b"\xef\xbb\xbf\"legacyId\",,\n", "translations 0"),
-        // Containers go by their places: a blank name makes none and shifts none.
+        // Containers are matched by position: a blank name makes no container and shifts none.
         (
             b"legacyId,physicalObjectName,physicalObjectLocation,physicalObjectType\n\
               1,Box 1||Box 3|Box 1,X|Y|Z|X,Box|NULL\n2,Box 1|Box 1|Box 1,X|Y|X,NULL|NULL\n3,NULL, |A,B\n",
             "2 1 - draft [] (Box 1/X/Box) (Box 3/Z/) (Box 1/X/)\n\
              3 2 - draft [] (Box 1/X/) (Box 1/Y/)\n4 3 - draft []\ntranslations 0",
         ),
-        // Blank rows are passed over and count: an empty line is none.
+        // Blank rows are skipped, but counted; an empty line is not a row.
         (
             b"\n legacyId\t,title\n\n , \n\r\n1,a\n\"\"\n\" 2 \",\"b\"c\n",
             "3 1 - draft [] 2=a\n5 2 - draft [] 2=bc\ntranslations 0",
@@ -181,7 +181,7 @@ fn files_are_told(rt: HostRuntime) -> Result<(), Fail> {
     Ok(())
 }
 
-// What the first n bytes of the file of a fonds and a series say.
+// The result of reading the first n bytes of the file of a fonds and a series.
 fn prefix_says(n: usize) -> &'static str {
     match n {
         0 => "row 1 cause 2",
@@ -214,7 +214,7 @@ fn every_prefix_is_told(rt: HostRuntime) -> Result<(), Fail> {
     Ok(())
 }
 
-// Rows whose last field is a text of so many bytes between spaces.
+// Rows whose last field is a text of `length` bytes between spaces.
 fn with_last(alloc: Global, rows: &str, length: usize) -> Result<String, AllocError> {
     let mut text = String::from_str(alloc, rows)?;
     text.push(' ')?;

@@ -1,4 +1,4 @@
-//! A forest of four units as rows of both kinds, and what is read from them and done to them.
+//! A forest of four units as rows of both kinds, which are read and changed.
 
 ghost use Rattle.std.specs.Prelude.{◌<◌, ◌^◌, vec_len};
 
@@ -68,11 +68,11 @@ fn units_lie_below_others(rt: HostRuntime) {
 /// A change of the rows.
 #[derive(Clone, Copy)]
 enum Change {
-    /// A unit goes to a parent, or to the top.
+    /// Moves a unit below a parent, or to the top.
     Move(u64, Option<u64>),
-    /// A unit goes, with all below it.
+    /// Removes a unit, with all below it.
     Cut(u64),
-    /// A new unit stands below a parent, or at the top.
+    /// Adds a new unit below a parent, or at the top.
     Add(Option<u64>, u64),
 }
 
@@ -154,7 +154,7 @@ fn spans_change(rt: HostRuntime) -> Result<(), Fail> {
     Ok(())
 }
 
-/// Each from the worked rows.
+/// Each change starts from the worked rows.
 #[test]
 fn spans_move(rt: HostRuntime) -> Result<(), Fail> {
     let cases = [
@@ -187,7 +187,7 @@ fn spans_move(rt: HostRuntime) -> Result<(), Fail> {
     Ok(())
 }
 
-/// Each change either happens or, where memory is refused, leaves the rows.
+/// Each change either happens or, if memory is refused, leaves the rows unchanged.
 #[test]
 fn links_change_or_stay(rt: HostRuntime) -> Result<(), Fail> {
     let moved = [
@@ -218,7 +218,7 @@ fn links_change_or_stay(rt: HostRuntime) -> Result<(), Fail> {
     Ok(())
 }
 
-/// Each change either happens or, where memory is refused, leaves the rows.
+/// Each change either happens or, if memory is refused, leaves the rows unchanged.
 #[test]
 fn spans_change_or_stay(rt: HostRuntime) -> Result<(), Fail> {
     let moved = [span(1, 1, 4), span(3, 2, 3), span(4, 5, 8), span(2, 6, 7)];
@@ -306,7 +306,7 @@ fn paths_are_judged(rt: HostRuntime) {
     }
 }
 
-/// The draft has containers of its own; the closed unit lies in those of unit 1.
+/// The draft has containers of its own; the closed unit is in those of unit 1.
 #[test]
 fn contents_are_judged(rt: HostRuntime) {
     let [unit, draft, closed, _] = marks();

@@ -1,4 +1,4 @@
-//! Rows of the desk that are such as a desk has, and rows that are not, each for one reason.
+//! Rows that a desk can have, and rows that it cannot have, each for one reason.
 
 use desk_core::consistency::{
     Around, HoldingRow, Numbers, OrderRow, PermitRow, RunLineRow, RunRow, SeatRow,
@@ -55,7 +55,7 @@ fn permit(ticket: u64, unit: u64, until: i64) -> PermitRow {
     }
 }
 
-/// The permit, as often as that.
+/// Judges the permit, repeated `times` times.
 fn judge_permits(alloc: Global, row: PermitRow, times: usize) -> Result<bool, AllocError> {
     let around = around(alloc)?;
     let rows = vec![in alloc; row; times]?;
@@ -117,7 +117,7 @@ fn orders_are_judged(rt: HostRuntime) -> Result<(), Fail> {
     let cases = [
         ([DONE, OUT, order(3, 2, 1, TODAY, 1)], true),
         ([DONE, OUT, order(3, 1, 2, TODAY - 1, 4)], true),
-        // a number left out; no such ticket, container, state or day; a day to come
+        // a number that is skipped; no such ticket, container, state or day; a future day
         ([DONE, OUT, order(4, 2, 1, TODAY, 1)], false),
         ([DONE, OUT, order(3, 3, 1, TODAY, 1)], false),
         ([DONE, OUT, order(3, 2, 4, TODAY, 1)], false),
@@ -152,12 +152,13 @@ fn judge_holdings(alloc: Global, rows: &[HoldingRow]) -> Result<bool, AllocError
 fn holdings_are_judged(rt: HostRuntime) -> Result<(), Fail> {
     let cases = [
         ([holding(1, 2, Some(2)), holding(3, 1, None)], true),
-        // no such container or place; at the desk for somebody, or out with nobody
+        // no such container or place; at the desk with an order, or out without one
         ([holding(1, 2, Some(2)), holding(4, 1, None)], false),
         ([holding(1, 2, Some(2)), holding(3, 3, None)], false),
         ([holding(1, 2, Some(2)), holding(3, 1, Some(2))], false),
         ([holding(1, 2, Some(2)), holding(3, 2, None)], false),
-        // out with what is done, with another container's order, with no order; the order without it
+        // out with an order that is done, with another container's order, with no order; an order that is out without
+        // its container
         ([holding(1, 2, Some(1)), holding(3, 1, None)], false),
         ([holding(1, 2, Some(2)), holding(3, 2, Some(2))], false),
         ([holding(1, 2, Some(2)), holding(3, 2, Some(0))], false),
@@ -194,7 +195,7 @@ fn runs_are_judged(rt: HostRuntime) -> Result<(), Fail> {
     let second = line(2, 1, 2, 1);
     let cases = [
         (runs, [first, second, second], true),
-        // a number left out; a day to come; no line, or three; no such run, order, container, ticket
+        // a number that is skipped; a future day; no line, or three; no such run, order, container, ticket
         (
             [run(1, TODAY), run(3, TODAY)],
             [first, second, second],

@@ -48,7 +48,7 @@ fn finding_aids_are_told(rt: HostRuntime) -> Result<(), Fail> {
              GB 0999 D [-] Deeds\n\
              \u{20} Container 4: Box 4\n",
         ),
-        // A split column, of which the entry NULL is blank.
+        // A column with several entries, where the entry NULL is blank.
         (
             "legacyId,parentId,identifier,title,publicationStatus,eventActors\n\
              1,,HUL,Dock,published,Smith|NULL|Jones\n\
@@ -57,7 +57,7 @@ fn finding_aids_are_told(rt: HostRuntime) -> Result<(), Fail> {
              \u{20} 3.2.1 Name of creator(s): Smith; Jones\n\
              \u{20} GB 0999 HUL [-] Maps\n",
         ),
-        // A creator is told once, at the fonds.
+        // A creator is shown once, at the fonds.
         (
             "legacyId,parentId,identifier,title,levelOfDescription,publicationStatus,eventActors\n\
              1,,HUL,Docks,Fonds,Published,Smith\n\
@@ -70,7 +70,7 @@ fn finding_aids_are_told(rt: HostRuntime) -> Result<(), Fail> {
              \u{20}   GB 0999 HUL/1/A [Sub-series] Board\n\
              \u{20}     GB 0999 HUL/1/A/7 [File] 1901\n",
         ),
-        // A mark, CRLF, columns that are not read, and a quoted text over two lines.
+        // A byte order mark, CRLF, columns that are not read, and a quoted text over two lines.
         (
             "\u{feff}legacyId,parentId,qubitParentSlug,accessionNumber,identifier,title,\
              levelOfDescription,scopeAndContent,publicationStatus,culture\r\n\
@@ -78,7 +78,7 @@ fn finding_aids_are_told(rt: HostRuntime) -> Result<(), Fail> {
             "GB 0999 MB [Fonds] Mill Board\n\
              \u{20} 3.3.1 Scope and content: Line one line \"two\"\n",
         ),
-        // The first row with a legacyId has the title, and a translation tells nothing.
+        // The first row with a legacyId has the title, and a translation adds nothing.
         (
             "legacyId,culture,title,publicationStatus\n\
              1,en,Minutes,Published\n\
@@ -87,7 +87,7 @@ fn finding_aids_are_told(rt: HostRuntime) -> Result<(), Fail> {
         ),
         // Without a status every unit is a draft.
         ("legacyId,culture,title\n1,en,Minutes\n1,fr,Registres\n", ""),
-        // What lies below a draft is not told, and its containers have their numbers.
+        // A draft and what is below it are not shown, but their containers have numbers.
         (
             "legacyId,parentId,identifier,title,publicationStatus,physicalObjectName\n\
              1,,P,Plans,Published,Box 1\n\
@@ -169,9 +169,9 @@ fn the_first_fault_is_told(rt: HostRuntime) -> Result<(), Fail> {
             b"legacyId,parentId,culture\n1,,en\n,,\n1,,fr\n2,3,en\n",
             "row 5 cause 11",
         ),
-        // A parent that is not there is told after every fault of the file itself.
+        // A missing parent is reported after every fault of the file itself.
         (b"legacyId,parentId\n1,9\n,1\n", "row 3 cause 6"),
-        // A draft's parent has to be there too.
+        // A draft's parent must exist too.
         (
             b"legacyId,parentId,publicationStatus\n1,9,Draft\n",
             "row 2 cause 11",
@@ -183,7 +183,7 @@ fn the_first_fault_is_told(rt: HostRuntime) -> Result<(), Fail> {
     Ok(())
 }
 
-// A file of so many units, each below the last.
+// A file of `units` units, each below the one before.
 fn chain(alloc: Global, units: u32) -> Result<String, AllocError> {
     let mut text = String::from_str(alloc, "legacyId,parentId,publicationStatus\n1,,Published\n")?;
     for unit in 1..units {
@@ -193,7 +193,7 @@ fn chain(alloc: Global, units: u32) -> Result<String, AllocError> {
     Ok(text)
 }
 
-// The finding aid of such a chain: each unit stands two places further in than the one above.
+// The finding aid of such a chain: each unit is indented by two spaces more than the one above.
 fn ladder(alloc: Global, units: u32) -> Result<String, AllocError> {
     let mut text = String::new(alloc);
     let mut indent = String::new(alloc);
@@ -205,7 +205,7 @@ fn ladder(alloc: Global, units: u32) -> Result<String, AllocError> {
     Ok(text)
 }
 
-// What is told of such a chain.
+// The preview of such a chain.
 fn told_of_chain(alloc: Global, units: u32) -> Result<Vec<u8>, AllocError> {
     let file = chain(alloc, units)?;
     told(alloc, file.as_bytes())

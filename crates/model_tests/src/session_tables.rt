@@ -1,4 +1,4 @@
-//! Sessions by tables: heads at their limits, lengths of bodies, ten messages that end anywhere, every command fifty
+//! Sessions as tables: heads at their limits, lengths of bodies, ten messages that end anywhere, every command fifty
 //! times, refused memory.
 
 use crate::streams::{Counter, Fixed, Narrow, Pieces, Tally, Then, talk_over};
@@ -38,7 +38,7 @@ const REGISTER: &[u8] =
 const TWO_REQUESTS: &[u8] =
     b"POST /desk/register HTTP/1.1\r\nHost: x\r\nContent-Length: 35\r\n\r\n{\"name\":\"Ann\",\"until\":\"2024-12-31\"}GET /public/fonds HTTP/1.1\r\nHost: x\r\n\r\n";
 
-/// What is answered to an input, and how that ends.
+/// Checks the answer to an input, and how the session ends.
 fn says(rt: &impl Abort, alloc: Global, input: &[u8], output: &[u8], end: Ended) {
     let mut desk = Counter { tickets: 0 };
     let mut reader = Pieces::new(input, 1000, Then::Ends);
@@ -48,7 +48,7 @@ fn says(rt: &impl Abort, alloc: Global, input: &[u8], output: &[u8], end: Ended)
     assert!(rt; writer.held.as_slice() == output, "{}", input.len());
 }
 
-/// The fields and the body of a request to run, its answer, and how that ends.
+/// The fields and the body of a request for a run, its answer, and how the session ends.
 struct Head {
     fields: &'static [u8],
     body: &'static [u8],
@@ -191,7 +191,7 @@ fn heads_and_lengths(rt: HostRuntime) -> Result<(), Fail> {
     Ok(())
 }
 
-/// A request whose head has that many bytes.
+/// A request whose head has `size` bytes.
 fn head_of(alloc: Global, size: usize) -> Result<Vec<u8>, AllocError> {
     let mut head = Vec::from_slice(alloc, b"GET /public/fonds HTTP/1.1\r\nHost: x\r\nX: ")?;
     for _ in head.len()..size.saturating_sub(4) {
@@ -216,7 +216,7 @@ fn long_heads(rt: HostRuntime) -> Result<(), Fail> {
     Ok(())
 }
 
-/// So many empty lines, and then that.
+/// `lines` empty lines, followed by `then`.
 fn after_lines(alloc: Global, lines: usize, then: &[u8]) -> Result<Vec<u8>, AllocError> {
     let mut input = Vec::new(alloc);
     for _ in 0..lines {
@@ -249,7 +249,7 @@ fn empty_lines(rt: HostRuntime) -> Result<(), Fail> {
     Ok(())
 }
 
-/// A request with that many fields.
+/// A request with `count` fields.
 fn fields_of(alloc: Global, count: usize) -> Result<Vec<u8>, AllocError> {
     let mut head = Vec::from_slice(alloc, b"GET /public/fonds HTTP/1.1\r\nHost: x\r\n")?;
     for _ in 1..count {
@@ -343,7 +343,7 @@ const TEN: [Step; 10] = [
     },
 ];
 
-/// What is answered to the first bytes of the ten messages, and how that ends.
+/// The answer to the first `size` bytes of the ten messages, and how the session ends.
 fn expected(alloc: Global, size: usize) -> Result<(Vec<u8>, Ended), AllocError> {
     let mut output = Vec::new(alloc);
     let mut left = size;
@@ -370,7 +370,7 @@ fn ten(alloc: Global) -> Result<Vec<u8>, AllocError> {
     Ok(input)
 }
 
-/// The first bytes of the ten messages, in pieces, where reads then end or fail.
+/// The first bytes of the ten messages, in pieces, after which reads end or fail.
 fn ten_cut(
     rt: &impl Abort,
     alloc: Global,
@@ -451,7 +451,7 @@ fn fifty_rounds(rt: HostRuntime) -> Result<(), Fail> {
     Ok(())
 }
 
-// Where an allocation is refused, what was answered stands, then 503, and nothing more was done.
+// If an allocation is refused, what was answered stands, then comes 503, and nothing more is done.
 #[test]
 fn refused_memory(rt: HostRuntime) -> Result<(), Fail> {
     let mut desk = Counter { tickets: 0 };
@@ -475,7 +475,7 @@ fn refused_memory(rt: HostRuntime) -> Result<(), Fail> {
     Ok(())
 }
 
-// Over a slice and a vector of std's, and over `&mut` of them.
+// Over a slice and a vector of std, and over `&mut` of them.
 #[test]
 fn streams_of_std(rt: HostRuntime) -> Result<(), Fail> {
     let mut desk = Counter { tickets: 0 };

@@ -33,7 +33,7 @@ const ANN: &[u8] = b"{\"name\":\"Ann\",\"until\":\"2024-12-31\"}";
 
 const LEAVE: &[u8] = b"HTTP/1.1 100 Continue\r\n\r\n";
 
-// However the input comes in pieces, also where each read is first interrupted.
+// Whatever pieces the input comes in, even if each read is first interrupted.
 #[test]
 fn two_requests(rt: HostRuntime) -> Result<(), Fail> {
     for piece in 1..40usize {
@@ -55,7 +55,7 @@ fn two_requests(rt: HostRuntime) -> Result<(), Fail> {
     Ok(())
 }
 
-// A reader that fails after some bytes: what came whole before is answered.
+// A reader that fails after some bytes: messages that came completely before are answered.
 #[test]
 fn a_reader_that_fails(rt: HostRuntime) -> Result<(), Fail> {
     for n in 0..79usize {
@@ -99,7 +99,7 @@ fn a_narrow_writer(rt: HostRuntime) -> Result<(), Fail> {
     Ok(())
 }
 
-// After a write that failed no later message is acted on.
+// After a failed write, no later message is acted on.
 #[test]
 fn a_message_after_a_fault(rt: HostRuntime) -> Result<(), Fail> {
     let mut desk = Counter { tickets: 0 };
@@ -126,7 +126,7 @@ fn two_registrations_in_one_piece(rt: HostRuntime) -> Result<(), Fail> {
     Ok(())
 }
 
-// The calls of a message are bounded: of a reader, and of a writer beside the answer's length.
+// The number of calls for a message is bounded: of a reader, and of a writer in addition to the answer's length.
 #[test]
 fn calls_without_end(rt: HostRuntime) -> Result<(), Fail> {
     let mut desk = Counter { tickets: 0 };
@@ -180,7 +180,8 @@ fn leave_before_the_body(rt: HostRuntime) -> Result<(), Fail> {
     Ok(())
 }
 
-// The calls of leave to send a body are bounded too: its 25 bytes and 16 more, whatever of it was taken.
+// The number of calls for the leave to send a body is bounded too: its 25 bytes and 16 more, however much of it was
+// taken.
 #[test]
 fn leave_without_end(rt: HostRuntime) -> Result<(), Fail> {
     for room in [0usize, 10, 25] {
@@ -198,7 +199,7 @@ fn leave_without_end(rt: HostRuntime) -> Result<(), Fail> {
     Ok(())
 }
 
-// An answer that fits into a lot with its head is one write, and any other two.
+// An answer that fits into one lot with its head is one write, and any other is two.
 #[test]
 fn few_writes(rt: HostRuntime) -> Result<(), Fail> {
     for size in [0usize, 40, 999, 1900, 1959, 1960, 2048, 5000, 300_000] {
@@ -221,7 +222,7 @@ fn few_writes(rt: HostRuntime) -> Result<(), Fail> {
     Ok(())
 }
 
-// The 10,000th answer closes, and says so.
+// The 10,000th answer closes the connection, and says so.
 #[test]
 fn the_last_answer(rt: HostRuntime) -> Result<(), Fail> {
     let mut desk = Counter { tickets: 0 };
@@ -234,7 +235,7 @@ fn the_last_answer(rt: HostRuntime) -> Result<(), Fail> {
     Ok(())
 }
 
-/// What is answered to an input, how that ends, and how many tickets were given.
+/// The answer to an input, how the session ends, and how many tickets were given.
 struct Case {
     input: &'static [u8],
     output: &'static [u8],
@@ -317,7 +318,7 @@ fn worked_sessions(rt: HostRuntime) -> Result<(), Fail> {
     Ok(())
 }
 
-// The same in every two parts.
+// The same, with the input split into two parts at every position.
 #[test]
 fn sessions_in_two_parts(rt: HostRuntime) -> Result<(), Fail> {
     for case in &CASES {

@@ -1,6 +1,7 @@
 //! An office, readers and writers for tests of sessions.
 
-ghost use Rattle.std.specs.Prelude.{◌<◌};
+ghost use Rattle.std.specs.Prelude.{◌≡◌, ◌<◌, IfOk, Ok};
+ghost use Rattle.office_core.specs.declared.done.Done.TheVariants as done;
 
 use http_desk::session::talk;
 use http_desk::session_end::Ended;
@@ -23,7 +24,7 @@ pub struct Talked {
     pub writes: u64,
 }
 
-/// Talks over a reader and a writer that nobody called yet.
+/// Runs a session over a reader and a writer that were not called yet.
 pub fn talk_over<R: Read, W: Write, M: Machine>(
     alloc: Global,
     reader: &mut R,
@@ -44,7 +45,28 @@ pub fn talk_over<R: Read, W: Write, M: Machine>(
     }
 }
 
-/// Tells one fonds, and gives tickets.
+/// The reply to a registration that gave this ticket. Its bytes always say ticket 1.
+fn registered(alloc: Global, ticket: u64) -> Result<Reply, Busy>
+    ensures { IfOk result (λ reply. reply.done ≡ Ok (done.Register ticket)) }
+{
+    let Ok(json) = Vec::from_slice(alloc, b"{\"ticket\":1}") else {
+        return Err(Busy::Memory);
+    };
+    Ok(Reply {
+        done: Ok(Done::Register { ticket }),
+        json: List(json),
+    })
+}
+
+/// A list of one fonds.
+fn one_fonds(alloc: Global) -> Result<Answer, Busy> {
+    let Ok(text) = Vec::from_slice(alloc, b"1 GB 0999 HUL [Fonds] Hull Dock Company\n") else {
+        return Err(Busy::Memory);
+    };
+    Ok(Answer::Text(List(text)))
+}
+
+/// A machine that shows one fonds and gives tickets.
 #[derive(Drop)]
 pub struct Counter {
     pub tickets: u64,
@@ -58,23 +80,12 @@ impl Machine for Counter {
     ghost is_open = { λ office. Prim.Unit {0} };
 
     fn apply(&mut self, alloc: Global, _command: Command) -> Result<Reply, Busy> {
-        let Ok(json) = Vec::from_slice(alloc, b"{\"ticket\":1}") else {
-            return Err(Busy::Memory);
-        };
         self.tickets = self.tickets.wrapping_add(1);
-        Ok(Reply {
-            done: Ok(Done::Register {
-                ticket: self.tickets,
-            }),
-            json: List(json),
-        })
+        registered(alloc, self.tickets)
     }
 
     fn ask(&mut self, alloc: Global, _query: Query) -> Result<Answer, Busy> {
-        let Ok(text) = Vec::from_slice(alloc, b"1 GB 0999 HUL [Fonds] Hull Dock Company\n") else {
-            return Err(Busy::Memory);
-        };
-        Ok(Answer::Text(List(text)))
+        one_fonds(alloc)
     }
 }
 
@@ -86,7 +97,7 @@ pub enum Then {
     Waits,
 }
 
-/// Gives its bytes in pieces. A shy one is interrupted before each piece.
+/// A reader that gives its bytes in pieces. A shy one is interrupted before each piece.
 #[derive(Drop)]
 pub struct Pieces<'a> {
     pub bytes: &'a [u8],
@@ -133,7 +144,7 @@ impl Read for Pieces<'_> {
     }
 }
 
-/// Gives one request again and again.
+/// A reader that gives one request again and again.
 #[derive(Drop)]
 pub struct Again<'a> {
     pub bytes: &'a [u8],
@@ -149,7 +160,7 @@ impl Read for Again<'_> {
     }
 }
 
-/// Takes that many bytes, in pieces.
+/// A writer that takes `room` bytes, in pieces.
 #[derive(Drop)]
 pub struct Narrow {
     pub held: Vec<u8>,
@@ -201,7 +212,7 @@ impl Write for Narrow {
     }
 }
 
-/// Gives its bytes in two parts.
+/// A reader that gives its bytes in two parts.
 #[derive(Drop)]
 pub struct Halves<'a> {
     pub first: &'a [u8],
@@ -223,7 +234,7 @@ impl Read for Halves<'_> {
     }
 }
 
-/// Keeps what is written, and asks for no memory.
+/// A writer that keeps what is written, and asks for no memory.
 #[derive(Drop)]
 pub struct Fixed {
     pub bytes: [u8; 1024],
@@ -249,7 +260,7 @@ impl Write for Fixed {
     }
 }
 
-/// Gives a head, and then a body. It notes a body that is asked for before so many bytes were flushed.
+/// A reader that gives a head, and then a body. It notes if the body is read before `leave` bytes were flushed.
 #[derive(Drop)]
 pub struct Waiting<'a> {
     pub head: &'a [u8],
@@ -275,7 +286,7 @@ impl Read for Waiting<'_> {
     }
 }
 
-/// Tells how many bytes were flushed. Its first flushes are interrupted.
+/// A writer that records how many bytes were flushed. Its first flushes are interrupted.
 #[derive(Drop)]
 pub struct Telling<'a> {
     pub held: Vec<u8>,
@@ -301,7 +312,7 @@ impl Write for Telling<'_> {
     }
 }
 
-/// Tells a text of so many bytes.
+/// A machine that answers with a text of `size` bytes.
 #[derive(Drop)]
 pub struct Long {
     pub size: usize,
@@ -314,8 +325,8 @@ impl Machine for Long {
 
     ghost is_open = { λ office. Prim.Unit {0} };
 
-    fn apply(&mut self, _alloc: Global, _command: Command) -> Result<Reply, Busy> {
-        Err(Busy::Memory)
+    fn apply(&mut self, alloc: Global, _command: Command) -> Result<Reply, Busy> {
+        registered(alloc, 1)
     }
 
     fn ask(&mut self, alloc: Global, _query: Query) -> Result<Answer, Busy> {
@@ -329,7 +340,7 @@ impl Machine for Long {
     }
 }
 
-/// Counts the commands of each kind.
+/// A machine that counts the commands of each kind.
 #[derive(Drop)]
 pub struct Tally {
     pub counts: [u64; 18],
@@ -368,18 +379,12 @@ impl Machine for Tally {
     ghost is_open = { λ office. Prim.Unit {0} };
 
     fn apply(&mut self, alloc: Global, command: Command) -> Result<Reply, Busy> {
-        let Ok(json) = Vec::from_slice(alloc, b"{\"ticket\":1}") else {
-            return Err(Busy::Memory);
-        };
         let kind = kind_of(&command);
         self.counts[kind] = self.counts[kind].wrapping_add(1);
-        Ok(Reply {
-            done: Ok(Done::Register { ticket: 1 }),
-            json: List(json),
-        })
+        registered(alloc, 1)
     }
 
-    fn ask(&mut self, _alloc: Global, _query: Query) -> Result<Answer, Busy> {
-        Err(Busy::Memory)
+    fn ask(&mut self, alloc: Global, _query: Query) -> Result<Answer, Busy> {
+        one_fonds(alloc)
     }
 }

@@ -1,17 +1,17 @@
-//! Finding aids and pages that were worked by hand.
+//! Finding aids and pages that were worked out by hand.
 
 use isad_core::{Body, Day, Element, List, Page, Shown, Text, aid_text, page_text};
 use std::alloc::{AllocError, Global};
 use std::test::Fail;
 
-/// What stands below a head line.
+/// What is below a head line.
 #[derive(Clone, Copy)]
 enum Below {
     Open(&'static [(Element, &'static str)], &'static [(u64, &'static str)]),
     Closed(&'static str),
 }
 
-/// A unit by its depth, its code, level and title, and what stands below.
+/// A unit by its depth, its code, level and title, and what is below.
 type Unit = (u32, [&'static str; 3], Below);
 
 const EMPTY: Below = Below::Open(&[], &[]);
@@ -106,7 +106,7 @@ fn aids_are_printed(rt: HostRuntime) -> Result<(), Fail> {
     Ok(())
 }
 
-/// The code of the unit above that has a value, if the unit itself has not.
+/// The code of the unit above that has a value, if the unit itself has none.
 fn found(alloc: Global, above: bool) -> Result<Option<Text>, AllocError> {
     if above {
         Ok(Some(Text::new(alloc, "GB 0999 HUL")?))

@@ -10,12 +10,12 @@ use Rattle.adoption.specs.Verdicts.{IsVerdict}
 use Rattle.adoption.specs.declared.verdict.Verdict.{Verdict}
 use Rattle.adoption.specs.declared.verdict.Verdict.TheVariants as verdict
 use Rattle.office_core.specs.SoundOffice.{IsSoundOffice}
-use Rattle.adoption.specs.Found.{AreSoundTables}
+use Rattle.adoption.specs.SoundTables.{AreSoundTables}
 use Rattle.adoption.specs.Tables.{SoundTablesShowTheirState}
 use Rattle.adoption.specs.OrderedTables.{StandInOrder}
-use Rattle.office.specs.Adopting.{IsAdopted, refusal_of, state_in}
-use Rattle.office.specs.Resting.{IsAsBefore, IsIn}
-use Rattle.refinement.specs.Represents.{RepresentsState}
+use Rattle.office.specs.Adoption.{IsAdopted, refusal_of, state_in}
+use Rattle.office.specs.IdleOffice.{IsAsBefore, IsIn}
+use Rattle.refinement.specs.Representation.{RepresentsState}
 
 -- no fault is told of a sound office's tables alone
 pub none_refused : (v : Verdict) → refusal_of v ≡ None → v ≡ verdict.Sound

@@ -17,11 +17,11 @@ use Rattle.office_tables.specs.Step.{GoesOn, Goes, IsAborted}
 use Rattle.office_tables.specs.Transactions.{Committed}
 use Rattle.office_tables.proofs.Calls.{early}
 use Rattle.refinement.specs.CommandSteps.{CarriesOutStep}
-use Rattle.refinement.specs.Represents.{RepresentsState}
+use Rattle.refinement.specs.Representation.{RepresentsState}
 use Rattle.refinement.proofs.Crashes.{went}
 use Rattle.refinement.proofs.Doings.{refused}
-use Rattle.office.specs.Applying.{MayFind, TakesStep}
-use Rattle.office.specs.Resting.{IsAsBefore, IsAtRest, IsEnded, IsIn, IsOffice}
+use Rattle.office.specs.OfficeCall.{MayFind, TakesStep}
+use Rattle.office.specs.IdleOffice.{IsAsBefore, IsAtRest, IsEnded, IsIn, IsOffice}
 
 -- a step that is refused changes nothing
 pub refused_same : (s : office.State) (asked : Command) → IsErr (step s asked).1 → (step s asked).0 ≡ s

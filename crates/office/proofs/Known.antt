@@ -15,8 +15,8 @@ use Rattle.office_tables.proofs.CallEnds.{excused_then}
 use Rattle.office_tables.proofs.Calls.{early, cut_then, looks_then, on_err_then, on_ok_then}
 use Rattle.office_tables.specs.declared.fault.StoreFault.{StoreFault}
 use Rattle.refinement.specs.QueryAnswers.{AnswersQuery}
-use Rattle.refinement.specs.Represents.{RepresentsState}
-use Rattle.public_queries.specs.Knowing.{AnswersKnowing}
+use Rattle.refinement.specs.Representation.{RepresentsState}
+use Rattle.public_queries.specs.InformedAnswers.{AnswersKnowing}
 
 module _ (places : Trees → Forest ℕ → Type 0) (version : Version) where
   looked_on : (a b : store.State) (r : Result Answer StoreFault) → OnOk r (LeavesUnchanged a b) → OnErr r (IsAborted a b) → store.Survives a b (λ _. ⊥)

@@ -19,10 +19,10 @@ use Rattle.office_core.specs.declared.command.Command.{Command}
 use Rattle.office_core.specs.declared.machine.Reply.{Reply}
 use Rattle.office_core.specs.declared.query.Answer.{Answer}
 use Rattle.office_core.specs.declared.query.Query.{Query}
-use Rattle.office.specs.Applying.{TakesStep}
-use Rattle.office.specs.Resting.{IsAsBefore, IsIn, is_clean, is_shown, is_still_open}
+use Rattle.office.specs.OfficeCall.{TakesStep}
+use Rattle.office.specs.IdleOffice.{IsAsBefore, IsIn, is_clean, is_shown, is_still_open}
 use Rattle.office.specs.Runs.{IsCall, answered, applied}
-use Rattle.refinement.specs.Represents.{RepresentsState}
+use Rattle.refinement.specs.Representation.{RepresentsState}
 
 -- while nothing is changed, it is in the state that it was in
 pub in_as_before : (places : Trees → Forest ℕ → Type 0) (version : Version) (a b : sqlite.State) (s : State) → IsAsBefore a b → IsIn places version s a → IsIn places version s b

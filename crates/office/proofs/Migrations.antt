@@ -4,7 +4,7 @@ use Rattle.std.specs.Prelude.{IsErrAnd}
 use Rattle.sqlite.specs.Effect.{Database, IsDatabase}
 use Rattle.sqlite.specs.State.{State}
 use Rattle.tree_core.specs.Versions.{Links, Spans}
-use Rattle.catalogue_statements.specs.Represents.{RepresentsLinkRows}
+use Rattle.catalogue_statements.specs.Representation.{RepresentsLinkRows}
 use Rattle.adoption.specs.Verdicts.{IsVerdict}
 use Rattle.adoption.specs.declared.verdict.Verdict.{Verdict}
 use Rattle.adoption.specs.declared.verdict.Verdict.TheVariants as verdict
@@ -17,17 +17,17 @@ use Rattle.office_tables.specs.declared.fault.StoreFault.TheVariants as store
 use Rattle.row_completeness.proofs.KeptPlaces.{links_show}
 use Rattle.adoption.proofs.catalogue.Shown.{catalogue_shown}
 use Rattle.adoption.proofs.tables.ShownTables.{sound_are_good, sound_state}
-use Rattle.adoption.specs.Found.{AreSoundTables}
+use Rattle.adoption.specs.SoundTables.{AreSoundTables}
 use Rattle.adoption.specs.Tables.{RepresentsItsState}
 use Rattle.adoption.specs.OrderedTables.{StandInOrder}
-use Rattle.office.specs.Adopting.{HasAdoptCause, refusal_of, state_in}
-use Rattle.office.specs.Migrating.{IsMigrated}
-use Rattle.office.specs.Opening.{open_fault_of}
+use Rattle.office.specs.Adoption.{HasAdoptCause, refusal_of, state_in}
+use Rattle.office.specs.Migration.{IsMigrated}
+use Rattle.office.specs.NewOffice.{open_fault_of}
 use Rattle.office.specs.declared.faults.OpenFault.{OpenFault}
 use Rattle.office.specs.declared.faults.OpenFault.TheVariants as fault
 use Rattle.office.proofs.Adoptions.{none_refused}
-use Rattle.refinement.specs.Represents.{RepresentsState}
-use Rattle.nested_sets.specs.Represents.{RepresentsSpanRows}
+use Rattle.refinement.specs.Representation.{RepresentsState}
+use Rattle.nested_sets.specs.Representation.{RepresentsSpanRows}
 
 -- tables that are judged to be a sound office's
 module _ (db : Database) (told : Verdict) (none : refusal_of told ≡ None) (is : IsVerdict Links db told) where

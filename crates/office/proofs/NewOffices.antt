@@ -5,14 +5,14 @@ use Rattle.sqlite.specs.Tree.{Trees}
 use Rattle.tree_core.specs.Forest.{Forest}
 use Rattle.tree_core.specs.Versions.{Version}
 use Rattle.desk_core.specs.DeskRows.{SeatRow}
-use Rattle.desk_store.specs.Represents.{RepresentsDesk}
+use Rattle.desk_store.specs.Representation.{RepresentsDesk}
 use Rattle.office_core.specs.SoundOffice.{IsSoundOffice}
 use Rattle.office_core.proofs.Texts.{starts_sound_office}
-use Rattle.state_encoding.specs.Reading.{tables}
+use Rattle.state_encoding.specs.OfficeRows.{tables}
 use Rattle.refinement.proofs.EmptySeats.{none_seated}
-use Rattle.office.specs.Founding.{Founding, IsGood, founded}
-use Rattle.office.specs.Opening.{RepresentsNew, new_desk}
-use Rattle.refinement.specs.Represents.{RepresentsState, office_of}
+use Rattle.office.specs.InitialSettings.{Founding, IsGood, founded}
+use Rattle.office.specs.NewOffice.{RepresentsNew, new_desk}
+use Rattle.refinement.specs.Representation.{RepresentsState, office_of}
 
 pub founded_sound : (f : Founding) → IsGood f → IsSoundOffice (founded f)
 founded_sound f good = starts_sound_office f.settings f.day good.settings good.day

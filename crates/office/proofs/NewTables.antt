@@ -4,10 +4,10 @@ use Rattle.std.proofs.lemmas.List.Sorted.{IsPermutation-refl}
 use Rattle.sqlite.specs.Change.{KeepsRows}
 use Rattle.sqlite.specs.State.{State, HasCleanDisk}
 use Rattle.sqlite.specs.Tree.{Trees}
-use Rattle.desk_store.specs.Represents.{RepresentsDesk}
+use Rattle.desk_store.specs.Representation.{RepresentsDesk}
 use Rattle.office_tables.specs.Creation.{IsMaking}
 use Rattle.office_tables.specs.Schema.{no_schema, desk_schema, desk_tables}
-use Rattle.office.specs.Opening.{new_desk}
+use Rattle.office.specs.NewOffice.{new_desk}
 
 pub making : (a : State) → (HasCleanDisk a → (a.now.schema ≡ no_schema) × IsTrue a.in_transaction) → IsMaking [] no_schema a.now a
 making a blank clean = let it = blank clean in (record { schema_is = it.0; kept = tt; empty = tt }, it.1)

@@ -3,7 +3,7 @@ use Rattle.catalogue_statements.specs.Settings.{AreLegibleSettings}
 use Rattle.office_core.specs.SoundOffice.{IsSoundOffice}
 use Rattle.office_core.specs.State.{State}
 use Rattle.office_core.proofs.KeptOffices.{office_settings}
-use Rattle.refinement.specs.Represents.{office_of}
+use Rattle.refinement.specs.Representation.{office_of}
 
 -- the row of a sound office can be read back
 pub legible : (s : State) → IsSoundOffice s → AreLegibleSettings (office_of s)

@@ -1,4 +1,4 @@
--- What the office's own row tells the reading room.
+-- What the reading room needs from the office's own row.
 use Rattle.catalogue_statements.specs.declared.office.OfficeRow.{OfficeRow}
 use Rattle.desk_core.specs.declared.reader.Limits.{Limits}
 

@@ -7,7 +7,7 @@ use Rattle.office_core.specs.declared.machine.Reply.{Reply}
 use Rattle.office_core.specs.declared.query.Answer.{Answer}
 use Rattle.office_core.specs.declared.query.Query.{Query}
 
--- what the office is asked, and what it tells: nothing, where it is busy
+-- what the office is asked, and its reply or answer: none if it is busy
 pub record Call : Type 0 where
   pub asked : Asked
   pub told : Option Told
@@ -29,7 +29,7 @@ abbrev pub heard : List Call → List Asked
 heard [] = []
 heard (call ∷ later) = with_heard call.asked call.told (heard later)
 
--- what was told
+-- the replies and the answers
 abbrev pub with_told : Option Told → List Told → List Told
 with_told (Some told) later = told ∷ later
 with_told None later = later
@@ -44,14 +44,14 @@ IsAcceptance (Some (Replied reply)) = IsOk reply
 IsAcceptance (Some (Answered answer)) = ⊥
 IsAcceptance None = ⊥
 
--- the last call was a command that was accepted; where there are none, the office was open before
+-- the last call was a command that was accepted, or there were no calls and the office was open before
 abbrev pub LeaveOpen : Type 0 → List Call → Type 0
 LeaveOpen was_open [] = was_open
 LeaveOpen was_open (call ∷ later) = LeaveOpen (IsAcceptance call.told) later
 
--- An office is seen in a state, and its store has returned what was written to it, and is open.
+-- When an office represents a state, when its store has returned what was written to it, and when it is open.
 module _ {M : Type 0} (represents : M → State → Type 0) (is_intact is_open : M → Type 0) where
-  -- what is told is what the machine tells, in its next state; an office that is busy stays as it is
+  -- the result and the next state are the machine's; an office that is busy keeps its state
   abbrev pub Follows : State → Asked → Option Told → M → Type 0
   Follows s asked (Some told) new = represents new (next_state s asked) × (told ≡ told_of s asked)
   Follows s asked None new = represents new s
@@ -68,8 +68,8 @@ module _ {M : Type 0} (represents : M → State → Type 0) (is_intact is_open :
   AreCalls old new [] = old ≡ new
   AreCalls old new (call ∷ later) = (mid : M) × IsCall old mid call × AreCalls mid new later
 
-  -- What is told is what the machine tells over what it is asked, and the office is then in the machine's state. Where the
-  -- last call was a command that was accepted, it is open.
+  -- The results are those of the machine for the calls that were not busy, and the office is then in the machine's
+  -- state. If the last call was a command that was accepted, the office is open.
   abbrev pub IsMachinesRun : M → M → List Call → Type 0
   IsMachinesRun old new calls =
       is_intact new → (s : State) → represents old s

@@ -1,4 +1,4 @@
--- What can be seen to be wrong with a command before any table is asked.
+-- What can be seen to be wrong with a command by itself, or with the office's day.
 use Rattle.std.specs.Prelude.{ℤ, int_lt, None}
 use Rattle.catalogue_core.specs.Sources.{is_source}
 use Rattle.desk_core.specs.Refusals.{Check, unless}
@@ -7,13 +7,13 @@ use Rattle.office_core.specs.Rules.{is_name}
 use Rattle.office_core.specs.declared.command.Command.{Command}
 use Rattle.office_core.specs.declared.command.Command.TheVariants as command
 
--- the first check of a command, where the command alone tells
+-- the first check of a command, if it depends on the command alone
 abbrev pub misnamed : Command → Check
 misnamed (command.Import source file) = unless (is_source source) BadName
 misnamed (command.Register name until) = unless (is_name name) BadName
 misnamed _ = None
 
--- the first check of a command, where the day of the office tells
+-- the first check of a command, if it depends on the office's day
 abbrev pub misdated : ℤ → Command → Check
 misdated today (command.OpenDay day) = unless (int_lt today day) DayNotLater
 misdated today _ = None

@@ -1,4 +1,4 @@
-//! A command: one transaction, one step.
+//! Commands: each is one transaction and one step.
 
 ghost use Rattle.std.specs.Prelude.{◌≡◌, ⊤, None, IfErr, IfOk, IsErr, IsOk, IsTrue, OnErr, OnOk};
 ghost use Rattle.sqlite.specs.Held.{state};
@@ -9,11 +9,11 @@ ghost use Rattle.office_core.specs.State.{State};
 ghost use Rattle.office_tables.specs.Faults.{FaultsHaveCause, HasCause};
 ghost use Rattle.office_tables.specs.Step.{Goes, InTransaction, IsAborted};
 ghost use Rattle.office_tables.specs.declared.fault.StoreFault.TheVariants as fault;
-ghost use Rattle.office.specs.Applying.{MayFind, TakesStep};
-ghost use Rattle.office.specs.Resting.{IsAsBefore, IsIn, IsOffice};
+ghost use Rattle.office.specs.OfficeCall.{MayFind, TakesStep};
+ghost use Rattle.office.specs.IdleOffice.{IsAsBefore, IsIn, IsOffice};
 ghost use Rattle.office.specs.Sight.{misdated, misnamed};
 ghost use Rattle.refinement.specs.CommandSteps.{CarriesOut, CarriesOutStep};
-ghost use Rattle.refinement.specs.Represents.{RepresentsState, office_of};
+ghost use Rattle.refinement.specs.Representation.{RepresentsState, office_of};
 
 use crate::names::{names_days_and_texts, refused_by_day, refused_by_name};
 use crate::office_row::{limits_in, own_row};
@@ -32,7 +32,7 @@ use office_tables::{StoreFault, begin};
 use sqlite::{Alter, Connection};
 use std::alloc::Global;
 
-/// Carries out a command with which nothing is seen to be wrong.
+/// Carries out a command whose names and day were checked.
 fn perform<P: Places, S: Alter>(
     alloc: Global,
     conn: &mut Connection<S>,
@@ -64,11 +64,9 @@ fn perform<P: Places, S: Alter>(
         Command::Move { unit, parent } => move_to::<P, S>(alloc, conn, today, *unit, *parent),
         Command::Remove { unit } => remove_unit::<P, S>(alloc, conn, today, *unit),
         Command::Register { name, until } => register::<P, S>(conn, name, *until),
-        Command::Renew { ticket, until } => {
-            renew_ticket::<P, S>(alloc, conn, today, *ticket, *until)
-        }
+        Command::Renew { ticket, until } => renew_ticket::<P, S>(alloc, conn, *ticket, *until),
         Command::TakeSeat { ticket } => take_seat::<P, S>(alloc, conn, today, &limits, *ticket),
-        Command::LeaveSeat { ticket } => leave_seat::<P, S>(alloc, conn, today, *ticket),
+        Command::LeaveSeat { ticket } => leave_seat::<P, S>(alloc, conn, *ticket),
         Command::Order { ticket, container } => {
             order::<P, S>(alloc, conn, today, &limits, *ticket, *container)
         }
@@ -83,7 +81,7 @@ fn perform<P: Places, S: Alter>(
             ticket,
             unit,
             until,
-        } => permit::<P, S>(alloc, conn, today, *ticket, *unit, *until),
+        } => permit::<P, S>(alloc, conn, *ticket, *unit, *until),
         Command::Revoke { ticket, unit } => {
             revoke_permit::<P, S>(alloc, conn, today, *ticket, *unit)
         }
@@ -109,7 +107,7 @@ fn carry_out<P: Places, S: Alter>(
     perform::<P, S>(alloc, conn, &row, command)
 }
 
-/// What is told of a command, with its bytes.
+/// The reply to a command, with its bytes.
 fn told(alloc: Global, done: Result<Done, Refusal>) -> Result<Reply, StoreFault>
     ensures same { IfOk result (λ reply. reply.done ≡ done) }
     ensures bytes { IfOk result (λ reply. reply.json ≡ reply_text done) }
@@ -119,7 +117,7 @@ fn told(alloc: Global, done: Result<Done, Refusal>) -> Result<Reply, StoreFault>
     Ok(Reply { done, json })
 }
 
-/// Carries out a command, and makes the bytes that tell of it.
+/// Carries out a command, and makes the bytes of the reply.
 fn reply_to<P: Places, S: Alter>(
     alloc: Global,
     conn: &mut Connection<S>,
@@ -142,7 +140,7 @@ fn reply_to<P: Places, S: Alter>(
     told(alloc, done)
 }
 
-/// Carries out a command in a transaction of its own. The reply's bytes are made before the commit. A name of no form is
+/// Carries out a command in a transaction of its own. The reply's bytes are made before the commit. A malformed name is
 /// refused before any statement.
 pub(crate) fn apply_to<P: Places, S: Alter>(
     alloc: Global,

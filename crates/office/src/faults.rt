@@ -1,36 +1,36 @@
 //! Why an office is not opened, and why it is busy.
 
 ghost use Rattle.std.specs.Prelude.{◌≡◌};
-ghost use Rattle.office.specs.Adopting.{refusal_of};
-ghost use Rattle.office.specs.Applying.{busy_for};
+ghost use Rattle.office.specs.Adoption.{refusal_of};
+ghost use Rattle.office.specs.OfficeCall.{busy_for};
 
 use adoption::Verdict;
 use office_core::Busy;
 use office_tables::StoreFault;
 
-/// No office was opened, and the tables are as they were.
+/// Why no office was opened. The tables are unchanged.
 #[derive(Clone, Copy, Debug, PartialEq, Eq)]
 pub enum OpenFault {
-    /// There is no memory.
+    /// There is not enough memory.
     Memory,
     /// The store's disk failed.
     Disk,
-    /// There are tables, where new ones were to be made; or they are not this product's, where an office was to be
-    /// opened.
+    /// A new office was to be made, but there are tables already; or an office was to be opened, but the tables are not
+    /// this product's.
     Schema,
-    /// The table `office` cannot be read, or has not one row.
+    /// The table `office` cannot be read, or does not have exactly one row.
     NoOffice,
-    /// The tables are of version 1, and were to be of version 2.
+    /// The tables are of version 1, but version 2 was expected.
     OldVersion,
-    /// The tables are of version 2, and were to be of version 1.
+    /// The tables are of version 2, but version 1 was expected.
     NewVersion,
-    /// No sound office has such rows: this is the least of the ten causes that holds.
+    /// No sound office has such rows. The number is the least of the ten causes that holds.
     Unsound(u8),
 }
 
 impl From<StoreFault> for OpenFault {
     ghost use Rattle.std.specs.Prelude.{◌≡◌};
-    ghost use Rattle.office.specs.Opening.{open_fault_of};
+    ghost use Rattle.office.specs.NewOffice.{open_fault_of};
 
     ghost from_gives = { λ f b. b ≡ open_fault_of f };
 
@@ -43,7 +43,7 @@ impl From<StoreFault> for OpenFault {
     }
 }
 
-/// Why an office is not opened over such tables, or none where they are a sound office's.
+/// Why an office is not opened over tables with this verdict, or none if they are a sound office's.
 pub(crate) fn refusal(verdict: Verdict) -> Option<OpenFault>
     ensures { result ≡ refusal_of verdict }
 {
@@ -57,7 +57,7 @@ pub(crate) fn refusal(verdict: Verdict) -> Option<OpenFault>
     }
 }
 
-/// Why an office is busy, by the fault of its store.
+/// Why an office is busy, given the fault of its store.
 pub(crate) fn busy(fault: StoreFault) -> Busy
     ensures { result ≡ busy_for fault }
 {

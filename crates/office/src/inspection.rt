@@ -1,4 +1,4 @@
-//! Tables of any origin are looked over.
+//! Judges tables of any origin.
 
 ghost use Rattle.std.specs.Prelude.{◌≡◌, false, IfErr, IfOk};
 ghost use Rattle.sqlite.specs.Held.{state};
@@ -6,7 +6,7 @@ ghost use Rattle.sqlite.specs.State.{HasCleanDisk, Survives};
 ghost use Rattle.adoption.specs.OrderedTables.{StandInOrder};
 ghost use Rattle.adoption.specs.Verdicts.{IsVerdict};
 ghost use Rattle.office_tables.specs.Faults.{HasCause, IsUnlimited};
-ghost use Rattle.office.specs.Resting.{IsAsBefore};
+ghost use Rattle.office.specs.IdleOffice.{IsAsBefore};
 
 use crate::transactions::take_back;
 use adoption::{Verdict, judge};
@@ -15,7 +15,7 @@ use office_tables::{StoreFault, begin};
 use sqlite::{Alter, Connection};
 use std::alloc::Global;
 
-/// What the tables are, judged in a transaction that is rolled back.
+/// Judges what the tables are, in a transaction that is rolled back.
 pub(crate) fn look_over<P: CheckedPlaces, S: Alter>(
     alloc: Global,
     conn: &mut Connection<S>,

@@ -1,4 +1,4 @@
-//! What holds of an office over its tables, call after call. The function does nothing: its contract is the law.
+//! Laws of an office over its tables, call after call. Each function does nothing; its contract is the law.
 
 ghost use Rattle.std.specs.Prelude.{List};
 ghost use Rattle.office.specs.Runs.{AreCalls, Call, IsMachinesRun};
@@ -30,8 +30,8 @@ pub use state_encoding::laws_of_offices::{
     versions_differ_in_places,
 };
 
-/// Over any list of calls, whatever was busy among them, the office runs as the machine does: it tells what the machine
-/// tells over what was asked while it was not busy, and is then in the machine's state.
+/// Over any list of calls, even if some of them were busy, the office runs as the machine does: it answers as the
+/// machine does to the calls that were not busy, and is then in the machine's state.
 pub fn calls_are_the_machines_run<M: Machine>()
     ensures { (calls : List Call) (old new : M) → AreCalls M.represents M.is_intact M.is_open old new calls
         → IsMachinesRun M.represents M.is_intact M.is_open old new calls }

@@ -1,4 +1,4 @@
-//! An office over its tables: one command, one transaction, one step; and what a file would show.
+//! An office over its tables: each command is one transaction and one step. Also `preview`: the finding aids of a file.
 #![tactic(auto)]
 
 mod commands;

@@ -1,4 +1,4 @@
-//! An office over its tables is an office.
+//! An office over its tables is a `Machine`.
 
 use crate::offices::Office;
 use catalogue_store::Places;
@@ -7,7 +7,7 @@ use sqlite::Alter;
 use std::alloc::Global;
 
 impl<P: Places, S: Alter> Machine for Office<P, S> {
-    ghost use Rattle.office.specs.Resting.{is_clean, is_shown, is_still_open};
+    ghost use Rattle.office.specs.IdleOffice.{is_clean, is_shown, is_still_open};
 
     ghost represents = { is_shown S.Store P.represents P.version };
 

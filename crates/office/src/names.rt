@@ -1,4 +1,4 @@
-//! What can be seen of a command before any table is asked: what is wrong with it, and what days it names.
+//! What can be seen of a command by itself or with the office's day: what is wrong with it, and which days it names.
 
 ghost use Rattle.std.specs.Prelude.{◌≡◌};
 ghost use Rattle.isad_core.specs.Days.{IsDayNumber};
@@ -11,7 +11,8 @@ use desk_core::is_name;
 use isad_core::Day;
 use office_core::{Command, Refusal};
 
-/// The first check of a command, where the command alone tells: a source and a reader have names of their forms.
+/// The first check of a command, if it depends on the command alone: the name of a source or of a reader must be
+/// well-formed.
 pub(crate) fn refused_by_name(command: &Command) -> Option<Refusal>
     ensures { result ≡ misnamed command.now }
 {
@@ -22,7 +23,7 @@ pub(crate) fn refused_by_name(command: &Command) -> Option<Refusal>
     }
 }
 
-/// The first check of a command, where the day of the office tells: a new day comes after it.
+/// The first check of a command, if it depends on the office's day: a new day must be later.
 pub(crate) fn refused_by_day(today: Day, command: &Command) -> Option<Refusal>
     ensures { result ≡ misdated today command.now }
 {
@@ -32,14 +33,14 @@ pub(crate) fn refused_by_day(today: Day, command: &Command) -> Option<Refusal>
     }
 }
 
-/// A day is one of the calendar.
+/// Every `Day` is a day of the calendar.
 fn is_of_calendar(day: Day)
     ensures { IsDayNumber day }
 {
     let _ = day.number();
 }
 
-/// The days that a command names are of the calendar, and the reader's name that it brings is UTF-8.
+/// The days that a command names are days of the calendar, and the reader's name in it is UTF-8.
 pub(crate) fn names_days_and_texts(command: &Command)
     ensures days { NamesDays command.now }
     ensures texts { NamesTexts command.now }

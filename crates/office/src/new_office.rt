@@ -1,4 +1,4 @@
-//! A new office is made.
+//! Making a new office.
 
 ghost use Rattle.std.specs.Prelude.{◌≡◌, false, IsTrue, IfErr, OnErr, OnOk};
 ghost use Rattle.sqlite.specs.Held.{state};
@@ -7,8 +7,8 @@ ghost use Rattle.isad_core.specs.Limits.{IsNumber};
 ghost use Rattle.office_tables.specs.Faults.{FaultsHaveCause, HasCause, IsUnlimited};
 ghost use Rattle.office_tables.specs.Schema.{no_schema, schema};
 ghost use Rattle.office_tables.specs.Step.{Continues, IsAborted};
-ghost use Rattle.office.specs.Opening.{RepresentsNew};
-ghost use Rattle.office.specs.Resting.{IsAsBefore, IsOffice};
+ghost use Rattle.office.specs.NewOffice.{RepresentsNew};
+ghost use Rattle.office.specs.IdleOffice.{IsAsBefore, IsOffice};
 
 use crate::transactions::{keep, take_back};
 use catalogue_statements::OfficeRow;
@@ -17,7 +17,7 @@ use desk_store::create_desk;
 use office_tables::{StoreFault, begin};
 use sqlite::{Alter, Connection};
 
-/// Makes the tables of a new office inside the transaction, where there are none.
+/// Makes the tables of a new office inside the transaction. There must be no tables yet.
 fn make_tables<P: Places, S: Alter>(
     conn: &mut Connection<S>,
     row: &OfficeRow,
@@ -35,7 +35,8 @@ fn make_tables<P: Places, S: Alter>(
     create::<P, S>(conn, row)
 }
 
-/// Makes a new office where there are no tables, in one transaction. A crash finds what was there before, or all of it.
+/// Makes a new office in one transaction. There must be no tables yet. A crash finds what was there before, or the
+/// complete office.
 pub(crate) fn found<P: Places, S: Alter>(
     conn: &mut Connection<S>,
     row: &OfficeRow,

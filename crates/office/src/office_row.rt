@@ -6,8 +6,8 @@ ghost use Rattle.office_core.specs.SoundOffice.{IsSoundOffice};
 ghost use Rattle.office_tables.specs.Calls.{Answers};
 ghost use Rattle.office_tables.specs.Step.{InTransaction};
 ghost use Rattle.office.specs.Rows.{limits_told};
-ghost use Rattle.refinement.specs.Judging.{RepresentsWhole};
-ghost use Rattle.refinement.specs.Represents.{office_of};
+ghost use Rattle.refinement.specs.AccessConditions.{RepresentsWhole};
+ghost use Rattle.refinement.specs.Representation.{office_of};
 
 use catalogue_statements::OfficeRow;
 use catalogue_store::{Places, settings};
@@ -16,7 +16,7 @@ use office_tables::StoreFault;
 use sqlite::{Alter, Connection};
 use std::alloc::Global;
 
-/// What the office's own row tells: its settings, its day, and the number of its next unit.
+/// Reads the office's own row: its settings, its day, and the number of its next unit.
 pub(crate) fn own_row<P: Places, S: Alter>(
     alloc: Global,
     conn: &mut Connection<S>,
@@ -28,7 +28,7 @@ pub(crate) fn own_row<P: Places, S: Alter>(
     settings::<P, S>(alloc, conn)
 }
 
-/// Its settings, as the desk's limits.
+/// The settings in the row, as the desk's limits.
 pub(crate) fn limits_in(row: &OfficeRow) -> Limits
     ensures { result ≡ limits_told row.now }
 {

@@ -4,7 +4,7 @@ ghost use Rattle.std.specs.Prelude.{◌≡◌, false, Err, IfErr, IfOk, IsErr, I
 ghost use Rattle.sqlite.specs.Held.{state};
 ghost use Rattle.sqlite.specs.State.{HasCleanDisk, Survives};
 ghost use Rattle.tree_core.specs.Versions.{Links, Spans};
-ghost use Rattle.catalogue_statements.specs.Represents.{RepresentsLinkRows};
+ghost use Rattle.catalogue_statements.specs.Representation.{RepresentsLinkRows};
 ghost use Rattle.office_core.specs.Json.{reply_text};
 ghost use Rattle.office_core.specs.Queries.{answer};
 ghost use Rattle.office_core.specs.Rules.{step};
@@ -13,15 +13,15 @@ ghost use Rattle.office_core.specs.State.{State};
 ghost use Rattle.adoption.specs.OrderedTables.{StandInOrder};
 ghost use Rattle.office_tables.specs.Faults.{IsUnlimited};
 ghost use Rattle.office_tables.specs.Schema.{no_schema, schema};
-ghost use Rattle.office.specs.Adopting.{HasAdoptCause, IsAdopted, state_in};
-ghost use Rattle.office.specs.Applying.{HasBusyCause, MayFind, TakesStep};
-ghost use Rattle.office.specs.Founding.{founded};
-ghost use Rattle.office.specs.Migrating.{MayFindSpans};
-ghost use Rattle.office.specs.Opening.{HasOpenCause};
-ghost use Rattle.office.specs.Resting.{IsAsBefore, IsIn, is_clean, is_shown, is_still_open};
+ghost use Rattle.office.specs.Adoption.{HasAdoptCause, IsAdopted, state_in};
+ghost use Rattle.office.specs.OfficeCall.{HasBusyCause, MayFind, TakesStep};
+ghost use Rattle.office.specs.InitialSettings.{founded};
+ghost use Rattle.office.specs.Migration.{MayFindSpans};
+ghost use Rattle.office.specs.NewOffice.{HasOpenCause};
+ghost use Rattle.office.specs.IdleOffice.{IsAsBefore, IsIn, is_clean, is_shown, is_still_open};
 ghost use Rattle.office.specs.Runs.{IsCall, answered, applied};
-ghost use Rattle.refinement.specs.Represents.{RepresentsState};
-ghost use Rattle.nested_sets.specs.Represents.{RepresentsSpanRows};
+ghost use Rattle.refinement.specs.Representation.{RepresentsState};
+ghost use Rattle.nested_sets.specs.Representation.{RepresentsSpanRows};
 
 use crate::commands::apply_to;
 use crate::faults::{OpenFault, busy, refusal};
@@ -40,8 +40,8 @@ use sqlite::{Alter, Connection};
 use std::alloc::Global;
 use std::marker::{Model, PhantomData};
 
-/// An office over its tables, whose places are kept as `P` has them. Between its calls no transaction is open, and the
-/// connection has the tables of an office, as they were committed.
+/// An office over its tables, which stores the places of its units as `P` does. Between its calls no transaction is
+/// open, and the connection has the tables of an office, as they were committed.
 pub struct Office<P: Places, S: Alter> {
     conn: Connection<S>,
     places: PhantomData<P>,
@@ -49,7 +49,7 @@ pub struct Office<P: Places, S: Alter> {
 
 impl<P: Places, S: Alter> Model for Office<P, S> {
     ghost use Rattle.sqlite.specs.Held.{Held, held_code, state};
-    ghost use Rattle.office.specs.Resting.{IsOffice};
+    ghost use Rattle.office.specs.IdleOffice.{IsOffice};
 
     ghost Value = { Held S };
 
@@ -61,8 +61,8 @@ impl<P: Places, S: Alter> Model for Office<P, S> {
 }
 
 impl<P: Places, S: Alter> Office<P, S> {
-    /// Makes a new office where there are no tables; otherwise the connection is given back, with its tables as they
-    /// were.
+    /// Makes a new office in a store without tables. If there are tables already, the fault is `Schema`. On a fault the
+    /// connection is given back, with its tables unchanged.
     pub fn create(
         conn: Connection<S>,
         settings: Settings,
@@ -104,10 +104,10 @@ impl<P: Places, S: Alter> Office<P, S> {
         }
     }
 
-    /// Carries out a command. What is accepted was committed: the connection is open, and its tables are as the disk
-    /// has them. A refusal changes nothing, nor does an office that is busy; a crash finds what was committed before,
-    /// or the state after the command. Where a failure of the disk had shut the connection before, the office is busy
-    /// for ever, but for names of no form, which are refused before any statement.
+    /// Carries out a command. An accepted command was committed: the connection is open, and its tables are as the disk
+    /// has them. A refusal changes nothing, and neither does a busy office. A crash finds what was committed before, or
+    /// the state after the command. If a failure of the disk had shut the connection before, the office stays busy for
+    /// ever, except that malformed names are refused before any statement.
     pub fn apply(&mut self, alloc: Global, command: &Command) -> Result<Reply, Busy>
         ensures steps { HasCleanDisk (state S.Store self.new)
             → (s : State) → IsSoundOffice s → IsIn P.represents P.version s (state S.Store self.old)
@@ -138,7 +138,7 @@ impl<P: Places, S: Alter> Office<P, S> {
         }
     }
 
-    /// Answers a question. Nothing is changed by it, whatever comes.
+    /// Answers a question. It changes nothing, whatever the result.
     pub fn ask(&mut self, alloc: Global, query: Query) -> Result<Answer, Busy>
         ensures answers { HasCleanDisk (state S.Store self.new)
             → (s : State) → IsSoundOffice s → IsIn P.represents P.version s (state S.Store self.old)
@@ -158,7 +158,7 @@ impl<P: Places, S: Alter> Office<P, S> {
         }
     }
 
-    /// The connection. No transaction is open, and no limit is set on the steps of a statement.
+    /// Gives the connection back. No transaction is open, and no limit is set on the steps of a statement.
     pub fn into_connection(self) -> Connection<S>
         ensures same { result ≡ self }
         ensures ended { HasCleanDisk (state S.Store result) → (state S.Store result).in_transaction ≡ false }
@@ -170,9 +170,9 @@ impl<P: Places, S: Alter> Office<P, S> {
 }
 
 impl<S: Alter> Office<LinkPlaces, S> {
-    /// Brings the office from version 1 to version 2, in one transaction: its state stays, and the places of its units
-    /// become nested sets. Where that fails, the office is given back as it was; a crash finds version 1 or version 2,
-    /// whole.
+    /// Converts the office from version 1 to version 2, in one transaction. Its state stays the same, and the places of
+    /// its units become nested sets. On a fault the office is given back unchanged. A crash finds version 1 or version
+    /// 2, complete.
     pub fn migrate(
         self,
         alloc: Global,
@@ -211,8 +211,8 @@ impl<S: Alter> Office<LinkPlaces, S> {
 }
 
 impl<P: CheckedPlaces, S: Alter> Office<P, S> {
-    /// Opens an office over tables of any origin, where they are a sound office's. Otherwise the connection is given
-    /// back, with its tables as they were; nothing is changed in either case.
+    /// Opens an office over tables of any origin, if they are a sound office's. Otherwise the connection is given back
+    /// with the fault. The tables are unchanged in either case.
     pub fn adopt(
         alloc: Global,
         conn: Connection<S>,
@@ -237,7 +237,7 @@ impl<P: CheckedPlaces, S: Alter> Office<P, S> {
         let mut conn = conn;
         // Outside a transaction a connection that is open shows what was committed.
         let _ = conn.is_autocommit();
-        // Its rows keep the rules of its tables.
+        // The rows of an open connection keep the rules of its tables.
         let _ = conn.schema();
         let verdict = match look_over::<P, S>(alloc, &mut conn) {
             Ok(verdict) => verdict,

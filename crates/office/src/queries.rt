@@ -1,4 +1,4 @@
-//! A question, on one state of the tables.
+//! Questions, each answered from one state of the tables.
 
 ghost use Rattle.std.specs.Prelude.{◌≡◌, IfErr, IfOk};
 ghost use Rattle.sqlite.specs.Held.{state};
@@ -8,10 +8,10 @@ ghost use Rattle.office_core.specs.SoundOffice.{IsSoundOffice};
 ghost use Rattle.office_core.specs.State.{State};
 ghost use Rattle.office_tables.specs.Faults.{HasCause};
 ghost use Rattle.office_tables.specs.Step.{InTransaction};
-ghost use Rattle.public_queries.specs.Knowing.{AnswersKnowing};
-ghost use Rattle.office.specs.Resting.{IsAsBefore, IsIn, IsOffice};
+ghost use Rattle.public_queries.specs.InformedAnswers.{AnswersKnowing};
+ghost use Rattle.office.specs.IdleOffice.{IsAsBefore, IsIn, IsOffice};
 ghost use Rattle.refinement.specs.QueryAnswers.{AnswersQuery};
-ghost use Rattle.refinement.specs.Represents.{office_of};
+ghost use Rattle.refinement.specs.Representation.{office_of};
 
 use crate::office_row::own_row;
 use crate::transactions::take_back;

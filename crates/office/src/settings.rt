@@ -4,11 +4,11 @@ ghost use Rattle.std.specs.Prelude.{◌≡◌};
 ghost use Rattle.std.specs.List.{list_all};
 ghost use Rattle.catalogue_core.specs.Sources.{is_between as lies_between};
 ghost use Rattle.office_core.specs.Soundness.{is_country as is_country_code, is_repository as is_repository_code};
-ghost use Rattle.office.specs.Founding.{AreTaken, IsGood, founded};
-ghost use Rattle.refinement.specs.Represents.{office_of};
+ghost use Rattle.office.specs.InitialSettings.{AreTaken, IsGood, founded};
+ghost use Rattle.refinement.specs.Representation.{office_of};
 
 use catalogue_statements::OfficeRow;
-use isad_core::{Day, Text};
+use isad_core::{Day, Text, limits};
 use std::alloc::{AllocError, Global};
 use std::marker::Model;
 
@@ -25,7 +25,7 @@ pub struct Settings {
 }
 
 impl Model for Settings {
-    ghost use Rattle.office.specs.Founding.{Founding, IsGood};
+    ghost use Rattle.office.specs.InitialSettings.{Founding, IsGood};
 
     ghost Value = { Founding };
 
@@ -54,22 +54,22 @@ impl Model for Settings {
     }) };
 }
 
-/// Why settings were not taken.
+/// Why settings were not accepted.
 #[derive(Clone, Copy, Debug, PartialEq, Eq)]
 pub enum SettingsFault {
-    /// There is no memory.
+    /// There is not enough memory.
     Memory,
     /// The country is not two capital letters.
     Country,
-    /// The repository's code is not 1 to 32 bytes that are seen.
+    /// The repository's code is not 1 to 32 visible ASCII bytes.
     Repo,
-    /// There are not 1 to 200 seats.
+    /// The number of seats is not between 1 and 200.
     Seats,
-    /// A ticket may not place 1 to 50 orders on a day.
+    /// The number of orders that a ticket may place on a day is not between 1 and 50.
     Daily,
-    /// A ticket may not have 1 to 10 containers out.
+    /// The number of containers that a ticket may have out is not between 1 and 10.
     Hands,
-    /// A run does not take 1 to 100 containers.
+    /// The number of containers that a run takes is not between 1 and 100.
     Run,
 }
 
@@ -91,21 +91,21 @@ pub fn is_country(code: &str) -> bool
     code.len() == 2 && code.bytes().all(|b| b >= b'A' && b <= b'Z')
 }
 
-/// Whether all bytes are seen: neither spaces nor control characters, and ASCII.
+/// Whether all bytes are visible ASCII: neither spaces nor control characters.
 fn are_seen(code: &str) -> bool
     ensures { result ≡ list_all (lies_between 33 126) code.now }
 {
     code.bytes().all(|b| b >= b'!' && b <= b'~')
 }
 
-/// Whether the code is 1 to 32 bytes that are seen.
+/// Whether the code is 1 to 32 visible ASCII bytes.
 pub fn is_repository(code: &str) -> bool
     ensures { result ≡ is_repository_code code.now }
 {
     is_up_to(32, code.len()) && are_seen(code)
 }
 
-/// Whether a number is 1 or more, up to the most.
+/// Whether a number is between 1 and `most`.
 fn is_up_to(most: usize, number: usize) -> bool
     ensures { result ≡ lies_between 1 most number }
 {
@@ -113,7 +113,7 @@ fn is_up_to(most: usize, number: usize) -> bool
 }
 
 impl Settings {
-    /// Takes settings that are within their limits, and names the first that is not.
+    /// Makes settings, if all are within their limits. Otherwise the fault names the first that is not.
     pub fn new(
         alloc: Global,
         country: &str,
@@ -142,16 +142,16 @@ impl Settings {
         if !is_repository(repo) {
             return Err(SettingsFault::Repo);
         }
-        if !is_up_to(200, seats as usize) {
+        if !is_up_to(limits::MOST_SEATS as usize, seats as usize) {
             return Err(SettingsFault::Seats);
         }
-        if !is_up_to(50, daily as usize) {
+        if !is_up_to(limits::MOST_DAILY as usize, daily as usize) {
             return Err(SettingsFault::Daily);
         }
-        if !is_up_to(10, hands as usize) {
+        if !is_up_to(limits::MOST_HANDS as usize, hands as usize) {
             return Err(SettingsFault::Hands);
         }
-        if !is_up_to(100, run as usize) {
+        if !is_up_to(limits::MOST_RUN_SIZE as usize, run as usize) {
             return Err(SettingsFault::Run);
         }
         Ok(Settings {

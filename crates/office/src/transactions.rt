@@ -6,13 +6,13 @@ ghost use Rattle.sqlite.specs.State.{HasCleanDisk, Survives};
 ghost use Rattle.office_core.specs.declared.machine.Reply.{Reply};
 ghost use Rattle.office_tables.specs.Faults.{HasCause};
 ghost use Rattle.office_tables.specs.Transactions.{Committed};
-ghost use Rattle.office.specs.Resting.{IsEnded};
+ghost use Rattle.office.specs.IdleOffice.{IsEnded};
 
 use office_core::Reply;
 use office_tables::{StoreFault, commit, roll_back};
 use sqlite::{Alter, Connection};
 
-/// Takes back what was done, whether the transaction is still open or not.
+/// Rolls back what was done, whether the transaction is still open or not.
 pub(crate) fn take_back<S: Alter>(conn: &mut Connection<S>)
     ensures ended { HasCleanDisk (state S.Store conn.new)
         → IsEnded (state S.Store conn.old) (state S.Store conn.new) }
@@ -21,7 +21,7 @@ pub(crate) fn take_back<S: Alter>(conn: &mut Connection<S>)
     roll_back(conn);
 }
 
-/// Commits what was done; where that fails, it is rolled back.
+/// Commits what was done. If that fails, it is rolled back.
 pub(crate) fn keep<S: Alter>(conn: &mut Connection<S>) -> Result<(), StoreFault>
     ensures committed { HasCleanDisk (state S.Store conn.new)
         → OnOk result (Committed (state S.Store conn.old) (state S.Store conn.new)) }
@@ -39,7 +39,7 @@ pub(crate) fn keep<S: Alter>(conn: &mut Connection<S>) -> Result<(), StoreFault>
     Ok(())
 }
 
-/// Ends the transaction: what was done is committed; what was refused, or failed, is rolled back.
+/// Ends the transaction: commits what an accepted command did, and rolls back after a refusal or a fault.
 pub(crate) fn settle<S: Alter>(
     conn: &mut Connection<S>,
     outcome: Result<Reply, StoreFault>,

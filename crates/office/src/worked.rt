@@ -1,4 +1,4 @@
-//! The rules at work in small offices, worked by hand.
+//! Examples of the rules in small offices, worked out by hand.
 
 pub use office_core::worked::{
     worked_answers, worked_catalogue_rows, worked_desk_rows, worked_office, worked_rows,

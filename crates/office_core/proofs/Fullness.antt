@@ -3,7 +3,7 @@ use Rattle.std.proofs.Common.{◌≡◌, ℕ, ◌≤◌, Bool, true, false, not,
 use Rattle.std.specs.Prelude.{nat_lt, nat_le}
 use Rattle.std.proofs.lemmas.Bool.{and_parts, leb-true, le-leb, lt-ltb, le-ltb, lt-leb, or_right}
 use Rattle.tree_core.specs.Forest.{size}
-use Rattle.catalogue_core.specs.Finding.{has_unit}
+use Rattle.catalogue_core.specs.UnitLookup.{has_unit}
 use Rattle.catalogue_core.specs.Sources.{is_between}
 use Rattle.desk_core.specs.Names.{is_name}
 use Rattle.desk_core.specs.Refusals.{when, unless, first_that_holds}

@@ -3,11 +3,11 @@ use Rattle.std.proofs.Common.{ℕ, sym, ap, ◌∙◌}
 use Rattle.atom_csv.proofs.ToldLemmas.{file_sound}
 use Rattle.std.specs.Prelude.{count_by}
 use Rattle.catalogue_core.specs.Intake.{is_changed, is_new, is_same, with_file}
-use Rattle.catalogue_core.specs.RowByRow.{count_rows}
+use Rattle.catalogue_core.specs.EntryByRow.{count_rows}
 use Rattle.catalogue_core.proofs.RowCounts.{changed_counts, new_counts, same_counts}
 use Rattle.catalogue_core.proofs.RowsMerged.{taken_row_by_row}
 use Rattle.office_core.specs.ImportReply.{remarks, told_of}
-use Rattle.office_core.specs.ImportedByRow.{FaultsRowByRow, TakesRowByRow}
+use Rattle.office_core.specs.ImportByRow.{FaultsRowByRow, TakesRowByRow}
 use Rattle.office_core.specs.Soundness.{IsSound}
 use Rattle.office_core.specs.State.{State}
 use Rattle.office_core.specs.declared.done.Done.{Done}

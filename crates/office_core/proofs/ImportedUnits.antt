@@ -10,10 +10,10 @@ use Rattle.tree_core.specs.Forest.{Forest, nodes, size}
 use Rattle.desk_core.specs.Refusals.{when}
 use Rattle.desk_core.specs.declared.refusal.Refusal.TheVariants.{Full}
 use Rattle.catalogue_core.specs.Units.{Unit}
-use Rattle.catalogue_core.specs.Merging.{Catalogue, New, numbered_from, new_unit, revised, merged_forest, merged_boxes, is_known}
+use Rattle.catalogue_core.specs.CatalogueMerge.{Catalogue, New, numbered_from, new_unit, revised, merged_forest, merged_boxes, is_known}
 use Rattle.office_core.specs.declared.command.Command.TheVariants as command
 use Rattle.office_core.specs.State.{State}
-use Rattle.catalogue_core.specs.Finding.{has_unit}
+use Rattle.catalogue_core.specs.UnitLookup.{has_unit}
 use Rattle.catalogue_core.specs.Intake.{Intake, Taken, is_full}
 use Rattle.office_core.specs.ImportReply.{too_much}
 use Rattle.isad_core.specs.Limits.{most_units, most_unit_numbers, most_containers}
@@ -21,7 +21,7 @@ use Rattle.catalogue_core.specs.Sources.{is_source}
 use Rattle.office_core.specs.Rules.{taken, imported, checks, after}
 use Rattle.catalogue_core.specs.GoodCatalogues.{AreGoodUnits, AreGoodContainers, IsGoodUnit}
 use Rattle.office_core.specs.Soundness.{ArePermitsOfUnits, IsSound}
-use Rattle.office_core.specs.Imported.{HasGoodCatalogue, ImportsKeepTheCatalogue}
+use Rattle.office_core.specs.ImportLaws.{HasGoodCatalogue, ImportsKeepTheCatalogue}
 use Rattle.office_core.proofs.Steps.{Passes, held_so, held_not, step_at}
 use Rattle.catalogue_core.proofs.EachOf.{all_and, all_append, all_distinct, all_filtered}
 use Rattle.catalogue_core.proofs.DistinctLists.{all_so}

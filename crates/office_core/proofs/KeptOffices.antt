@@ -4,7 +4,7 @@ use Rattle.std.specs.Prelude.{nat_le}
 use Rattle.std.proofs.lemmas.Bool.{and_parts, leb-true}
 use Rattle.isad_core.proofs.DayLemmas.{is_day_number-true}
 use Rattle.catalogue_core.specs.Bounds.{IsKept}
-use Rattle.catalogue_core.specs.Describing.{KnowsItsContainers, HasAllPlaces}
+use Rattle.catalogue_core.specs.Descriptions.{KnowsItsContainers, HasAllPlaces}
 use Rattle.catalogue_core.specs.Sources.{is_between}
 use Rattle.catalogue_core.proofs.KeptCatalogues.{kept, knows, all_places}
 use Rattle.office_core.specs.State.{State}

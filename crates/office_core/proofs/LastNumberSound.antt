@@ -8,7 +8,7 @@ use Rattle.csv.specs.Machine.{next_record}
 use Rattle.atom_csv.specs.Columns.{columns}
 use Rattle.atom_csv.specs.Values.{described}
 use Rattle.tree_core.specs.Forest.{nodes}
-use Rattle.catalogue_core.specs.Housing.{is_open}
+use Rattle.catalogue_core.specs.ContainerContents.{is_open}
 use Rattle.catalogue_core.specs.Units.{Unit}
 use Rattle.catalogue_core.proofs.DistinctLists.{all_so}
 use Rattle.office_core.specs.declared.command.Command.TheVariants as command
@@ -18,7 +18,7 @@ use Rattle.catalogue_core.specs.Intake.{take}
 use Rattle.office_core.specs.Rules.{state_after}
 use Rattle.office_core.specs.SoundDesk.{IsGoodLine, IsSoundDesk}
 use Rattle.office_core.specs.Soundness.{IsSound}
-use Rattle.office_core.specs.Worked.{office, import, ann, boxes, march_1, with_next, one_number_left}
+use Rattle.office_core.specs.WorkedExamples.{office, import, ann, boxes, march_1, with_next, one_number_left}
 use Rattle.office_core.proofs.Starts.{starts_sound}
 use Rattle.office_core.proofs.StaysSound.{always_sound}
 

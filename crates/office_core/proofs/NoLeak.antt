@@ -2,11 +2,11 @@
 use Rattle.std.proofs.Common.{◌≡◌, ℕ, cond, List, [], ◌∷◌, ◌++◌, ap, ◌∙◌}
 use Rattle.std.specs.Prelude.{decimal}
 use Rattle.std.specs.List.{flat_map}
-use Rattle.isad_core.specs.Printed.{aid, head_line, line}
+use Rattle.isad_core.specs.PrintedDescriptions.{aid, head_line, line}
 use Rattle.isad_core.specs.declared.display.Shown.{Shown}
 use Rattle.isad_core.specs.declared.values.BoxKey.{BoxKey}
 use Rattle.tree_core.specs.Forest.{Forest, nodes, has, path, tree}
-use Rattle.catalogue_core.specs.Publishing.{PublicUnit}
+use Rattle.catalogue_core.specs.PublicForest.{PublicUnit}
 use Rattle.office_core.specs.declared.query.Answer.TheVariants.{Text, Unknown}
 use Rattle.office_core.specs.declared.query.Query.{Query}
 use Rattle.office_core.specs.declared.query.Query.TheVariants as query

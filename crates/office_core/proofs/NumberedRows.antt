@@ -6,12 +6,12 @@ use Rattle.std.proofs.lemmas.Bool.{eq-eqb, or_left, or_right}
 use Rattle.std.proofs.lemmas.List.Folds.{list_any-append}
 use Rattle.std.proofs.lemmas.List.Sorted.{list_any-IsPermutation}
 use Rattle.isad_core.specs.Texts.{Bytes}
-use Rattle.atom_csv.specs.FileOf.{file_of}
+use Rattle.atom_csv.specs.FileContents.{file_of}
 use Rattle.atom_csv.specs.declared.file.File.{File}
 use Rattle.atom_csv.specs.declared.file.Row.{Row}
 use Rattle.tree_core.specs.Forest.{Forest, nodes, has}
 use Rattle.catalogue_core.specs.Units.{Unit, has_id, is_from}
-use Rattle.catalogue_core.specs.Merging.{Catalogue, New, number_of, numbered_from, new_unit, revised, merged_forest}
+use Rattle.catalogue_core.specs.CatalogueMerge.{Catalogue, New, number_of, numbered_from, new_unit, revised, merged_forest}
 use Rattle.catalogue_core.specs.Intake.{Taken}
 use Rattle.catalogue_core.proofs.DistinctLists.{all_so}
 use Rattle.catalogue_core.proofs.Imported.{new_rows, taken_is}

@@ -12,8 +12,8 @@ use Rattle.desk_core.specs.declared.refusal.Refusal.{Refusal}
 use Rattle.desk_core.specs.declared.reader.Place.{Place}
 use Rattle.desk_core.specs.declared.reader.Place.TheVariants.{Shelf, Desk, Out}
 use Rattle.catalogue_core.specs.Units.{Unit, has_id}
-use Rattle.catalogue_core.specs.Merging.{Catalogue, New, numbered_from, new_unit, revised, merged_forest}
-use Rattle.catalogue_core.specs.Finding.{has_unit}
+use Rattle.catalogue_core.specs.CatalogueMerge.{Catalogue, New, numbered_from, new_unit, revised, merged_forest}
+use Rattle.catalogue_core.specs.UnitLookup.{has_unit}
 use Rattle.catalogue_core.specs.Intake.{Taken}
 use Rattle.catalogue_core.proofs.DistinctLists.{all_so}
 use Rattle.catalogue_core.proofs.Imported.{new_rows, taken_is}

@@ -7,7 +7,7 @@ use Rattle.std.proofs.lemmas.Int.{ints}
 use Rattle.isad_core.specs.declared.values.BoxKey.{BoxKey}
 use Rattle.tree_core.specs.Forest.{Forest}
 use Rattle.catalogue_core.specs.Units.{Unit, is_closed}
-use Rattle.catalogue_core.specs.Housing.{contents, is_withheld_from, is_some_there, is_open}
+use Rattle.catalogue_core.specs.ContainerContents.{contents, is_withheld_from, is_some_there, is_open}
 use Rattle.office_core.specs.State.{Permit, is_permitted, granted}
 
 any_weaker : {X : Type 0} (p q : X → Bool) → ((x : X) → p x ≡ true → q x ≡ true) → (xs : List X) → list_any p xs ≡ true → list_any q xs ≡ true

@@ -15,7 +15,7 @@ use Rattle.std.specs.Ordering.{int_eq}
 use Rattle.std.proofs.lemmas.Bool.Decides.{Decides-int_eq}
 use Rattle.isad_core.specs.declared.values.BoxKey.{BoxKey}
 use Rattle.isad_core.specs.Limits.{most_orders}
-use Rattle.catalogue_core.specs.Housing.{is_open}
+use Rattle.catalogue_core.specs.ContainerContents.{is_open}
 use Rattle.isad_core.specs.Boxes.{distinct}
 use Rattle.catalogue_core.specs.Intake.{Taken}
 use Rattle.office_core.specs.SoundDesk.{ExactlyOne, IsFiled, is_out_for, AreFiled, IsGoodOrder, AreGoodOrders}

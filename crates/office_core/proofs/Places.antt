@@ -5,7 +5,7 @@ use Rattle.std.specs.List.{list_any, cons_option}
 use Rattle.std.proofs.lemmas.Bool.{eqb-true, ltb-false, leb-false, cases_eq, cases_Bool, false≢true, not-false, or_cases}
 use Rattle.office_core.specs.Words.{numbered, put, some_and, stands, first}
 use Rattle.isad_core.specs.declared.values.BoxKey.{BoxKey}
-use Rattle.catalogue_core.specs.Housing.{is_open}
+use Rattle.catalogue_core.specs.ContainerContents.{is_open}
 use Rattle.isad_core.specs.Boxes.{distinct}
 use Rattle.desk_core.specs.declared.reader.Place.TheVariants.{Shelf, Desk, Out}
 use Rattle.desk_core.specs.declared.reader.Place.{Place}

@@ -5,16 +5,16 @@ use Rattle.std.specs.List.{AllByRecursion}
 use Rattle.std.proofs.lemmas.Bool.{cases_Bool, eqb-true}
 use Rattle.std.proofs.lemmas.List.{map-append}
 use Rattle.isad_core.specs.Texts.{Bytes}
-use Rattle.isad_core.specs.Printed.{aid as aid_text, page as page_text}
+use Rattle.isad_core.specs.PrintedDescriptions.{aid as aid_text, page as page_text}
 use Rattle.isad_core.specs.declared.display.Page.{Page}
 use Rattle.isad_core.specs.declared.display.Shown.{Shown}
 use Rattle.desk_core.specs.declared.refusal.Refusal.TheVariants.{UnknownUnit}
 use Rattle.tree_core.specs.Forest.{Forest, Empty, Node, has, path, tree}
 use Rattle.catalogue_core.specs.Aids.{identifier_of, shown_unit, shown_below}
-use Rattle.catalogue_core.specs.Housing.{paths}
+use Rattle.catalogue_core.specs.ContainerContents.{paths}
 use Rattle.catalogue_core.specs.Pages.{Press, number_of, is_numbered, before_last, above_last, side_by_side, aid_units, page_at, page_of}
-use Rattle.catalogue_core.specs.Published.{IsPublished, identifiers}
-use Rattle.catalogue_core.specs.Publishing.{PublicUnit, Told, Stub}
+use Rattle.catalogue_core.specs.PublishedUnits.{IsPublished, identifiers}
+use Rattle.catalogue_core.specs.PublicForest.{PublicUnit, Told, Stub}
 use Rattle.catalogue_core.specs.Units.{is_closed}
 use Rattle.catalogue_core.proofs.DistinctLists.{all_so}
 use Rattle.catalogue_core.proofs.EachOf.{all_append}

@@ -4,10 +4,10 @@ use Rattle.std.specs.List.{flat_map}
 use Rattle.std.proofs.lemmas.Bool.{false≢true}
 use Rattle.isad_core.specs.declared.values.BoxKey.{BoxKey}
 use Rattle.tree_core.specs.Forest.{Forest, Empty, Node, nodes, each}
-use Rattle.tree_core.specs.Withheld.{public}
-use Rattle.catalogue_core.specs.Merging.{box_number}
-use Rattle.catalogue_core.specs.Publishing.{public_unit, public_of, stub_of}
-use Rattle.catalogue_core.specs.Published.{boxes_told}
+use Rattle.tree_core.specs.Visibility.{public}
+use Rattle.catalogue_core.specs.CatalogueMerge.{box_number}
+use Rattle.catalogue_core.specs.PublicForest.{public_unit, public_of, stub_of}
+use Rattle.catalogue_core.specs.PublishedUnits.{boxes_told}
 use Rattle.catalogue_core.specs.Units.{Unit, is_later, is_closed}
 use Rattle.catalogue_core.proofs.EachOf.{all_true}
 use Rattle.catalogue_core.proofs.PublicPaths.{drafts, known_of, known_where}

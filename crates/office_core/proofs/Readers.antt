@@ -10,7 +10,7 @@ use Rattle.isad_core.specs.Boxes.{distinct}
 use Rattle.desk_core.specs.declared.reader.Place.TheVariants.{Shelf, Desk, Out}
 use Rattle.desk_core.specs.declared.reader.Place.{Place}
 use Rattle.office_core.specs.State.{State, Reader, Permit, container_of, is_ticket, has_permit, granted, revoked}
-use Rattle.catalogue_core.specs.Finding.{has_unit}
+use Rattle.catalogue_core.specs.UnitLookup.{has_unit}
 use Rattle.office_core.specs.declared.command.Command.{Command}
 use Rattle.office_core.specs.declared.command.Command.TheVariants as command
 use Rattle.isad_core.specs.Limits.{most_tickets, most_permits}

@@ -7,13 +7,13 @@ use Rattle.isad_core.specs.Levels.{rank_of}
 use Rattle.isad_core.specs.Values.{text_of}
 use Rattle.isad_core.specs.declared.element.Element.TheVariants.{ReferenceCode, Title, Dates, Extent, Creator}
 use Rattle.isad_core.specs.declared.values.Values.{Values}
-use Rattle.atom_csv.specs.FileOf.{file_of}
+use Rattle.atom_csv.specs.FileContents.{file_of}
 use Rattle.atom_csv.specs.declared.file.File.{File}
 use Rattle.atom_csv.specs.declared.file.Row.{Row}
 use Rattle.tree_core.specs.Forest.{Forest}
 use Rattle.catalogue_core.specs.Intake.{Taken}
 use Rattle.catalogue_core.specs.Pages.{before_last}
-use Rattle.catalogue_core.specs.Published.{last_of}
+use Rattle.catalogue_core.specs.PublishedUnits.{last_of}
 use Rattle.catalogue_core.specs.Units.{Unit}
 use Rattle.catalogue_core.proofs.Imported.{taken_is}
 use Rattle.office_core.specs.declared.command.Command.TheVariants as command
@@ -24,7 +24,7 @@ use Rattle.office_core.specs.declared.done.Remark.TheVariants.{LevelTooHigh, Lac
 use Rattle.office_core.specs.ImportReply.{bad_file, is_level_above, lacks_essential, remark_if, remark_on, remarks, told_of}
 use Rattle.office_core.specs.State.{State}
 use Rattle.office_core.specs.Rules.{Reply, taken, imported}
-use Rattle.office_core.specs.Remarking.{way_of, BelongsAbove, HasEssentials, IsPoorTop, IsToldOf, AreToldOf, RemarksOnRows}
+use Rattle.office_core.specs.Remarks.{way_of, BelongsAbove, HasEssentials, IsPoorTop, IsToldOf, AreToldOf, RemarksOnRows}
 use Rattle.office_core.proofs.Steps.{step_at}
 use Rattle.std.proofs.lemmas.Option.{same_Some}
 

@@ -12,7 +12,7 @@ use Rattle.tree_core.specs.Forest.{Forest, nodes, each, has}
 use Rattle.desk_core.specs.declared.reader.Place.{Place}
 use Rattle.desk_core.specs.declared.reader.Place.TheVariants.{Shelf, Desk, Out}
 use Rattle.catalogue_core.specs.Units.{Unit, has_id, is_from}
-use Rattle.catalogue_core.specs.Merging.{Catalogue, New, numbered_from, new_unit, revised, merged_forest, has_legacy}
+use Rattle.catalogue_core.specs.CatalogueMerge.{Catalogue, New, numbered_from, new_unit, revised, merged_forest, has_legacy}
 use Rattle.catalogue_core.specs.Statuses.{chosen}
 use Rattle.catalogue_core.specs.Intake.{Taken}
 use Rattle.catalogue_core.proofs.ImportedAgain.{same_text, one_text, all_merged, all_each}

@@ -13,13 +13,13 @@ use Rattle.office_core.specs.declared.command.Command.{Command}
 use Rattle.office_core.specs.declared.command.Command.TheVariants as command
 use Rattle.office_core.specs.Words.{put}
 use Rattle.office_core.specs.State.{State, Permit, container_of, granted, revoked}
-use Rattle.catalogue_core.specs.Finding.{has_unit}
+use Rattle.catalogue_core.specs.UnitLookup.{has_unit}
 use Rattle.isad_core.specs.Limits.{most_deep}
 use Rattle.catalogue_core.specs.Moves.{depth_after, is_into_itself}
 use Rattle.office_core.specs.Rules.{checks, after, removed, cancelled, issued, returned, state_after}
 use Rattle.office_core.specs.Soundness.{AreGoodSettings, ArePermitsOfUnits, IsSound, NamesDays}
 use Rattle.catalogue_core.specs.GoodCatalogues.{AreGoodUnits, AreGoodContainers}
-use Rattle.office_core.specs.Imported.{HasGoodCatalogue}
+use Rattle.office_core.specs.ImportLaws.{HasGoodCatalogue}
 use Rattle.office_core.proofs.Steps.{Passes, held_so, held_not, run_keeps_if}
 use Rattle.office_core.proofs.Extends.{extends_after}
 use Rattle.catalogue_core.proofs.EachOf.{all_filtered}

@@ -9,7 +9,7 @@ use Rattle.desk_core.specs.Refusals.{Check, when, unless, first_that_holds}
 use Rattle.desk_core.specs.declared.refusal.Refusal.{Refusal}
 use Rattle.desk_core.specs.declared.refusal.Refusal.TheVariants as refusal
 use Rattle.desk_core.specs.declared.refusal.Refusal.TheVariants.{WithReader}
-use Rattle.catalogue_core.specs.Finding.{has_unit}
+use Rattle.catalogue_core.specs.UnitLookup.{has_unit}
 use Rattle.catalogue_core.specs.Intake.{Intake, Taken, is_full}
 use Rattle.catalogue_core.specs.Moves.{is_into_itself, depth_after}
 use Rattle.catalogue_core.specs.Sources.{is_source}
@@ -22,7 +22,7 @@ use Rattle.office_core.specs.State.{Order, State, is_ticket, is_container, order
 use Rattle.office_core.specs.ImportReply.{bad_file, too_much}
 use Rattle.office_core.specs.Rules.{is_kept_from_holder, kept, gate, imported, taken, after, checks, told, decided, refusal as refusal_of}
 use Rattle.office_core.specs.SoundDesk.{IsSoundDesk}
-use Rattle.office_core.specs.Withholding.{WouldBeWithheld, IsLowestWithheld, may_withhold, AsksForReaders, AsksForNone, MayBeDone, AsksForReadersAlone}
+use Rattle.office_core.specs.AccessRestrictions.{WouldBeWithheld, IsLowestWithheld, may_withhold, AsksForReaders, AsksForNone, MayBeDone, AsksForReadersAlone}
 use Rattle.office_core.proofs.Counts.{none_to, none_that, numbered_from_one}
 use Rattle.office_core.proofs.Extends.{imported_extends}
 use Rattle.office_core.proofs.Places.{out_known, places_after}

@@ -1,12 +1,12 @@
--- How much an office may have, in numbers, and that it is refused (23) exactly where there is no more room.
+-- The limits of an office in numbers, and that a command is refused (23) exactly if there is no more room.
 use Rattle.std.specs.Prelude.{◌≡◌, ℕ, ℤ, ◌<◌, ◌≤◌, true, false, nat_le, length, None, Some, codes}
 use Rattle.isad_core.specs.Limits.{most_units, most_unit_numbers, most_deep, most_bytes, most_containers, most_tickets, most_permits, most_orders, most_runs}
 use Rattle.isad_core.specs.Texts.{Bytes}
-use Rattle.atom_csv.specs.FileOf.{is_late}
+use Rattle.atom_csv.specs.FileContents.{is_late}
 use Rattle.tree_core.specs.Forest.{size}
-use Rattle.catalogue_core.specs.Finding.{has_unit}
+use Rattle.catalogue_core.specs.UnitLookup.{has_unit}
 use Rattle.catalogue_core.specs.Intake.{is_full}
-use Rattle.catalogue_core.specs.Merging.{Catalogue}
+use Rattle.catalogue_core.specs.CatalogueMerge.{Catalogue}
 use Rattle.desk_core.specs.Names.{is_name}
 use Rattle.desk_core.specs.Refusals.{when}
 use Rattle.desk_core.specs.declared.refusal.Refusal.TheVariants.{UnknownUnit, DailyLimit, Full, NothingToMove, BadName}
@@ -27,7 +27,7 @@ pub record HasItsLimits : Type 0 where
   pub permits : most_permits ≡ 100
   pub deep : most_deep ≡ 64
   pub bytes : most_bytes ≡ 65535
-  -- 20,000 rows behind the header, which is row 1
+  -- 20,000 rows after the header, which is row 1
   pub last_row : is_late 20001 ≡ false
   pub late_row : is_late 20002 ≡ true
 
@@ -43,39 +43,42 @@ pub record HasItsSettings : Type 0 where
   pub all : (settings : Settings) → AreItsSettings settings →
       AreGoodSettings (record settings { country = codes "GB"; repo = codes "0999" })
 
--- ---- where there is no more room
+-- ---- when there is no more room
 
--- a file is too much where it brings more than 200,000 units, a unit number past 100,000,000, or more than 100,000 containers
+-- a catalogue is too large if it has more than 200,000 units, a unit number above 100,000,000 was given in it, or it
+-- has more than 100,000 containers
 pub record IsFullExactly : Type 0 where
   pub room : (c : Catalogue) → size c.forest ≤ 200000 → c.next ≤ 100000001 → length c.containers ≤ 100000 → is_full c ≡ false
   pub units : (c : Catalogue) → 200000 < size c.forest → is_full c ≡ true
   pub numbers : (c : Catalogue) → 100000001 < c.next → is_full c ≡ true
   pub containers : (c : Catalogue) → 100000 < length c.containers → is_full c ≡ true
 
--- A reader with a good name is refused a ticket exactly where 1,000,000 were given. A bad name is told first.
+-- A reader with a good name is refused a ticket exactly if 1,000,000 were given. A bad name is refused first.
 pub record RefusesTickets (s : State) : Type 0 where
   pub full : (name : Bytes) (until : ℤ) → is_name name ≡ true → refusal s (Register name until) ≡ when (nat_le 1000000 (length s.readers)) Full
   pub bad_name : (name : Bytes) (until : ℤ) → is_name name ≡ false → refusal s (Register name until) ≡ Some BadName
 
--- Where there is something to fetch, a run is refused exactly where 1,000,000 were made. That there is nothing is told first.
+-- If there is something to fetch, a run is refused exactly if 1,000,000 were made. That there is nothing to fetch is
+-- checked first.
 pub record RefusesRuns (s : State) : Type 0 where
   pub full : is_empty (picked s) ≡ false → refusal s Run ≡ when (nat_le 1000000 (length s.runs)) Full
   pub nothing : is_empty (picked s) ≡ true → refusal s Run ≡ Some NothingToMove
 
--- A ticket that may order a container is refused exactly where 10,000,000 orders were placed, and told of its day first.
+-- A ticket that may order a container is refused exactly if 10,000,000 orders were placed. Its daily limit is checked
+-- first.
 pub record RefusesOrders (s : State) (t c : ℕ) : Type 0 where
   pub full : placed s t s.day < s.settings.daily → refusal s (Order t c) ≡ when (nat_le 10000000 (length s.orders)) Full
   pub day : s.settings.daily ≤ placed s t s.day → refusal s (Order t c) ≡ Some DailyLimit
 
--- A ticket is refused a new permit exactly where it has 100, and a later day for one that it has never. That the unit is
--- unknown is told first.
+-- A ticket is refused a new permit exactly if it has 100. A permit for a unit that it has one for is never refused.
+-- That the unit is unknown is checked first.
 pub record RefusesPermits (s : State) (t : ℕ) : Type 0 where
   pub full : (u : ℕ) (until : ℤ) → has_unit s.catalogue.forest u ≡ true → has_permit s t u ≡ false → refusal s (Permit t u until) ≡ when (nat_le 100 (length (s.permits t))) Full
   pub later : (u : ℕ) (until : ℤ) → has_unit s.catalogue.forest u ≡ true → has_permit s t u ≡ true → refusal s (Permit t u until) ≡ None
   pub unknown : (u : ℕ) (until : ℤ) → has_unit s.catalogue.forest u ≡ false → refusal s (Permit t u until) ≡ Some UnknownUnit
 
--- the ticket was given and has not expired, the container is open to its reader, and no order of the ticket for it waits or is
--- out
+-- the ticket exists and has not expired, the container is open to its reader, and no order of the ticket for it waits
+-- or is out
 pub record MayOrder (s : State) (t c : ℕ) : Type 0 where
   pub ticket : is_ticket s t ≡ true
   pub valid : is_expired s t ≡ false

@@ -1,12 +1,12 @@
--- What numbers name, and which are given.
+-- What numbers name, and which numbers are given.
 use Rattle.std.specs.Prelude.{◌≡◌, ℕ, ℤ, suc, ◌-◌, ◌<◌, ◌≤◌, Bool, true, ◌&&◌, List, [], ◌∷◌, ◌++◌, length, Option, Some, None, Ok, option_to_list, filter, map, ◌⊎◌}
 use Rattle.std.specs.List.{AllByRecursion}
 use Rattle.isad_core.specs.Texts.{Bytes}
 use Rattle.tree_core.specs.Forest.{Forest, nodes, has}
 use Rattle.catalogue_core.specs.Units.{Unit, has_id, is_from}
-use Rattle.catalogue_core.specs.Finding.{has_unit}
+use Rattle.catalogue_core.specs.UnitLookup.{has_unit}
 use Rattle.catalogue_core.specs.Intake.{is_new}
-use Rattle.atom_csv.specs.FileOf.{file_of}
+use Rattle.atom_csv.specs.FileContents.{file_of}
 use Rattle.atom_csv.specs.declared.file.File.{File}
 use Rattle.atom_csv.specs.declared.file.Row.{Row}
 use Rattle.office_core.specs.Words.{numbered}
@@ -28,17 +28,17 @@ NamesStay {X} old new = (n : ℕ) (x : X) → numbered old n ≡ Some x → numb
 abbrev pub names : State → List Bytes
 names s = map (λ (reader : Reader). reader.name) s.readers
 
--- a unit with this one's number, source and number in the source is there
+-- there is a unit with this one's number, source and number in the source
 abbrev pub is_there : Forest Unit → Unit → Bool
 is_there f unit = has (λ (other : Unit). has_id unit.id other && is_from unit.source unit.legacy other) f
 
--- where this unit's number was given in s, it is the unit of s with that number
+-- if this unit's number was already given in s, it is the unit of s with that number
 abbrev pub IsThatUnit : State → Unit → Type 0
 IsThatUnit s unit = unit.id < s.catalogue.next → is_there s.catalogue.forest unit ≡ true
 
--- What a number names in s, it names in t: a container with its name, location and kind, an order of that ticket for
--- that container from that day, a run of that day with its lines, and a reader with that name. A unit of t whose number
--- was given in s is that unit of s, from the same source, with the same number there.
+-- A number names the same in t as in s: a container with its name, location and kind, an order of that ticket for that
+-- container from that day, a run of that day with its lines, and a reader with that name. A unit of t whose number was
+-- given in s is that unit of s, from the same source, with the same number there.
 pub record StaysNamed (s t : State) : Type 0 where
   pub containers : NamesStay s.catalogue.containers t.catalogue.containers
   pub orders : NamesStay s.orders t.orders
@@ -88,12 +88,12 @@ given Containers s asked =
     (length (step s asked).0.catalogue.containers - length s.catalogue.containers)
 given Units s asked = numbers_from s.catalogue.next ((step s asked).0.catalogue.next - s.catalogue.next)
 
--- the numbers of a kind that a run of commands gives, one command after another
+-- the numbers of a kind that a list of commands gives, one command after another
 abbrev pub all_given : Kind → State → List Command → List ℕ
 all_given kind s [] = []
 all_given kind s (asked ∷ later) = given kind s asked ++ all_given kind (step s asked).0 later
 
--- They are the next ones, each once, in their order: no number is left out or given twice.
+-- The given numbers are the next ones, each once and in order: no number is left out or given twice.
 abbrev pub GivenInOrder : Kind → State → List Command → Type 0
 GivenInOrder kind s commands =
     all_given kind s commands
@@ -105,7 +105,7 @@ StartsAtOne kind = (settings : Settings) (day : ℤ) → next_number kind (start
 
 -- ---- what a number is given to
 
--- The number that is told is that of the reader, the order or the run that came.
+-- The number in the reply is that of the new reader, order or run.
 abbrev pub NamesWhatCame : State → State → Command → Reply → Type 0
 NamesWhatCame s t (command.Register name until) (Ok (done.Register r)) =
     numbered t.readers r ≡ Some (record { name = name; until = until })
@@ -114,7 +114,7 @@ NamesWhatCame s t (command.Order ticket c) (Ok (done.Order o)) =
 NamesWhatCame s t command.Run (Ok (done.Run n taken)) = numbered t.runs n ≡ Some (next_run s)
 NamesWhatCame s t _ _ = Prim.Unit {0}
 
--- a unit that comes has one of the numbers that the command gives
+-- a unit that is new has one of the numbers that the command gives
 abbrev pub ComesNew : State → State → Type 0
 ComesNew s t =
     (u : ℕ)
@@ -125,7 +125,7 @@ ComesNew s t =
 abbrev pub EachIsUnits : State → State → Type 0
 EachIsUnits s t = (u : ℕ) → s.catalogue.next ≤ u → u < t.catalogue.next → has_unit t.catalogue.forest u ≡ true
 
--- the units of these rows are there, with the numbers from n on, in the order of the rows
+-- the forest has the units of these rows, numbered from n on in the order of the rows
 abbrev pub AreNumberedUnits : Forest Unit → Bytes → ℕ → List Row → Type 0
 AreNumberedUnits f source n [] = Prim.Unit {0}
 AreNumberedUnits f source n (row ∷ rows) =

@@ -1,4 +1,4 @@
--- What is told of an import, and why it is refused.
+-- The reply to an import, and why an import is refused.
 use Rattle.std.specs.Prelude.{None, ℕ, Bool, true, false, not, ◌||◌, List, [], ◌∷◌, Option, Some, Ok, Err, is_some, nat_lt, count_by}
 use Rattle.std.specs.List.{list_all, flat_map}
 use Rattle.isad_core.specs.Texts.{Bytes, is_blank_text}
@@ -56,7 +56,7 @@ remark_on row (first ∷ parent ∷ unit ∷ path) = remark_on row (parent ∷ u
 abbrev pub remarks : Forest Unit → Bytes → List Row → List Remark
 remarks f source rows = flat_map (λ row. remark_on row.row (path (is_from source row.legacy) f)) rows
 
--- ---- what is told: of the forest before, and of what came
+-- ---- the reply, from the forest before the import and the file as it was taken
 
 abbrev pub told_of : Forest Unit → Bytes → Taken → Done
 told_of f source (Ok intake) =

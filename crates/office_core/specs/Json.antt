@@ -1,4 +1,4 @@
--- What is told of commands and asked things, as JSON (RFC 8259): keys in byte order, no white space.
+-- Replies and answers as JSON (RFC 8259): keys in byte order, no white space.
 use Rattle.std.specs.Prelude.{ℕ, ℤ, List, [], ◌∷◌, Option, Some, None, Ok, Err, codes, map}
 use Rattle.serde_json.specs.Data.{Data, unsigned, null, number, string, array, object, Items, no_items, item, Members, no_members, member}
 use Rattle.serde_json.specs.Written.{compact_text}
@@ -74,7 +74,7 @@ done_json (done.Permit ticket unit until) =
     fields ((codes "ticket", count ticket) ∷ (codes "unit", count unit) ∷ (codes "until", date until) ∷ [])
 done_json (done.Revoke unit) = fields ((codes "unit", count unit) ∷ [])
 
--- a refusal by its number and name; one of a container or of a file says which
+-- a refusal with its number and name; `WithReader` also has its container, and `BadFile` its row and cause
 abbrev pub refusal_json : Refusal → Data
 refusal_json (WithReader container) =
     fields ((codes "code", count 21) ∷ (codes "container", count container) ∷ (codes "refused", string (codes "WithReader")) ∷ [])
@@ -87,7 +87,7 @@ refusal_json (BadFile row cause) =
     ∷ [])
 refusal_json why = fields ((codes "code", count (number_of why)) ∷ (codes "refused", string (name_of why)) ∷ [])
 
--- the bytes of a reply
+-- a reply as data, and its bytes
 abbrev pub reply_json : Reply → Data
 reply_json (Ok told) = done_json told
 reply_json (Err why) = refusal_json why

@@ -1,4 +1,4 @@
--- What the rules keep.
+-- What the rules preserve.
 use Rattle.std.specs.Prelude.{◌≡◌, ◌≢◌, ℕ, zero, suc, ◌≤◌, Bool, true, cond, List, [], ◌∷◌, length, Option, Some, None, Ok, option_map, ◌⊎◌}
 use Rattle.office_core.specs.Words.{numbered, stands}
 use Rattle.office_core.specs.State.{Order, End, Done, Cancelled, State, container_of, order_out, is_by}
@@ -7,7 +7,7 @@ use Rattle.office_core.specs.declared.command.Command.TheVariants as command
 use Rattle.office_core.specs.declared.done.Done.TheVariants as done
 use Rattle.office_core.specs.declared.done.Remark.{Remark}
 use Rattle.isad_core.specs.Texts.{Bytes}
-use Rattle.atom_csv.specs.FileOf.{file_of}
+use Rattle.atom_csv.specs.FileContents.{file_of}
 use Rattle.atom_csv.specs.declared.file.File.{File}
 use Rattle.office_core.specs.Rules.{step}
 
@@ -23,8 +23,8 @@ stands_as None in_queue in_place past = None
 stands_as (Some c) in_queue in_place past =
     cond (in_queue c) (Some Waiting) (cond (in_place c) (Some WithItsReader) (option_map Ended past))
 
--- An order waits where it stands in its container's queue, is out where it is its container's place's,
--- and has otherwise ended. A number that is no order stands nowhere.
+-- An order waits if it is in its container's queue, and is out if its container is out with it; otherwise it has ended
+-- as `past` records. A number that is not an order's has no standing.
 abbrev pub standing : State → ℕ → Option Standing
 standing s o = stands_as (container_of s o) (λ c. stands o (s.queue c)) (λ c. is_out_for o (s.place c)) (s.past o)
 
@@ -43,13 +43,14 @@ Goes _ _ = ⊥
 abbrev pub GoesOn : State → State → Type 0
 GoesOn s t = (o : ℕ) → (standing t o ≡ standing s o) ⊎ Goes (standing s o) (standing t o)
 
--- The order waits for the container, and no lesser one does.
+-- The order waits for the container, and no order with a lower number does.
 pub record IsFirstWaiting (s : State) (c o : ℕ) : Type 0 where
   pub waits : standing s o ≡ Some Waiting
   pub for_it : container_of s o ≡ Some c
   pub least : (p : ℕ) → standing s p ≡ Some Waiting → container_of s p ≡ Some c → o ≤ p
 
--- An accepted Issue gives the first order that waits for the container. It is the ticket's, and then out.
+-- An accepted `Issue` serves the first order that waits for the container. It is the ticket's order, and is out
+-- afterwards.
 abbrev pub IssuesTheFirst : State → Type 0
 IssuesTheFirst s =
     (c t o : ℕ) → (step s (command.Issue c t)).1 ≡ Ok (done.Issue o)
@@ -61,15 +62,15 @@ OpenToHolders s = (c o : ℕ) → order_out (s.place c) ≡ Some o → (order : 
 
 -- ---- numbers
 
--- m and those after it, n in all
+-- n numbers, from m on
 abbrev pub numbers_from : ℕ → ℕ → List ℕ
 numbers_from m zero = []
 numbers_from m (suc n) = m ∷ numbers_from (suc m) n
 
--- ---- an import that is done again
+-- ---- an import that is repeated
 
--- An accepted import that is done again at once changes nothing. Its reply counts every row as one that left its unit as it
--- was, with the same remarks and translations.
+-- An accepted import that is repeated at once changes nothing. Its reply counts every row as one that left its unit
+-- unchanged, with the same remarks and translations.
 abbrev pub ImportsAgain : State → Type 0
 ImportsAgain s =
     (source file : Bytes) (changed new : ℕ) (remarks : List Remark) (same translations : ℕ)

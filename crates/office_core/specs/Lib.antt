@@ -1,4 +1,4 @@
-pub mod Worked
+pub mod WorkedExamples
 pub mod WorkedReplies
 pub mod Words
 pub mod State
@@ -13,7 +13,7 @@ pub mod WorkedAnswers
 pub mod Secrecy
 pub mod Soundness
 pub mod SoundOffice
-pub mod Imported
+pub mod ImportLaws
 pub mod WorkedDesk
 pub mod WorkedCatalogue
 pub mod WorkedShown
@@ -21,10 +21,10 @@ pub mod WorkedChecks
 pub mod WorkedSettings
 pub mod WorkedImports
 pub mod WorkedTexts
-pub mod Withholding
-pub mod Remarking
+pub mod AccessRestrictions
+pub mod Remarks
 pub mod Fullness
-pub mod InPublic
+pub mod PublicDisclosure
 pub mod MixedRuns
 pub mod SettingsFaults
-pub mod ImportedByRow
+pub mod ImportByRow

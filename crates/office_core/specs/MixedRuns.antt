@@ -24,7 +24,7 @@ abbrev pub told_of : State → Asked → Told
 told_of s (ToDo command) = Replied (step s command).1
 told_of s (ToTell query) = Answered (answer s query)
 
--- the state after all of them, and what is told, each of the state that it finds
+-- the state after all of them, and their results, each from the state that it finds
 abbrev pub state_after_all : State → List Asked → State
 state_after_all s [] = s
 state_after_all s (asked ∷ later) = state_after_all (next_state s asked) later
@@ -33,7 +33,7 @@ abbrev pub all_told : State → List Asked → List Told
 all_told s [] = []
 all_told s (asked ∷ later) = told_of s asked ∷ all_told (next_state s asked) later
 
--- the commands among them, and the replies among what is told
+-- the commands among them, and the replies among the results
 abbrev pub commands_of : List Asked → List Command
 commands_of [] = []
 commands_of (ToDo command ∷ later) = command ∷ commands_of later

@@ -1,9 +1,9 @@
--- What the office answers. A question changes nothing.
+-- The answers of the office. A question changes nothing.
 use Rattle.std.specs.Prelude.{ℕ, Bool, ◌&&◌, ◌||◌, cond, List, [], ◌∷◌, length, filter, filter_map, map, Option, Some, None, option_map, nat_eq, codes}
 use Rattle.serde_json.specs.Data.{Data, string}
 use Rattle.serde_json.specs.Written.{compact_text}
 use Rattle.isad_core.specs.Texts.{Bytes}
-use Rattle.isad_core.specs.Printed.{page}
+use Rattle.isad_core.specs.PrintedDescriptions.{page}
 use Rattle.isad_core.specs.declared.values.BoxKey.{BoxKey}
 use Rattle.isad_core.specs.declared.display.Page.{Page}
 use Rattle.tree_core.specs.Forest.{Forest, has}
@@ -13,7 +13,7 @@ use Rattle.desk_core.specs.declared.reader.Place.{Place}
 use Rattle.desk_core.specs.declared.reader.Place.TheVariants.{Shelf, Desk, Out}
 use Rattle.desk_core.specs.declared.refusal.Refusal.{Refusal}
 use Rattle.desk_core.specs.declared.refusal.Refusal.TheVariants.{UnknownUnit, UnknownTicket, UnknownContainer, UnknownRun}
-use Rattle.catalogue_core.specs.Publishing.{PublicUnit, public_of}
+use Rattle.catalogue_core.specs.PublicForest.{PublicUnit, public_of}
 use Rattle.office_core.specs.declared.query.Query.{Query}
 use Rattle.office_core.specs.declared.query.Query.TheVariants as query
 use Rattle.office_core.specs.declared.query.Answer.{Answer}
@@ -23,7 +23,7 @@ use Rattle.office_core.specs.State.{Reader, Line, Run, Permit, State, is_by, wai
 use Rattle.office_core.specs.Json.{count, date, list, or_null, fields}
 use Rattle.catalogue_core.specs.Pages.{Press, is_numbered, fonds_text, aid_of, page_of}
 
--- ---- what the public asks: it is answered from what the public may know of the forest
+-- ---- public questions, answered from what the public may know of the forest
 
 -- how units are printed in this office
 abbrev pub press : State → Press
@@ -40,7 +40,7 @@ abbrev pub page_answer : Option Page → Answer
 page_answer None = Unknown UnknownUnit
 page_answer (Some shown) = Text (page shown)
 
--- a unit that is not in what the public may know is unknown, whether it is there or not
+-- a unit that is not part of what the public may know is unknown, whether it exists or not
 abbrev pub public_answer : Press → Forest PublicUnit → Query → Answer
 public_answer press f query.Fonds = Text (fonds_text press f)
 public_answer press f (query.Aid u) = cond (has (is_numbered u) f) (Text (aid_of press u f)) (Unknown UnknownUnit)
@@ -59,7 +59,7 @@ order_json s o =
     ∷ []))
     (numbered s.orders o)
 
--- an order is out where its container is out with it
+-- an order is out if its container is out with it
 abbrev pub is_out_now : State → ℕ → Bool
 is_out_now s o = some_and (λ c. some_and (nat_eq o) (order_out (s.place c))) (container_of s o)
 
@@ -123,7 +123,7 @@ candidate_of s line =
 abbrev pub permit_json : Permit → Data
 permit_json permit = fields ((codes "unit", count permit.unit) ∷ (codes "until", date permit.until) ∷ [])
 
--- what is known is told, and what is not is refused
+-- what is known is the answer; anything else is unknown
 abbrev pub known_json : Refusal → Option Data → Answer
 known_json why None = Unknown why
 known_json why (Some told) = Json (compact_text told)

@@ -1,4 +1,4 @@
--- The rules of the office: what each command asks for, in order, what it does, and what is told of it.
+-- The rules of the office: what each command requires, in order, what it does, and what it replies.
 use Rattle.std.specs.Prelude.{option_map, ℕ, ℤ, int_lt, zero, suc, Bool, not, ◌&&◌, cond, List, [], ◌∷◌, ◌++◌, length, filter, replicate, Option, Some, None, Result, Ok, Err, unwrap_or, is_some, nat_lt, nat_le}
 use Rattle.std.specs.List.{list_any}
 use Rattle.isad_core.specs.Limits.{most_deep, most_tickets, most_runs, most_permits}
@@ -20,7 +20,7 @@ use Rattle.office_core.specs.declared.done.Done.{Done}
 use Rattle.office_core.specs.declared.done.Done.TheVariants as done
 use Rattle.office_core.specs.Words.{numbered, put, some_and, first_that, first, is_empty, stands, without}
 use Rattle.office_core.specs.State.{Reader, State, is_ticket, is_expired, is_seated, seat_of, free_seat, sit, rise, containers, is_container, opens, container_of, is_by, order_out, is_desk, is_out, held, waits, has_ordered, placed, picked, next_run, brings, idle, has_permit, granted, revoked, granted_until}
-use Rattle.catalogue_core.specs.Finding.{has_unit}
+use Rattle.catalogue_core.specs.UnitLookup.{has_unit}
 use Rattle.office_core.specs.State as state
 use Rattle.catalogue_core.specs.Intake.{Taken, take}
 use Rattle.office_core.specs.ImportReply.{bad_file, too_much, told_of}
@@ -37,12 +37,12 @@ is_kept_from_holder s c =
 abbrev pub kept : State → Option ℕ
 kept s = first_that (is_kept_from_holder s) (containers s)
 
--- After a change of the catalogue, or a permit that is revoked, nothing that is out may be withheld from
--- the reader who has it.
+-- After a change of the catalogue, or after a permit was revoked, no container that is out may be withheld from the
+-- reader who has it.
 abbrev pub gate : State → Check
 gate s = option_map WithReader (kept s)
 
--- ---- what a command does where no check holds
+-- ---- what a command does if no check holds
 
 abbrev pub opened : State → ℤ → State
 opened s day = record s { day = day; seats = replicate s.settings.seats None }
@@ -122,7 +122,7 @@ after s (command.Return c) = returned s c (s.place c)
 after s (command.Permit t u until) = record s { permits = put s.permits t (granted u until (s.permits t)) }
 after s (command.Revoke t u) = record s { permits = put s.permits t (revoked u (s.permits t)) }
 
--- ---- what a command asks for, in order
+-- ---- what a command requires, in order
 
 abbrev pub checks : State → Command → List Check
 checks s (command.OpenDay day) =
@@ -217,7 +217,7 @@ checks s (command.Revoke t u) =
     ∷ gate (after s (command.Revoke t u))
     ∷ []
 
--- ---- what is told where no check holds
+-- ---- the result if no check holds
 
 abbrev pub told : State → Command → Done
 told s (command.OpenDay day) = done.OpenDay day

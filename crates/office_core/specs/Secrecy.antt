@@ -1,30 +1,30 @@
--- What the public cannot learn, and what it is shown of what.
+-- What the public cannot learn, and what it is shown.
 use Rattle.std.specs.Prelude.{◌≡◌, ℕ, ℤ, Bool, true, false, cond, List, [], ◌∷◌, None}
 use Rattle.std.specs.List.{flat_map, AllByRecursion}
 use Rattle.isad_core.specs.Texts.{Bytes}
-use Rattle.isad_core.specs.Printed.{aid as aid_text, page as page_text}
+use Rattle.isad_core.specs.PrintedDescriptions.{aid as aid_text, page as page_text}
 use Rattle.isad_core.specs.Values.{text_of}
 use Rattle.isad_core.specs.declared.element.Element.TheVariants.{ReferenceCode}
 use Rattle.isad_core.specs.declared.display.Page.{Page}
 use Rattle.isad_core.specs.declared.display.Shown.{Shown}
 use Rattle.isad_core.specs.declared.values.Values.{Values}
 use Rattle.tree_core.specs.Forest.{Forest, nodes, each, has, path}
-use Rattle.tree_core.specs.Withheld.{public}
+use Rattle.tree_core.specs.Visibility.{public}
 use Rattle.catalogue_core.specs.Units.{Unit, is_closed}
-use Rattle.catalogue_core.specs.Merging.{box_number}
-use Rattle.catalogue_core.specs.Housing.{paths}
-use Rattle.catalogue_core.specs.Publishing.{PublicUnit}
+use Rattle.catalogue_core.specs.CatalogueMerge.{box_number}
+use Rattle.catalogue_core.specs.ContainerContents.{paths}
+use Rattle.catalogue_core.specs.PublicForest.{PublicUnit}
 use Rattle.catalogue_core.specs.Aids.{shown_unit}
 use Rattle.catalogue_core.specs.Pages.{number_of, is_numbered, tops_text}
-use Rattle.catalogue_core.specs.Published.{boxes_told, identifiers, IsPublished, LineIsTold, BoxIsTold}
+use Rattle.catalogue_core.specs.PublishedUnits.{boxes_told, identifiers, IsPublished, LineIsTold, BoxIsTold}
 use Rattle.office_core.specs.declared.query.Query.TheVariants as query
 use Rattle.office_core.specs.declared.query.Answer.{Answer}
 use Rattle.office_core.specs.declared.query.Answer.TheVariants.{Text}
 use Rattle.office_core.specs.State.{State, Settings, start}
 use Rattle.office_core.specs.Queries.{answer, press, public_forest}
 
--- the public parts of two offices are the same: whose archives they are, the day, what the public may know of the
--- forest, and the numbers of the containers that stand in it
+-- the public parts of two offices are the same: the country and repository codes, the day, what the public may know of
+-- the forest, and the numbers of the containers in it
 pub record SamePublic (s t : State) : Type 0 where
   pub country : s.settings.country ≡ t.settings.country
   pub repo : s.settings.repo ≡ t.settings.repo
@@ -34,27 +34,28 @@ pub record SamePublic (s t : State) : Type 0 where
       (λ box. box_number s.catalogue.containers box ≡ box_number t.catalogue.containers box)
       (flat_map boxes_told (nodes (public_forest s)))
 
--- Equal public parts give equal answers to the public's questions: nothing else that an office keeps shows in
+-- Equal public parts give equal answers to the public's questions: nothing else that an office stores is visible in
 -- them.
 pub record AnswersAlike (s t : State) : Type 0 where
   pub fonds : answer s query.Fonds ≡ answer t query.Fonds
   pub aid : (u : ℕ) → answer s (query.Aid u) ≡ answer t (query.Aid u)
   pub page : (u : ℕ) → answer s (query.Page u) ≡ answer t (query.Page u)
 
--- ---- of what the public is shown
+-- ---- what the public is shown
 
--- What is printed is what is told of a published unit, with its own reference code: by the identifiers of its path.
+-- What is printed is what the public may know of a published unit, with its own reference code, which the identifiers
+-- of its path give.
 pub record ShowsPublished (s : State) (shown : Shown) : Type 0 where
   pub told : PublicUnit
   pub published : IsPublished s.day (paths s.catalogue.forest) told
   pub depth : ℕ
   pub is : shown ≡ shown_unit (press s).at s.catalogue.containers (identifiers published.way) depth told
 
--- the same of the unit with this number
+-- the same for the unit with this number
 abbrev pub ShowsNumbered : State → ℕ × Shown → Type 0
 ShowsNumbered s (u, shown) = (it : ShowsPublished s shown) × (u ≡ number_of it.told)
 
--- the unit with this number, and others behind it
+-- the unit with this number, and others after it
 abbrev pub ShowsBranch : State → ℕ → List Shown → Type 0
 ShowsBranch s u [] = ⊥
 ShowsBranch s u (head ∷ below) = ShowsNumbered s (u, head) × AllByRecursion (ShowsPublished s) below
@@ -63,8 +64,8 @@ ShowsBranch s u (head ∷ below) = ShowsNumbered s (u, head) × AllByRecursion (
 abbrev pub public_path : State → ℕ → List PublicUnit
 public_path s u = path (is_numbered u) (public_forest s)
 
--- The page of a unit shows published units alone: the unit and those right below it, and those of its path, of which
--- its lines and its containers are told.
+-- The page of a unit shows published units only: the unit, those right below it, and those of its path. Its lines and
+-- its containers come from the units of its path.
 pub record PageShowsPublished (s : State) (u : ℕ) (shown : Page) : Type 0 where
   pub head : ShowsNumbered s (u, shown.head)
   pub way : AllByRecursion (IsPublished s.day (paths s.catalogue.forest)) (public_path s u)
@@ -72,7 +73,7 @@ pub record PageShowsPublished (s : State) (u : ℕ) (shown : Page) : Type 0 wher
   pub boxes : AllByRecursion (BoxIsTold (press s) (public_path s u)) shown.boxes
   pub below : AllByRecursion (ShowsNumbered s) shown.below
 
--- An answer to one of the public's questions is printed from published units alone.
+-- An answer to one of the public's questions is printed from published units only.
 pub record ShowsOnlyPublished (s : State) : Type 0 where
   pub fonds : (text : Bytes) → answer s query.Fonds ≡ Text text →
       (tops : List (ℕ × Shown)) × (text ≡ tops_text tops) × AllByRecursion (ShowsNumbered s) tops
@@ -85,18 +86,19 @@ abbrev pub is_text : Answer → Bool
 is_text (Text text) = true
 is_text _ = false
 
--- Every unit that the public may know has a finding aid and a page, and no other number has.
+-- Every unit that the public may know has a finding aid and a page. No other number has either.
 pub record ShowsAllPublished (s : State) : Type 0 where
   pub aid : (u : ℕ) → is_text (answer s (query.Aid u)) ≡ has (is_numbered u) (public_forest s)
   pub page : (u : ℕ) → is_text (answer s (query.Page u)) ≡ has (is_numbered u) (public_forest s)
 
 -- ---- the office as far as it is published
 
--- of a description, the identifier and the level
+-- the identifier and the level of a description
 abbrev pub bare : Values → Values
 bare values = record { level = values.level; texts = text_of ReferenceCode values ∷ []; boxes = [] }
 
--- a unit without where its description came from, and where it is closed, without its description
+-- a unit without its source and its number there; a closed unit has only the identifier and the level of its
+-- description, and a unit that is not closed has no end of closure
 abbrev pub published_unit : Unit × Bool → Unit
 published_unit (unit, closed) = record unit {
   source = [];
@@ -109,11 +111,11 @@ published_unit (unit, closed) = record unit {
 abbrev pub published_forest : ℤ → Forest Unit → Forest Unit
 published_forest day f = each published_unit (public (λ unit. unit.draft) (is_closed day) f)
 
--- of the settings, whose archives they are
+-- the settings with only the country and repository codes
 abbrev pub published_settings : Settings → Settings
 published_settings settings = record settings { seats = 0; daily = 0; hands = 0; run_size = 0 }
 
--- An office that keeps nothing but this: whose archives they are, the day, what is published of its units, and its
+-- An office that has only these: the country and repository codes, the day, what is published of its units, and its
 -- containers with their numbers. It has no readers, seats, orders, runs or permits.
 abbrev pub published_part : State → State
 published_part s =

@@ -1,5 +1,6 @@
 -- Which setting is wrong.
 use Rattle.std.specs.Prelude.{Bool, true, false, List, [], ◌∷◌, Option, Some, None}
+use Rattle.isad_core.specs.Limits.{most_daily, most_hands, most_run_size, most_seats}
 use Rattle.catalogue_core.specs.Sources.{is_between}
 use Rattle.office_core.specs.Soundness.{is_country, is_repository}
 use Rattle.office_core.specs.State.{Settings}
@@ -17,10 +18,10 @@ abbrev pub settings_tests : Settings → List (Bool × WrongSetting)
 settings_tests settings =
     (is_country settings.country, Country)
     ∷ (is_repository settings.repo, Repo)
-    ∷ (is_between 1 200 settings.seats, Seats)
-    ∷ (is_between 1 50 settings.daily, Daily)
-    ∷ (is_between 1 10 settings.hands, Hands)
-    ∷ (is_between 1 100 settings.run_size, RunSize)
+    ∷ (is_between 1 most_seats settings.seats, Seats)
+    ∷ (is_between 1 most_daily settings.daily, Daily)
+    ∷ (is_between 1 most_hands settings.hands, Hands)
+    ∷ (is_between 1 most_run_size settings.run_size, RunSize)
     ∷ []
 
 -- the first that fails its test

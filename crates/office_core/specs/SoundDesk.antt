@@ -18,8 +18,8 @@ ExactlyOne false true false = Unit {0}
 ExactlyOne false false true = Unit {0}
 ExactlyOne _ _ _ = ⊥
 
--- An order for container c stands in exactly one of c's queue, c's place and the past,
--- and in no other container's queue or place. A number that is no order stands nowhere.
+-- An order for container c stands in exactly one of c's queue, c's place and the past, and in no other container's
+-- queue or place. A number that is not an order's is in none of them.
 abbrev pub IsFiled : (container : Option ℕ) (in_queue in_place : ℕ → Bool) (past : Option End) → Type 0
 IsFiled None in_queue in_place past =
     ((c : ℕ) → in_queue c ≡ false) × ((c : ℕ) → in_place c ≡ false) × (past ≡ None)
@@ -35,12 +35,12 @@ abbrev pub IsAscending : List ℕ → Type 0
 IsAscending [] = Unit {0}
 IsAscending (n ∷ ns) = AllByRecursion (λ m. n < m) ns × IsAscending ns
 
--- the orders stand where they should
+-- each order is in its proper place, and each queue ascends
 pub record AreFiled (s : State) : Type 0 where
   pub each : (o : ℕ) → IsFiled (container_of s o) (λ c. stands o (s.queue c)) (λ c. is_out_for o (s.place c)) (s.past o)
   pub queues : (c : ℕ) → IsAscending (s.queue c)
 
--- an order's ticket and container are there, and its day is not after today
+-- an order's ticket and container exist, and its day is not after today
 pub record IsGoodOrder (s : State) (order : Order) : Type 0 where
   pub ticket : is_ticket s order.ticket ≡ true
   pub container : is_container s order.container ≡ true
@@ -48,7 +48,7 @@ pub record IsGoodOrder (s : State) (order : Order) : Type 0 where
 
 pub record AreGoodOrders (s : State) : Type 0 where
   pub each : (o : ℕ) (order : Order) → numbered s.orders o ≡ Some order → IsGoodOrder s order
-  -- no ticket has placed more on a day than it may
+  -- no ticket has placed more orders on a day than it may
   pub daily : (t : ℕ) (day : ℤ) → placed s t day ≤ s.settings.daily
   -- no ticket has two live orders for a container
   pub once : (o p : ℕ) (order other : Order) → numbered s.orders o ≡ Some order → numbered s.orders p ≡ Some other → s.past o ≡ None → s.past p ≡ None → order.ticket ≡ other.ticket → order.container ≡ other.container → o ≡ p
@@ -56,7 +56,7 @@ pub record AreGoodOrders (s : State) : Type 0 where
 
 -- ---- seats
 
--- no ticket sits twice
+-- no ticket has two seats
 abbrev pub SitOnce : List (Option ℕ) → Type 0
 SitOnce [] = Unit {0}
 SitOnce (None ∷ seats) = SitOnce seats
@@ -69,7 +69,7 @@ pub record AreGoodSeats (s : State) : Type 0 where
 
 -- ---- places
 
--- who has the container sits, has no more than fills the hands, and may see what lies in it
+-- the holder of the container has a seat, has no more containers than the settings allow, and may see what is in it
 pub record IsGoodHolder (s : State) (c t : ℕ) : Type 0 where
   pub seated : is_seated s t ≡ true
   pub few : held s t ≤ s.settings.hands
@@ -77,12 +77,12 @@ pub record IsGoodHolder (s : State) (c t : ℕ) : Type 0 where
 
 pub record AreGoodPlaces (s : State) : Type 0 where
   pub holders : (c o : ℕ) (order : Order) → order_out (s.place c) ≡ Some o → numbered s.orders o ≡ Some order → IsGoodHolder s c order.ticket
-  -- a number that is no container's is nowhere but on the shelf
+  -- a number that is not a container's has the place `Shelf`
   pub known : (c : ℕ) → is_container s c ≡ false → s.place c ≡ Shelf
 
 -- ---- runs
 
--- the line's order is of its container and its ticket
+-- the line's order is for its container and by its ticket
 pub record IsGoodLine (s : State) (line : Line) : Type 0 where
   pub order : container_of s line.order ≡ Some line.container
   pub ticket : is_by s line.ticket line.order ≡ true
@@ -114,7 +114,7 @@ abbrev pub ByUnit : List Permit → Type 0
 ByUnit [] = Unit {0}
 ByUnit (permit ∷ permits) = AllByRecursion (λ other. permit.unit < other.unit) permits × ByUnit permits
 
--- the permits are of registered tickets
+-- the permits belong to registered tickets, ascend by unit, and are not too many
 pub record AreGoodPermits (s : State) : Type 0 where
   pub known : (t : ℕ) → is_ticket s t ≡ false → s.permits t ≡ []
   pub by_unit : (t : ℕ) → ByUnit (s.permits t)
@@ -123,7 +123,7 @@ pub record AreGoodPermits (s : State) : Type 0 where
 -- ---- the desk
 
 pub record IsSoundDesk (s : State) : Type 0 where
-  -- no two containers have one name, location and kind
+  -- no two containers have the same name, location and kind
   pub boxes : distinct s.catalogue.containers ≡ s.catalogue.containers
   pub filed : AreFiled s
   pub orders : AreGoodOrders s

@@ -1,4 +1,4 @@
--- When an office is sound with its texts: its state is sound, and every text that it keeps is UTF-8.
+-- When an office is sound with its texts: its state is sound, and every text that it stores is UTF-8.
 use Rattle.std.specs.Prelude.{◌≡◌, ◌<◌, ◌^◌, true, IsUtf8}
 use Rattle.std.specs.List.{AllByRecursion}
 use Rattle.isad_core.specs.Days.{is_day_number}
@@ -18,12 +18,13 @@ pub record IsSoundOffice (s : State) : Type 0 where
   pub sound : IsSound s
   pub texts : AreTexts s
 
--- A reader's name that comes with a command is UTF-8. A source is ASCII, and a file that is not UTF-8 is not taken.
+-- A reader's name in a command is UTF-8. A source is ASCII, and a file that is not UTF-8 is not taken.
 abbrev pub NamesTexts : Command → Type 0
 NamesTexts (command.Register name until) = IsUtf8 name
 NamesTexts _ = Prim.Unit {0}
 
--- what can be given back of the office's own row: texts that are UTF-8, numbers that fit their types, and a day of the calendar
+-- the settings and the day can be read back from the office's own row: the texts are UTF-8, the numbers fit their
+-- types, and the day is one of the calendar
 pub record HasLegibleSettings (s : State) : Type 0 where
   pub country : IsUtf8 s.settings.country
   pub repo : IsUtf8 s.settings.repo

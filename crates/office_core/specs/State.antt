@@ -6,8 +6,8 @@ use Rattle.isad_core.specs.Texts.{Bytes}
 use Rattle.desk_core.specs.Orders.{in_order}
 use Rattle.desk_core.specs.declared.reader.Place.{Place}
 use Rattle.desk_core.specs.declared.reader.Place.TheVariants.{Shelf, Desk, Out}
-use Rattle.catalogue_core.specs.Merging.{Catalogue, empty_catalogue}
-use Rattle.catalogue_core.specs.Housing.{is_open}
+use Rattle.catalogue_core.specs.CatalogueMerge.{Catalogue, empty_catalogue}
+use Rattle.catalogue_core.specs.ContainerContents.{is_open}
 use Rattle.office_core.specs.Words.{numbered, numbers_to, some_and, place_of, first, is_empty, stands}
 
 pub record Settings : Type 0 where
@@ -27,7 +27,7 @@ pub record Order : Type 0 where
   pub container : ℕ
   pub day : ℤ  -- when it was placed
 
--- what a run brings: a container, for its first order, which is of that ticket
+-- a line of a run: a container that it fetches, the first order for it, and the ticket of that order
 pub record Line : Type 0 where
   pub container : ℕ
   pub order : ℕ
@@ -95,17 +95,17 @@ is_seated s t = list_any (is_seat_of t) s.seats
 abbrev pub seat_of : State → ℕ → Option ℕ
 seat_of s t = place_of (is_seat_of t) s.seats
 
--- the least seat that nobody sits on
+-- the lowest free seat
 abbrev pub free_seat : State → Option ℕ
 free_seat s = place_of is_none s.seats
 
--- the ticket takes the least free seat
+-- the ticket takes the lowest free seat
 abbrev pub sit : ℕ → List (Option ℕ) → List (Option ℕ)
 sit t [] = []
 sit t (None ∷ seats) = Some t ∷ seats
 sit t (Some u ∷ seats) = Some u ∷ sit t seats
 
--- the ticket's seat is free
+-- frees the ticket's seat
 abbrev pub rise : ℕ → List (Option ℕ) → List (Option ℕ)
 rise t seats = map (λ seat. cond (is_seat_of t seat) None seat) seats
 
@@ -167,7 +167,7 @@ waits s o = some_and (λ c. stands o (s.queue c)) (container_of s o)
 abbrev pub has_ordered : State → ℕ → ℕ → Bool
 has_ordered s t c = list_any (is_by s t) (s.queue c) || is_out_with s t c
 
--- how many orders the ticket placed on a day, cancelled ones too
+-- how many orders the ticket placed on a day, including cancelled ones
 abbrev pub placed : State → ℕ → ℤ → ℕ
 placed s t day = count_by (λ order. nat_eq order.ticket t && int_eq order.day day) s.orders
 
@@ -181,7 +181,7 @@ is_due s o =
     && (is_shelf (s.place order.container) && opens s order.ticket order.container))
     (numbered s.orders o)
 
--- the least orders that are due, as many as a run takes
+-- the lowest orders that are due, as many as a run takes
 abbrev pub picked : State → List ℕ
 picked s = take s.settings.run_size (filter (is_due s) (numbers_to (length s.orders)))
 
@@ -192,7 +192,7 @@ line_for s o =
 abbrev pub is_line_before : Line → Line → Bool
 is_line_before a b = nat_lt a.container b.container
 
--- its lines are kept by the numbers of their containers
+-- its lines are ordered by the numbers of their containers
 abbrev pub next_run : State → Run
 next_run s = record { day = s.day; lines = in_order is_line_before (filter_map (line_for s) (picked s)) }
 
@@ -211,7 +211,8 @@ idle s = filter (is_idle s) (containers s)
 abbrev pub has_permit : State → ℕ → ℕ → Bool
 has_permit s t u = list_any (λ permit. nat_eq permit.unit u) (s.permits t)
 
--- the later day for a unit that has one, otherwise a new permit at its place by unit
+-- a permit for the unit gets the later of the two days; if there is none, a new one is put in its place in the order of
+-- units
 abbrev pub granted : ℕ → ℤ → List Permit → List Permit
 granted u day [] = record { unit = u; until = day } ∷ []
 granted u day (p ∷ ps) =
@@ -221,7 +222,7 @@ granted u day (p ∷ ps) =
 abbrev pub revoked : ℕ → List Permit → List Permit
 revoked u permits = filter (λ permit. not (nat_eq permit.unit u)) permits
 
--- the last day of the permit that stands for the unit, once it is granted to that day
+-- the last day of the unit's permit, once it is granted to that day
 abbrev pub granted_until : ℕ → ℤ → List Permit → ℤ
 granted_until u day [] = day
 granted_until u day (p ∷ ps) =

@@ -1,4 +1,4 @@
--- Words of the rules that are not about a reading room.
+-- Functions of the rules that are not about a reading room.
 use Rattle.std.specs.Prelude.{ℕ, zero, suc, Bool, true, false, not, cond, List, [], ◌∷◌, ◌++◌, Option, Some, None, nat_eq, slice_get, option_map, filter}
 pub use Rattle.isad_core.specs.Words.{some_and, stands}
 

@@ -1,4 +1,4 @@
--- What is answered in small offices, to the byte. Each expected text was written by hand.
+-- The answers of small offices, byte for byte. Each expected text was written by hand.
 use Rattle.std.specs.Prelude.{◌≡◌, true, false, List, [], ◌∷◌, None, codes}
 use Rattle.desk_core.specs.declared.refusal.Refusal.TheVariants.{UnknownUnit, UnknownTicket, UnknownContainer, UnknownRun, WithReader, BadFile, BadName}
 use Rattle.office_core.specs.declared.command.Command.{Command}
@@ -11,7 +11,7 @@ use Rattle.office_core.specs.declared.query.Answer.TheVariants.{Text, Json, Unkn
 use Rattle.office_core.specs.Json.{reply_text}
 use Rattle.office_core.specs.Queries.{answer}
 use Rattle.office_core.specs.Rules.{state_after}
-use Rattle.office_core.specs.Worked.{office, import, publish, draft, close, ann, order, refused, rows, february_1, march_1, march_2, year_2030, docks, boxes, lock_gates, smith, harbour}
+use Rattle.office_core.specs.WorkedExamples.{office, import, publish, draft, close, ann, order, refused, rows, february_1, march_1, march_2, year_2030, docks, boxes, lock_gates, smith, harbour}
 
 -- the answer after these commands
 abbrev pub Says : List Command → Query → Answer → Type 0
@@ -31,7 +31,7 @@ pub record Aids : Type 0 where
   pub by_place : Says (import boxes ∷ Move 1 None ∷ draft 2 ∷ []) Fonds (Text (codes "3 GB 0999 C [-] Maps\n4 GB 0999 D [-] Deeds\n1 GB 0999 A [-] Plans\n"))
   pub below_a_draft : Says (import docks ∷ draft 1 ∷ []) (Aid 2) (Unknown UnknownUnit)
 
--- pages, with what is found above
+-- pages, with values taken from the units above
 pub record Pages : Type 0 where
   pub found : Says (import smith ∷ []) (Page 4) (Text (codes "GB 0999 HUL/1/A/7 [File] 1901\n  3.2.1 Name of creator(s): Smith (from GB 0999 HUL)\n"))
   pub with_children : Says (import smith ∷ []) (Page 3) (Text (codes "GB 0999 HUL/1/A [Sub-series] Board\n  3.2.1 Name of creator(s): Smith (from GB 0999 HUL)\n  Unit 4: GB 0999 HUL/1/A/7 [File] 1901\n"))

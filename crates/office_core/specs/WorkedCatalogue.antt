@@ -1,5 +1,5 @@
--- What imports, moves and statuses make of small catalogues. Each expected reply and text was found by the rules as they are
--- told, by hand.
+-- What imports, moves and statuses make of small catalogues. Each expected reply and text was worked out by hand from
+-- the written rules.
 use Rattle.std.specs.Prelude.{◌≡◌, true, [], ◌∷◌, None, Some, Ok, codes}
 use Rattle.desk_core.specs.declared.refusal.Refusal.TheVariants.{WithReader, BadFile, Full}
 use Rattle.office_core.specs.declared.command.Command.TheVariants.{Import, SetStatus, Move}
@@ -9,18 +9,18 @@ use Rattle.office_core.specs.declared.done.Done.TheVariants as done
 use Rattle.office_core.specs.declared.done.Remark.TheVariants.{LevelTooHigh, LacksEssential}
 use Rattle.office_core.specs.Rules.{replies}
 use Rattle.office_core.specs.WorkedAnswers.{Says}
-use Rattle.office_core.specs.Worked.{Answers, import, draft, refused, rows, docks, docks_renamed, docks_and_mersey, docks_strayed, docks_strayed_with_another, two_boxes, two_boxes_turned, file_in_an_item, subfonds_in_an_odd_place, boxes_and_5, boxes_with_9_and_5, boxes_with_9_and_two, one_number_left}
+use Rattle.office_core.specs.WorkedExamples.{Answers, import, draft, refused, rows, docks, docks_renamed, docks_and_mersey, docks_strayed, docks_strayed_with_another, two_boxes, two_boxes_turned, file_in_an_item, subfonds_in_an_odd_place, boxes_and_5, boxes_with_9_and_5, boxes_with_9_and_two, one_number_left}
 
 -- ---- whose units a file changes
 
--- a file changes the units of its own source, though others have the same numbers in theirs
+-- a file changes only the units of its own source, even if other sources use the same numbers
 abbrev pub SourcesApart : Type 0
 SourcesApart =
     Answers
     (import docks ∷ Import (codes "b") docks ∷ Import (codes "b") docks_renamed ∷ import docks ∷ Import (codes "b") docks_renamed ∷ [])
     (rows 0 2 0 0 (LacksEssential 2 ∷ []) ∷ rows 0 2 0 0 (LacksEssential 2 ∷ []) ∷ rows 1 0 1 0 (LacksEssential 2 ∷ []) ∷ rows 0 0 2 0 (LacksEssential 2 ∷ []) ∷ rows 0 0 2 0 (LacksEssential 2 ∷ []) ∷ [])
 
--- a known row is placed already: a parent that nobody knows is no fault of it, and is one of a new row
+-- a known row already has its place: an unknown parent is not a fault in it, but is one in a new row
 abbrev pub KnownRowsStay : Type 0
 KnownRowsStay =
     Answers
@@ -34,15 +34,15 @@ BoxesTurned =
     (import two_boxes ∷ import two_boxes_turned ∷ import two_boxes_turned ∷ import two_boxes ∷ [])
     (rows 0 1 0 0 (LacksEssential 2 ∷ []) ∷ rows 1 0 0 0 (LacksEssential 2 ∷ []) ∷ rows 0 0 1 0 (LacksEssential 2 ∷ []) ∷ rows 1 0 0 0 (LacksEssential 2 ∷ []) ∷ [])
 
--- a level is held against that of the unit right above, not of the top
+-- a level is compared with that of the unit right above, not of the top
 abbrev pub LevelsOfParents : Type 0
 LevelsOfParents =
     Answers
     (import file_in_an_item ∷ Import (codes "b") subfonds_in_an_odd_place ∷ [])
     (rows 0 3 0 0 (LacksEssential 2 ∷ LevelTooHigh 4 ∷ []) ∷ rows 0 3 0 0 (LacksEssential 2 ∷ LevelTooHigh 3 ∷ []) ∷ [])
 
--- where one unit number is left, a file with two new rows is too much, which is told before the box that it would take from
--- its reader; a file with one is not, and gets the last number
+-- if one unit number is left, a file with two new rows is too large, which is checked before the box that it would take
+-- from its reader; a file with one new row fits, and gets the last number
 abbrev pub TooMuchBeforeTheGate : Type 0
 TooMuchBeforeTheGate =
     replies one_number_left (import boxes_with_9_and_two ∷ import boxes_with_9_and_5 ∷ import boxes_and_5 ∷ import boxes_with_9_and_5 ∷ [])
@@ -50,7 +50,7 @@ TooMuchBeforeTheGate =
 
 -- ---- statuses
 
--- each unit of a branch is counted, also one that had the status
+-- each unit of a branch is counted, including one that already had the status
 abbrev pub BranchCounted : Type 0
 BranchCounted =
     Answers
@@ -59,7 +59,7 @@ BranchCounted =
 
 -- ---- where units stand
 
--- new units stand behind the old ones, though the file has them first, and a unit that is moved behind all of them
+-- new units come after the old ones, even if the file has them first, and a unit that is moved comes after all of them
 pub record LastPlaces : Type 0 where
   pub new_children : Says (import docks ∷ import docks_and_mersey ∷ []) (Page 1) (Text (codes "GB 0999 HUL [Fonds] Hull Dock Company\n  Unit 2: GB 0999 HUL/1 [Series] Minutes\n  Unit 3: GB 0999 HUL/2 [Series] Plans\n"))
   pub new_tops : Says (import docks ∷ import docks_and_mersey ∷ []) Fonds (Text (codes "1 GB 0999 HUL [Fonds] Hull Dock Company\n4 GB 0999 MER [Fonds] Mersey Docks\n"))
@@ -69,7 +69,7 @@ pub record LastPlaces : Type 0 where
   pub moved_to_the_top : Says (import docks ∷ import docks_and_mersey ∷ Move 1 None ∷ []) Fonds (Text (codes "4 GB 0999 MER [Fonds] Mersey Docks\n1 GB 0999 HUL [Fonds] Hull Dock Company\n"))
   pub strayed_stays : Says (import docks ∷ import docks_strayed ∷ []) (Aid 1) (Text (codes "GB 0999 HUL [Fonds] Hull Dock Company\n  GB 0999 HUL/1 [Series] Minutes\n"))
 
--- containers are shown in the unit's order, with the numbers that they got when they first came
+-- containers are shown in the unit's order, with the numbers that they got when they were first imported
 pub record BoxesInOrder : Type 0 where
   pub first : Says (import two_boxes ∷ []) (Page 1) (Text (codes "GB 0999 [-] Plans\n  Container 1: Box 1\n  Container 2: Box 2\n"))
   pub turned : Says (import two_boxes ∷ import two_boxes_turned ∷ []) (Page 1) (Text (codes "GB 0999 [-] Plans\n  Container 2: Box 2\n  Container 1: Box 1\n"))

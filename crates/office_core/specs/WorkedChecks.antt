@@ -1,5 +1,5 @@
--- Of several refusals that hold at once, the first of the command's list is told. In each row the refusal that is told and all
--- behind it hold.
+-- If several refusals apply at once, the reply is the first in the command's list. In each row the expected refusal and
+-- all after it apply.
 use Rattle.std.specs.Prelude.{◌≡◌, true, false, [], ◌∷◌, Option, Some, None, codes}
 use Rattle.desk_core.specs.Checks.{OrderFacts, order_checks, IssueFacts, issue_checks, TakeSeatFacts, take_seat_checks, LeaveSeatFacts, leave_seat_checks}
 use Rattle.desk_core.specs.Refusals.{first_that_holds}
@@ -7,7 +7,7 @@ use Rattle.desk_core.specs.declared.refusal.Refusal.{Refusal}
 use Rattle.desk_core.specs.declared.refusal.Refusal.TheVariants.{UnknownUnit, UnknownTicket, UnknownContainer, TicketExpired, NotAvailable, AlreadyOrdered, DailyLimit, NoSeatFree, AlreadySeated, NotSeated, HoldsContainers, NotAtDesk, NotFirst, HandsFull, BadName, Full}
 use Rattle.office_core.specs.declared.command.Command.TheVariants.{Import, Permit}
 use Rattle.office_core.specs.Rules.{replies}
-use Rattle.office_core.specs.Worked.{Answers, refused, hundred_permits, april_1}
+use Rattle.office_core.specs.WorkedExamples.{Answers, refused, hundred_permits, april_1}
 
 -- ---- an order
 
@@ -60,12 +60,13 @@ pub record SeatsInTurn : Type 0 where
 
 -- ---- permits and imports
 
--- a hundred and first permit, for a unit that is not there, and of a ticket that was not given
+-- a permit of an unknown ticket for an unknown unit; a hundred and first permit for an unknown unit, and one for a
+-- known unit
 abbrev pub PermitInTurn : Type 0
 PermitInTurn =
     replies hundred_permits (Permit 9 999 april_1 ∷ Permit 1 999 april_1 ∷ Permit 1 101 april_1 ∷ [])
     ≡ refused UnknownTicket ∷ refused UnknownUnit ∷ refused Full ∷ []
 
--- a file that cannot be read, from a source that has no name
+-- a file that cannot be read, from a source with a bad name
 abbrev pub NameBeforeFile : Type 0
 NameBeforeFile = Answers (Import [] [] ∷ Import (codes "a b") (codes "title\n") ∷ []) (refused BadName ∷ refused BadName ∷ [])

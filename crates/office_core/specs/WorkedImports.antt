@@ -1,5 +1,5 @@
--- What imports and moves tell and make, where a wrong rule would show in a small catalogue alone. Each expected reply and text
--- was found by the rules as they are told, by hand.
+-- The replies and the effects of imports and moves, in cases where a small catalogue is enough to show a wrong rule.
+-- Each expected reply and text was worked out by hand from the written rules.
 use Rattle.std.specs.Prelude.{◌≡◌, ℤ, List, [], ◌∷◌, None, Option, Some, Ok, codes, map}
 use Rattle.isad_core.specs.Texts.{Bytes}
 use Rattle.tree_core.specs.Forest.{nodes}
@@ -13,7 +13,7 @@ use Rattle.office_core.specs.declared.done.Done.TheVariants as done
 use Rattle.office_core.specs.declared.done.Remark.TheVariants.{LacksEssential}
 use Rattle.office_core.specs.Rules.{state_after}
 use Rattle.office_core.specs.WorkedAnswers.{Says}
-use Rattle.office_core.specs.Worked.{Answers, office, import, publish, draft, close, ann, order, issued, refused, rows, february_1, march_1, year_2030, docks, docks_and_mersey, lock_gates, chain}
+use Rattle.office_core.specs.WorkedExamples.{Answers, office, import, publish, draft, close, ann, order, issued, refused, rows, february_1, march_1, year_2030, docks, docks_and_mersey, lock_gates, chain}
 
 -- ---- remarks
 
@@ -21,7 +21,7 @@ use Rattle.office_core.specs.Worked.{Answers, office, import, publish, draft, cl
 abbrev pub fonds_in_a_bundle : Bytes
 fonds_in_a_bundle = codes "legacyId,parentId,title,levelOfDescription\n1,,Top,Series\n2,1,Mid,Bundle\n3,2,Low,Fonds\n"
 
--- a level without a rank is held against nothing, and nothing against it
+-- a level without a rank is compared with no other level
 abbrev pub LevelsWithoutRank : Type 0
 LevelsWithoutRank = Answers (import fonds_in_a_bundle ∷ []) (rows 0 3 0 0 (LacksEssential 2 ∷ []) ∷ [])
 
@@ -30,7 +30,7 @@ abbrev pub one_missing : Bytes
 one_missing =
     codes "legacyId,parentId,identifier,title,eventActors,eventDates,extentAndMedium,levelOfDescription\n1,,A,Plans,Smith,1901,3 boxes,Fonds\n2,,,Plans,Smith,1901,3 boxes,Fonds\n3,,A,,Smith,1901,3 boxes,Fonds\n4,,A,Plans,,1901,3 boxes,Fonds\n5,,A,Plans,Smith,,3 boxes,Fonds\n6,,A,Plans,Smith,1901,,Fonds\n7,,A,Plans,Smith,1901,3 boxes,\n8,1,,,,,,\n"
 
--- each of the six is looked for, in tops alone
+-- each of the six is looked for, in tops only
 abbrev pub OneMissing : Type 0
 OneMissing =
     Answers (import one_missing ∷ [])
@@ -48,7 +48,7 @@ abbrev pub docks_of_another_code : Bytes
 docks_of_another_code =
     codes "legacyId,parentId,identifier,title,levelOfDescription,publicationStatus\n1,,HUL,Hull Dock Company,Fonds,Published\n2,1,7,Minutes,Series,Published\n"
 
--- a level alone is a change, and so is a reference code; a status is none
+-- another level alone is a change, and so is another reference code; another status is not
 abbrev pub ChangedAlone : Type 0
 ChangedAlone =
     Answers
@@ -70,11 +70,11 @@ pub record NewBelow : Type 0 where
 
 -- ---- closures
 
--- until when each unit is closed, in walk order
+-- the end of the closure of each unit, in walk order
 abbrev pub closures_after : List Command → List (Option ℤ)
 closures_after asked = map (λ (unit : Unit). unit.until) (nodes (state_after office asked).catalogue.forest)
 
--- a closure until a day that is not later is kept, and takes the place of another
+-- a closure until a day that is not later than today is stored, and replaces another
 pub record ClosuresKept : Type 0 where
   pub past : closures_after (import docks ∷ close 2 february_1 ∷ []) ≡ None ∷ Some february_1 ∷ []
   pub today : closures_after (import docks ∷ close 2 march_1 ∷ []) ≡ None ∷ Some march_1 ∷ []
@@ -83,8 +83,8 @@ pub record ClosuresKept : Type 0 where
 
 -- ---- moves
 
--- a branch that would lie too deep, below drafts, while a reader has its container: it is too deep, and one unit further up
--- its container would be withheld
+-- a branch that would lie too deep, below drafts, while a reader has its container: the move is refused as too deep,
+-- and one unit further up because its container would be withheld
 abbrev pub TooDeepBeforeTheGate : Type 0
 TooDeepBeforeTheGate =
     Answers

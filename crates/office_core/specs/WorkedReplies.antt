@@ -1,9 +1,9 @@
--- What the rules make of small offices. Each expected reply was found by the rules as they are told, by hand.
+-- What the rules make of small offices. Each expected reply was worked out by hand from the written rules.
 use Rattle.std.specs.Prelude.{◌≡◌, ℕ, List, true, false, [], ◌∷◌, Some, None, Ok, codes, replicate}
 use Rattle.tree_core.specs.Forest.{Forest, each}
 use Rattle.tree_core.specs.Spans.{number}
 use Rattle.tree_core.specs.Links.{siblings}
-use Rattle.tree_core.specs.Worked.{span, link}
+use Rattle.tree_core.specs.WorkedExamples.{span, link}
 use Rattle.desk_core.specs.declared.refusal.Refusal.TheVariants.{UnknownUnit, UnknownTicket, UnknownContainer, TicketExpired, NotAvailable, AlreadyOrdered, DailyLimit, NoSeatFree, AlreadySeated, NotSeated, HoldsContainers, UnknownOrder, OrderNotWaiting, NotAtDesk, NotFirst, HandsFull, NotIssued, DayNotLater, StillIssued, IntoItself, WithReader, BadFile, Full, NothingToMove, TooDeep, BadName, NoPermit}
 use Rattle.office_core.specs.declared.command.Command.{Command}
 use Rattle.office_core.specs.declared.command.Command.TheVariants.{OpenDay, Import, SetStatus, SetClosure, Move, Remove, Register, Renew, TakeSeat, LeaveSeat, Order, Cancel, Run, Reshelve, Issue, Return, Permit, Revoke}
@@ -12,20 +12,20 @@ use Rattle.office_core.specs.declared.done.Remark.TheVariants.{LevelTooHigh, Lac
 use Rattle.catalogue_core.specs.Units.{Unit}
 use Rattle.office_core.specs.Rules.{Reply, replies, state_after}
 use Rattle.office_core.specs.Soundness.{IsSound}
-use Rattle.office_core.specs.Worked.{Answers, office, import, draft, close, ann, bob, order, issued, refused, rows, february_1, march_1, march_2, march_31, april_1, year_end, year_2030, docks, boxes, boxes_with_9, boxes_with_draft, lock_gates, lock_gates_apart, parent_later, translated, told_twice, upside_down, chain, harbour, hundred_permits}
+use Rattle.office_core.specs.WorkedExamples.{Answers, office, import, draft, close, ann, bob, order, issued, refused, rows, february_1, march_1, march_2, march_31, april_1, year_end, year_2030, docks, boxes, boxes_with_9, boxes_with_draft, lock_gates, lock_gates_apart, parent_later, translated, told_twice, upside_down, chain, harbour, hundred_permits}
 
--- what is told of the import of four boxes: none has all six essential elements
+-- the reply to the import of four boxes: none has all six essential elements
 abbrev pub four_new : Reply
 four_new = rows 0 4 0 0 (LacksEssential 2 ∷ LacksEssential 3 ∷ LacksEssential 4 ∷ LacksEssential 5 ∷ [])
 
--- a queue of two tickets: who is first, who is given the box, and who comes next
+-- a queue of two tickets: who is first, who is issued the box, and who comes next
 abbrev pub QueueOfTwo : Type 0
 QueueOfTwo =
     Answers
     (import boxes ∷ ann ∷ bob ∷ Order 1 1 ∷ Order 2 1 ∷ Run ∷ Issue 1 2 ∷ TakeSeat 1 ∷ Issue 1 1 ∷ Issue 1 2 ∷ Return 1 ∷ TakeSeat 2 ∷ Issue 1 2 ∷ [])
     (four_new ∷ Ok (done.Register 1) ∷ Ok (done.Register 2) ∷ order 1 ∷ order 2 ∷ Ok (done.Run 1 1) ∷ refused NotFirst ∷ Ok (done.TakeSeat 1) ∷ issued 1 ∷ refused NotAtDesk ∷ Ok (done.Return 1) ∷ Ok (done.TakeSeat 2) ∷ issued 2 ∷ [])
 
--- what is with a reader can be neither closed nor kept overnight
+-- a container that a reader has can be neither closed nor kept overnight
 abbrev pub GateAndDay : Type 0
 GateAndDay =
     Answers
@@ -39,7 +39,7 @@ RunOfTwoAndOne =
     (import boxes ∷ ann ∷ Order 1 1 ∷ Order 1 2 ∷ Order 1 3 ∷ Run ∷ Run ∷ Run ∷ [])
     (four_new ∷ Ok (done.Register 1) ∷ order 1 ∷ order 2 ∷ order 3 ∷ Ok (done.Run 1 2) ∷ Ok (done.Run 2 1) ∷ refused NothingToMove ∷ [])
 
--- a day's orders, of which a cancelled one counts, and the next day's
+-- a day's orders, including a cancelled one, and the next day's
 abbrev pub OrdersOfADay : Type 0
 OrdersOfADay =
     Answers
@@ -60,63 +60,63 @@ ExpiryAndRenewal =
     (import boxes ∷ Register (codes "Ann") march_1 ∷ Order 1 1 ∷ OpenDay march_2 ∷ Order 1 2 ∷ Renew 1 year_end ∷ Order 1 2 ∷ OpenDay march_2 ∷ [])
     (four_new ∷ Ok (done.Register 1) ∷ order 1 ∷ Ok (done.OpenDay march_2) ∷ refused TicketExpired ∷ Ok (done.Renew 1) ∷ order 2 ∷ refused DayNotLater ∷ [])
 
--- one container in hand, no seat left with it, and what goes back to the shelf
+-- one container in hand, with which the seat cannot be left, and what goes back to the shelf
 abbrev pub HandsAndReshelving : Type 0
 HandsAndReshelving =
     Answers
     (import boxes ∷ ann ∷ Order 1 1 ∷ Order 1 2 ∷ Run ∷ TakeSeat 1 ∷ Issue 1 1 ∷ Issue 2 1 ∷ LeaveSeat 1 ∷ Return 1 ∷ Return 1 ∷ Reshelve ∷ Reshelve ∷ [])
     (four_new ∷ Ok (done.Register 1) ∷ order 1 ∷ order 2 ∷ Ok (done.Run 1 2) ∷ Ok (done.TakeSeat 1) ∷ issued 1 ∷ refused HandsFull ∷ refused HoldsContainers ∷ Ok (done.Return 1) ∷ refused NotIssued ∷ Ok (done.Reshelve (1 ∷ [])) ∷ refused NothingToMove ∷ [])
 
--- a run takes the least orders, and the gate keeps a box from losing what lies in it
+-- a run takes the lowest orders, and the gate refuses an import that takes the contents out of a box that is out
 abbrev pub LeastOrders : Type 0
 LeastOrders =
     Answers
     (import boxes ∷ ann ∷ bob ∷ Order 1 2 ∷ Order 2 2 ∷ Order 2 3 ∷ Order 1 1 ∷ Run ∷ TakeSeat 1 ∷ Issue 1 1 ∷ Issue 2 1 ∷ import boxes_with_draft ∷ import boxes_with_9 ∷ Cancel 1 ∷ [])
     (four_new ∷ Ok (done.Register 1) ∷ Ok (done.Register 2) ∷ order 1 ∷ order 2 ∷ order 3 ∷ order 4 ∷ Ok (done.Run 1 2) ∷ Ok (done.TakeSeat 1) ∷ refused NotAtDesk ∷ issued 1 ∷ rows 0 0 4 0 (LacksEssential 2 ∷ LacksEssential 3 ∷ LacksEssential 4 ∷ LacksEssential 5 ∷ []) ∷ refused (WithReader 2) ∷ refused OrderNotWaiting ∷ [])
 
--- a box is closed with what lies in it, until that has a box of its own
+-- a box is closed with a unit in it, until that unit has a box of its own
 abbrev pub LockGates : Type 0
 LockGates =
     Answers
     (import lock_gates ∷ ann ∷ close 2 year_2030 ∷ Order 1 1 ∷ import lock_gates_apart ∷ Order 1 1 ∷ Order 1 2 ∷ Order 1 3 ∷ [])
     (rows 0 2 0 0 (LacksEssential 2 ∷ []) ∷ Ok (done.Register 1) ∷ Ok (done.SetClosure 2) ∷ refused NotAvailable ∷ rows 1 0 1 0 (LacksEssential 2 ∷ []) ∷ order 1 ∷ refused NotAvailable ∷ refused NotAvailable ∷ [])
 
--- a permit opens a box to its ticket alone, to its last day, and is not taken away while the box is out
+-- a permit opens a box only to its ticket, up to its last day, and cannot be taken away while the box is out
 abbrev pub Permits : Type 0
 Permits =
     Answers
     (import lock_gates ∷ ann ∷ bob ∷ close 2 year_2030 ∷ Order 1 1 ∷ Permit 1 2 march_1 ∷ Order 1 1 ∷ Order 2 1 ∷ Permit 1 2 february_1 ∷ OpenDay march_2 ∷ Run ∷ Permit 1 1 march_31 ∷ Run ∷ TakeSeat 1 ∷ Issue 1 1 ∷ Revoke 1 1 ∷ Revoke 1 2 ∷ Return 1 ∷ Revoke 1 1 ∷ Revoke 1 1 ∷ [])
     (rows 0 2 0 0 (LacksEssential 2 ∷ []) ∷ Ok (done.Register 1) ∷ Ok (done.Register 2) ∷ Ok (done.SetClosure 2) ∷ refused NotAvailable ∷ Ok (done.Permit 1 2 march_1) ∷ order 1 ∷ refused NotAvailable ∷ Ok (done.Permit 1 2 march_1) ∷ Ok (done.OpenDay march_2) ∷ refused NothingToMove ∷ Ok (done.Permit 1 1 march_31) ∷ Ok (done.Run 1 1) ∷ Ok (done.TakeSeat 1) ∷ issued 1 ∷ refused (WithReader 1) ∷ Ok (done.Revoke 2) ∷ Ok (done.Return 1) ∷ Ok (done.Revoke 1) ∷ refused NoPermit ∷ [])
 
--- a permit opens no draft, and goes with its unit
+-- a permit does not open a draft, and is removed with its unit
 abbrev pub PermitsAndDrafts : Type 0
 PermitsAndDrafts =
     Answers
     (import lock_gates ∷ ann ∷ close 2 year_2030 ∷ Permit 1 2 year_end ∷ draft 2 ∷ Order 1 1 ∷ Permit 9 1 year_end ∷ Permit 1 9 year_end ∷ Remove 1 ∷ Revoke 1 2 ∷ import lock_gates ∷ Revoke 1 3 ∷ [])
     (rows 0 2 0 0 (LacksEssential 2 ∷ []) ∷ Ok (done.Register 1) ∷ Ok (done.SetClosure 2) ∷ Ok (done.Permit 1 2 year_end) ∷ Ok (done.SetStatus 1) ∷ refused NotAvailable ∷ refused UnknownTicket ∷ refused UnknownUnit ∷ Ok (done.Remove 2) ∷ refused UnknownUnit ∷ rows 0 2 0 0 (LacksEssential 2 ∷ []) ∷ refused NoPermit ∷ [])
 
--- a file that comes again changes nothing, and a status stays
+-- a file that is imported again changes nothing, and a status stays
 abbrev pub ImportAgain : Type 0
 ImportAgain =
     Answers
     (import docks ∷ import docks ∷ Import (codes "b") docks ∷ draft 2 ∷ import docks ∷ [])
     (rows 0 2 0 0 (LacksEssential 2 ∷ []) ∷ rows 0 0 2 0 (LacksEssential 2 ∷ []) ∷ rows 0 2 0 0 (LacksEssential 2 ∷ []) ∷ Ok (done.SetStatus 1) ∷ rows 0 0 2 0 (LacksEssential 2 ∷ []) ∷ [])
 
--- files that are refused, and what they leave
+-- faulty files and a bad source that are refused, a file with only a header, and a translation
 abbrev pub FaultyFiles : Type 0
 FaultyFiles =
     Answers
     (import (codes "legacyId\n") ∷ import [] ∷ import parent_later ∷ import translated ∷ import told_twice ∷ Import (codes "a b") docks ∷ [])
     (rows 0 0 0 0 [] ∷ refused (BadFile 1 2) ∷ refused (BadFile 3 11) ∷ rows 0 1 0 1 (LacksEssential 2 ∷ []) ∷ refused (BadFile 3 7) ∷ refused BadName ∷ [])
 
--- a level that belongs above its parent's is remarked on
+-- a level that belongs above its parent's gets a remark
 abbrev pub Remarks : Type 0
 Remarks =
     Answers
     (import upside_down ∷ import harbour ∷ Import (codes "b") harbour ∷ [])
     (rows 0 2 0 0 (LacksEssential 2 ∷ LevelTooHigh 3 ∷ []) ∷ rows 2 0 0 0 (LacksEssential 2 ∷ []) ∷ rows 0 2 0 0 (LacksEssential 2 ∷ []) ∷ [])
 
--- moving into itself, and removing: numbers are not given again
+-- a unit is not moved into itself, and the numbers of removed units are not given again
 abbrev pub Moves : Type 0
 Moves =
     Answers
@@ -130,7 +130,7 @@ Unknown =
     (Register (codes " ") year_end ∷ Cancel 5 ∷ Issue 9 1 ∷ Return 9 ∷ SetStatus 9 true false ∷ SetClosure 9 None ∷ Renew 1 year_end ∷ LeaveSeat 1 ∷ Order 1 1 ∷ Revoke 1 1 ∷ Run ∷ Reshelve ∷ Cancel 0 ∷ Order 0 0 ∷ [])
     (refused BadName ∷ refused UnknownOrder ∷ refused UnknownContainer ∷ refused UnknownContainer ∷ refused UnknownUnit ∷ refused UnknownUnit ∷ refused UnknownTicket ∷ refused UnknownTicket ∷ refused UnknownTicket ∷ refused UnknownTicket ∷ refused NothingToMove ∷ refused NothingToMove ∷ refused UnknownOrder ∷ refused UnknownTicket ∷ [])
 
--- an expired ticket takes no seat, and is given no box
+-- an expired ticket gets no seat, and is issued no box
 abbrev pub ExpiredAtTheDesk : Type 0
 ExpiredAtTheDesk =
     Answers
@@ -165,21 +165,21 @@ HeadCancelled =
     (import boxes ∷ ann ∷ bob ∷ Order 1 1 ∷ Order 2 1 ∷ Run ∷ Cancel 1 ∷ TakeSeat 1 ∷ TakeSeat 2 ∷ Issue 1 1 ∷ Issue 1 2 ∷ [])
     (four_new ∷ Ok (done.Register 1) ∷ Ok (done.Register 2) ∷ order 1 ∷ order 2 ∷ Ok (done.Run 1 1) ∷ Ok (done.Cancel 1) ∷ Ok (done.TakeSeat 1) ∷ Ok (done.TakeSeat 2) ∷ refused NotFirst ∷ issued 2 ∷ [])
 
--- of two refusals that hold at once the first of the list is told
+-- if two refusals apply at once, the reply is the first in the list
 abbrev pub TwoAtOnce : Type 0
 TwoAtOnce =
     Answers
     (import boxes ∷ Register (codes "Ann") march_1 ∷ Order 1 1 ∷ TakeSeat 1 ∷ Order 1 1 ∷ Order 1 9 ∷ Order 1 2 ∷ Order 1 3 ∷ Order 1 3 ∷ Order 1 4 ∷ Run ∷ Issue 1 1 ∷ OpenDay march_1 ∷ Return 1 ∷ OpenDay march_2 ∷ Order 1 1 ∷ TakeSeat 1 ∷ Issue 2 1 ∷ Issue 3 1 ∷ Issue 9 9 ∷ Issue 2 9 ∷ [])
     (four_new ∷ Ok (done.Register 1) ∷ order 1 ∷ Ok (done.TakeSeat 1) ∷ refused AlreadyOrdered ∷ refused NotAvailable ∷ order 2 ∷ order 3 ∷ refused AlreadyOrdered ∷ refused DailyLimit ∷ Ok (done.Run 1 2) ∷ issued 1 ∷ refused DayNotLater ∷ Ok (done.Return 1) ∷ Ok (done.OpenDay march_2) ∷ refused TicketExpired ∷ refused TicketExpired ∷ refused TicketExpired ∷ refused NotAtDesk ∷ refused UnknownContainer ∷ refused NotFirst ∷ [])
 
--- a box that is out can be ordered, not by its reader
+-- a box that is out can be ordered, but not by the reader who has it
 abbrev pub WithReaderAgain : Type 0
 WithReaderAgain =
     Answers
     (import boxes ∷ ann ∷ bob ∷ Order 1 1 ∷ Run ∷ TakeSeat 1 ∷ Issue 1 1 ∷ Order 1 1 ∷ Order 2 1 ∷ Run ∷ Return 1 ∷ Reshelve ∷ Order 1 1 ∷ Cancel 2 ∷ TakeSeat 2 ∷ Issue 1 1 ∷ [])
     (four_new ∷ Ok (done.Register 1) ∷ Ok (done.Register 2) ∷ order 1 ∷ Ok (done.Run 1 1) ∷ Ok (done.TakeSeat 1) ∷ issued 1 ∷ refused AlreadyOrdered ∷ order 2 ∷ refused NothingToMove ∷ Ok (done.Return 1) ∷ refused NothingToMove ∷ order 3 ∷ Ok (done.Cancel 2) ∷ Ok (done.TakeSeat 2) ∷ issued 3 ∷ [])
 
--- a permit for any unit of the path opens every closure on it, and looks at each unit in the box
+-- a permit for any unit of a path opens every closure on that path, and each unit in the box must be open
 abbrev pub PermitsAbove : Type 0
 PermitsAbove =
     Answers
@@ -193,21 +193,21 @@ NamesOfReaders =
     (Register (codes "A\tB") year_end ∷ Register (codes "A\u{7f}B") year_end ∷ Register [] year_end ∷ Register (replicate 101 65) year_end ∷ Register (replicate 100 65) year_end ∷ Import (codes "") docks ∷ Import (codes "A-z_0.9") docks ∷ [])
     (refused BadName ∷ refused BadName ∷ refused BadName ∷ refused BadName ∷ Ok (done.Register 1) ∷ refused BadName ∷ rows 0 2 0 0 (LacksEssential 2 ∷ []) ∷ [])
 
--- what is not given at the desk: to one who does not sit, and what was closed since
+-- what is not issued at the desk: a box to a reader without a seat, and a box that was closed since it was ordered
 abbrev pub AtTheCounter : Type 0
 AtTheCounter =
     Answers
     (import boxes ∷ ann ∷ Order 1 1 ∷ Order 1 2 ∷ Run ∷ Issue 1 1 ∷ TakeSeat 1 ∷ close 1 april_1 ∷ Issue 1 1 ∷ Issue 2 1 ∷ close 3 april_1 ∷ Move 2 (Some 3) ∷ Return 2 ∷ Move 2 (Some 3) ∷ Issue 1 1 ∷ [])
     (four_new ∷ Ok (done.Register 1) ∷ order 1 ∷ order 2 ∷ Ok (done.Run 1 2) ∷ refused NotSeated ∷ Ok (done.TakeSeat 1) ∷ Ok (done.SetClosure 1) ∷ refused NotAvailable ∷ issued 2 ∷ Ok (done.SetClosure 3) ∷ refused (WithReader 2) ∷ Ok (done.Return 2) ∷ Ok (done.Move 2) ∷ refused NotAvailable ∷ [])
 
--- no unit lies deeper than 64, by an import or a move
+-- no import and no move puts a unit deeper than 64
 abbrev pub Depths : Type 0
 Depths =
     Answers
     (import (chain 65) ∷ import (chain 64) ∷ Import (codes "b") docks ∷ Move 1 (Some 65) ∷ Move 2 (Some 65) ∷ Move 65 (Some 1) ∷ Move 3 (Some 66) ∷ Move 65 (Some 62) ∷ Move 65 (Some 61) ∷ [])
     (refused (BadFile 66 12) ∷ rows 0 64 0 0 (LacksEssential 2 ∷ []) ∷ rows 0 2 0 0 (LacksEssential 2 ∷ []) ∷ refused TooDeep ∷ Ok (done.Move 2) ∷ refused TooDeep ∷ Ok (done.Move 3) ∷ refused IntoItself ∷ refused IntoItself ∷ [])
 
--- a ticket has permits for a hundred units and no more, and a later day for one of them is granted all the same
+-- a ticket may have permits for a hundred units and no more; a later day for one of them is still granted
 pub record MostPermits : Type 0 where
   pub office_sound : IsSound hundred_permits
   pub told : replies hundred_permits (Permit 1 101 april_1 ∷ Permit 1 100 april_1 ∷ Permit 1 1 april_1 ∷ Permit 1 1 march_31 ∷ Revoke 1 50 ∷ Permit 1 101 april_1 ∷ Permit 1 50 april_1 ∷ [])

@@ -1,5 +1,5 @@
--- What the rules make of offices with other settings: the least that may be set, some between, and the most. Each expected
--- reply was found by the rules as they are told, by hand.
+-- What the rules make of offices with other settings: the lowest that may be set, some in between, and the highest.
+-- Each expected reply was worked out by hand from the written rules.
 use Rattle.std.specs.Prelude.{◌≡◌, ◌++◌, ℕ, zero, suc, List, [], ◌∷◌, Ok, codes, decimal, replicate}
 use Rattle.isad_core.specs.Texts.{Bytes}
 use Rattle.desk_core.specs.declared.refusal.Refusal.TheVariants.{DailyLimit, NoSeatFree, HandsFull, NothingToMove}
@@ -8,7 +8,7 @@ use Rattle.office_core.specs.declared.done.Done.TheVariants as done
 use Rattle.office_core.specs.State.{State, start}
 use Rattle.office_core.specs.Rules.{Reply, replies, state_after}
 use Rattle.office_core.specs.WorkedReplies.{four_new}
-use Rattle.office_core.specs.Worked.{import, ann, bob, order, issued, refused, march_1, march_2, boxes}
+use Rattle.office_core.specs.WorkedExamples.{import, ann, bob, order, issued, refused, march_1, march_2, boxes}
 
 -- a new office with these settings
 abbrev pub office_of : (seats daily hands run_size : ℕ) → State
@@ -39,7 +39,7 @@ crates n = codes "legacyId,publicationStatus,physicalObjectName\n" ++ lines n
     lines zero = []
     lines (suc n) = lines n ++ (decimal (suc n) ++ (codes ",Published,Box " ++ (decimal (suc n) ++ 10 ∷ [])))
 
--- what is asked of n numbers in turn, and what is told of them
+-- the commands or replies for n numbers in turn
 abbrev pub each_from : {X : Type 0} → (ℕ → X) → (first n : ℕ) → List X
 each_from ask first zero = []
 each_from ask first (suc n) = ask first ∷ each_from ask (suc first) n
@@ -47,7 +47,7 @@ each_from ask first (suc n) = ask first ∷ each_from ask (suc first) n
 abbrev pub seat : ℕ → Reply
 seat n = Ok (done.TakeSeat n)
 
--- an office with the most of each, 101 containers and 201 readers
+-- an office with the highest settings, 101 containers and 201 readers
 abbrev pub most : State
 most = state_after (office_of 200 50 10 100) (import (crates 101) ∷ replicate 201 ann)
 

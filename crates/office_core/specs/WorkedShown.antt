@@ -1,4 +1,4 @@
--- What is answered where more than one thing could be listed, and of what is closed, expired or of an earlier day. Each
+-- The answers where more than one thing could be listed, and about what is closed, expired or of an earlier day. Each
 -- expected text was written by hand.
 use Rattle.std.specs.Prelude.{[], ◌∷◌, codes}
 use Rattle.isad_core.specs.Texts.{Bytes}
@@ -7,9 +7,9 @@ use Rattle.office_core.specs.declared.command.Command.TheVariants.{OpenDay, Remo
 use Rattle.office_core.specs.declared.query.Query.TheVariants.{Fonds, Aid, Page, ReaderOrders, Queue, RunSlip, IssuedNow, ReaderPermits}
 use Rattle.office_core.specs.declared.query.Answer.TheVariants.{Text, Json, Unknown}
 use Rattle.office_core.specs.WorkedAnswers.{Says}
-use Rattle.office_core.specs.Worked.{import, close, ann, bob, february_1, march_1, march_2, march_31, year_2030, docks, boxes, lock_gates, harbour}
+use Rattle.office_core.specs.WorkedExamples.{import, close, ann, bob, february_1, march_1, march_2, march_31, year_2030, docks, boxes, lock_gates, harbour}
 
--- a closed unit is shown, by its head line alone: among the tops, on its parent's page, and by an aid of its own
+-- a closed unit is shown by its head line only: among the tops, on its parent's page, and by an aid of its own
 pub record ClosedShown : Type 0 where
   pub closed_top : Says (import docks ∷ close 1 year_2030 ∷ []) Fonds (Text (codes "1 GB 0999 HUL [Fonds] closed until 2030-01-01\n"))
   pub closed_child : Says (import docks ∷ close 2 year_2030 ∷ []) (Page 1) (Text (codes "GB 0999 HUL [Fonds] Hull Dock Company\n  Unit 2: GB 0999 HUL/1 [Series] closed until 2030-01-01\n"))
@@ -17,14 +17,14 @@ pub record ClosedShown : Type 0 where
   pub aid_of_a_closed_unit : Says (import docks ∷ close 2 year_2030 ∷ []) (Aid 2) (Text (codes "GB 0999 HUL/1 [Series] closed until 2030-01-01\n"))
   pub none_below : Says (import docks ∷ close 1 year_2030 ∷ []) (Aid 2) (Unknown UnknownUnit)
 
--- the slip of a run has the run's own number and day, whenever it is asked for
+-- the slip of a run has the run's own number and day, whenever it is requested
 pub record OldSlips : Type 0 where
   pub first : Says (import boxes ∷ ann ∷ Order 1 1 ∷ Order 1 2 ∷ Order 1 3 ∷ Run ∷ Run ∷ OpenDay march_2 ∷ []) (RunSlip 1)
       (Text (codes "Run 1  2024-03-01\nStrongroom 1         Box 2                 2        2       1\nStrongroom 2         Box 1                 1        1       1\n"))
   pub second : Says (import boxes ∷ ann ∷ Order 1 1 ∷ Order 1 2 ∷ Order 1 3 ∷ Run ∷ OpenDay march_2 ∷ Run ∷ []) (RunSlip 2)
       (Text (codes "Run 2  2024-03-02\nStrongroom 1         Box 3                 3        3       1\n"))
 
--- lists: a queue and a reader's orders by order, what is out by container, permits by unit, expired ones too
+-- lists: a queue and a reader's orders by order, what is out by container, and permits by unit, including expired ones
 pub record Lists : Type 0 where
   pub queue_of_two : Says (import boxes ∷ ann ∷ bob ∷ Order 2 1 ∷ Order 1 1 ∷ []) (Queue 1)
       (Json (codes "{\"container\":1,\"name\":\"Box 1\",\"out\":null,\"place\":\"shelf\",\"waiting\":[{\"order\":1,\"ticket\":2},{\"order\":2,\"ticket\":1}]}"))
@@ -35,7 +35,7 @@ pub record Lists : Type 0 where
   pub expired_permits : Says (import lock_gates ∷ ann ∷ Permit 1 2 march_1 ∷ Permit 1 1 march_31 ∷ OpenDay march_2 ∷ []) (ReaderPermits 1)
       (Json (codes "[{\"unit\":1,\"until\":\"2024-03-31\"},{\"unit\":2,\"until\":\"2024-03-01\"}]"))
 
--- a permit keeps its later day, though it is past
+-- a permit keeps its later day, even if it is past
 abbrev pub PermitKept : Type 0
 PermitKept =
     Says (import lock_gates ∷ ann ∷ Permit 1 2 march_1 ∷ OpenDay march_2 ∷ Permit 1 2 february_1 ∷ []) (ReaderPermits 1)
@@ -46,7 +46,7 @@ abbrev pub smith_and_jones : Bytes
 smith_and_jones =
     codes "legacyId,parentId,identifier,title,levelOfDescription,publicationStatus,eventActors,physicalObjectName\n1,,HUL,Docks,Fonds,Published,Smith,Box 1\n2,1,1,Minutes,Series,Published,Jones,Box 2\n3,2,7,1901,File,Published,,\n"
 
--- of two units above that have a value, or a container, the nearer is shown
+-- if two units above have a value or a container, the nearer one is shown
 pub record NearestAbove : Type 0 where
   pub file : Says (import smith_and_jones ∷ []) (Page 3) (Text (codes "GB 0999 HUL/1/7 [File] 1901\n  3.2.1 Name of creator(s): Jones (from GB 0999 HUL/1)\n  Container 2: Box 2 (from GB 0999 HUL/1)\n"))
   pub series : Says (import smith_and_jones ∷ []) (Page 2) (Text (codes "GB 0999 HUL/1 [Series] Minutes\n  3.2.1 Name of creator(s): Jones\n  Container 2: Box 2\n  Unit 3: GB 0999 HUL/1/7 [File] 1901\n"))
@@ -57,9 +57,9 @@ LinesInOrder =
     Says (import harbour ∷ []) (Page 1)
     (Text (codes "GB 0999 HUL [Series] Docks\n  3.3.1 Scope and content: Ships\n  3.4.1 Conditions governing access: Open\n  Unit 2: GB 0999 HUL/1 [Series] Minutes\n"))
 
--- ---- what is easily told of another
+-- ---- what is easily attributed to another
 
--- two containers with one name and location
+-- two containers with the same name and location
 abbrev pub two_kinds : Bytes
 two_kinds =
     codes "legacyId,title,publicationStatus,physicalObjectName,physicalObjectLocation,physicalObjectType\n1,Plans,Published,Box 1,East,Map case\n2,Minutes,Published,Box 1,East,Folder\n"
@@ -68,8 +68,8 @@ abbrev pub two_series : Bytes
 two_series =
     codes "legacyId,parentId,identifier,title,levelOfDescription,publicationStatus\n1,,HUL,Hull Dock Company,Fonds,Published\n2,1,1,Minutes,Series,Published\n3,1,2,Maps,Series,Published\n"
 
--- each reader has an own name, day, orders and permits; a slip goes by kind where name and location are the same; the number
--- of what was removed is not given again; and a page lists what is below it in its order
+-- each reader has their own name, day, orders and permits; a slip is sorted by kind if name and location are the same;
+-- the number of a removed unit is not given again; and a page lists the units below in their order
 pub record ToldApart : Type 0 where
   pub orders : Says (import boxes ∷ ann ∷ bob ∷ Order 1 2 ∷ Order 2 1 ∷ []) (ReaderOrders 2)
       (Json (codes "{\"name\":\"Bob\",\"orders\":[{\"container\":1,\"order\":2,\"state\":\"waiting\"}],\"seat\":null,\"ticket\":2,\"until\":\"2024-12-31\"}"))

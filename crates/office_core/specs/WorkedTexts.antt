@@ -1,10 +1,10 @@
--- The text of each reply, with its keys in byte order and no white space, to the byte. Each was written by hand.
+-- The text of each reply, with its keys in byte order and no white space, byte for byte. Each was written by hand.
 use Rattle.std.specs.Prelude.{◌≡◌, [], ◌∷◌, Ok, codes}
 use Rattle.desk_core.specs.declared.refusal.Refusal.TheVariants.{UnknownUnit, UnknownTicket, UnknownContainer, TicketExpired, NotAvailable, AlreadyOrdered, DailyLimit, NoSeatFree, AlreadySeated, NotSeated, HoldsContainers, UnknownOrder, OrderNotWaiting, NotAtDesk, NotFirst, HandsFull, NotIssued, DayNotLater, StillIssued, IntoItself, WithReader, BadFile, Full, NothingToMove, TooDeep, UnknownRun, BadName, NoPermit}
 use Rattle.office_core.specs.declared.done.Done.TheVariants as done
 use Rattle.office_core.specs.declared.done.Remark.TheVariants.{LevelTooHigh, LacksEssential}
 use Rattle.office_core.specs.Json.{reply_text}
-use Rattle.office_core.specs.Worked.{refused, rows, march_2}
+use Rattle.office_core.specs.WorkedExamples.{refused, rows, march_2}
 
 -- a command that was done
 pub record EachReply : Type 0 where

@@ -1,46 +1,46 @@
-//! What the office can be told to do.
+//! The commands of the office.
 
 use isad_core::{Day, List, Text};
 
-/// A command. Units, tickets, containers and orders are named by their numbers; any number may be asked
-/// for, and one that was not given is refused.
+/// A command. Units, tickets, containers and orders are named by their numbers. Any number may be passed; a command is
+/// refused if a number in it names nothing.
 #[derive(Debug, PartialEq, Drop)]
 pub enum Command {
-    /// The next day begins.
+    /// Begins a new day, which must be later than the current one.
     OpenDay {
         day: Day,
     },
-    /// The descriptions of a file are taken in. The source names where the file comes from.
+    /// Imports the descriptions of a file. The source names the place that the file comes from.
     Import {
         source: Text,
         file: List<u8>,
     },
-    /// A unit, or its whole branch, becomes a draft or is published.
+    /// Makes a unit, or its whole branch, a draft, or publishes it.
     SetStatus {
         unit: u64,
         draft: bool,
         branch: bool,
     },
-    /// A unit is closed until a day, on which it is open again, or no more.
+    /// Closes a unit until a day, on which it is open again, or ends its closure.
     SetClosure {
         unit: u64,
         until: Option<Day>,
     },
-    /// A branch goes below another unit as its last child, or to the top.
+    /// Moves a branch below another unit, as its last child, or to the top.
     Move {
         unit: u64,
         parent: Option<u64>,
     },
-    /// A branch is removed.
+    /// Removes a branch.
     Remove {
         unit: u64,
     },
-    /// A reader gets a ticket, with its last day.
+    /// Gives a reader a ticket with this last day.
     Register {
         name: Text,
         until: Day,
     },
-    /// A ticket gets another last day.
+    /// Changes the last day of a ticket.
     Renew {
         ticket: u64,
         until: Day,
@@ -51,35 +51,35 @@ pub enum Command {
     LeaveSeat {
         ticket: u64,
     },
-    /// A ticket orders a container.
+    /// Orders a container for a ticket.
     Order {
         ticket: u64,
         container: u64,
     },
-    /// An order that waits is cancelled.
+    /// Cancels a waiting order.
     Cancel {
         order: u64,
     },
-    /// Containers that are waited for go from the shelf to the desk.
+    /// Fetches containers that are waited for from the shelf to the desk.
     Run,
-    /// Containers that nobody waits for go from the desk to the shelf.
+    /// Takes the containers that nobody waits for from the desk back to the shelf.
     Reshelve,
-    /// A container at the desk is given to the ticket whose order is first.
+    /// Issues a container at the desk to the ticket whose order is first in its queue.
     Issue {
         container: u64,
         ticket: u64,
     },
-    /// A container comes back to the desk.
+    /// Returns a container that is out to the desk.
     Return {
         container: u64,
     },
-    /// A ticket gets a permit for a closed unit, with its last day.
+    /// Gives a ticket a permit for a unit, with its last day. An existing permit keeps the later of the two days.
     Permit {
         ticket: u64,
         unit: u64,
         until: Day,
     },
-    /// A permit is taken away.
+    /// Takes a permit away.
     Revoke {
         ticket: u64,
         unit: u64,

@@ -1,8 +1,8 @@
-//! What is told of a command that was done.
+//! The results of accepted commands.
 
 use isad_core::{Day, List};
 
-/// A remark on a row of a file that was taken in. It refuses nothing.
+/// A remark on a row of an imported file. It does not refuse the import.
 #[derive(Debug, Clone, Copy, PartialEq, Eq)]
 pub enum Remark {
     /// The unit's level belongs above that of the unit right above it (ISAD(G) 2.1).
@@ -12,13 +12,14 @@ pub enum Remark {
     LacksEssential { row: u32 },
 }
 
-/// What a command tells where it was done, with a case for each command.
+/// The result of an accepted command, with one case for each command.
 #[derive(Debug, PartialEq, Drop)]
 pub enum Done {
     OpenDay {
         day: Day,
     },
-    /// How many rows changed a unit, made one, left one as it was, or translate another row.
+    /// The remarks, and the numbers of rows that changed a unit, made a new one, left one unchanged, or translate
+    /// another row.
     Import {
         changed: u64,
         new: u64,
@@ -26,7 +27,7 @@ pub enum Done {
         same: u64,
         translations: u64,
     },
-    /// How many units were set.
+    /// The number of units whose status was set, including those that already had it.
     SetStatus {
         units: u64,
     },
@@ -36,7 +37,7 @@ pub enum Done {
     Move {
         unit: u64,
     },
-    /// How many units were removed.
+    /// The number of units that were removed.
     Remove {
         units: u64,
     },
@@ -58,7 +59,7 @@ pub enum Done {
     Cancel {
         order: u64,
     },
-    /// The run's number, and how many containers it took.
+    /// The run's number, and the number of containers that it fetched.
     Run {
         run: u64,
         taken: u64,
@@ -72,7 +73,7 @@ pub enum Done {
     Return {
         order: u64,
     },
-    /// The last day of the permit that stands.
+    /// The permit as it now stands, with its last day.
     Permit {
         ticket: u64,
         unit: u64,

@@ -1,4 +1,4 @@
-//! The machine of the office: one command, one step; its queries and its laws. No table is known here.
+//! The machine of the office: each command is one step. Also its queries and its laws. This crate knows no tables.
 #![tactic(auto)]
 
 mod command;

@@ -9,17 +9,17 @@ use crate::{Answer, Command, Done, Query, Refusal};
 use isad_core::List;
 use std::alloc::Global;
 
-/// What a command is answered: what was done, or why it was refused, and the same as a JSON text.
+/// The reply to a command: what was done, or why it was refused, and the same as a JSON text.
 #[derive(Debug, Drop)]
 pub struct Reply {
     pub done: Result<Done, Refusal>,
     pub json: List<u8>,
 }
 
-/// The office cannot answer now, and what it keeps did not change.
+/// Why the office cannot answer now. What it stores did not change.
 #[derive(Debug, Clone, Copy, PartialEq, Eq)]
 pub enum Busy {
-    /// There is no memory.
+    /// There is not enough memory.
     Memory,
     /// The store's disk failed.
     Disk,
@@ -27,18 +27,19 @@ pub enum Busy {
     Schema,
 }
 
-/// An office.
+/// An office that carries out commands and answers questions.
 pub trait Machine {
-    /// What is kept shows that state, which is sound.
+    /// What is stored represents this state, which is sound.
     ghost represents: { Self → State → Type 0 };
 
     /// The store has returned what was written to it so far.
     ghost is_intact: { Self → Type 0 };
 
-    /// What it keeps is seen through its store, which no failure of the disk has shut.
+    /// What it stores can be seen: no failure of the disk has shut its store.
     ghost is_open: { Self → Type 0 };
 
-    /// Carries out one command. Once a command was accepted the office is open; one that was shut stays so.
+    /// Carries out one command. After an accepted command the office is open; an office that was shut stays shut. On
+    /// `Busy` the state is unchanged.
     fn apply(&mut self, alloc: Global, command: Command) -> Result<Reply, Busy>
         ensures intact { is_intact self.new → is_intact self.old }
         ensures was_open { is_intact self.new → is_open self.new → is_open self.old }
@@ -49,7 +50,7 @@ pub trait Machine {
         ensures busy { OnErr result (is_intact self.new → (s : State) → represents self.old s
             → represents self.new s) };
 
-    /// Answers one question.
+    /// Answers one question. The state is unchanged, also on `Busy`.
     fn ask(&mut self, alloc: Global, query: Query) -> Result<Answer, Busy>
         ensures intact { is_intact self.new → is_intact self.old }
         ensures was_open { is_intact self.new → is_open self.new → is_open self.old }

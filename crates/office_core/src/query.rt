@@ -1,9 +1,9 @@
-//! What the office can be asked.
+//! The questions to the office, and their answers.
 
 use desk_core::Refusal;
 use isad_core::List;
 
-/// A question, which changes nothing. The first three are the public's.
+/// A question. It changes nothing. The first three are the public's.
 #[derive(Debug, Clone, Copy, PartialEq, Eq)]
 pub enum Query {
     /// The units at the top.
@@ -12,7 +12,7 @@ pub enum Query {
     Aid { unit: u64 },
     /// The page of a unit.
     Page { unit: u64 },
-    /// A ticket's orders that wait or are out.
+    /// The reader of a ticket, with name, last day and seat, and the orders that wait or are out.
     ReaderOrders { ticket: u64 },
     /// Where a container is, and who waits for it.
     Queue { container: u64 },
@@ -31,6 +31,6 @@ pub enum Answer {
     Text(List<u8>),
     /// A JSON text.
     Json(List<u8>),
-    /// There is no such thing, or none that is shown.
+    /// What was asked for does not exist, or is not shown.
     Unknown(Refusal),
 }

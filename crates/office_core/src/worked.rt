@@ -1,4 +1,4 @@
-//! The rules at work in small offices, worked by hand.
+//! Examples of the rules in small offices, worked out by hand.
 
 ghost use Rattle.office_core.specs.WorkedReplies as row;
 ghost use Rattle.office_core.specs.WorkedAnswers as answers;
@@ -10,7 +10,7 @@ ghost use Rattle.office_core.specs.WorkedSettings as settings;
 ghost use Rattle.office_core.specs.WorkedImports as imports;
 ghost use Rattle.office_core.specs.WorkedTexts as texts;
 ghost use Rattle.office_core.specs.Soundness.{IsSound};
-ghost use Rattle.office_core.specs.Worked.{one_number_left};
+ghost use Rattle.office_core.specs.WorkedExamples.{one_number_left};
 
 /// The commands of each row get the replies of the row.
 pub fn worked_rows()
@@ -44,12 +44,12 @@ pub fn worked_rows()
     ensures placed { row.Placed }
 {}
 
-/// A ticket of an office that is sound has permits for as many units as there may be, and no more.
+/// In a sound office a ticket may have permits for the maximum number of units, and no more.
 pub fn worked_permits()
     ensures { row.MostPermits }
 {}
 
-/// The answers are those of the rows, to the byte.
+/// The answers are those of the rows, byte for byte.
 pub fn worked_answers()
     ensures aids { answers.Aids }
     ensures pages { answers.Pages }
@@ -58,7 +58,7 @@ pub fn worked_answers()
     ensures replies { answers.Replies }
 {}
 
-/// The replies at the desk are those of the rows, where two rules are easily mistaken for one another.
+/// The replies at the desk are those of the rows, in cases where two rules are easily confused.
 pub fn worked_desk_rows()
     ensures renewed_alone { desk.RenewedAlone }
     ensures registered_too_late { desk.RegisteredTooLate }
@@ -74,7 +74,7 @@ pub fn worked_desk_rows()
     ensures permit_of_an_earlier_day { desk.PermitOfAnEarlierDay }
 {}
 
-/// What imports, moves and statuses tell, and what is then shown, is that of the rows.
+/// The replies to imports, moves and statuses, and what is then shown, are those of the rows.
 pub fn worked_catalogue_rows()
     ensures sources_apart { catalogue.SourcesApart }
     ensures known_rows_stay { catalogue.KnownRowsStay }
@@ -97,7 +97,7 @@ pub fn worked_shown_rows()
     ensures told_apart { shown.ToldApart }
 {}
 
-/// Of several refusals that hold at once, the first of the command's list is told.
+/// If several refusals apply at once, the reply is the first in the command's list.
 pub fn worked_checks()
     ensures order_in_turn { turn.OrderInTurn }
     ensures issue_in_turn { turn.IssueInTurn }
@@ -106,15 +106,15 @@ pub fn worked_checks()
     ensures name_before_file { turn.NameBeforeFile }
 {}
 
-/// The replies of offices with the least settings, some between, and the most are those of the rows.
+/// The replies of offices with the lowest settings, some in between, and the highest are those of the rows.
 pub fn worked_settings()
     ensures one_of_each { settings.OneOfEach }
     ensures some_of_each { settings.SomeOfEach }
     ensures most_of_each { settings.MostOfEach }
 {}
 
-/// What imports and moves tell and make is that of the rows: remarks, what counts as a change, new units below drafts and
-/// closed ones, closures that are past, a branch that is too deep.
+/// The replies and the effects of imports and moves are those of the rows: remarks, what counts as a change, new units
+/// below drafts and closed ones, closures that are past, a branch that is too deep.
 pub fn worked_imports()
     ensures levels_without_rank { imports.LevelsWithoutRank }
     ensures one_missing { imports.OneMissing }
@@ -124,13 +124,13 @@ pub fn worked_imports()
     ensures too_deep_before_the_gate { imports.TooDeepBeforeTheGate }
 {}
 
-/// Each reply and each refusal has the text of the rows, to the byte.
+/// Each reply and each refusal has the text of the rows, byte for byte.
 pub fn worked_texts()
     ensures each_reply { texts.EachReply }
     ensures each_refusal { texts.EachRefusal }
 {}
 
-/// The office that has one unit number left, of which a row of the catalogue tells, is sound.
+/// The office with one unit number left, which a row of the catalogue uses, is sound.
 pub fn worked_office()
     ensures { IsSound one_number_left }
 {}

@@ -12,12 +12,12 @@ use Rattle.office_tables.specs.declared.fault.StoreFault.{StoreFault}
 use Rattle.office_tables.specs.declared.fault.StoreFault.TheVariants as fault
 use Rattle.office_tables.proofs.Causes.{still_unlimited}
 use Rattle.office_tables.proofs.LaterCauses.{last_cause, next_cause}
-use Rattle.office_tables.specs.Changing.{Leaves, LeavesOr}
+use Rattle.office_tables.specs.ChangeStatement.{Leaves, LeavesOr}
 use Rattle.office_tables.proofs.Sparing.{untouched_last, looked_spares, touched_spares}
 use Rattle.office_tables.specs.Creation.{LeavesMaking}
 use Rattle.office_tables.proofs.Calls.{early, continues_then, cut_after, cut_then, on_err_then, on_ok_then, goes_then}
 use Rattle.office_tables.proofs.WriteCauses.{disk_then, last_disk}
-use Rattle.office_tables.specs.Asking.{Reads}
+use Rattle.office_tables.specs.Query.{Reads}
 
 -- ---- a fault that is handed on, on tables that show a model
 

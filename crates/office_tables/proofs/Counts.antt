@@ -15,7 +15,7 @@ use Rattle.sqlite.specs.Program.{overlay}
 use Rattle.sqlite_sql.specs.declared.aggregate.AggregateOp.TheVariants as by
 use Rattle.sqlite_sql.specs.Group.{Aggregate, Grouping, value_over, IsSummary}
 use Rattle.sqlite_sql.proofs.AggregateLemmas.{only_one}
-use Rattle.office_tables.specs.Counting.{capped}
+use Rattle.office_tables.specs.RowCounts.{capped}
 use Rattle.office_tables.proofs.Queries.{found}
 
 abbrev pub over : Aggregate → Grouping

@@ -11,7 +11,7 @@ use Rattle.sqlite_resolve.specs.declared.compiled.Compiled.{Compiled}
 use Rattle.office_tables.specs.declared.fault.StoreFault.{StoreFault}
 use Rattle.office_tables.specs.Faults.{fault_of}
 use Rattle.office_tables.specs.Faults as cause
-use Rattle.office_tables.specs.Asking.{IsOurQuery, Reads, Gathers, StopsShort}
+use Rattle.office_tables.specs.Query.{IsOurQuery, Reads, Gathers, StopsShort}
 use Rattle.office_tables.specs.Step.{GoesOn, IsBack, LeavesUnchanged, IsAborted, Spares, IsSame}
 use Rattle.office_tables.proofs.Errors.{fails, keeps}
 use Rattle.office_tables.proofs.Calls.{early, unchanged_on, stopped}

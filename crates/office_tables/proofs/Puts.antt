@@ -13,7 +13,7 @@ use Rattle.sqlite_rules.proofs.ListLemmas.{all_has}
 use Rattle.sqlite_trees.proofs.ListLemmas.{ascending_from_map, ascending_weaker}
 use Rattle.sqlite_trees.proofs.TreeLemmas.{IsTable-put_row}
 use Rattle.office_tables.specs.Order.{Rises}
-use Rattle.office_tables.specs.Put.{put_by}
+use Rattle.office_tables.specs.OrderedInsertion.{put_by}
 use Rattle.office_tables.proofs.Rows.{by_key, compared, table_rises}
 use Rattle.office_tables.proofs.numbered.Counted.{less_below}
 

@@ -5,9 +5,9 @@ use Rattle.sqlite.specs.Order.{Row}
 use Rattle.sqlite.specs.Command.{Command}
 use Rattle.sqlite.specs.State.{State, Shown, FailsToQuery}
 use Rattle.sqlite.specs.declared.error.Error.{Error}
-use Rattle.office_tables.specs.Asking.{IsOurQuery, Misses}
+use Rattle.office_tables.specs.Query.{IsOurQuery, Misses}
 use Rattle.office_tables.specs.Faults.{fault_of, HasCause}
-use Rattle.office_tables.specs.Meaning.{Means}
+use Rattle.office_tables.specs.StatementMeaning.{Means}
 use Rattle.office_tables.specs.Schema.{Version}
 use Rattle.office_tables.specs.Step.{InOffice, InTransaction}
 use Rattle.office_tables.specs.declared.fault.StoreFault.{StoreFault}

@@ -11,8 +11,8 @@ use Rattle.sqlite.specs.Does.{Tally, Does, AtPlace, OnRows}
 use Rattle.sqlite.specs.Listing.{understood}
 use Rattle.sqlite.specs.State.{State, HasCleanDisk, Survives, Executes, CommitsBy, Runs, Writes, mode_of}
 use Rattle.sqlite.proofs.Callers.{runs_as, statement_of}
-use Rattle.office_tables.specs.Changing.{IsOurs, changes_rows, Ran}
-use Rattle.office_tables.specs.Meaning.{Means}
+use Rattle.office_tables.specs.ChangeStatement.{IsOurs, changes_rows, Ran}
+use Rattle.office_tables.specs.StatementMeaning.{Means}
 use Rattle.office_tables.specs.Faults.{fault_of, HasCause, BlamesDisk}
 use Rattle.office_tables.specs.Schema.{Version, schema}
 use Rattle.office_tables.specs.Step.{Goes, IsAborted, InOffice, InTransaction, Spares, IsSame}

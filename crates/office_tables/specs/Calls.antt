@@ -1,4 +1,4 @@
--- What a call promises on tables that show a model: a catalogue, or a desk.
+-- What a call promises about tables that represent a model: a catalogue, or a desk.
 use Rattle.std.specs.Prelude.{ℕ, ⊤, List, Result, IfOk, IfErr, OnOk, OnErr}
 use Rattle.sqlite_trees.specs.declared.store.Store as store
 use Rattle.sqlite.specs.Effect.{Database}
@@ -9,12 +9,12 @@ use Rattle.office_tables.specs.Faults.{FaultsHaveCause}
 use Rattle.office_tables.specs.Step.{Goes, IsAborted, LeavesUnchanged, OnlyTouches, Spares, IsSame}
 use Rattle.office_tables.specs.declared.fault.StoreFault.{StoreFault}
 
--- the rows show the model, beside nothing else
+-- the rows represent the model, with nothing beside it
 abbrev pub RepresentsAlone : {Model : Type 0} → (Trees → Model → Type 0) → Database → ⊤ → Model → Type 0
 RepresentsAlone represents db beside m = represents db.trees m
 
--- The tables show the model beside what stays, as the settings of the office. Such a model is kept as is within the
--- bounds of the tables.
+-- The tables represent the model beside what stays, such as the settings of the office. A model is `kept` if it is
+-- within the bounds of the tables.
 module _ {S X Stays Model : Type 0} (g : store.Ghosts S) (represents : Database → Stays → Model → Type 0) (kept : Model → Type 0) (before after : Held S) (r : Result X StoreFault) where
   abbrev old : State
   old = state g before
@@ -22,8 +22,8 @@ module _ {S X Stays Model : Type 0} (g : store.Ghosts S) (represents : Database 
   abbrev new : State
   new = state g after
 
-  -- A call that changes the model where it may, and touches these tables only. Where the model is kept, it fails only
-  -- for want of memory or by the disk; the transaction then goes on, or was taken back.
+  -- A call that changes the model if it may, and touches these tables only. If the model is kept, the call fails only
+  -- for want of memory or because of the disk; the transaction then goes on, or was rolled back.
   pub record Updates (may : Model → Type 0) (made : Model → Model) (touched : List ℕ) : Type 0 where
     pub represents_updated : HasCleanDisk new → (s : Stays) (m : Model) → represents old.now s m → may m → OnOk r (represents new.now s (made m))
     pub only : HasCleanDisk new → OnOk r (OnlyTouches touched old.now new.now)
@@ -38,8 +38,8 @@ module _ {S X Stays Model : Type 0} (g : store.Ghosts S) (represents : Database 
     pub cut : OnErr r (IsAborted old new)
     pub faults : (s : Stays) (m : Model) → represents old.now s m → may m → kept m → FaultsHaveCause old new r
 
-  -- The same of a call of a store. Where it fails and the transaction goes on, it has touched these tables only, whatever
-  -- the rows are; and it blames the disk for its own failures only.
+  -- The same as `Updates`, for a call of a store. If it fails and the transaction goes on, it has touched these tables
+  -- only, whatever the rows are; and it blames the disk for its own failures only.
   pub record Makes (may : Model → Type 0) (made : Model → Model) (touched : List ℕ) : Type 0 where
     pub represents_updated : HasCleanDisk new → (s : Stays) (m : Model) → represents old.now s m → may m → OnOk r (represents new.now s (made m))
     pub only : HasCleanDisk new → OnOk r (OnlyTouches touched old.now new.now)
@@ -48,8 +48,8 @@ module _ {S X Stays Model : Type 0} (g : store.Ghosts S) (represents : Database 
     pub spares : HasCleanDisk new → IfErr r (Spares (OnlyTouches touched) old new)
     pub faults : (s : Stays) (m : Model) → represents old.now s m → may m → kept m → FaultsHaveCause old new r
 
-  -- The same of a call of a store. Where it fails and the transaction goes on, every row is as it was, whatever the rows
-  -- are; and it blames the disk for its own failures only.
+  -- The same as `Answers`, for a call of a store. If it fails and the transaction goes on, every row is as it was,
+  -- whatever the rows are; and it blames the disk for its own failures only.
   pub record Tells (may : Model → Type 0) (answer : Stays → Model → X → Type 0) : Type 0 where
     pub answers : HasCleanDisk new → (s : Stays) (m : Model) → represents old.now s m → IfOk r (answer s m)
     pub looks : OnOk r (LeavesUnchanged old new)

@@ -1,4 +1,4 @@
--- What the cells of rows of doubtful origin say. A cell with a value that its column cannot have says nothing.
+-- What the cells of rows of doubtful origin mean. A cell with a value that its column cannot have means nothing.
 use Rattle.std.specs.Prelude.{ℕ, ℤ, pos, Bool, true, false, cond, List, Option, Some, None, option_map, option_and_then, is_none}
 use Rattle.std.specs.List.{list_any}
 use Rattle.std.specs.Ordering.{int_eq}
@@ -30,7 +30,7 @@ abbrev pub flag_in : Value → Option Bool
 flag_in (Int n) = cond (int_eq n (pos 0)) (Some false) (cond (int_eq n (pos 1)) (Some true) None)
 flag_in _ = None
 
--- null, or what the cell says otherwise
+-- null, or else what the cell means
 abbrev pub or_null_in : {X : Type 0} → (Value → Option X) → Value → Option (Option X)
 or_null_in says Null = Some None
 or_null_in says (Int n) = option_map Some (says (Int n))
@@ -40,7 +40,7 @@ or_null_in says (Blob b) = option_map Some (says (Blob b))
 
 -- ---- rows
 
--- what is made of a cell, where it says something
+-- what is made of a cell, if it means something
 abbrev pub from : {X Y : Type 0} → Option X → (X → Option Y) → Option Y
 from said make = option_and_then make said
 

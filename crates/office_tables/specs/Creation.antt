@@ -1,4 +1,4 @@
--- What a definition makes.
+-- What the definition of a table or of an index makes.
 use Rattle.std.specs.Prelude.{◌≡◌, ℕ, ◌+◌, ◌^◌, nat_lt, true, false, List, [], ◌∷◌, ◌++◌, Result, Ok, Some, codes, slice_get, drop, length, IfErr, IsTrue, OnOk, OnErr}
 use Rattle.std.specs.List.{AllByRecursion, list_any, list_all}
 use Rattle.std.specs.Str.{is_utf8}
@@ -31,7 +31,7 @@ pub record Says (before : Schema) (text : List ℕ) (command : Command) : Type 0
   pub whole : statement_of text (understood before text) ≡ text
   pub alone : IsAlone text (understood before text)
 
--- the name is a text, no other object has it, and it is none of SQLite's own
+-- the name is a text, no other object has it, and SQLite does not reserve it
 pub record IsFreeName (before : Schema) (name : List ℕ) : Type 0 where
   pub free : is_used before name ≡ false
   pub utf8 : is_utf8 name ≡ true
@@ -56,7 +56,7 @@ pub record MayMakeIndex (before : Schema) (text : List ℕ) (table : Table) (ind
   pub reals : nat_lt (table_reals table) (2 ^ 64) ≡ true
   pub key_reals : nat_lt (index_reals (table_reals table) index.columns) (2 ^ 64) ≡ true
 
--- the text defines a table, the next after those that were there and some more
+-- the text defines a table, which comes after the tables that were there and those made since
 pub record DefinesTable (there : List Table) (before : Schema) (text : List ℕ) (after : Schema) : Type 0 where
   pub table : Table
   pub says : Says before text CreateTable
@@ -69,7 +69,7 @@ pub record DefinesTable (there : List Table) (before : Schema) (text : List ℕ)
   pub rest : drop (length there) before.tables ≡ more
   pub last : drop (length there) after.tables ≡ more ++ record table { tree = next_tree before } ∷ []
 
--- the text defines an index on one of the tables that came to those that were there
+-- the text defines an index on one of the tables made since
 pub record DefinesIndex (there : List Table) (before : Schema) (text : List ℕ) (after : Schema) : Type 0 where
   pub at : ℕ
   pub table : Table
@@ -85,7 +85,7 @@ pub record DefinesIndex (there : List Table) (before : Schema) (text : List ℕ)
   pub rest : drop (length there) before.tables ≡ more
   pub among : Has more table
 
--- the tables that were there, the first ones, have the rows that they had, and each later one has none
+-- the first tables, which were there, have the rows that they had, and each later table has no rows
 pub record HasMade (there : List Table) (after : Schema) (old new : Database) : Type 0 where
   pub schema_is : new.schema ≡ after
   pub kept : KeepsRows there old.trees new.trees
@@ -95,15 +95,15 @@ pub record HasMade (there : List Table) (after : Schema) (old new : Database) : 
 abbrev pub IsMaking : List Table → Schema → Database → State → Type 0
 IsMaking there after before s = HasCleanDisk s → HasMade there after before s.now × IsTrue s.in_transaction
 
--- What a call leaves that makes tables: the transaction goes on, or it is cut. The call fails only for want of memory or by
--- the disk, which is blamed for its own failures only.
+-- What a call that makes tables leaves: the transaction goes on, or the call is aborted. It fails only for want of
+-- memory or because of the disk, which is blamed for its own failures only.
 pub record LeavesMaking {X : Type 0} (old new : State) (r : Result X StoreFault) : Type 0 where
   pub goes : OnOk r (Continues old new)
   pub cut : OnErr r (IsAborted old new)
   pub disk : HasCleanDisk new → IfErr r (BlamesDisk old new)
   pub faults : FaultsHaveCause old new r
 
--- the desk's tables and the catalogue's, but for that of the places
+-- the desk's tables and the catalogue's, except the table of places
 abbrev pub catalogue_schema : Schema
 catalogue_schema = record {
   tables = reader ∷ seat ∷ orders ∷ holding ∷ run ∷ run_line ∷ permit ∷ office ∷ unit ∷ element ∷ container ∷ housing ∷ [];
@@ -114,7 +114,7 @@ catalogue_schema = record {
   views = [];
 }
 
--- the first of them
+-- the same tables up to `element`
 abbrev pub unit_schema : Schema
 unit_schema = record {
   tables = reader ∷ seat ∷ orders ∷ holding ∷ run ∷ run_line ∷ permit ∷ office ∷ unit ∷ element ∷ [];

@@ -1,4 +1,4 @@
--- Why a call that is accepted fails.
+-- Why a call on the tables fails.
 use Rattle.std.specs.Prelude.{◌≡◌, ◌⊎◌, false, ⊤, None, Result, IfErr}
 use Rattle.sqlite_disk.specs.Disk.{MoreFaults}
 use Rattle.sqlite.specs.State.{State, HasCleanDisk}
@@ -8,8 +8,8 @@ use Rattle.sqlite.specs.declared.error.ErrorCode.TheVariants as code
 use Rattle.office_tables.specs.declared.fault.StoreFault.{StoreFault}
 use Rattle.office_tables.specs.declared.fault.StoreFault.TheVariants as fault
 
--- A growth was refused: of memory, or of the store, whose rows and row numbers have an end. Or the disk failed, or was
--- shut by an earlier failure. Or else the statement is none for these tables.
+-- Growth was refused: of memory, or of the store, whose rows and row numbers are limited. Or the disk failed, or an
+-- earlier failure had shut it. Otherwise the statement does not fit these tables.
 abbrev pub fault_of : Error → StoreFault
 fault_of (SqliteFailure code.OutOfMemory) = fault.Memory
 fault_of (SqliteFailure code.TooBig) = fault.Memory
@@ -24,14 +24,14 @@ fault_of _ = fault.Schema
 abbrev pub IsUnlimited : State → Type 0
 IsUnlimited s = s.step_limit ≡ None
 
--- The cause of a fault: the disk failed in the call, or an earlier failure had shut it. Want of memory may come at any
--- time, and the tables are never blamed.
+-- The cause of a fault: the disk failed in the call, or an earlier failure had shut it. Memory may run out at any time,
+-- and the tables are never blamed.
 abbrev pub HasCause : State → State → StoreFault → Type 0
 HasCause old new fault.Memory = ⊤
 HasCause old new fault.Disk = MoreFaults old.faults new.faults ⊎ (old.is_open ≡ false)
 HasCause old new fault.Schema = ⊥
 
--- every fault has its cause, where the disk is clean and no limit is set
+-- every fault has its cause, if the disk is clean and no limit is set
 abbrev pub FaultsHaveCause : {X : Type 0} → State → State → Result X StoreFault → Type 0
 FaultsHaveCause old new r = HasCleanDisk new → IsUnlimited old → IfErr r (HasCause old new)
 

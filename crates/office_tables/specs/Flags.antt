@@ -1,4 +1,4 @@
--- Yes and no, as a table has them.
+-- Yes and no, as a table stores them.
 use Rattle.std.specs.Prelude.{ℤ, pos, Bool, true, false}
 
 abbrev pub flag : Bool → ℤ

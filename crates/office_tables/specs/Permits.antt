@@ -4,6 +4,6 @@ use Rattle.sqlite.specs.declared.types.Value.TheVariants.{Int}
 use Rattle.sqlite.specs.Order.{Row}
 use Rattle.desk_core.specs.DeskRows.{PermitRow}
 
--- a row has a number of its own that tells nothing
+-- a row has a number of its own, which has no meaning
 abbrev pub permit_cells : ℤ × PermitRow → Row
 permit_cells (n, p) = Int n ∷ Int (pos p.ticket) ∷ Int (pos p.unit) ∷ Int p.until ∷ []

@@ -1,5 +1,5 @@
--- The rows of the tables in cells: the rowid and then the columns. The column that is the INTEGER PRIMARY KEY is kept as
--- NULL. Where a table has none, its rows have a number of their own that tells nothing.
+-- The rows of the tables in cells: the rowid and then the columns. The column that is the INTEGER PRIMARY KEY is kept
+-- as NULL. If a table has no such column, each of its rows has a number of its own, which has no meaning.
 use Rattle.std.specs.Prelude.{ℤ, pos, [], ◌∷◌, option_map}
 use Rattle.sqlite.specs.declared.types.Value.TheVariants.{Null, Int, Text}
 use Rattle.sqlite.specs.Order.{Row}
@@ -9,7 +9,7 @@ use Rattle.tree_core.specs.declared.rows.Span.{Span}
 use Rattle.catalogue_core.specs.CatalogueRows.{UnitRow, ElementRow, ContainerRow, HousingRow, box_from}
 use Rattle.desk_core.specs.DeskRows.{ReaderRow, SeatRow, OrderRow, HoldingRow, RunRow, RunLineRow}
 use Rattle.office_tables.specs.Flags.{flag}
-use Rattle.office_tables.specs.Shared.{container_row}
+use Rattle.office_tables.specs.SharedRows.{container_row}
 
 -- ---- the catalogue
 

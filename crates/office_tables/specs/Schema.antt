@@ -1,7 +1,8 @@
--- The tables of an office, in the order in which they are made: the desk's, the catalogue's, and that of the places.
--- Every table is STRICT, and none has a CHECK. The table of the places is the last, so that a file that is brought
--- from version 1 to version 2 has the very schema of one that was made in version 2. It alone has indexes of their own;
--- those of the other tables come with their UNIQUE. So all tables stand before all indexes, as where SQLite vacuums a file.
+-- The tables of an office, in the order in which they are made: the desk's, the catalogue's, and the table of places.
+-- Every table is STRICT, and none has a CHECK. The table of places is the last, so that a file that is brought from
+-- version 1 to version 2 has exactly the schema of one that was made in version 2. It alone has plain indexes; the
+-- indexes of the other tables come with their UNIQUE. So all tables stand before all plain indexes, as in a file that
+-- SQLite has vacuumed.
 use Rattle.std.specs.Prelude.{ℕ, Bool, true, false, List, [], ◌∷◌, Option, Some, None, codes, map}
 use Rattle.sqlite.specs.Collation.TheVariants.{Binary}
 use Rattle.sqlite.specs.declared.types.Value.TheVariants.{Null}
@@ -66,15 +67,16 @@ reader = keyed (codes "reader") 0 (nullable (codes "ticket") ∷ words (codes "n
 abbrev pub seat : Table
 seat = keyed (codes "seat") 1 (nullable (codes "seat") ∷ number (codes "ticket") ∷ []) ((2 ∷ []) ∷ [])
 
--- Those that wait are few among those of the past. Each of these keys holds the number of the order, so it refuses none.
+-- The orders that wait are few among the past ones. Each of these keys contains the number of the order, so it refuses
+-- no row.
 abbrev pub waiting_key : List ℕ
 waiting_key = 5 ∷ 3 ∷ 0 ∷ 2 ∷ []
 
--- those of a ticket, by day
+-- the orders of a ticket, by day
 abbrev pub placed_key : List ℕ
 placed_key = 2 ∷ 4 ∷ 0 ∷ []
 
--- those of a ticket, by state
+-- the orders of a ticket, by state
 abbrev pub live_key : List ℕ
 live_key = 2 ∷ 5 ∷ 0 ∷ []
 
@@ -128,7 +130,7 @@ container = keyed (codes "container") 19
     (nullable (codes "id") ∷ words (codes "name") ∷ words (codes "location") ∷ words (codes "kind") ∷ [])
     ((2 ∷ 3 ∷ 4 ∷ []) ∷ [])
 
--- a unit has a container once, and the units of a container are found by it
+-- a unit has a container only once; the second key finds the units of a container
 abbrev pub housing : Table
 housing = table (codes "housing") 21 None (number (codes "unit") ∷ number (codes "ord") ∷ number (codes "container") ∷ [])
     (1 ∷ 2 ∷ []) ((1 ∷ 2 ∷ []) ∷ (3 ∷ 1 ∷ []) ∷ []) (to_unit 1 ∷ [])

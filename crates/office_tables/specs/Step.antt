@@ -1,4 +1,4 @@
--- What a call leaves of the transaction that its caller began.
+-- What a call does to the transaction that its caller began.
 use Rattle.std.specs.Prelude.{◌≡◌, ◌⊎◌, ℕ, true, false, IsTrue, nat_eq, List, [], ◌∷◌, map}
 use Rattle.std.specs.List.{list_any}
 use Rattle.sqlite.specs.Effect.{Database}
@@ -17,7 +17,7 @@ use Rattle.office_tables.specs.declared.fault.StoreFault.{StoreFault}
 abbrev pub InTransaction : Version → State → Type 0
 InTransaction version s = HasCleanDisk s → (s.now.schema ≡ schema version) × IsTrue s.in_transaction
 
--- the same, of either version
+-- the same, for either version
 abbrev pub InOffice : State → Type 0
 InOffice s = HasCleanDisk s → (version : Version) × (s.now.schema ≡ schema version) × IsTrue s.in_transaction
 
@@ -40,18 +40,18 @@ pub record Continues (old new : State) : Type 0 where
   pub crash : Survives old new (λ _. ⊥)
   pub within : HasCleanDisk new → GoesOn old new
 
--- What a call leaves that succeeds: the transaction goes on over the same tables.
+-- What a call that succeeds leaves: the transaction goes on over the same tables.
 pub record Goes (old new : State) : Type 0 where
   pub on : Continues old new
   pub schema : HasCleanDisk new → new.now.schema ≡ old.now.schema
 
--- What a call leaves that fails: the transaction goes on and can be taken back, or it has been taken back.
+-- What a call that fails leaves: the transaction goes on and can be rolled back, or it has been rolled back.
 pub record IsAborted (old new : State) : Type 0 where
   pub crash : Survives old new (λ _. ⊥)
   pub cut : HasCleanDisk new → GoesOn old new ⊎ IsBack old new
 
--- What a fault spares: the disk is blamed for its own failures only; and the rows are left so, or the transaction was
--- taken back.
+-- What a fault spares: the disk is blamed for its own failures only; and the rows are as `Left` says, or the
+-- transaction was rolled back.
 pub record Spares (Left : Database → Database → Type 0) (old new : State) (e : StoreFault) : Type 0 where
   pub disk : BlamesDisk old new e
   pub rows : Left old.now new.now ⊎ IsBack old new
@@ -70,7 +70,7 @@ table_trees =
 abbrev pub OnlyTouches : List ℕ → Database → Database → Type 0
 OnlyTouches touched old new = (tree : ℕ) → list_any (nat_eq tree) table_trees ≡ true → list_any (nat_eq tree) touched ≡ false → new.trees tree ≡ old.trees tree
 
--- what a call leaves that reads
+-- what a call that reads leaves: the transaction goes on, and no row has changed
 pub record LeavesUnchanged (old new : State) : Type 0 where
   pub goes : Goes old new
   pub same : HasCleanDisk new → new.now ≡ old.now
@@ -79,7 +79,7 @@ pub record LeavesUnchanged (old new : State) : Type 0 where
 abbrev pub Holds : {A : Type 0} → Table → (A → Row) → State → List A → Type 0
 Holds table row s xs = s.now.trees table.tree ≡ map row xs
 
--- the table with this tree has one row more, whose number was free, and no other table is touched
+-- the table with this tree has one more row, whose number was free, and no other table is touched
 pub record PutsRow (tree : ℕ) (row : Row) (old new : Database) : Type 0 where
   pub rows : new.trees tree ≡ put_row row (old.trees tree)
   pub fresh : is_taken (old.trees tree) row ≡ false

@@ -2,11 +2,11 @@
 use Rattle.std.specs.Prelude.{◌≡◌, ◌⊎◌, false, IsTrue}
 use Rattle.sqlite.specs.State.{State, IsUnchanged, IsRolledBack}
 
--- nothing was done, or all since the last commit was taken back
+-- nothing was done, or everything since the last commit was rolled back
 abbrev pub IsStopped : State → State → Type 0
 IsStopped old new = IsUnchanged old new ⊎ IsRolledBack old new
 
--- what was seen is committed, and no transaction is open
+-- what the connection saw is committed, and no transaction is open
 pub record Committed (old new : State) : Type 0 where
   pub was_open : IsTrue old.is_open
   pub is_open : IsTrue new.is_open

@@ -3,13 +3,13 @@
 ghost use Rattle.sqlite.specs.Held.{state};
 ghost use Rattle.sqlite.specs.State.{HasCleanDisk, IsLive};
 ghost use Rattle.sqlite.specs.Values.{bound};
-ghost use Rattle.office_tables.specs.Changing.{IsOurs, Leaves, Ran};
+ghost use Rattle.office_tables.specs.ChangeStatement.{IsOurs, Leaves, Ran};
 
 use crate::fault::StoreFault;
 use sqlite::types::ValueRef;
 use sqlite::{Alter, Connection};
 
-/// Runs a statement of ours that changes rows.
+/// Runs one of our statements that change rows.
 pub fn change<S: Alter>(
     conn: &mut Connection<S>,
     sql: &str,

@@ -3,16 +3,16 @@
 use sqlite::{Error, ErrorCode};
 use std::alloc::{AllocError, AllocFailed};
 
-/// After a fault the caller's transaction is to be taken back: it goes on with what was done so far,
-/// or has been taken back already.
+/// Why a call on the tables failed. The caller must then roll its transaction back: the transaction goes on with what
+/// was done so far, or has been rolled back already.
 #[derive(Clone, Copy, Debug, PartialEq, Eq)]
 pub enum StoreFault {
-    /// A growth was refused: of memory, or of the store, where a row is too long for it (10^9 bytes)
-    /// or a table has given away its last row number (2^63 - 1).
+    /// Growth was refused: of memory, or of the store, if a row is too long for it (10^9 bytes) or a table has used its
+    /// last row number (2^63 - 1).
     Memory,
-    /// The store's disk failed.
+    /// The store's disk failed, or an earlier failure had shut the store.
     Disk,
-    /// The tables are not ours, or, where they are made, some are there.
+    /// The tables are not an office's, or tables that are to be made are already there.
     Schema,
 }
 

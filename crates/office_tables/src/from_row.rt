@@ -1,4 +1,4 @@
-//! Rows that a query answers, read one by one.
+//! Rows that a query returns, read one by one.
 
 ghost use Rattle.std.specs.Prelude.{◌≡◌, ◌≢◌, ◌<◌, ◌^◌, ℕ, pos, List, [], ◌∷◌, map, slice_index_or, IfOk, IfErr};
 ghost use Rattle.std.specs.List.{AllByRecursion};
@@ -10,14 +10,14 @@ use sqlite::Row;
 use std::alloc::Global;
 use tree_core::Link;
 
-/// What a row of a query tells.
+/// A record that can be read from a row of a query.
 pub trait FromRow {
     ghost use Rattle.sqlite.specs.Order.{Row};
 
-    /// The cells that stand for it.
+    /// The cells that represent it.
     ghost cells: { Self → Row };
 
-    /// Its cells can be read; nothing is promised where it is not said when.
+    /// Its cells can be read. If a type does not define this, nothing is promised.
     ghost is_legible: { Self → Type 0 } = { λ _. ⊥ };
 
     fn read(row: &Row) -> Result<Self, StoreFault>
@@ -70,7 +70,7 @@ impl FromRow for Text {
 
 impl FromRow for BoxKey {
     ghost use Rattle.std.specs.Prelude.{[], ◌∷◌};
-    ghost use Rattle.isad_core.specs.Legible.{IsLegibleBox};
+    ghost use Rattle.isad_core.specs.LegibleValues.{IsLegibleBox};
     ghost use Rattle.sqlite.specs.declared.types.Value.TheVariants.{Text as words_cell};
 
     ghost cells = { λ b. words_cell b.name ∷ words_cell b.location ∷ words_cell b.kind ∷ [] };
@@ -104,7 +104,7 @@ impl FromRow for Link {
     }
 }
 
-/// Reads all rows of an answer.
+/// Reads all rows that a query returned.
 pub fn read_all<T: FromRow + Drop>(alloc: Global, rows: &[Row]) -> Result<Vec<T>, StoreFault>
     ensures value { (xs : List T) → rows.now ≡ map T.cells xs → IfOk result (λ all. all.items ≡ xs) }
     ensures faults { (xs : List T) → rows.now ≡ map T.cells xs → AllByRecursion T.is_legible xs
@@ -118,7 +118,7 @@ pub fn read_all<T: FromRow + Drop>(alloc: Global, rows: &[Row]) -> Result<Vec<T>
     Ok(all)
 }
 
-/// The number of an answer that has one.
+/// The number in a result that must have exactly one. Fails with `StoreFault::Schema` otherwise.
 pub fn only_number(numbers: &[u64]) -> Result<u64, StoreFault>
     ensures value { (n : ℕ) → numbers.now ≡ n ∷ [] → result ≡ Ok n }
     ensures fair { IfErr result (λ e. e ≢ StoreFault.Disk) }
@@ -129,7 +129,7 @@ pub fn only_number(numbers: &[u64]) -> Result<u64, StoreFault>
     }
 }
 
-/// The number in the first row, or 0 where there is none.
+/// The number in the first row, or 0 if there is no row.
 pub fn first_or_zero(rows: &[Row]) -> Result<u32, StoreFault>
     ensures value { (xs : List ℕ) → rows.now ≡ map (λ n. Int (pos n) ∷ []) xs
         → IfOk result (λ n. n ≡ slice_index_or xs 0 0) }

@@ -5,7 +5,7 @@ ghost use Rattle.sqlite.specs.Held.{state};
 ghost use Rattle.sqlite.specs.State.{HasCleanDisk};
 ghost use Rattle.sqlite.specs.Values.{bound};
 ghost use Rattle.sqlite.specs.declared.types.Value.TheVariants.{Int};
-ghost use Rattle.office_tables.specs.Asking.{IsOurQuery, Reads, Finds, FindsFirst, Misses};
+ghost use Rattle.office_tables.specs.Query.{IsOurQuery, Reads, Finds, FindsFirst, Misses};
 
 use crate::fault::StoreFault;
 use crate::from_row::{FromRow, first_or_zero, read_all};
@@ -13,7 +13,7 @@ use sqlite::types::ValueRef;
 use sqlite::{Alter, Connection};
 use std::alloc::Global;
 
-/// The records that a query of ours shows.
+/// The records that one of our queries returns.
 pub fn find<T: FromRow + Drop, S: Alter>(
     alloc: Global,
     conn: &mut Connection<S>,
@@ -33,7 +33,7 @@ pub fn find<T: FromRow + Drop, S: Alter>(
     read_all(alloc, &rows)
 }
 
-/// The number in the first row that a query of ours shows, or 0 where it shows none.
+/// The number in the first row that one of our queries returns, or 0 if it returns none.
 pub fn find_number<S: Alter>(
     conn: &mut Connection<S>,
     sql: &str,

@@ -1,31 +1,31 @@
-//! The rows of an answer, taken one by one, so that many of them take no memory.
+//! The rows of a query, taken one by one, so that they are not all in memory at once.
 
 ghost use Rattle.std.specs.Prelude.{[], IfOk, IfErr};
 ghost use Rattle.sqlite.specs.Held.{state};
 ghost use Rattle.sqlite.specs.Given.{IsPlain};
 ghost use Rattle.sqlite.specs.Listing.{understood};
 ghost use Rattle.sqlite.specs.State.{HasCleanDisk, Survives};
-ghost use Rattle.office_tables.specs.Asking.{IsOurQuery, Reads, Gathers, StopsShort};
+ghost use Rattle.office_tables.specs.Query.{IsOurQuery, Reads, Gathers, StopsShort};
 
 use crate::fault::StoreFault;
 use sqlite::{Alter, Connection, Row};
 
-/// What is gathered from rows, one after the other.
+/// What is gathered from rows, one after another.
 pub trait Gathering {
     ghost use Rattle.std.specs.Prelude.{◌≡◌, List, [], ◌∷◌, ◌++◌, OnOk, IfErr};
     ghost use Rattle.sqlite.specs.Order.{Row};
 
-    /// It is what these rows, in this order, come to.
+    /// It is what these rows come to, in this order.
     ghost holds: { List Row → Self → Type 0 };
 
-    /// Takes one row more.
+    /// Takes one more row.
     fn take(&mut self, row: &Row) -> Result<(), StoreFault>
         ensures takes { (rows : List Row) → holds rows self.old
             → OnOk result (holds (rows ++ row.now ∷ []) self.new) }
         ensures faults { IfErr result (λ e. e ≡ StoreFault.Memory) };
 }
 
-/// Takes the rows of an answer.
+/// Takes all rows of a query, which has no parameters.
 fn take_rows<G: Gathering + Drop, S: Alter>(
     conn: &mut Connection<S>,
     sql: &str,
@@ -49,7 +49,7 @@ fn take_rows<G: Gathering + Drop, S: Alter>(
     Err(StoreFault::Memory)
 }
 
-/// What the rows of a query of ours come to, that has no parameters.
+/// Runs one of our queries, which has no parameters, and returns what its rows come to.
 pub fn gather<G: Gathering + Drop, S: Alter>(
     conn: &mut Connection<S>,
     sql: &str,

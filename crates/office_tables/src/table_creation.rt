@@ -1,4 +1,4 @@
-//! The tables are made.
+//! Makes one table or index, and the catalogue's tables except the table of places.
 
 ghost use Rattle.std.specs.Prelude.{List, OnOk, OnErr, IfErr};
 ghost use Rattle.sqlite.specs.State.{HasCleanDisk};
@@ -88,7 +88,7 @@ pub fn create_units<S: Alter>(conn: &mut Connection<S>) -> Result<(), StoreFault
     )
 }
 
-/// Makes the tables of the containers and of what they hold.
+/// Makes the tables of the containers and of the units in them.
 pub fn create_containers<S: Alter>(conn: &mut Connection<S>) -> Result<(), StoreFault>
     ensures made { (start : Database) → IsMaking desk_tables unit_schema start (state S.Store conn.old)
         → OnOk result (Continues (state S.Store conn.old) (state S.Store conn.new)

@@ -1,4 +1,4 @@
-//! A transaction's begin and end. What lies between are the calls on the tables.
+//! The beginning and the end of a transaction. The calls on the tables come in between.
 
 ghost use Rattle.std.specs.Prelude.{◌≡◌, true, false, OnOk, OnErr, IfErr, IsTrue};
 ghost use Rattle.sqlite.specs.Held.{state};
@@ -10,7 +10,7 @@ ghost use Rattle.office_tables.specs.Transactions.{Committed, IsStopped};
 use crate::fault::StoreFault;
 use sqlite::{Alter, Connection};
 
-/// Begins a transaction, where none is open.
+/// Begins a transaction. Fails if one is already open.
 pub fn begin<S: Alter>(conn: &mut Connection<S>) -> Result<(), StoreFault>
     ensures outside { HasCleanDisk (state S.Store conn.new)
         → OnOk result ((state S.Store conn.old).in_transaction ≡ false) }
@@ -44,7 +44,7 @@ pub fn commit<S: Alter>(conn: &mut Connection<S>) -> Result<(), StoreFault>
     Ok(())
 }
 
-/// Takes the transaction back, whatever comes of it.
+/// Rolls the transaction back, and ignores a failure.
 pub fn roll_back<S: Alter>(conn: &mut Connection<S>)
     ensures back { HasCleanDisk (state S.Store conn.new) → IsTrue (state S.Store conn.old).in_transaction
         → IsBack (state S.Store conn.old) (state S.Store conn.new) }

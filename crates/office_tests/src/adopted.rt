@@ -1,4 +1,5 @@
-//! Offices that are opened over tables that one statement has damaged: why not, or how the day goes on.
+//! Offices opened over existing tables: why tables that one statement has damaged are refused, and how the day goes on
+//! over good ones.
 
 ghost use Rattle.std.specs.Prelude.{◌≡◌, false, IfOk, None};
 ghost use Rattle.sqlite.specs.Held.{state};
@@ -16,7 +17,7 @@ use std::alloc::Global;
 use std::process::Abort;
 use std::test::Fail;
 
-/// A box is with its first reader, and another waits for it.
+/// The first reader has a box, and another waits for it.
 const MORNING: [Said; 8] = [
     Said::Import(BOXES),
     Said::Register,
@@ -28,10 +29,10 @@ const MORNING: [Said; 8] = [
     Said::Issue(1, 1),
 ];
 
-/// A statement on the tables of a morning, and why no office is opened over what it leaves.
+/// A statement on the tables of a morning, and why no office is opened over the result.
 type Damage = (&'static str, OpenFault);
 
-/// Of the tables that both versions have.
+/// On tables that both versions have.
 const ANYWHERE: [Damage; 31] = [
     ("DROP TABLE office", OpenFault::NoOffice),
     ("DELETE FROM office", OpenFault::NoOffice),
@@ -108,7 +109,7 @@ const ANYWHERE: [Damage; 31] = [
     ),
 ];
 
-/// Of version 1.
+/// On tables of version 1.
 const IN_LINKS: [Damage; 4] = [
     ("UPDATE office SET version = 2", OpenFault::NewVersion),
     (
@@ -122,7 +123,7 @@ const IN_LINKS: [Damage; 4] = [
     ("DELETE FROM link WHERE id = 4", OpenFault::Unsound(3)),
 ];
 
-/// Of version 2.
+/// On tables of version 2.
 const IN_SPANS: [Damage; 4] = [
     ("UPDATE office SET version = 1", OpenFault::OldVersion),
     (
@@ -160,7 +161,7 @@ fn after_a_morning<P: Places>(alloc: Global) -> Result<Connection<MemStore>, Fai
     Ok(conn)
 }
 
-/// Opens an office. Want of memory changes nothing, so the same is done again.
+/// Opens an office. Want of memory changes nothing, so it is tried again.
 fn adopted<P: CheckedPlaces>(
     alloc: Global,
     conn: Connection<MemStore>,
@@ -178,7 +179,7 @@ fn adopted<P: CheckedPlaces>(
     }
 }
 
-/// Why none is opened, if it is not.
+/// Why no office is opened, or none if one is.
 fn fault_of<P: CheckedPlaces>(alloc: Global, conn: Connection<MemStore>) -> Option<OpenFault>
     requires outside { HasCleanDisk (state over_memory conn) → (state over_memory conn).in_transaction ≡ false }
     requires unlimited { (state over_memory conn).step_limit ≡ None }
@@ -233,7 +234,7 @@ fn damaged_spans(rt: HostRuntime) -> Result<(), Fail> {
     damages_are_told::<SpanPlaces>(&rt, rt.alloc(), &IN_SPANS)
 }
 
-/// Nobody else gets the box that is out, and it comes back.
+/// Nobody else gets the box that is out, and it is returned.
 const EVENING: [(Said, &str); 2] = [
     (Said::Issue(1, 2), "{\"code\":14,\"refused\":\"NotAtDesk\"}"),
     (Said::Return(1), "{\"order\":1}"),

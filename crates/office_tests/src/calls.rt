@@ -1,5 +1,5 @@
-//! What is said to an office by its own calls, and the bytes that it answers. Where memory is refused nothing is
-//! changed, and the same call is answered as without.
+//! Calls of an office, and the bytes of its answers. If memory is refused nothing is changed, and the same call, tried
+//! again, is answered as usual.
 
 use crate::offices::day_after;
 use catalogue_store::Places;
@@ -11,27 +11,37 @@ use std::alloc::Global;
 use std::process::Abort;
 use std::test::Fail;
 
-/// What is said to the office.
+/// A call to the office.
 #[derive(Clone, Copy)]
 pub(crate) enum Said {
-    /// A file's text, from source `a`.
+    NextDay,
+    /// The text of a file, from source `a`.
     Import(&'static str),
-    Register,
-    /// A unit is closed for a month.
+    /// Publishes a unit with all below it.
+    Publish(u64),
+    /// Closes a unit for a month.
     Close(u64),
-    /// For a ticket and a unit, for a month.
+    Reopen(u64),
+    Move(u64, Option<u64>),
+    Remove(u64),
+    Register,
+    /// Renews a ticket for a month.
+    Renew(u64),
+    /// Permits a ticket to see a unit for a month.
     Permit(u64, u64),
+    Revoke(u64, u64),
     Sit(u64),
+    Leave(u64),
     Order(u64, u64),
+    Cancel(u64),
     Run,
     Issue(u64, u64),
     Return(u64),
-    Move(u64, Option<u64>),
-    Remove(u64),
+    Reshelve,
     Ask(Query),
 }
 
-/// What is said, and the bytes that answer it.
+/// A call, and the bytes of the expected answer.
 pub(crate) type Step = (Said, &'static str);
 
 fn import(alloc: Global, file: &str) -> Result<Command, Fail> {
@@ -48,32 +58,54 @@ fn register(alloc: Global) -> Result<Command, Fail> {
     })
 }
 
-/// The command; a question has none.
+/// The command of a call. A question has none.
 fn command(alloc: Global, said: Said) -> Result<Command, Fail> {
     Ok(match said {
+        Said::NextDay => Command::OpenDay { day: day_after(1)? },
         Said::Import(file) => import(alloc, file)?,
-        Said::Register => register(alloc)?,
+        Said::Publish(unit) => Command::SetStatus {
+            unit,
+            draft: false,
+            branch: true,
+        },
         Said::Close(unit) => Command::SetClosure {
             unit,
             until: Some(day_after(30)?),
+        },
+        Said::Reopen(unit) => Command::SetClosure { unit, until: None },
+        Said::Move(unit, parent) => Command::Move { unit, parent },
+        Said::Remove(unit) => Command::Remove { unit },
+        Said::Register => register(alloc)?,
+        Said::Renew(ticket) => Command::Renew {
+            ticket,
+            until: day_after(30)?,
         },
         Said::Permit(ticket, unit) => Command::Permit {
             ticket,
             unit,
             until: day_after(30)?,
         },
-        Said::Sit(ticket) => Command::TakeSeat { ticket },
-        Said::Order(ticket, container) => Command::Order { ticket, container },
-        Said::Run => Command::Run,
-        Said::Issue(container, ticket) => Command::Issue { container, ticket },
-        Said::Return(container) => Command::Return { container },
-        Said::Move(unit, parent) => Command::Move { unit, parent },
-        Said::Remove(unit) => Command::Remove { unit },
+        Said::Revoke(ticket, unit) => Command::Revoke { ticket, unit },
         Said::Ask(_) => return Err(Fail::new("no command")),
+        at_desk => desk_command(at_desk),
     })
 }
 
-/// Carries it out. Want of memory changes nothing, so the same is done again.
+/// What is done with seats and containers.
+fn desk_command(said: Said) -> Command {
+    match said {
+        Said::Sit(ticket) => Command::TakeSeat { ticket },
+        Said::Leave(ticket) => Command::LeaveSeat { ticket },
+        Said::Order(ticket, container) => Command::Order { ticket, container },
+        Said::Cancel(order) => Command::Cancel { order },
+        Said::Issue(container, ticket) => Command::Issue { container, ticket },
+        Said::Return(container) => Command::Return { container },
+        Said::Reshelve => Command::Reshelve,
+        _ => Command::Run,
+    }
+}
+
+/// Carries out a command. Want of memory changes nothing, so it is tried again.
 fn applied<P: Places, S: Alter>(
     alloc: Global,
     office: &mut Office<P, S>,
@@ -119,7 +151,7 @@ pub(crate) fn told<P: Places, S: Alter>(
     Ok(reply.json)
 }
 
-/// Says it all, one after the other, and wants these answers.
+/// Makes the calls, one after the other, and checks the answers.
 pub(crate) fn goes<P: Places, S: Alter>(
     rt: &impl Abort,
     alloc: Global,

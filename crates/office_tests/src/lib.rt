@@ -6,7 +6,7 @@ mod adopted;
 #[cfg(test)]
 mod calls;
 #[cfg(test)]
-mod days;
+mod each_call;
 #[cfg(test)]
 mod migrated_tables;
 #[cfg(test)]
@@ -15,5 +15,3 @@ mod migration;
 mod offices;
 #[cfg(test)]
 mod places;
-#[cfg(test)]
-mod rounds;

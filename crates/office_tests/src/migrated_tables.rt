@@ -1,4 +1,4 @@
-//! Tables are brought from version 1 to version 2, or it is told why not.
+//! Tables are migrated from version 1 to version 2, or refused with the reason.
 
 ghost use Rattle.std.specs.Prelude.{◌≡◌, false, IfOk, None};
 ghost use Rattle.sqlite.specs.Held.{state};
@@ -15,11 +15,11 @@ use std::alloc::Global;
 use std::process::Abort;
 use std::test::Fail;
 
-/// One below a top.
+/// One unit below a top.
 const FONDS: &str =
     "legacyId,parentId,identifier,title,levelOfDescription,publicationStatus\n1,,HUL,Hull Dock Company,Fonds,Published\n2,1,1,Minutes,Series,Published\n";
 
-/// A statement on the tables of version 1, and why they are not brought over then.
+/// A statement on the tables of version 1, and why they are then not migrated.
 const REFUSED: [(&str, OpenFault); 6] = [
     (
         "UPDATE link SET parent = 2 WHERE id = 1",
@@ -48,7 +48,7 @@ fn tables(alloc: Global) -> Result<Connection<MemStore>, Fail>
     Ok(conn)
 }
 
-/// Why they are not brought over, if they are not. Want of memory changes nothing, so the same is done again.
+/// Why they are not migrated, or none if they are. Want of memory changes nothing, so it is tried again.
 fn fault_of(alloc: Global, conn: &mut Connection<MemStore>) -> Option<OpenFault>
     requires outside { HasCleanDisk (state over_memory conn.old)
         → (state over_memory conn.old).in_transaction ≡ false }
@@ -64,7 +64,7 @@ fn fault_of(alloc: Global, conn: &mut Connection<MemStore>) -> Option<OpenFault>
     }
 }
 
-/// They come over once, as the tables of version 2 that they then are.
+/// They are migrated once; after that they are tables of version 2.
 #[test]
 fn tables_come_to_version_2(rt: HostRuntime) -> Result<(), Fail> {
     let alloc = rt.alloc();
@@ -98,7 +98,7 @@ fn damaged(alloc: Global, sql: &str) -> Result<Connection<MemStore>, Fail>
     Ok(conn)
 }
 
-/// They are not brought over, and stay as they are after the statement.
+/// They are not migrated, and stay as they are after the statement.
 fn stays(rt: &impl Abort, alloc: Global, sql: &str, fault: OpenFault) -> Result<(), Fail> {
     let mut same = damaged(alloc, sql)?;
     let before = shown(alloc, &mut same)?;
@@ -117,7 +117,7 @@ fn others_stay_as_they_are(rt: HostRuntime) -> Result<(), Fail> {
     Ok(())
 }
 
-/// Where there are no tables, there is no office.
+/// Without tables there is no office.
 #[test]
 fn no_tables_are_brought_over(rt: HostRuntime) -> Result<(), Fail> {
     let alloc = rt.alloc();

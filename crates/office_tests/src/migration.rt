@@ -1,4 +1,4 @@
-//! An office goes from version 1 to version 2, and answers as before.
+//! An office is migrated from version 1 to version 2, and answers as before.
 
 use crate::calls::{Said, Step, goes};
 use crate::offices::{BOXES, FONDS, in_memory};
@@ -11,8 +11,8 @@ use std::alloc::Global;
 use std::process::Abort;
 use std::test::Fail;
 
-/// What is said over links; what is asked then, and again over nested sets; what is said over these; and the rows of
-/// the places at the end.
+/// The calls over links; the questions that are asked then, and again over nested sets; the calls over nested sets; and
+/// the rows of the places at the end.
 #[derive(Clone, Copy)]
 struct Case {
     before: &'static [Step],
@@ -21,7 +21,7 @@ struct Case {
     spans: &'static str,
 }
 
-/// Two below a top, each with one below it, and another top.
+/// Two units below a top, each with one below it, and another top.
 const BRANCHES: &str =
     "legacyId,parentId,identifier,title,levelOfDescription,publicationStatus,physicalObjectName\n1,,HUL,Docks,Fonds,Published,Box 1\n2,1,1,Minutes,Series,Published,\n3,1,2,Plans,Series,Published,Box 2\n4,,W,Wharf,Fonds,Published,Box 3\n5,2,a,Letters,File,Published,\n6,3,b,Gates,File,Published,\n";
 
@@ -43,7 +43,7 @@ const FIRST_WAITS: Step = (
 
 const NOTHING_OUT: Step = (Said::Ask(Query::IssuedNow), "[]");
 
-/// Four tops, of which the first became the last.
+/// Four tops, the first of which was moved to the end.
 const MOVED_TOP: Case = Case {
     before: &[
         (
@@ -69,8 +69,8 @@ const MOVED_TOP: Case = Case {
     spans: " 2 1 2\n 3 3 4\n 4 5 6\n 1 7 8\n",
 };
 
-/// The second of two below a top came behind the other, and their top behind another. It is closed, and a reader with a
-/// permit for it waits for the box of its top.
+/// One of two units below a top was moved behind the other, and their top behind another top. It is closed, and a
+/// reader with a permit for it waits for the box of its top.
 const MOVED_CHILD: Case = Case {
     before: &[
         BRANCHES_TAKEN_IN,
@@ -116,7 +116,7 @@ const MOVED_CHILD: Case = Case {
     spans: " 4 1 2\n 1 3 12\n 3 4 7\n 6 5 6\n 2 8 11\n 5 9 10\n",
 };
 
-/// A fonds and a series below it, as they came.
+/// A fonds and a series below it, as they were imported.
 const AS_THEY_CAME: Case = Case {
     before: &[(
         Said::Import(FONDS),
@@ -137,7 +137,7 @@ const NO_UNITS: Case = Case {
     spans: "",
 };
 
-/// A file comes into an office that had none.
+/// A file is imported into an office without units.
 const NONE_BEFORE: Case = Case {
     before: &[],
     asked: &[NOTHING_OUT],
@@ -145,7 +145,7 @@ const NONE_BEFORE: Case = Case {
     spans: " 1 1 10\n 2 2 5\n 5 3 4\n 3 6 9\n 6 7 8\n 4 11 12\n",
 };
 
-/// Its numbers; a dash where there is none.
+/// Writes the numbers of a row, with a dash for NULL.
 fn show_row(text: &mut String, row: &Row, width: usize) -> Result<(), Fail> {
     for place in 0..width {
         let number: Option<i64> = row.get(place)?;
@@ -186,7 +186,7 @@ fn links_are_gone<S: Alter>(alloc: Global, conn: &mut Connection<S>) -> Result<b
     }
 }
 
-/// The tables are those of version 2, with these places.
+/// Checks that the tables are those of version 2, with these places.
 pub(crate) fn has_spans<S: Alter>(
     rt: &impl Abort,
     alloc: Global,
@@ -202,7 +202,7 @@ pub(crate) fn has_spans<S: Alter>(
     Ok(())
 }
 
-/// It does not migrate: the office is as it was, and migrates then.
+/// After a migration that failed the office answers as before, and is then migrated.
 fn again(
     rt: &impl Abort,
     alloc: Global,
@@ -223,7 +223,7 @@ fn again(
     }
 }
 
-/// The office in version 2. Where memory is refused it is brought there once more.
+/// Migrates the office to version 2. If memory is refused, it is tried once more.
 fn migrated(
     rt: &impl Abort,
     alloc: Global,
@@ -236,7 +236,7 @@ fn migrated(
     }
 }
 
-/// An office of version 1, to which all this was said.
+/// An office of version 1 after these calls.
 fn office_of_links(
     rt: &impl Abort,
     alloc: Global,

@@ -4,8 +4,9 @@ ghost use Rattle.std.specs.Prelude.{◌≡◌, false};
 ghost use Rattle.sqlite.specs.Held.{state};
 ghost use Rattle.sqlite.specs.State.{HasCleanDisk};
 
-use catalogue_store::Places;
+use catalogue_store::{LinkPlaces, Places};
 use isad_core::Day;
+use nested_sets::SpanPlaces;
 use office::{Office, OpenFault, Settings, SettingsFault};
 use sqlite::{Alter, Connection, MemStore};
 use std::alloc::Global;
@@ -19,7 +20,7 @@ pub const BOXES: &str =
 pub const FONDS: &str =
     "legacyId,parentId,identifier,title,levelOfDescription,publicationStatus\n1,,HUL,Hull Dock Company,Fonds,Published\n2,1,1,Minutes,Series,Published\n";
 
-/// The first of March 2024, and so many days later.
+/// The day that is `days` days after the first of March 2024.
 pub fn day_after(days: u8) -> Result<Day, Fail> {
     match Day::from_number(19783 + i32::from(days)) {
         Some(day) => Ok(day),
@@ -28,12 +29,12 @@ pub fn day_after(days: u8) -> Result<Day, Fail> {
 }
 
 /// The settings of the worked rows.
-pub fn settings(alloc: Global) -> Result<Settings, Fail> {
+fn settings(alloc: Global) -> Result<Settings, Fail> {
     let day = day_after(0)?;
     Ok(Settings::new(alloc, "GB", "0999", 2, 3, 1, 2, day)?)
 }
 
-/// No office was made for want of memory: there is none yet, and one can be made.
+/// No office was made for want of memory: there is none yet, and it is tried again.
 fn once_more<P: Places, S: Alter + Drop>(
     alloc: Global,
     conn: Connection<S>,
@@ -60,7 +61,7 @@ pub fn in_memory<P: Places>(alloc: Global) -> Result<Office<P, MemStore>, Fail> 
     }
 }
 
-/// The first setting that is wrong is named.
+/// The first wrong setting is named.
 #[test]
 fn a_wrong_setting_is_named(rt: HostRuntime) -> Result<(), Fail> {
     let day = day_after(0)?;
@@ -73,4 +74,21 @@ fn a_wrong_setting_is_named(rt: HostRuntime) -> Result<(), Fail> {
         assert_eq!(rt; taken.err(), Some(wanted));
     }
     Ok(())
+}
+
+/// No office is made where one is, and its connection is given back.
+#[test]
+fn no_office_is_made_over_another(rt: HostRuntime) -> Result<(), Fail> {
+    let alloc = rt.alloc();
+    let office = in_memory::<LinkPlaces>(alloc)?;
+    let conn = office.into_connection();
+    let again = settings(alloc)?;
+    match Office::<SpanPlaces, MemStore>::create(conn, again) {
+        Err((OpenFault::Schema, _)) => Ok(()),
+        Err((fault, _)) => Err(Fail::from(fault)),
+        Ok(office) => {
+            let _ = office.into_connection();
+            Err(Fail::new("an office was made over another"))
+        }
+    }
 }

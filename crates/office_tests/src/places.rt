@@ -9,8 +9,8 @@ use std::alloc::Global;
 use std::process::Abort;
 use std::test::Fail;
 
-/// What is said after a fonds came with a series below it, and the rows then: unit, parent and place of links, unit,
-/// first and second number of nested sets.
+/// The calls after the import of a fonds with a series below it, and the rows afterwards: unit, parent and place for
+/// links; unit, first and second number for nested sets.
 #[derive(Clone, Copy)]
 struct Case {
     said: &'static [Step],
@@ -72,7 +72,7 @@ const CASES: [Case; 6] = [
     },
 ];
 
-/// The rows of an office to which all this was said.
+/// The rows of an office after these calls.
 fn rows_after<P: Places>(
     rt: &impl Abort,
     alloc: Global,

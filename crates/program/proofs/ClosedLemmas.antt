@@ -19,7 +19,7 @@ use Rattle.sqlite_trees.specs.View.{IsClean}
 use Rattle.sqlite_wal.proofs.LogLemmas.{SeenMayStay}
 use Rattle.sqlite_wal.specs.Reads.{AreClean}
 use Rattle.office_tables.proofs.Calls.{early}
-use Rattle.program.specs.Closed.{ACheckChangesNothing, AreAsFound, AreInTheFile, HasLeft, HaveCleanDisk, Hold}
+use Rattle.program.specs.ClosedFiles.{ACheckChangesNothing, AreAsFound, AreInTheFile, HasLeft, HaveCleanDisk, Hold}
 use Rattle.program.proofs.StoreLemmas.{held_in}
 
 module _ {D : Type 0} {g : Ghosts D} (conn : Held (FileStore D g)) (files : Files D)

@@ -5,7 +5,7 @@ use Rattle.sqlite.specs.Recovery.{Image}
 use Rattle.sqlite_disk.specs.declared.Disk.{Ghosts}
 use Rattle.office_tables.proofs.Calls.{early}
 use Rattle.program.proofs.HeadlineLemmas.{held_so}
-use Rattle.program.specs.Closed.{HoldState}
+use Rattle.program.specs.ClosedFiles.{HoldState}
 use Rattle.program.specs.Stores.{WhatWasBroughtOverIsHeld, WhatWasMadeIsHeld, WhatWasSaidIsHeld, WhatWasServedIsHeld, WhatWasTakenInIsHeld}
 
 module _ {D : Type 0} (g : Ghosts D) (image : Image) where

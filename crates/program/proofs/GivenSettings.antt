@@ -2,7 +2,7 @@
 use Rattle.std.proofs.Common.{◌≡◌, List, Option, Some, None, Result, Ok, Err, IfOk, IfErr, refl, subst, sym}
 use Rattle.clap.specs.Walk.{Row}
 use Rattle.office_core.specs.SettingsFaults.{WrongSetting, wrong_setting, Country, Repo, Seats, Daily, Hands, RunSize}
-use Rattle.office.specs.Founding.{AreTaken, Founding, IsTaken, fault_of}
+use Rattle.office.specs.InitialSettings.{AreTaken, Founding, IsTaken, fault_of}
 use Rattle.office.specs.declared.settings.SettingsFault.{SettingsFault}
 use Rattle.program.specs.Tasks.{AreGiven, AreRefused, fault_of_settings}
 

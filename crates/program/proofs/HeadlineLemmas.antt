@@ -11,13 +11,13 @@ use Rattle.sqlite_disk.specs.declared.Files.{Files}
 use Rattle.sqlite_store.specs.declared.store.FileStore.{FileStore}
 use Rattle.http_desk.proofs.OneRun as law
 use Rattle.http_desk.specs.Runs.{AreVisits, Visit}
-use Rattle.nested_sets.specs.Represents.{RepresentsSpanRows}
-use Rattle.office.specs.Resting.{is_clean, is_shown, is_still_open}
+use Rattle.nested_sets.specs.Representation.{RepresentsSpanRows}
+use Rattle.office.specs.IdleOffice.{is_clean, is_shown, is_still_open}
 use Rattle.office_core.specs.State.{State}
 use Rattle.office_tables.specs.Schema.{schema}
-use Rattle.refinement.specs.Represents.{RepresentsState}
+use Rattle.refinement.specs.Representation.{RepresentsState}
 use Rattle.tree_core.specs.Versions.{Spans}
-use Rattle.program.specs.Closed.{HasLeft, HaveCleanDisk, HoldState}
+use Rattle.program.specs.ClosedFiles.{HasLeft, HaveCleanDisk, HoldState}
 use Rattle.program.specs.Headline.{TheHeadlineInAFile, TheHeadlineInMemory}
 
 -- a disk that has returned what was written to the last visit did so before the first

@@ -6,7 +6,7 @@ use Rattle.std.specs.Io.KnownBytes.{Appends}
 use Rattle.std.proofs.KnownBytes.{Appends-nil}
 use Rattle.office.specs.declared.faults.OpenFault.{OpenFault}
 use Rattle.office.specs.declared.faults.OpenFault.TheVariants as opening
-use Rattle.program.specs.Performed.{JudgmentFails, Known, ServerFails, line_feed}
+use Rattle.program.specs.CommandEffects.{JudgmentFails, Known, ServerFails, line_feed}
 use Rattle.program.specs.Faults.{IsUnopened, fault_of_opening}
 use Rattle.program.specs.declared.faults.Fault.{Fault}
 use Rattle.program.specs.declared.faults.Fault.TheVariants.{Memory, NotSound}

@@ -4,13 +4,13 @@ use Rattle.sqlite.specs.Effect.{Database}
 use Rattle.sqlite.specs.Recovery.{Image}
 use Rattle.sqlite.specs.State as store
 use Rattle.tree_core.specs.Versions.{Spans}
-use Rattle.nested_sets.specs.Represents.{RepresentsSpanRows}
+use Rattle.nested_sets.specs.Representation.{RepresentsSpanRows}
 use Rattle.adoption.specs.Verdicts.{IsVerdict}
 use Rattle.adoption.specs.declared.verdict.Verdict.TheVariants as verdict
 use Rattle.office_core.specs.State.{State}
-use Rattle.refinement.specs.Represents.{RepresentsState}
-use Rattle.office.specs.Resting.{IsIn}
-use Rattle.program.specs.Kept.{AreHeld, HoldsOffice, IsInTheStateThatWasLeft}
+use Rattle.refinement.specs.Representation.{RepresentsState}
+use Rattle.office.specs.IdleOffice.{IsIn}
+use Rattle.program.specs.OpenedFiles.{AreHeld, HoldsOffice, IsInTheStateThatWasLeft}
 
 -- a file holds one database at most
 pub left_so : (image : Image) (s : State) (found : Database) → IsInTheStateThatWasLeft image s found

@@ -3,7 +3,7 @@ use Rattle.std.proofs.Common.{◌≡◌, List, codes, subst, sym}
 use Rattle.std.specs.Prelude.{MatchBool}
 use Rattle.std.specs.Str.{bytes_eq}
 use Rattle.clap.specs.Walk.{Row, Text}
-use Rattle.command_line.specs.Given.{HasImport, HasNeeds, HasServer, HasSettings, HasText, Previews, Begins, Tries, Imports, Talks, Serves, Checks, Migrates}
+use Rattle.command_line.specs.OptionValues.{HasImport, HasNeeds, HasServer, HasSettings, HasText, Previews, Begins, Tries, Imports, Talks, Serves, Checks, Migrates}
 
 abbrev pub NeedsOf : Text → List Row → Type 0
 NeedsOf name rows =

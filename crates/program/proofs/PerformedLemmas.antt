@@ -11,14 +11,14 @@ use Rattle.clap.specs.Takes.{takes}
 use Rattle.clap.specs.Walk.{Text}
 use Rattle.atom_csv.specs.declared.file.FileFault.{FileFault}
 use Rattle.atom_csv.specs.declared.file.FileFault.TheVariants as files
-use Rattle.atom_csv.specs.Reads.{IsBad}
+use Rattle.atom_csv.specs.ReadProgress.{IsBad}
 use Rattle.office_core.specs.Rules.{Reply}
-use Rattle.office.specs.Founding.{Founding}
+use Rattle.office.specs.InitialSettings.{Founding}
 use Rattle.command_line.specs.CommandLine.{program}
 use Rattle.office.specs.declared.faults.OpenFault.{OpenFault}
 use Rattle.office.specs.declared.faults.OpenFault.TheVariants as opening
 use Rattle.program.specs.Faults.{IsUnopened, RefusesFile, fault_of_opening, fault_of_words}
-use Rattle.program.specs.Performed.{ComplaintFails, Fails, FailsWith, ImportFails, IsBusy, JudgmentFails, Known, LineFails, MigrateFails, PreviewFails, Reads, ReplyFails, ServerFails, TalkFails, TrialFails, complaint_of, previewed}
+use Rattle.program.specs.CommandEffects.{ComplaintFails, Fails, FailsWith, ImportFails, IsBusy, JudgmentFails, Known, LineFails, MigrateFails, PreviewFails, Reads, ReplyFails, ServerFails, TalkFails, TrialFails, complaint_of, previewed}
 use Rattle.program.specs.Stores.{IsNotBroughtOver}
 use Rattle.program.specs.Streams.{IsFront}
 use Rattle.program.specs.Tasks.{AreRefusedFor, IsTaskOf, IsWords}

@@ -1,9 +1,9 @@
 -- Connections that were served, one after the other.
 use Rattle.std.proofs.Common.{◌≡◌, ◌∙◌, ◌||◌, ◌+◌, ◌≤◌, ℕ, Bool, true, false, [], ◌∷◌, Option, ap, refl, sym, subst, arith}
 use Rattle.office_core.specs.State.{State}
-use Rattle.http_desk.specs.Talking.{Keeps, Through}
+use Rattle.http_desk.specs.Exchanges.{Keeps, Through}
 use Rattle.http_desk.proofs.Openings.{session_open}
-use Rattle.program.specs.Served.{AreSessions, Connection, History, IsHeard, Serves, SessionsLeaveOpen, after_one}
+use Rattle.program.specs.Connections.{AreSessions, Connection, History, IsHeard, Serves, SessionsLeaveOpen, after_one}
 
 -- what has not failed before has failed where this call did
 pub failed_so : (new fault old : Bool) → new ≡ (fault || old) → old ≡ false → new ≡ fault

@@ -14,26 +14,26 @@ use Rattle.sqlite_disk.specs.declared.Files.{Files}
 use Rattle.sqlite_store.specs.declared.store.FileStore.{FileStore}
 use Rattle.isad_core.specs.Texts.{Bytes}
 use Rattle.tree_core.specs.Versions.{Links, Spans}
-use Rattle.nested_sets.specs.Represents.{RepresentsSpanRows}
+use Rattle.nested_sets.specs.Representation.{RepresentsSpanRows}
 use Rattle.adoption.specs.Verdicts.{IsVerdict}
 use Rattle.adoption.specs.declared.verdict.Verdict.TheVariants as verdict
 use Rattle.office_core.specs.Rules.{Reply}
-use Rattle.office.specs.Founding.{Founding}
-use Rattle.office.specs.Migrating.{MayFindMigrated}
-use Rattle.office.specs.Resting.{IsAsBefore, is_clean, is_shown, is_still_open}
-use Rattle.office.specs.Adopting.{HasAdoptCause}
+use Rattle.office.specs.InitialSettings.{Founding}
+use Rattle.office.specs.Migration.{MayFindMigrated}
+use Rattle.office.specs.IdleOffice.{IsAsBefore, is_clean, is_shown, is_still_open}
+use Rattle.office.specs.Adoption.{HasAdoptCause}
 use Rattle.office.specs.declared.faults.OpenFault.{OpenFault}
 use Rattle.office.specs.declared.faults.OpenFault.TheVariants as opening
-use Rattle.http_desk.specs.Talking.{AtEndIf, Talks}
+use Rattle.http_desk.specs.Exchanges.{AtEndIf, Talks}
 use Rattle.http_desk.specs.declared.session_end.Ended.{Ended}
 use Rattle.http_desk.specs.declared.session_end.Next.TheVariants.{Ends}
 use Rattle.program.specs.declared.files.FileFault.{FileFault}
 use Rattle.program.specs.declared.files.FileFault.TheVariants as file
-use Rattle.program.specs.Closed.{HasLeft, WasJudgedAsFound}
+use Rattle.program.specs.ClosedFiles.{HasLeft, WasJudgedAsFound}
 use Rattle.program.specs.Faults.{IsUnopened, fault_of_file, fault_of_opening, fault_of_reading}
-use Rattle.program.specs.Kept.{AreHeld, IsJudged}
-use Rattle.program.specs.Performed.{CheckDone, CheckFails, Does, EndsWell, FailsWith, ImportDone, ImportFails, IsBusy, JudgmentFails, JudgmentPrinted, Known, Listens, MigrateFails, ReplyFails, ReplyPrinted, ServeDone, ServeFails, ServerFails, TalkDone, TalkFails, ended_by}
-use Rattle.program.specs.Served.{Serves}
+use Rattle.program.specs.OpenedFiles.{AreHeld, IsJudged}
+use Rattle.program.specs.CommandEffects.{CheckDone, CheckFails, Does, EndsWell, FailsWith, ImportDone, ImportFails, IsBusy, JudgmentFails, JudgmentPrinted, Known, Listens, MigrateFails, ReplyFails, ReplyPrinted, ServeDone, ServeFails, ServerFails, TalkDone, TalkFails, ended_by}
+use Rattle.program.specs.Connections.{Serves}
 use Rattle.program.specs.Stores.{HasServed, HasTakenIn, IsMade, IsNotBroughtOver, IsOpened, IsStore, IsTalkedWith, WasBusy}
 use Rattle.program.specs.declared.faults.Break.{Break}
 use Rattle.program.specs.declared.faults.Fault.{Fault}

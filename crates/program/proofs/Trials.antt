@@ -11,16 +11,16 @@ use Rattle.sqlite_trees.specs.declared.memory.MemStore.{MemStore}
 use Rattle.tree_core.specs.Forest.{Forest}
 use Rattle.tree_core.specs.Versions.{Version}
 use Rattle.office_core.specs.SoundOffice.{IsSoundOffice}
-use Rattle.office.specs.Founding.{Founding, founded}
-use Rattle.office.specs.Opening.{HasOpenCause}
-use Rattle.office.specs.Resting.{IsIn, is_clean, is_shown, is_still_open}
+use Rattle.office.specs.InitialSettings.{Founding, founded}
+use Rattle.office.specs.NewOffice.{HasOpenCause}
+use Rattle.office.specs.IdleOffice.{IsIn, is_clean, is_shown, is_still_open}
 use Rattle.office.specs.declared.faults.OpenFault.{OpenFault}
 use Rattle.office.specs.declared.faults.OpenFault.TheVariants as opening
-use Rattle.http_desk.specs.Talking.{AtEndIf, Talks}
+use Rattle.http_desk.specs.Exchanges.{AtEndIf, Talks}
 use Rattle.http_desk.specs.declared.session_end.Ended.{Ended}
 use Rattle.http_desk.specs.declared.session_end.Next.TheVariants.{Ends}
 use Rattle.program.specs.Faults.{fault_of_opening}
-use Rattle.program.specs.Performed.{EndsWell, Known, Talked, TrialDone, TrialFails, ended_by}
+use Rattle.program.specs.CommandEffects.{EndsWell, Known, Talked, TrialDone, TrialFails, ended_by}
 use Rattle.program.specs.declared.faults.Break.{Break}
 use Rattle.program.specs.declared.faults.Fault.{Fault}
 use Rattle.program.specs.declared.faults.Fault.TheVariants as fault

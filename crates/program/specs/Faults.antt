@@ -1,4 +1,4 @@
--- What a fault leaves: the exit status, and what stands on standard error.
+-- What a fault leads to: the exit status, and the text on standard error.
 use Rattle.std.specs.Prelude.{◌≡◌, ◌++◌, List, [], ℕ, codes}
 use Rattle.std.specs.Fmt.{decimal}
 use Rattle.atom_csv.specs.declared.file.FileFault as csv
@@ -28,7 +28,7 @@ place_of (BadFile row cause) = codes " row " ++ decimal row ++ codes " cause " +
 place_of (WithReader container) = codes " container " ++ decimal container
 place_of _ = []
 
--- a refusal by its number and name, and where it is
+-- the line of a refusal: its number and name, and where it is
 abbrev pub line_of : Refusal → List ℕ
 line_of why = codes "refused " ++ decimal (number_of why) ++ codes " " ++ name_of why ++ place_of why ++ codes "\n"
 
@@ -75,7 +75,7 @@ abbrev pub fault_of_opening : OpenFault → Fault
 fault_of_opening opening.Memory = Memory
 fault_of_opening _ = Store
 
--- the fault of a file that no store was opened on
+-- the fault of a file on which no store was opened
 abbrev pub fault_of_file : FileFault → Fault
 fault_of_file file.Memory = Memory
 fault_of_file file.Absent = File
@@ -92,13 +92,13 @@ abbrev pub fault_of_reading : ReadFault → Fault
 fault_of_reading reads.Memory = Memory
 fault_of_reading reads.Failed = File
 
--- the fault of what is refused; its line takes memory
+-- the fault of a refusal: its line, or want of memory for the line
 abbrev pub Refuses : Refusal → Fault → Type 0
 Refuses why (Refused line) = line ≡ line_of why
 Refuses why Memory = Unit {0}
 Refuses why _ = ⊥
 
--- the fault of a file that gives no finding aids; its line takes memory
+-- the fault of a file that gives no finding aids: the line of its first fault, or want of memory
 abbrev pub RefusesFile : csv.FileFault → Fault → Type 0
 RefusesFile (files.Bad row cause) fault = Refuses (BadFile row cause) fault
 RefusesFile files.Memory fault = fault ≡ Memory

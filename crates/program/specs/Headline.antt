@@ -1,4 +1,4 @@
--- What an archivist may be told of an office over nested sets, in memory and in a file.
+-- What an archivist can be promised about an office over nested sets, in memory and in a file.
 use Rattle.std.specs.Prelude.{◌⊎◌, IsTrue, List}
 use Rattle.std.specs.List.{AllByRecursion}
 use Rattle.sqlite.specs.Files.{file_state, over_files}
@@ -12,17 +12,17 @@ use Rattle.sqlite_store.specs.declared.store.FileStore.{FileStore}
 use Rattle.sqlite_trees.specs.declared.memory.MemStore.{MemStore}
 use Rattle.http_desk.specs.Headline.{IsOneRun}
 use Rattle.http_desk.specs.Runs.{AllHappen, AreVisits, CallsNameDays, Visit, VisitsLeaveOpen}
-use Rattle.nested_sets.specs.Represents.{RepresentsSpanRows}
-use Rattle.office.specs.Founding.{Founding, founded}
-use Rattle.office.specs.Resting.{is_clean, is_shown, is_still_open}
+use Rattle.nested_sets.specs.Representation.{RepresentsSpanRows}
+use Rattle.office.specs.InitialSettings.{Founding, founded}
+use Rattle.office.specs.IdleOffice.{is_clean, is_shown, is_still_open}
 use Rattle.office_core.specs.SoundOffice.{IsSoundOffice}
 use Rattle.office_core.specs.State.{State}
 use Rattle.tree_core.specs.Versions.{Spans}
-use Rattle.program.specs.Closed.{HasLeft, HaveCleanDisk, HoldState}
-use Rattle.program.specs.Kept.{HoldsOffice, IsFound}
+use Rattle.program.specs.ClosedFiles.{HasLeft, HaveCleanDisk, HoldState}
+use Rattle.program.specs.OpenedFiles.{HoldsOffice, IsFound}
 
--- Of a new office in memory, after any sessions and calls: the machine has carried out the commands among them, from the
--- state that the office began in, and the rules are kept at each point.
+-- For a new office in memory, after any sessions and calls: the machine has carried out the commands among them, from
+-- the state in which the office began, and the rules are kept at each point.
 abbrev pub TheHeadlineInMemory : Type 0
 TheHeadlineInMemory =
     (founding : Founding) (visits : List Visit) (old new : Held MemStore)
@@ -33,9 +33,9 @@ TheHeadlineInMemory =
     → (t : State) × is_shown over_memory RepresentsSpanRows Spans new t × IsOneRun (founded founding) visits t
 
 module _ {D : Type 0} (g : Ghosts D) (image : Image) where
-  -- The same of an office that a file held when it was opened, and that is closed again. Where the last thing that came
-  -- was a command that was accepted, the file then holds the office in the machine's state. So it does after anything
-  -- else, unless a failure of the disk had shut it.
+  -- The same for an office that a file held when it was opened, and that is closed again. If the last message or call
+  -- was a command that was accepted, the file then holds the office in the machine's state. It also does so after
+  -- anything else, unless a failure of the disk had shut the office.
   abbrev pub TheHeadlineInAFile : Type 0
   TheHeadlineInAFile =
       (s : State) (visits : List Visit) (old new : Held (FileStore D g)) (files : Files D)

@@ -1,10 +1,10 @@
 pub mod Rows
-pub mod Closed
+pub mod ClosedFiles
 pub mod Faults
 pub mod Headline
-pub mod Kept
-pub mod Performed
-pub mod Served
+pub mod OpenedFiles
+pub mod CommandEffects
+pub mod Connections
 pub mod Stores
 pub mod Streams
 pub mod Tasks

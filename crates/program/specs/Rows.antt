@@ -1,2 +1,2 @@
--- How the rows of the tables in a file stand.
+-- The order of the rows of tables in a file.
 pub use Rattle.row_completeness.specs.OrderedRows.{StandsInOrder, StandInOrder}

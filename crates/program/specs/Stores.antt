@@ -1,7 +1,8 @@
--- Offices in files: what a command did with one, and what the files hold now that it is closed. A store is found with
--- an image: the bytes that its file and its log held. That these are the files of the name that was given is the
--- system's part. What is said of an office is said while its disk has returned what was written; a disk that has done
--- so to the end did so before (`intact`, and the first field of `crash`, which says what files may hold that a failure had shut).
+-- Offices in files: what a command did with one, and what the files hold after it is closed. A store is found with an
+-- image: the bytes that its file and its log held. The system is responsible that these are the files with the given
+-- name. What is stated of an office has the premise that its disk has returned what was written. A disk that did so to
+-- the end also did so before (`intact`, and the first field of `crash`). `crash` describes what the files may hold if a
+-- failure of the disk had shut the office.
 use Rattle.std.specs.Prelude.{◌≡◌, ◌⊎◌, ℕ, Bool, IsOk, IsTrue, Ok, Option, None}
 use Rattle.std.specs.Io.KnownBytes.{Appends, Consumes}
 use Rattle.sqlite.specs.Files.{file_state, over_files}
@@ -13,28 +14,28 @@ use Rattle.sqlite_disk.specs.declared.Files.{Files}
 use Rattle.sqlite_store.specs.declared.store.FileStore.{FileStore}
 use Rattle.isad_core.specs.Texts.{Bytes}
 use Rattle.tree_core.specs.Versions.{Links, Spans}
-use Rattle.nested_sets.specs.Represents.{RepresentsSpanRows}
+use Rattle.nested_sets.specs.Representation.{RepresentsSpanRows}
 use Rattle.office_core.specs.Rules.{Reply, step}
 use Rattle.office_core.specs.SoundOffice.{IsSoundOffice}
 use Rattle.office_core.specs.State.{State}
 use Rattle.office_core.specs.declared.command.Command.TheVariants.{Import}
 use Rattle.office_core.specs.declared.done.Done.{Done}
-use Rattle.office.specs.Founding.{Founding, founded}
+use Rattle.office.specs.InitialSettings.{Founding, founded}
 use Rattle.program.specs.Rows.{StandInOrder}
-use Rattle.office.specs.Adopting.{HasAdoptCause, state_in}
-use Rattle.office.specs.Applying.{MayFind, TakesStep}
-use Rattle.office.specs.Migrating.{IsMigrated, MayFindMigrated}
-use Rattle.office.specs.Resting.{IsAsBefore, IsIn, is_clean, is_shown, is_still_open}
+use Rattle.office.specs.Adoption.{HasAdoptCause, state_in}
+use Rattle.office.specs.OfficeCall.{MayFind, TakesStep}
+use Rattle.office.specs.Migration.{IsMigrated, MayFindMigrated}
+use Rattle.office.specs.IdleOffice.{IsAsBefore, IsIn, is_clean, is_shown, is_still_open}
 use Rattle.office.specs.declared.faults.OpenFault.{OpenFault}
-use Rattle.http_desk.specs.Keeping.{LeavesOpen}
+use Rattle.http_desk.specs.AcceptedMessages.{LeavesOpen}
 use Rattle.http_desk.specs.Session.{Session}
-use Rattle.http_desk.specs.Talking.{AtEndIf, Keeps}
+use Rattle.http_desk.specs.Exchanges.{AtEndIf, Keeps}
 use Rattle.http_desk.specs.declared.session_end.Ended.{Ended}
 use Rattle.http_desk.specs.declared.session_end.Next.TheVariants.{Ends}
-use Rattle.program.specs.Closed.{HasLeft, HaveCleanDisk, HoldState}
+use Rattle.program.specs.ClosedFiles.{HasLeft, HaveCleanDisk, HoldState}
 use Rattle.program.specs.Faults.{fault_of_opening}
-use Rattle.program.specs.Kept.{AreHeld, HoldsOffice, IsFound}
-use Rattle.program.specs.Served.{AreSessions, Serves, SessionsLeaveOpen}
+use Rattle.program.specs.OpenedFiles.{AreHeld, HoldsOffice, IsFound}
+use Rattle.program.specs.Connections.{AreSessions, Serves, SessionsLeaveOpen}
 use Rattle.program.specs.declared.faults.Fault.{Fault}
 
 module _ {D : Type 0} (g : Ghosts D) (image : Image) where
@@ -42,7 +43,7 @@ module _ {D : Type 0} (g : Ghosts D) (image : Image) where
   abbrev pub IsOpened : Held (FileStore D g) → Type 0
   IsOpened office = HasCleanDisk (file_state office) → IsFound image (file_state office)
 
-  -- the tables of a store, as it was found: the image holds them, and their rows stand by whole numbers, which rise
+  -- the tables of a store, as it was found: the image holds them, and their rows have ascending whole numbers
   abbrev pub IsStore : Held (FileStore D g) → Type 0
   IsStore found = HasCleanDisk (file_state found)
       → AreHeld image (file_state found).now.trees × StandInOrder (file_state found).now
@@ -50,7 +51,7 @@ module _ {D : Type 0} (g : Ghosts D) (image : Image) where
   abbrev is_kept : Held (FileStore D g) → State → Type 0
   is_kept = is_shown (over_files {g = g}) RepresentsSpanRows Spans
 
-  -- A new office was made, and its connection was open, so it was in that state. These are its files.
+  -- A new office was made, and was in the state in which it begins; its connection was open. These are its files.
   pub record IsMade (founding : Founding) (files : Files D) : Type 0 where
     pub office : Held (FileStore D g)
     pub represents : HasCleanDisk (file_state office)
@@ -58,8 +59,8 @@ module _ {D : Type 0} (g : Ghosts D) (image : Image) where
     pub kept : HasCleanDisk (file_state office) → IsTrue (file_state office).is_open
     pub left : HasLeft office files
 
-  -- A session with an office that was opened. What was read is its input, and what was written its output; where it ends
-  -- with its input, all was read. These are the office's files.
+  -- A session with an office that was opened. What was read is its input, and what was written is its output. If it
+  -- ended with its input, all of the input was read. These are the office's files.
   pub record IsTalkedWith (left left_after held held_after : Option Bytes) (end : Ended) (files : Files D)
       : Type 0 where
     pub office : Held (FileStore D g)
@@ -76,8 +77,8 @@ module _ {D : Type 0} (g : Ghosts D) (image : Image) where
         × Keeps (IsTrue (file_state office).is_open) (IsTrue (file_state after).is_open) s input output end t
     pub closed : HasLeft after files
 
-  -- An office that was opened took a file in, and replied so: that was one step. After a reply that is no refusal its
-  -- connection was open, so the tables showed what that step leads to. These are its files.
+  -- An office that was opened imported a file in one step, with this reply. After a reply that is not a refusal, its
+  -- connection was open, so the tables represented the state after the step. These are its files.
   pub record HasTakenIn (source : Bytes) (reply : Reply) (files : Files D) : Type 0 where
     pub office : Held (FileStore D g)
     pub after : Held (FileStore D g)
@@ -91,7 +92,7 @@ module _ {D : Type 0} (g : Ghosts D) (image : Image) where
         (MayFind RepresentsSpanRows Spans (Import source file) (file_state office))
     pub closed : HasLeft after files
 
-  -- An office that was opened was busy when it was to take a file in: its tables were as before. These are its files.
+  -- An office that was opened was busy when it was to import a file: its tables were as before. These are its files.
   pub record WasBusy (source : Bytes) (files : Files D) : Type 0 where
     pub office : Held (FileStore D g)
     pub after : Held (FileStore D g)
@@ -102,8 +103,8 @@ module _ {D : Type 0} (g : Ghosts D) (image : Image) where
         (MayFind RepresentsSpanRows Spans (Import source file) (file_state office))
     pub closed : HasLeft after files
 
-  -- An office that was opened served so many connections, or fewer where not all could be taken: one session after the
-  -- other. These are its files.
+  -- An office that was opened served this number of connections, one session after the other; or at most this number,
+  -- if not all could be taken. These are its files.
   pub record HasServed (connections : ℕ) (all : Bool) (files : Files D) : Type 0 where
     pub office : Held (FileStore D g)
     pub after : Held (FileStore D g)
@@ -113,8 +114,8 @@ module _ {D : Type 0} (g : Ghosts D) (image : Image) where
         None None office after all
     pub closed : HasLeft after files
 
-  -- The tables of a store were a sound office's of version 1, and then one's of version 2, in the same state, over a
-  -- connection that was open. These are its files.
+  -- The tables of a store were those of a sound office of version 1, and then those of an office of version 2 in the
+  -- same state, over a connection that was open. These are its files.
   pub record IsBroughtOver (files : Files D) : Type 0 where
     pub found : Held (FileStore D g)
     pub after : Held (FileStore D g)
@@ -124,7 +125,7 @@ module _ {D : Type 0} (g : Ghosts D) (image : Image) where
     pub crash : Survives (file_state found) (file_state after) (MayFindMigrated (file_state found))
     pub closed : HasLeft after files
 
-  -- the tables of a store were as before, and why; these are its files
+  -- a migration failed for this reason, and left the tables of the store as before; these are its files
   pub record IsNotBroughtOver (fault : Fault) (files : Files D) : Type 0 where
     pub found : Held (FileStore D g)
     pub after : Held (FileStore D g)
@@ -143,13 +144,13 @@ module _ {D : Type 0} (g : Ghosts D) (image : Image) where
       (founding : Founding) (files : Files D) → IsMade founding files → HaveCleanDisk g files
       → HoldState g files (founded founding)
 
-  -- of an import that is not refused
+  -- after an import that is not refused
   abbrev pub WhatWasTakenInIsHeld : Type 0
   WhatWasTakenInIsHeld =
       (source : Bytes) (done : Done) (files : Files D) (it : HasTakenIn source (Ok done) files) → HaveCleanDisk g files
       → (s : State) → HoldsOffice image s → IsSoundOffice s → HoldState g files (step s (Import source it.file)).0
 
-  -- After a session the office is open where the last message was a command that was accepted. After another message a
+  -- After a session the office is open if the last message was a command that was accepted. After another message, a
   -- failure of the disk may have shut it.
   abbrev pub WhatWasSaidIsHeld : Type 0
   WhatWasSaidIsHeld =
@@ -160,7 +161,7 @@ module _ {D : Type 0} (g : Ghosts D) (image : Image) where
       × (LeavesOpen (IsTrue (file_state it.office).is_open) session ⊎ IsTrue (file_state it.after).is_open
       → HoldState g files t)
 
-  -- the same of connections
+  -- the same for connections
   abbrev pub WhatWasServedIsHeld : Type 0
   WhatWasServedIsHeld =
       (connections : ℕ) (all : Bool) (files : Files D) (it : HasServed connections all files) → HaveCleanDisk g files

@@ -2,9 +2,9 @@
 use Rattle.std.specs.Prelude.{◌≡◌, ◌≢◌, ◌⊎◌, ◌&&◌, Bool, true, false, List, Option, Some, None, codes}
 use Rattle.clap.specs.Walk.{Row, Text, first_of}
 use Rattle.office_core.specs.SettingsFaults.{wrong_setting}
-use Rattle.office.specs.Founding.{Founding}
+use Rattle.office.specs.InitialSettings.{Founding}
 use Rattle.office.specs.Soundness.{is_country, is_repository}
-use Rattle.command_line.specs.Given.{IsDay, IsNumber, IsValue}
+use Rattle.command_line.specs.OptionValues.{IsDay, IsNumber, IsValue}
 use Rattle.office.specs.declared.settings.SettingsFault.{SettingsFault}
 use Rattle.office.specs.declared.settings.SettingsFault.TheVariants as wrong
 use Rattle.program.specs.declared.tasks.Task.{Task}
@@ -23,7 +23,7 @@ pub record AreGiven (rows : List Row) (founding : Founding) : Type 0 where
   pub run_size : IsNumber rows (codes "run") founding.settings.run_size
   pub day : IsDay rows (codes "day") (Some founding.day)
 
--- the codes of a country and of a repository there
+-- these are the codes of a country and of a repository
 abbrev pub are_codes : Text → Text → Bool
 are_codes country repo = is_country country && is_repository repo
 
@@ -52,7 +52,7 @@ IsTask name rows (Serve store port connections) =
 IsTask name rows (Check store) = (name ≡ codes "check") × IsValue rows (codes "store") store
 IsTask name rows (Migrate store) = (name ≡ codes "migrate") × IsValue rows (codes "store") store
 
--- the task is the command that the matches have
+-- the task is the one that the matches name
 abbrev pub IsTaskOf : Option (Text × List Row) → Task → Type 0
 IsTaskOf None task = ⊥
 IsTaskOf (Some m) task = IsTask m.0 m.1 task
@@ -63,7 +63,7 @@ abbrev pub fault_of_settings : SettingsFault → TaskFault
 fault_of_settings wrong.Memory = fault.Memory
 fault_of_settings _ = fault.Settings
 
--- The day is none of the calendar; or, where it is one, a setting is not within its limits.
+-- The day is not in the calendar; or it is, but a setting is not within its limits.
 abbrev pub AreRefused : List Row → TaskFault → Type 0
 AreRefused rows fault.Memory = Unit {0}
 AreRefused rows (fault.Words text) = ⊥
@@ -84,7 +84,7 @@ AreNoCodes rows fault.Settings =
 abbrev pub TakesSettings : Text → Type 0
 TakesSettings name = (name ≡ codes "init") ⊎ (name ≡ codes "trial")
 
--- the words name a command whose values are refused so
+-- the words name a command whose values are refused with this fault
 abbrev pub IsRefusedIn : Option (Text × List Row) → TaskFault → Type 0
 IsRefusedIn None why = ⊥
 IsRefusedIn (Some m) why = ((m.0 ≡ codes "preview") × AreNoCodes m.1 why) ⊎ (TakesSettings m.0 × AreRefused m.1 why)

@@ -1,12 +1,12 @@
-//! Does the task that the words name.
+//! Performs the task that the words name.
 ghost use Rattle.std.specs.Prelude.{◌≡◌, None, true, false, IfErr, IsSomeAnd, OnOk, map};
 ghost use Rattle.std.specs.String.{string_bytes};
 ghost use Rattle.sqlite.specs.WalFiles.{image_at};
 ghost use Rattle.program.specs.Faults.{IsUnopened};
-ghost use Rattle.program.specs.Performed.{CheckDone, CheckFails, Does, Fails, FailsWith, ImportDone, ImportFails};
-ghost use Rattle.program.specs.Performed.{IsDone, Listens, MigrateDone, MigrateFails};
-ghost use Rattle.program.specs.Performed.{ServeDone, ServeFails, ServerFails, TalkDone, TalkFails};
-ghost use Rattle.program.specs.Served.{Serves};
+ghost use Rattle.program.specs.CommandEffects.{CheckDone, CheckFails, Does, Fails, FailsWith, ImportDone, ImportFails};
+ghost use Rattle.program.specs.CommandEffects.{IsDone, Listens, MigrateDone, MigrateFails};
+ghost use Rattle.program.specs.CommandEffects.{ServeDone, ServeFails, ServerFails, TalkDone, TalkFails};
+ghost use Rattle.program.specs.Connections.{Serves};
 ghost use Rattle.program.specs.Stores.{IsMade};
 
 use crate::faults::Fault;
@@ -45,7 +45,7 @@ fn init<S: Start>(
     Ok(())
 }
 
-// Takes a file into the office in a file. The descriptions are read before the office is opened.
+// Imports a file of descriptions into the office in a file. The descriptions are read before the office is opened.
 fn import<S: Start, W: Write>(
     rt: &HostRuntime,
     alloc: Global,
@@ -91,7 +91,7 @@ fn talk<S: Start, R: Read, W: Write>(
     talked
 }
 
-// Listens on a port of this machine, and says so.
+// Listens on a port of this machine, and prints that it does.
 fn listen<W: Write>(
     rt: &HostRuntime,
     alloc: Global,
@@ -109,7 +109,7 @@ fn listen<W: Write>(
     Ok(local)
 }
 
-// Serves an office on a port of this machine, and says so once the port is there.
+// Serves an office on a port of this machine. Prints that it listens as soon as the port is bound.
 fn serve_on_port<M: Machine, W: Write>(
     rt: &HostRuntime,
     alloc: Global,
@@ -155,7 +155,7 @@ fn serve_store<S: Start, W: Write>(
     served
 }
 
-// Tells whether the office in a file is sound.
+// Checks whether the office in a file is sound, and prints the verdict.
 fn check<S: Start, W: Write>(
     rt: &HostRuntime,
     alloc: Global,
@@ -175,7 +175,7 @@ fn check<S: Start, W: Write>(
     tell_judgment(alloc, judged, out)
 }
 
-// Brings the office in a file from version 1 to version 2.
+// Migrates the office in a file from version 1 to version 2.
 fn migrate<S: Start, W: Write>(
     rt: &HostRuntime,
     alloc: Global,
@@ -198,7 +198,7 @@ fn migrate<S: Start, W: Write>(
     Ok(())
 }
 
-// Does a task.
+// Performs a task.
 fn do_task<S: Start, R: Read, W: Write>(
     rt: &HostRuntime,
     alloc: Global,
@@ -238,8 +238,8 @@ fn do_task<S: Start, R: Read, W: Write>(
     }
 }
 
-/// Does the task that the words name, with these as standard input and output, and with files that held what `S` says.
-/// The files that it opened as a store are handed back, closed.
+/// Performs the task that the words name, with these streams as standard input and output. `S` gives what the files
+/// held before. The files that it opened as a store are closed and handed back in `closed`.
 pub fn run<S: Start, R: Read, W: Write>(
     rt: &HostRuntime,
     alloc: Global,

@@ -25,11 +25,11 @@ pub enum Break {
 /// Why a command was not done.
 #[derive(Debug, Drop)]
 pub enum Fault {
-    /// It was refused. This is the line that says so.
+    /// It was refused. The text is the line of the refusal.
     Refused(Text),
-    /// A check has found no sound office of this version, and has said so on standard output.
+    /// A check found no sound office of this version, and printed that on standard output.
     NotSound,
-    /// The command line is not valid. This text says why.
+    /// The command line is not valid. The text explains why.
     Words(Text),
     /// A day is not in the calendar.
     Date,
@@ -81,7 +81,7 @@ impl Fault {
     }
 }
 
-/// The line that tells a refusal: its number and name, and where it is.
+/// The line of a refusal: its number, its name, and the row and cause or the container that it names.
 pub fn refusal_line(alloc: Global, why: Refusal) -> Result<Text, AllocError>
     ensures { IfOk result (λ t. t ≡ line_of why) }
 {
@@ -98,7 +98,7 @@ pub fn refusal_line(alloc: Global, why: Refusal) -> Result<Text, AllocError>
     }
 }
 
-/// What is refused, with its line where there is memory for it.
+/// The fault of a refusal, with its line; or `Memory` if there is no memory for the line.
 pub fn refused(alloc: Global, why: Refusal) -> Fault
     ensures { Refuses why result }
 {

@@ -5,7 +5,7 @@ ghost use Rattle.sqlite.specs.Files.{IsOpened, file_state};
 ghost use Rattle.sqlite.specs.Held.{IsNew};
 ghost use Rattle.sqlite.specs.Start.{FindsIn};
 ghost use Rattle.sqlite.specs.State.{HasCleanDisk};
-ghost use Rattle.program.specs.Closed.{HasLeft};
+ghost use Rattle.program.specs.ClosedFiles.{HasLeft};
 ghost use Rattle.program.specs.Rows.{StandInOrder};
 
 use sqlite::{Connection, Error, ErrorCode, FileFrom, FileStore, Files, Start};
@@ -18,9 +18,9 @@ use std::fs::File;
 pub enum FileFault {
     /// There is no memory.
     Memory,
-    /// It is not there, or it is there and was to be made.
+    /// The file to open was not found, or the file to make could not be created, for example because it exists.
     Absent,
-    /// It is there, and no store is opened on it.
+    /// The file exists, but no store could be opened on it.
     Unopened,
 }
 
@@ -30,7 +30,7 @@ impl From<AllocError> for FileFault {
     }
 }
 
-/// A store in a file that held what `S` says.
+/// A store in a file. `S` gives what the file held before.
 pub type FileStoreFrom<S> = FileStore<FileFrom<S>>;
 
 // Opens the file.
@@ -52,13 +52,13 @@ fn open<S: Start>(
     }
 }
 
-// The name of the log that stands beside a file.
+// The path of the log that lies beside a file.
 fn log_of(rt: &HostRuntime, path: &str) -> Result<String, AllocError> {
     format!(in rt.alloc(); "{path}-wal")
 }
 
-/// Makes a new file, where neither it nor its log exists, with a store that has no tables. Nobody else makes it at the
-/// same time. Where no store is opened on it, it is deleted again.
+/// Makes a new file with a store that has no tables. Fails if the file or its log exists, or if another process makes
+/// the file at the same time. If no store can be opened on the file, it is deleted again.
 pub fn make<S: Start>(
     rt: &HostRuntime,
     path: &str,
@@ -70,7 +70,7 @@ pub fn make<S: Start>(
     ensures ordered { IfOk result (λ conn. HasCleanDisk (file_state conn) → StandInOrder (file_state conn).now) }
     ensures fresh { IfOk result IsNew }
 {
-    // A log without its file may have what another office was told last.
+    // A log without its file may contain the last changes of another office.
     let log = log_of(rt, path)?;
     if !matches!(fs::exists(rt, log.as_str()), Ok(false)) || File::create_new(rt, path).is_err() {
         return Err(FileFault::Absent);
@@ -82,7 +82,7 @@ pub fn make<S: Start>(
     opened
 }
 
-/// Takes a file away that was made and is closed, with its log, so that it can be made again.
+/// Deletes a file that was made and is closed, and its log, so that it can be made again. Failures are ignored.
 pub fn unmake(rt: &HostRuntime, path: &str) {
     let _ = fs::remove_file(rt, path);
     if let Ok(log) = log_of(rt, path) {
@@ -90,7 +90,7 @@ pub fn unmake(rt: &HostRuntime, path: &str) {
     }
 }
 
-/// Opens a file that is there, with what it keeps.
+/// Opens an existing file, with the store in it.
 pub fn find<S: Start>(
     rt: &HostRuntime,
     path: &str,
@@ -111,7 +111,7 @@ pub fn find<S: Start>(
 /// A file and its log, once the store in them is closed.
 pub type ClosedFiles<S> = Files<FileFrom<S>>;
 
-/// Closes the file. What was committed is in it, or in its log where it could not be brought over: nothing is lost.
+/// Closes the file. What was committed is in the file, or in its log if it could not be copied: nothing is lost.
 pub fn close<S: Start>(conn: Connection<FileStoreFrom<S>>) -> ClosedFiles<S>
     ensures { (HasCleanDisk (file_state conn) → (file_state conn).in_transaction ≡ false) → HasLeft conn result }
 {

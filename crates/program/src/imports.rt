@@ -1,13 +1,13 @@
-//! Takes the descriptions of a file into an office.
+//! Imports the descriptions of a file into an office.
 ghost use Rattle.std.specs.Prelude.{◌≡◌, IfErr, IfOk, IsOk, IsTrue, OnErr, OnOk};
 ghost use Rattle.sqlite.specs.Held.{state};
 ghost use Rattle.sqlite.specs.State.{HasCleanDisk, Survives};
 ghost use Rattle.office_core.specs.Json.{reply_text};
 ghost use Rattle.office_core.specs.SoundOffice.{IsSoundOffice};
 ghost use Rattle.office_core.specs.State.{State};
-ghost use Rattle.office.specs.Applying.{MayFind, TakesStep};
-ghost use Rattle.office.specs.Resting.{IsAsBefore, IsIn};
-ghost use Rattle.program.specs.Performed.{IsBusy, ReplyFails, ReplyPrinted};
+ghost use Rattle.office.specs.OfficeCall.{MayFind, TakesStep};
+ghost use Rattle.office.specs.IdleOffice.{IsAsBefore, IsIn};
+ghost use Rattle.program.specs.CommandEffects.{IsBusy, ReplyFails, ReplyPrinted};
 
 use crate::faults::{Fault, refused};
 use crate::streams::write_line;
@@ -18,7 +18,8 @@ use sqlite::Alter;
 use std::alloc::Global;
 use std::io::Write;
 
-/// Has the office take a file in: one command, one step.
+/// Imports a file into the office with one command, which is one step of the machine. If the office is busy, its tables
+/// are unchanged.
 pub fn take_in<P: Places, S: Alter>(
     alloc: Global,
     office: &mut Office<P, S>,
@@ -45,7 +46,7 @@ pub fn take_in<P: Places, S: Alter>(
     Ok(office.apply(alloc, &import)?)
 }
 
-/// Prints what was done, or gives the line of why it was refused.
+/// Prints what was done, or returns the refusal as a fault.
 pub fn tell_reply<W: Write>(alloc: Global, reply: Reply, out: &mut W) -> Result<(), Fault>
     requires { reply.json ≡ reply_text reply.done }
     ensures done { OnOk result (ReplyPrinted reply.done (W.contents out.old) (W.contents out.new)) }

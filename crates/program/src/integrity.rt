@@ -1,4 +1,4 @@
-//! Tells whether the tables of a store are those of a sound office.
+//! Checks whether the tables of a store are those of a sound office.
 ghost use Rattle.std.specs.Prelude.{◌≡◌, None, false, IfErr, IfNone, IfOk, IfSome, IsTrue, OnOk};
 ghost use Rattle.sqlite.specs.Held.{state};
 ghost use Rattle.sqlite.specs.State.{HasCleanDisk, Survives};
@@ -6,10 +6,10 @@ ghost use Rattle.sqlite.specs.WalFiles.{image_at};
 ghost use Rattle.adoption.specs.Verdicts.{IsVerdict};
 ghost use Rattle.adoption.specs.declared.verdict.Verdict.TheVariants as verdict;
 ghost use Rattle.office_tables.specs.Faults.{IsUnlimited};
-ghost use Rattle.office.specs.Adopting.{HasAdoptCause};
+ghost use Rattle.office.specs.Adoption.{HasAdoptCause};
 ghost use Rattle.tree_core.specs.Versions.{Spans};
-ghost use Rattle.program.specs.Closed.{WasJudgedAsFound};
-ghost use Rattle.program.specs.Performed.{JudgmentFails, JudgmentPrinted};
+ghost use Rattle.program.specs.ClosedFiles.{WasJudgedAsFound};
+ghost use Rattle.program.specs.CommandEffects.{JudgmentFails, JudgmentPrinted};
 
 use crate::faults::Fault;
 use crate::files::{ClosedFiles, FileFault, close, find};
@@ -22,7 +22,7 @@ use sqlite_disk::Disk;
 use std::alloc::Global;
 use std::io::Write;
 
-/// Why no office of this version is opened on the store, or none where one is. The store stays as it was.
+/// Returns why no office of this version can be opened on the store, or none if one can. The store is unchanged.
 pub fn judge<S: Alter>(alloc: Global, conn: Connection<S>) -> (Option<OpenFault>, Connection<S>)
     requires outside { HasCleanDisk (state S.Store conn) → (state S.Store conn).in_transaction ≡ false }
     requires unlimited { IsUnlimited (state S.Store conn) }
@@ -41,7 +41,7 @@ pub fn judge<S: Alter>(alloc: Global, conn: Connection<S>) -> (Option<OpenFault>
     }
 }
 
-/// The same of the tables in a file, which is closed as it was found.
+/// Judges the tables in a file in the same way, and closes the file as it was found.
 pub fn judge_file<S: Start>(
     rt: &HostRuntime,
     alloc: Global,
@@ -55,7 +55,8 @@ pub fn judge_file<S: Start>(
     Ok((judged, close(conn)))
 }
 
-/// Prints what was judged.
+/// Prints the verdict `sound`, `old version` or `not sound`, and fails unless it is `sound`. Any other fault of an
+/// opening is returned, and nothing is printed.
 pub fn tell_judgment<W: Write>(
     alloc: Global,
     judged: Option<OpenFault>,

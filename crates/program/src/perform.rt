@@ -3,7 +3,7 @@ ghost use Rattle.std.specs.Prelude.{◌≡◌, ◌≤◌, map};
 ghost use Rattle.std.specs.String.{string_bytes};
 ghost use Rattle.sqlite.specs.WalFiles.{image_at};
 ghost use Rattle.program.specs.Faults.{message_of, status_of};
-ghost use Rattle.program.specs.Performed.{Performs, Tells};
+ghost use Rattle.program.specs.CommandEffects.{Performs, Tells};
 
 use crate::commands::run;
 use crate::faults::Fault;
@@ -14,8 +14,8 @@ use sqlite_disk::Disk;
 use std::alloc::Global;
 use std::io::{Read, Write};
 
-/// Does one command with these as standard input, output and error, and gives the exit status, and the file that it
-/// opened as a store, with its log, closed. They may have held anything: that is what `S` says.
+/// Performs one command with these streams as standard input, output and error. Returns the exit status, and the file
+/// that it opened as a store, with its log, closed. The two may have held anything before: `S` gives their content.
 pub fn perform<S: Start, R: Read, W: Write, E: Write>(
     rt: &HostRuntime,
     alloc: Global,
@@ -38,8 +38,8 @@ pub fn perform<S: Start, R: Read, W: Write, E: Write>(
     (status, closed)
 }
 
-/// Tells on standard error why a command was not done, and gives the exit status, which stands whether or not
-/// standard error takes the text.
+/// Prints on standard error why a command was not done, and returns the exit status. The status is the same whether
+/// or not standard error takes the text.
 pub fn tell<E: Write>(fault: &Fault, err: &mut E) -> u8
     ensures status { result ≡ status_of fault.now }
     ensures told { Tells (E.contents err.old) (E.contents err.new) (message_of fault.now) }

@@ -1,6 +1,6 @@
-//! Where clients connect.
+//! Ports that clients connect to.
 ghost use Rattle.std.specs.Prelude.{◌≡◌, IfNone, IfSome, None, Option};
-ghost use Rattle.program.specs.Served.{History, IsHere, after_leaving, after_taking};
+ghost use Rattle.program.specs.Connections.{History, IsHere, after_leaving, after_taking};
 
 use http_desk::session_end::Ended;
 use http_desk::streams::{Sink, Source};
@@ -16,16 +16,16 @@ pub trait Port {
     /// What writes to a client.
     type Writer: Write + Drop;
 
-    /// What it can tell of its connections. Of those of a system nothing is known.
+    /// What is known of its connections. By default nothing is, as for a port of the system.
     ghost history: { Self → Option History } = { λ _. None };
 
-    /// Takes the next connection, or none where that fails.
+    /// Takes the next connection. Returns none if that fails.
     fn take(&mut self) -> Option<(Self::Reader, Self::Writer)>
         ensures none { IfNone result (history self.new ≡ history self.old) }
         ensures taken { IfSome result (λ it. history self.new
             ≡ after_taking (history self.old) (Self.Reader.remaining it.0) (Self.Writer.contents it.1)) };
 
-    /// Leaves the connection, after a session over these.
+    /// Leaves the connection after a session over this reader and this writer.
     fn leave<R: Read, W: Write>(
         &mut self,
         reader: &Source<'_, R>,
@@ -45,16 +45,16 @@ const PATIENCE: u64 = 10;
 /// How many milliseconds a read waits, once the last answer is written.
 const LAST_PATIENCE: u64 = 50;
 
-/// How many such reads are made: 26 seconds at most, and 8 MiB where each takes 16 KiB.
+/// How many such reads are made at most. They wait 26 seconds at most, and take 8 MiB if each takes 16 KiB.
 const LAST_READS: u32 = 512;
 
-/// How many of them may find nothing: two seconds.
+/// How many of them may wait in vain: two seconds in all.
 const LAST_SILENCES: u32 = 40;
 
 /// How many bytes such a read takes at most.
 const LAST_CHUNK: usize = 65_536;
 
-/// A port of this machine, which no other machine reaches, with the client that is served.
+/// A port of this machine that no other machine can reach, with the client that is being served.
 #[derive(Drop)]
 pub struct LocalPort {
     listener: Option<TcpListener>,
@@ -69,7 +69,7 @@ fn here(port: u16) -> SocketAddr
 }
 
 impl LocalPort {
-    /// Listens on the port of that number, where it can be had.
+    /// Listens on the port of this number. Returns none if it cannot be bound.
     pub fn listen(rt: &HostRuntime, port: u16) -> Option<LocalPort> {
         match TcpListener::bind(rt, here(port)) {
             Ok(listener) => Some(LocalPort {
@@ -120,8 +120,8 @@ impl Port for LocalPort {
     }
 }
 
-// Has each write sent at once, and each read and write fail that waits too long. A system that refuses an option is
-// asked for the answers all the same.
+// Makes each write be sent at once, and each read or write fail if it waits too long. If the system refuses an option,
+// the connection is served all the same.
 fn set_up(stream: &TcpStream) {
     let patience = Some(Duration::from_secs(PATIENCE));
     let _ = stream.set_nodelay(true);
@@ -129,8 +129,8 @@ fn set_up(stream: &TcpStream) {
     let _ = stream.set_write_timeout(patience);
 }
 
-// Ends what is written, and reads away what still comes, so that the last answer reaches its client: a system that
-// closes a connection with bytes unread resets it (RFC 9112, 9.6).
+// Shuts down the writing side, and reads and discards what still arrives, so that the last answer reaches the client:
+// a system resets a connection that is closed with unread bytes (RFC 9112, 9.6).
 fn close(stream: &TcpStream) {
     let patience = Some(Duration::from_millis(LAST_PATIENCE));
     if stream.shutdown(Shutdown::Write).is_err() || stream.set_read_timeout(patience).is_err() {

@@ -3,7 +3,7 @@ ghost use Rattle.std.specs.Prelude.{ℕ, List, IfErr, IfOk, OnOk};
 ghost use Rattle.std.specs.Io.KnownBytes.{Consumes};
 ghost use Rattle.std.specs.Option.{option_copied};
 ghost use Rattle.program.specs.Faults.{RefusesFile};
-ghost use Rattle.program.specs.Performed.{PreviewDone, PreviewFails, Reads};
+ghost use Rattle.program.specs.CommandEffects.{PreviewDone, PreviewFails, Reads};
 
 use crate::faults::{Fault, refused};
 use crate::streams::{ReadFault, read_to_end, write_whole};
@@ -15,7 +15,7 @@ use std::fs::File;
 use std::io::{Read, Write};
 use std::rt::Files;
 
-/// The bytes of the file of that name.
+/// Reads the file at this path.
 pub fn file_bytes<F: Files>(rt: &F, alloc: Global, path: &Text) -> Result<Vec<u8>, ReadFault> {
     match File::open(rt, path.as_str()) {
         Ok(mut file) => read_to_end(alloc, &mut file),
@@ -23,7 +23,7 @@ pub fn file_bytes<F: Files>(rt: &F, alloc: Global, path: &Text) -> Result<Vec<u8
     }
 }
 
-// The bytes of the file of that name, or of standard input where there is no name.
+// Reads the file at this path, or standard input if there is no path.
 fn read_file<F: Files, R: Read>(
     rt: &F,
     alloc: Global,
@@ -50,7 +50,7 @@ fn refused_file(alloc: Global, fault: FileFault) -> Fault
     }
 }
 
-/// Prints the finding aids of a file.
+/// Prints the finding aids of a file, or of standard input if there is no path.
 pub fn print_preview<F: Files, R: Read, W: Write>(
     rt: &F,
     alloc: Global,

@@ -1,5 +1,5 @@
 //! Serves an office on a port.
-ghost use Rattle.program.specs.Served.{Answers, Serves, ServesOne};
+ghost use Rattle.program.specs.Connections.{Answers, Serves, ServesOne};
 
 use crate::ports::Port;
 use http_desk::session::talk;
@@ -7,7 +7,7 @@ use http_desk::streams::{Sink, Source};
 use office::Machine;
 use std::alloc::Global;
 
-// Talks with the client of a connection, and leaves it.
+// Holds a session with the client of a connection, and leaves the connection.
 fn answer<P: Port, M: Machine>(
     alloc: Global,
     port: &mut P,
@@ -26,7 +26,8 @@ fn answer<P: Port, M: Machine>(
     port.leave(&source, &sink, ended);
 }
 
-// Serves one connection, which counts however it ends. Once the last is taken, nobody connects any more.
+// Serves one connection, which counts however it ends. Returns false if none could be taken. If it is the last, the
+// port is closed before the session.
 fn serve_one<P: Port, M: Machine>(
     alloc: Global,
     port: &mut P,
@@ -50,8 +51,8 @@ fn serve_one<P: Port, M: Machine>(
     }
 }
 
-/// Serves so many connections, one after the other, and is false where one could not be taken. Each that is taken is
-/// talked to, and counts however it ends. The port is closed as soon as the last is taken.
+/// Serves this number of connections, one after the other. Stops and returns false if one could not be taken. Each
+/// one that is taken has a session, and counts however that ends. The port is closed as soon as the last is taken.
 pub fn serve<P: Port, M: Machine>(
     alloc: Global,
     port: &mut P,

@@ -1,7 +1,7 @@
-//! Talks with an office over streams.
+//! Sessions with an office over streams.
 ghost use Rattle.std.specs.Prelude.{◌≡◌, IfErr, OnOk};
-ghost use Rattle.http_desk.specs.Talking.{AtEndIf, Talks};
-ghost use Rattle.program.specs.Performed.{EndsWell, TrialDone, TrialFails, ended_by};
+ghost use Rattle.http_desk.specs.Exchanges.{AtEndIf, Talks};
+ghost use Rattle.program.specs.CommandEffects.{EndsWell, TrialDone, TrialFails, ended_by};
 
 use crate::faults::{Break, Fault};
 use http_desk::session::talk;
@@ -13,7 +13,7 @@ use sqlite::{Connection, MemStore};
 use std::alloc::Global;
 use std::io::{Read, Write};
 
-// What comes after a session: nothing, or how it broke off.
+// The result of a session: a fault if it broke off.
 fn after(ended: Ended) -> Result<(), Fault>
     ensures well { OnOk result (EndsWell ended) }
     ensures broken { IfErr result (λ f. (broken : Break) × (f ≡ Fault.Session broken) × (ended ≡ ended_by broken)) }
@@ -48,7 +48,7 @@ fn hold_session<M: Machine, R: Read, W: Write>(
     ended
 }
 
-/// Answers requests on an office.
+/// Answers the requests of one session on an office.
 pub fn talk_with<M: Machine, R: Read, W: Write>(
     alloc: Global,
     office: &mut M,
@@ -68,7 +68,7 @@ pub fn talk_with<M: Machine, R: Read, W: Write>(
     after(hold_session(alloc, reader, out, office))
 }
 
-/// Answers requests on a new office in memory.
+/// Answers the requests of one session on a new office in memory.
 pub fn try_office<R: Read, W: Write>(
     alloc: Global,
     settings: Settings,

@@ -1,17 +1,17 @@
 //! Offices in files.
 //!
-//! What is said of a file's content is said for every start `S`: for whatever the file held when it was opened.
+//! The contracts on a file's content hold for every start `S`, that is, for whatever the file held when it was opened.
 ghost use Rattle.std.specs.Prelude.{◌≡◌, None, IfErr, IfOk, IfSome, IsTrue, OnErr};
 ghost use Rattle.sqlite.specs.Files.{file_state};
 ghost use Rattle.sqlite.specs.State.{HasCleanDisk};
 ghost use Rattle.sqlite.specs.WalFiles.{image_at};
-ghost use Rattle.office.specs.Founding.{founded};
-ghost use Rattle.office.specs.Resting.{IsIn};
-ghost use Rattle.nested_sets.specs.Represents.{RepresentsSpanRows};
+ghost use Rattle.office.specs.InitialSettings.{founded};
+ghost use Rattle.office.specs.IdleOffice.{IsIn};
+ghost use Rattle.nested_sets.specs.Representation.{RepresentsSpanRows};
 ghost use Rattle.tree_core.specs.Versions.{Spans};
-ghost use Rattle.program.specs.Closed.{AreAsFound, HasLeft};
+ghost use Rattle.program.specs.ClosedFiles.{AreAsFound, HasLeft};
 ghost use Rattle.program.specs.Faults.{IsUnopened};
-ghost use Rattle.program.specs.Kept.{IsFound};
+ghost use Rattle.program.specs.OpenedFiles.{IsFound};
 
 use crate::faults::Fault;
 use crate::files::{ClosedFiles, FileStoreFrom, close, find, make, unmake};
@@ -22,10 +22,10 @@ use sqlite::{FileFrom, Start};
 use sqlite_disk::Disk;
 use std::alloc::Global;
 
-/// An office in a file that held what `S` says.
+/// An office in a file. `S` gives what the file held before.
 pub type KeptOffice<S> = Office<SpanPlaces, FileStoreFrom<S>>;
 
-/// Makes a new office in a file that is not there yet. Where that fails, the file is deleted again.
+/// Makes a new office in a file that does not exist yet. If that fails, a file that was made is deleted again.
 pub fn make_office<S: Start>(
     rt: &HostRuntime,
     store: &Text,
@@ -48,8 +48,8 @@ pub fn make_office<S: Start>(
     }
 }
 
-/// Opens the office in a file: the one that the tables in the file say. Where they say none, the file is closed as it
-/// was found.
+/// Opens the office that the tables in a file represent. If that fails, a file that was opened is closed as it was
+/// found, and handed back in `closed`.
 pub fn open_office<S: Start>(
     rt: &HostRuntime,
     alloc: Global,
@@ -74,7 +74,8 @@ pub fn open_office<S: Start>(
     }
 }
 
-/// Closes the file of an office. It holds what the office showed.
+/// Closes the file of an office. The file then holds the office's tables, unless a failure of the disk had shut the
+/// office: in that case it holds what a crash might have left.
 pub fn close_office<S: Start>(office: KeptOffice<S>) -> ClosedFiles<S>
     ensures { HasLeft office result }
 {

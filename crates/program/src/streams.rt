@@ -1,8 +1,8 @@
 //! Reads a stream to its end, and writes whole texts.
 //!
-//! At most 4294967295 reads are made of a stream, and as many writes: an interrupted one counts and
-//! is tried again, and where one more would be needed the stream has failed. Flushes are counted by
-//! themselves.
+//! At most 4294967295 reads are made of a stream, and as many writes. An interrupted call counts and
+//! is tried again. If more calls would be needed, the stream has failed. Flushes are counted
+//! separately.
 ghost use Rattle.std.specs.Prelude.{◌≡◌, ◌≤◌, ◌++◌, ℕ, List, [], IfOk, OnOk, codes};
 ghost use Rattle.std.specs.Io.KnownBytes.{Appends, Consumes, IsAtEnd};
 ghost use Rattle.program.specs.Streams.{IsFront, most_calls};
@@ -15,7 +15,7 @@ use std::io::{ErrorKind, Read, Write};
 pub enum ReadFault {
     /// There was no memory for its bytes.
     Memory,
-    /// A read failed, or one too many was needed.
+    /// A read failed, or too many reads were needed.
     Failed,
 }
 
@@ -29,32 +29,32 @@ impl From<AllocError> for ReadFault {
     }
 }
 
-/// A write or a flush failed, or a write took nothing, or one too many was needed.
+/// A write or a flush failed, a write took nothing, or too many calls were needed.
 #[derive(Clone, Copy, Debug, PartialEq, Eq, Drop)]
 pub struct WriteFault;
 
 /// How many bytes one read asks for.
 const CHUNK: usize = 65_536;
 
-/// How many reads of a stream are made, and how many writes or flushes.
+/// How many reads of a stream are made at most, and how many writes or flushes.
 pub fn most_calls() -> u32
     ensures { result ≡ most_calls }
 {
     u32::MAX
 }
 
-/// Reads to the end.
+/// Reads a stream to its end.
 pub fn read_to_end<R: Read>(alloc: Global, reader: &mut R) -> Result<Vec<u8>, ReadFault>
     // The bytes are all that the reader had left.
     ensures bytes { IfOk result (λ v. Consumes (R.remaining reader.old) (R.remaining reader.new) v.items) }
     ensures end { OnOk result (IsAtEnd (R.remaining reader.new)) }
-    // In any case, the reader has lost only a front of what it had left.
+    // In any case, only a front of what the reader had left was read.
     ensures front { (gone : List ℕ) × Consumes (R.remaining reader.old) (R.remaining reader.new) gone }
 {
     read_within(alloc, reader, most_calls())
 }
 
-// Reads to the end, in at most so many reads.
+// Reads a stream to its end in at most `reads` reads.
 pub fn read_within<R: Read>(alloc: Global, reader: &mut R, reads: u32) -> Result<Vec<u8>, ReadFault>
     ensures bytes { IfOk result (λ v. Consumes (R.remaining reader.old) (R.remaining reader.new) v.items) }
     ensures end { OnOk result (IsAtEnd (R.remaining reader.new)) }
@@ -76,7 +76,7 @@ pub fn read_within<R: Read>(alloc: Global, reader: &mut R, reads: u32) -> Result
     Err(ReadFault::Failed)
 }
 
-/// Writes the bytes and flushes. Where there is no byte, it makes no call.
+/// Writes the bytes and flushes. Makes no call if there are no bytes.
 pub fn write_whole<W: Write>(writer: &mut W, bytes: &[u8]) -> Result<(), WriteFault>
     ensures whole { OnOk result (Appends (W.contents writer.old) (W.contents writer.new) bytes.now) }
     // In any case, only a front of the bytes was written.
@@ -90,7 +90,7 @@ pub fn write_whole<W: Write>(writer: &mut W, bytes: &[u8]) -> Result<(), WriteFa
     flush(writer)
 }
 
-/// Writes the bytes and a line feed, which count as one text, and flushes.
+/// Writes the bytes and a line feed, whose writes are counted together, and flushes.
 pub fn write_line<W: Write>(writer: &mut W, bytes: &[u8]) -> Result<(), WriteFault>
     ensures whole { OnOk result (Appends (W.contents writer.old) (W.contents writer.new) (bytes.now ++ codes "\n")) }
     ensures front { (written : List ℕ) × IsFront written (bytes.now ++ codes "\n")
@@ -100,7 +100,7 @@ pub fn write_line<W: Write>(writer: &mut W, bytes: &[u8]) -> Result<(), WriteFau
     flush(writer)
 }
 
-// Writes the bytes and a line feed, in at most so many writes in all.
+// Writes the bytes and a line feed in at most `writes` writes in all.
 pub fn line_within<W: Write>(writer: &mut W, bytes: &[u8], writes: u32) -> Result<(), WriteFault>
     ensures whole { OnOk result (Appends (W.contents writer.old) (W.contents writer.new) (bytes.now ++ codes "\n")) }
     ensures front { (written : List ℕ) × IsFront written (bytes.now ++ codes "\n")
@@ -111,7 +111,7 @@ pub fn line_within<W: Write>(writer: &mut W, bytes: &[u8], writes: u32) -> Resul
     Ok(())
 }
 
-// Writes the bytes, in at most so many writes, and gives how many of these are left.
+// Writes the bytes in at most `writes` writes, and returns how many of these are left.
 pub fn write_within<W: Write>(writer: &mut W, bytes: &[u8], writes: u32) -> Result<u32, WriteFault>
     ensures whole { OnOk result (Appends (W.contents writer.old) (W.contents writer.new) bytes.now) }
     ensures left { IfOk result (λ left. left ≤ writes) }

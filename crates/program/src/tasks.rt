@@ -1,4 +1,4 @@
-//! The tasks that a command line can name, and why its words name none.
+//! The tasks that a command line can name, and the faults of one that names none.
 ghost use Rattle.std.specs.Prelude.{◌≡◌};
 
 use isad_core::Text;
@@ -14,26 +14,26 @@ pub enum Task {
         country: Text,
         /// The repository code.
         repo: Text,
-        /// The file's path. Where it is left out, standard input is read.
+        /// The file's path. If it is left out, standard input is read.
         file: Option<Text>,
     },
-    /// Makes a new office in a file that is not there yet.
+    /// Makes a new office in a file that does not exist yet.
     Init {
         /// The path of the file that keeps the office.
         store: Text,
-        /// With what the office begins.
+        /// The settings with which the office begins.
         settings: Settings,
     },
-    /// Answers requests on a new office in memory, which is gone at the end.
+    /// Answers requests on a new office in memory, which is discarded at the end.
     Trial {
-        /// With what the office begins.
+        /// The settings with which the office begins.
         settings: Settings,
     },
-    /// Takes the descriptions of a file into the office.
+    /// Imports the descriptions of a file into the office.
     Import {
         /// The path of the file that keeps the office.
         store: Text,
-        /// The name of where the file comes from.
+        /// The name of the place that the file comes from.
         source: Text,
         /// The file's path.
         file: Text,
@@ -52,12 +52,12 @@ pub enum Task {
         /// How many connections are served.
         connections: u32,
     },
-    /// Tells whether the office is sound.
+    /// Checks whether the office is sound.
     Check {
         /// The path of the file that keeps the office.
         store: Text,
     },
-    /// Brings an office of version 1 to version 2.
+    /// Migrates an office from version 1 to version 2.
     Migrate {
         /// The path of the file that keeps the office.
         store: Text,
@@ -69,9 +69,9 @@ pub enum Task {
 pub enum TaskFault {
     /// There was no memory.
     Memory,
-    /// The command does not take the words, with what to tell their writer.
+    /// The command does not take the words. The text is the message for the user.
     Words(Text),
-    /// The day is none of the calendar from 1900-01-01 to 9999-12-31, as YYYY-MM-DD.
+    /// The text is not a day from 1900-01-01 to 9999-12-31, as YYYY-MM-DD.
     Date,
     /// A setting is not within its limits.
     Settings,

@@ -1,4 +1,4 @@
-//! Reads words as a task.
+//! Reads the words of a command line as a task.
 ghost use Rattle.std.specs.Prelude.{◌≡◌, ◌∷◌, [], IfErr, IfOk, List, Option, Some, codes, false, map, true};
 ghost use Rattle.std.specs.String.{string_bytes};
 ghost use Rattle.clap.specs.Matches.{found_of};
@@ -7,7 +7,7 @@ ghost use Rattle.clap.specs.Takes.{takes};
 ghost use Rattle.clap.specs.Values.{kind_of};
 ghost use Rattle.clap.specs.Walk.{Row, Text as Word, rows_of};
 ghost use Rattle.command_line.specs.CommandLine.{program};
-ghost use Rattle.command_line.specs.Given.{HasImport, HasNeeds, HasServer, HasSettings, HasText};
+ghost use Rattle.command_line.specs.OptionValues.{HasImport, HasNeeds, HasServer, HasSettings, HasText};
 ghost use Rattle.program.specs.Tasks.{AreGiven, AreNoCodes, AreRefused, AreRefusedFor, IsTask, IsTaskOf, IsWords};
 
 use crate::tasks::{Task, TaskFault};
@@ -20,10 +20,10 @@ use std::alloc::{AllocError, Global};
 use std::rt::Env;
 use std::{env, io};
 
-// What `clap` tells of words that are no text.
+// The message of `clap` for words that are not UTF-8.
 const NO_TEXT: &str = "error: invalid UTF-8 was detected in one or more arguments\n";
 
-// With what an office begins. The day is judged first.
+// The settings with which an office begins. The day is checked first.
 #[tactic(auto, using(crate::proofs::GivenSettings::taken_are, crate::proofs::GivenSettings::refused_are))]
 fn settings(alloc: Global, found: &ArgMatches) -> Result<Settings, TaskFault>
     requires { HasSettings (rows_of (found_of found.now)) }
@@ -54,7 +54,7 @@ fn settings(alloc: Global, found: &ArgMatches) -> Result<Settings, TaskFault>
     }
 }
 
-// A preview. The codes are judged as those of an office are.
+// A preview. The codes are checked like those of an office.
 fn preview(alloc: Global, found: &ArgMatches) -> Result<Task, TaskFault>
     requires country { HasText (rows_of (found_of found.now)) (codes "country") }
     requires repo { HasText (rows_of (found_of found.now)) (codes "repo") }
@@ -73,7 +73,7 @@ fn preview(alloc: Global, found: &ArgMatches) -> Result<Task, TaskFault>
     })
 }
 
-// A new office in a file. The settings are judged before the file.
+// A new office in a file. The settings are checked before the path is read.
 fn init(alloc: Global, found: &ArgMatches) -> Result<Task, TaskFault>
     requires store { HasText (rows_of (found_of found.now)) (codes "store") }
     requires settings { HasSettings (rows_of (found_of found.now)) }
@@ -137,7 +137,7 @@ fn named(alloc: Global, name: &str, found: &ArgMatches) -> Result<Task, TaskFaul
     }
 }
 
-// Words that `clap` refused, with its text.
+// The fault of words that `clap` refused, with its text.
 fn refused(alloc: Global, error: &Error) -> TaskFault
     ensures words { IsWords result → kind_of error.now ≡ ErrorKind.OutOfMemory → ⊥ }
     ensures others { (m : Option (Word × List Row)) → AreRefusedFor m result }
@@ -151,13 +151,13 @@ fn refused(alloc: Global, error: &Error) -> TaskFault
     }
 }
 
-/// The task that the words after the program's name say. A request for help is not valid.
+/// The task that the words after the program's name describe. A request for help is refused as not valid.
 pub fn task(alloc: Global, words: &[String]) -> Result<Task, TaskFault>
     // The task is the subcommand of the matches that `clap` has for these words, with their values.
     ensures named { IfOk result (IsTaskOf (subcommand_of program (map string_bytes words.now))) }
-    // Words are refused only where the command does not take them.
+    // Words are refused only if the command does not take them.
     ensures refused { IfErr result (λ f. IsWords f → takes program (map string_bytes words.now) ≡ false) }
-    // A day or a setting is refused only where the words are taken, with such a value.
+    // A day or a setting is refused only if the words are taken and give such a value.
     ensures values { IfErr result (AreRefusedFor (subcommand_of program (map string_bytes words.now))) }
 {
     let matches = match record_office(alloc)?.try_get_matches_from(words) {
@@ -170,7 +170,7 @@ pub fn task(alloc: Global, words: &[String]) -> Result<Task, TaskFault>
     }
 }
 
-/// The words after the program's name. Words that are no text are refused like any others that the command does
+/// The words after the program's name. Words that are not UTF-8 are refused like any others that the command does
 /// not take.
 pub fn given<R: Env + AllocGlobal>(rt: &R, alloc: Global) -> Result<Vec<String>, TaskFault> {
     match env::args(rt) {
@@ -180,7 +180,7 @@ pub fn given<R: Env + AllocGlobal>(rt: &R, alloc: Global) -> Result<Vec<String>,
     }
 }
 
-/// The command takes the words of a preview, and takes neither no words nor a call for help.
+/// The command takes the words of a preview. It does not take an empty command line or a request for help.
 pub fn previews_are_taken()
     ensures preview { takes program (codes "preview"
         ∷ codes "--country" ∷ codes "GB" ∷ codes "--repo" ∷ codes "0999" ∷ codes "a.csv" ∷ []) ≡ true }

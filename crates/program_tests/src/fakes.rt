@@ -1,4 +1,4 @@
-//! Streams for tests: they give and take bytes in pieces, are interrupted, and fail where a test says.
+//! Streams for tests: they give and take bytes in pieces, are interrupted, and fail where a test asks for it.
 ghost use Rattle.std.specs.Prelude.{IsErr};
 
 use http_desk::session_end::Ended;
@@ -19,8 +19,8 @@ fn interrupted<T>() -> io::Result<T>
     Err(io::Error::from(ErrorKind::Interrupted))
 }
 
-/// Gives its bytes in pieces of at most that length, each after an interruption if asked, and then its end, or
-/// fails there if asked.
+/// A reader that gives its bytes in pieces of at most `piece` bytes, each after an interruption if `interrupts` is
+/// true. Then it is at its end, or fails if `fails` is true.
 #[derive(Drop)]
 pub struct Pieces<'a> {
     bytes: &'a [u8],
@@ -31,7 +31,7 @@ pub struct Pieces<'a> {
 }
 
 impl<'a> Pieces<'a> {
-    /// Gives all that it can at once, and then its end.
+    /// Gives as much as it can at once, and is then at its end.
     pub fn of(bytes: &'a [u8]) -> Pieces<'a> {
         Pieces {
             bytes,
@@ -42,7 +42,7 @@ impl<'a> Pieces<'a> {
         }
     }
 
-    /// Gives pieces of that length, each after an interruption.
+    /// Gives pieces of at most this length, each after an interruption.
     pub fn interrupted(bytes: &'a [u8], piece: usize) -> Pieces<'a> {
         Pieces {
             piece,
@@ -79,8 +79,8 @@ impl Read for Pieces<'_> {
     }
 }
 
-/// Takes that many bytes, in pieces of at most that length, each after an interruption if asked, and then fails.
-/// It fails to flush if asked.
+/// A writer that takes `room` bytes in pieces of at most `piece` bytes, each after an interruption if `interrupts` is
+/// true, and then fails. It fails to flush if `holds_back` is true.
 #[derive(Drop)]
 pub struct Page {
     pub held: Vec<u8>,
@@ -92,7 +92,7 @@ pub struct Page {
 }
 
 impl Page {
-    /// Takes all.
+    /// Takes all bytes.
     pub fn new(held: Vec<u8>) -> Page {
         Page {
             held,
@@ -104,7 +104,7 @@ impl Page {
         }
     }
 
-    /// Takes all, and fails to flush it.
+    /// Takes all bytes, and fails to flush them.
     pub fn unflushed(held: Vec<u8>) -> Page {
         Page {
             holds_back: true,
@@ -112,7 +112,7 @@ impl Page {
         }
     }
 
-    /// Takes so many bytes and then fails.
+    /// Takes `room` bytes, and then fails.
     pub fn narrow(held: Vec<u8>, room: usize) -> Page {
         Page {
             room,
@@ -120,7 +120,7 @@ impl Page {
         }
     }
 
-    /// Takes pieces of that length.
+    /// Takes pieces of at most this length.
     pub fn in_pieces(held: Vec<u8>, piece: usize) -> Page {
         Page {
             piece,
@@ -128,7 +128,7 @@ impl Page {
         }
     }
 
-    /// Takes pieces of that length, each after an interruption.
+    /// Takes pieces of at most this length, each after an interruption.
     pub fn interrupted(held: Vec<u8>, piece: usize) -> Page {
         Page {
             piece,
@@ -164,7 +164,8 @@ impl Write for Page {
     }
 }
 
-/// Clients that stand in a queue, each with what it sends. What each is sent goes to one line, with a bar after it.
+/// A port with a queue of clients, each with the text that it sends. The answers to all clients go to one pipe, with a
+/// bar after each client.
 #[derive(Drop)]
 pub struct Queue<'a> {
     clients: &'a [&'a str],
@@ -174,7 +175,7 @@ pub struct Queue<'a> {
 }
 
 impl<'a> Queue<'a> {
-    /// Nobody was talked to yet.
+    /// No client has been served yet.
     pub fn of(clients: &'a [&'a str], line: PipeWriter) -> Queue<'a> {
         Queue {
             clients,

@@ -1,6 +1,6 @@
 //! The help of the program and of each of its commands, as it is printed.
 
-/// Words that ask for help, and what they are told.
+/// Words that ask for help, and the help that is printed for them.
 pub const HELP: &[(&str, &str)] = &[
     ("--help", PROGRAM),
     ("preview --help", PREVIEW),

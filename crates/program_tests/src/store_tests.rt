@@ -43,7 +43,7 @@ const TICKET_1: &str =
 const TICKET_2: &str =
     "HTTP/1.1 200 OK\r\nContent-Type: application/json\r\nContent-Length: 12\r\n\r\n{\"ticket\":2}";
 
-// A file for a test, which is not there yet.
+// The path of a file for a test, which does not exist yet.
 fn new_path(rt: &HostRuntime, alloc: Global, name: &str) -> Result<String, Fail> {
     let folder = env::temp_dir(rt)?;
     let path = folder.join(alloc, name)?;
@@ -52,7 +52,7 @@ fn new_path(rt: &HostRuntime, alloc: Global, name: &str) -> Result<String, Fail>
     Ok(path)
 }
 
-// Removes a test's file, where it is there.
+// Removes a test's file and its log, if they exist.
 fn forget(rt: &HostRuntime, alloc: Global, path: &str) -> Result<(), Fail> {
     let _ = fs::remove_file(rt, path);
     let log = format!(in alloc; "{path}-wal")?;
@@ -60,7 +60,7 @@ fn forget(rt: &HostRuntime, alloc: Global, path: &str) -> Result<(), Fail> {
     Ok(())
 }
 
-// Performs the words with this input, and wants this exit status, this output and this told.
+// Performs the words with this input, and expects this exit status, this output and this text on standard error.
 fn says<R: Abort + Host>(
     rt: &R,
     alloc: Global,
@@ -81,7 +81,7 @@ fn says<R: Abort + Host>(
     )
 }
 
-// An office is made, filled, asked and checked.
+// An office is made, filled, queried and checked.
 #[test]
 fn an_office_is_kept(rt: HostRuntime) -> Result<(), Fail> {
     let alloc = rt.alloc();
@@ -128,7 +128,7 @@ fn settings(alloc: Global) -> Result<Settings, Fail> {
     )
 }
 
-// An office of version 1 is told so, and brought to version 2 once.
+// An office of version 1 is reported as such, and is migrated to version 2 once.
 #[test]
 fn an_old_office_is_migrated(rt: HostRuntime) -> Result<(), Fail> {
     let alloc = rt.alloc();
@@ -153,7 +153,7 @@ fn an_old_office_is_migrated(rt: HostRuntime) -> Result<(), Fail> {
     forget(&rt, alloc, store)
 }
 
-// Tables that no office has are told by their cause.
+// Tables that no office has are reported with their cause.
 #[test]
 fn an_office_is_not_sound(rt: HostRuntime) -> Result<(), Fail> {
     let alloc = rt.alloc();
@@ -175,7 +175,7 @@ fn an_office_is_not_sound(rt: HostRuntime) -> Result<(), Fail> {
     forget(&rt, alloc, store)
 }
 
-// A file that is no store, and one that is empty, are there and are not opened.
+// A file that is not a store, or that is empty, exists but is not opened.
 #[test]
 fn a_file_is_no_store(rt: HostRuntime) -> Result<(), Fail> {
     let alloc = rt.alloc();
@@ -197,7 +197,7 @@ fn a_file_is_no_store(rt: HostRuntime) -> Result<(), Fail> {
     forget(&rt, alloc, store)
 }
 
-// No office is made beside a log that is there, and what was made in vain is taken away whole.
+// No office is made beside an existing log, and a file that was made in vain is deleted with its log.
 #[test]
 fn an_office_is_made_again(rt: HostRuntime) -> Result<(), Fail> {
     let alloc = rt.alloc();
@@ -217,7 +217,7 @@ fn an_office_is_made_again(rt: HostRuntime) -> Result<(), Fail> {
     forget(&rt, alloc, store)
 }
 
-// Faults are told in their order: the settings before the store, and the file before it.
+// Faults are reported in order: the settings before the store, and the file of descriptions before the store.
 #[test]
 fn faults_have_an_order(rt: HostRuntime) -> Result<(), Fail> {
     let alloc = rt.alloc();
@@ -263,11 +263,11 @@ fn faults_have_an_order(rt: HostRuntime) -> Result<(), Fail> {
     Ok(())
 }
 
-// A connection is served: its request waits on the port.
+// A connection is served. Its request already waits on the port.
 #[test]
 fn a_connection_is_served(rt: HostRuntime) -> Result<(), Fail> {
     let alloc = rt.alloc();
-    // A port that is free, as the system says.
+    // A free port, which the system chooses.
     let here = SocketAddr::V4(SocketAddrV4::new(Ipv4Addr::LOCALHOST, 0));
     let probe = TcpListener::bind(&rt, here)?;
     let there = probe.local_addr()?;
@@ -290,7 +290,8 @@ fn a_connection_is_served(rt: HostRuntime) -> Result<(), Fail> {
     Ok(())
 }
 
-// Serves these clients, so many, and gives whether all came, and what they were sent; the port was shut where all came.
+// Serves this number of connections to these clients. Returns whether all came and the port was shut, and what was
+// sent to the clients.
 fn sent_to(
     rt: &HostRuntime,
     alloc: Global,
@@ -312,7 +313,7 @@ fn sent_to(
     Ok((is_served && is_shut, sent))
 }
 
-// Each client that comes is talked to, in turn, and what one has changed the next one sees.
+// Each client that comes is served in turn, and sees what those before it changed.
 #[test]
 fn each_client_is_talked_to(rt: HostRuntime) -> Result<(), Fail> {
     let alloc = rt.alloc();
@@ -324,7 +325,7 @@ fn each_client_is_talked_to(rt: HostRuntime) -> Result<(), Fail> {
     Ok(())
 }
 
-// A client who does not come is told.
+// A client that does not come is reported.
 #[test]
 fn a_client_is_missing(rt: HostRuntime) -> Result<(), Fail> {
     let alloc = rt.alloc();

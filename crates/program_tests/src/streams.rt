@@ -1,4 +1,4 @@
-//! How many reads and writes are made of a stream.
+//! How many reads and writes a stream may take.
 
 use crate::fakes::{Page, Pieces};
 use program::streams::{
@@ -6,8 +6,8 @@ use program::streams::{
 };
 use std::test::Fail;
 
-// Three bytes and the end come in eight reads, four of them interrupted, and go in six writes; so do two and a
-// line feed.
+// Three bytes and the end take eight reads, four of them interrupted. Three bytes take six writes, and so do two
+// bytes and a line feed.
 #[test]
 fn calls_are_counted(rt: HostRuntime) -> Result<(), Fail> {
     for reads in 0..10u32 {

@@ -9,13 +9,13 @@ use std::process::Abort;
 use std::test::Fail;
 use std::{env, fs};
 
-// The first of the worked files, and what its preview prints.
+// The first worked file, and what its preview prints.
 pub const FONDS: &str =
     "legacyId,parentId,identifier,title,levelOfDescription,publicationStatus\n1,,HUL,Hull Dock Company,Fonds,Published\n2,1,1,Minutes,Series,Published\n";
 
 const AIDS: &str = "GB 0999 HUL [Fonds] Hull Dock Company\n  GB 0999 HUL/1 [Series] Minutes\n";
 
-// What clap tells of no words, of values that are missing, and of a number that is none or too great.
+// The messages of clap for no words, for missing values, and for numbers that are invalid or out of range.
 const NO_COMMAND: &str = "\
 error: 'record_office' requires a subcommand but one was not provided
   [subcommands: preview, init, trial, import, talk, serve, check, migrate]
@@ -78,7 +78,7 @@ fn words_of(alloc: Global, text: &str) -> Result<Vec<String>, Fail> {
     Ok(words)
 }
 
-// Performs the words over streams, and wants this exit status, this output and this told.
+// Performs the words over streams, and expects this exit status, this output and this text on standard error.
 pub fn expect<R: Abort + Host>(
     rt: &R,
     alloc: Global,
@@ -137,7 +137,7 @@ fn a_file_is_read(rt: HostRuntime) -> Result<(), Fail> {
         (0, AIDS.as_bytes(), ""),
     )?;
     fs::remove_file(&rt, path.as_path())?;
-    // Now it is not there; and a folder is opened, and cannot be read.
+    // Now the file does not exist. A folder can be opened, but not read.
     let folder_named = format!(in alloc; "{PREVIEW} /")?;
     for words in [there.as_str(), folder_named.as_str()] {
         let out = Page::new(Vec::new(alloc));
@@ -157,7 +157,7 @@ fn files_are_refused(rt: HostRuntime) -> Result<(), Fail> {
         (header, 0, ""),
         (late, 1, "refused 22 BadFile row 3 cause 11\n"),
     ] {
-        // Where nothing is printed, standard output need not take anything.
+        // If nothing is printed, standard output need not take anything.
         let out = Page::narrow(Vec::new(alloc), 0);
         let reader = Pieces::of(file.as_bytes());
         expect(&rt, alloc, PREVIEW, reader, out, (status, b"", told))?;
@@ -185,7 +185,7 @@ fn streams_fail(rt: HostRuntime) -> Result<(), Fail> {
     expect(&rt, alloc, PREVIEW, Pieces::of(file), out, unflushed)
 }
 
-// The day is judged before the settings, and both before anything is read.
+// The day is checked before the settings, and both before anything is read.
 #[test]
 fn settings_are_judged(rt: HostRuntime) -> Result<(), Fail> {
     let alloc = rt.alloc();

@@ -4,12 +4,12 @@ use Rattle.std.specs.Prelude.{ℤ, nat_eq}
 use Rattle.std.specs.List.{AllByRecursion, list_any}
 use Rattle.std.proofs.lemmas.Bool.{ne_eqb}
 use Rattle.isad_core.specs.Limits.{IsNumber}
-use Rattle.isad_core.specs.Printed.{aid}
+use Rattle.isad_core.specs.PrintedDescriptions.{aid}
 use Rattle.tree_core.specs.Forest.{Forest, Empty, HasDistinctIds, each, nodes, path, tree}
 use Rattle.tree_core.proofs.EachLemmas.{nodes-each}
 use Rattle.catalogue_core.specs.Aids.{shown_below}
 use Rattle.catalogue_core.specs.Pages.{above_last, aid_of, before_last, is_numbered}
-use Rattle.catalogue_core.specs.Publishing.{PublicUnit, public_of}
+use Rattle.catalogue_core.specs.PublicForest.{PublicUnit, public_of}
 use Rattle.catalogue_core.specs.Units.{Unit, has_id, is_closed}
 use Rattle.catalogue_core.proofs.DistinctLists.{all_unmapped}
 use Rattle.catalogue_core.proofs.PublicPaths.{known_of}
@@ -21,7 +21,7 @@ use Rattle.office_core.specs.declared.query.Query.TheVariants as query
 use Rattle.office_core.specs.declared.query.Answer.TheVariants.{Text, Unknown}
 use Rattle.office_core.proofs.KeptOffices.{office_kept, office_knows, office_places}
 use Rattle.refinement.proofs.Judged.{distinct_ids}
-use Rattle.refinement.specs.Represents.{office_of}
+use Rattle.refinement.specs.Representation.{office_of}
 use Rattle.public_queries.specs.KnownPaths.{IsTellable}
 use Rattle.public_queries.specs.HeadLines.{ids_of, repository_of, shows_last}
 use Rattle.catalogue_store.specs.Heads.{head_of}

@@ -5,21 +5,21 @@ use Rattle.std.specs.List.{AllByRecursion}
 use Rattle.std.proofs.lemmas.List.{map-append, length-append, length-map}
 use Rattle.isad_core.specs.Texts.{Bytes}
 use Rattle.isad_core.specs.Values.{identifier}
-use Rattle.isad_core.specs.Printed.{aid, unit_lines}
+use Rattle.isad_core.specs.PrintedDescriptions.{aid, unit_lines}
 use Rattle.isad_core.specs.declared.display.Shown.{Shown}
 use Rattle.isad_core.specs.declared.values.BoxKey.{BoxKey}
 use Rattle.tree_core.specs.Forest.{Forest, Empty, Node, each, walk}
-use Rattle.tree_core.specs.Withheld.{public}
+use Rattle.tree_core.specs.Visibility.{public}
 use Rattle.tree_core.specs.Marks as marks
 use Rattle.tree_core.specs.Marks.{kept}
 use Rattle.tree_core.specs.declared.marks.Mark.{Mark}
 use Rattle.tree_core.specs.declared.marks.Kept.{Kept}
 use Rattle.catalogue_core.specs.Aids.{Repository, identifier_of, shown_unit, shown_below}
-use Rattle.catalogue_core.specs.Marking.{mark_of, unnumbered}
-use Rattle.catalogue_core.specs.Merging.{Catalogue}
-use Rattle.catalogue_core.specs.Publishing.{Told, public_unit, stub_of}
+use Rattle.catalogue_core.specs.UnitMarks.{mark_of, unnumbered}
+use Rattle.catalogue_core.specs.CatalogueMerge.{Catalogue}
+use Rattle.catalogue_core.specs.PublicForest.{Told, public_unit, stub_of}
 use Rattle.catalogue_core.specs.Units.{Unit}
-use Rattle.public_queries.specs.Aiding.{IsOf, KeepsUnits, Walked, along, kept_row, public_units, seen_of, shown_at}
+use Rattle.public_queries.specs.FindingAids.{IsOf, KeepsUnits, Walked, along, kept_row, public_units, seen_of, shown_at}
 use Rattle.public_queries.specs.declared.visible_unit.Seen.{Seen}
 
 -- ---- the walk with a list of identifiers

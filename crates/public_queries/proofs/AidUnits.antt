@@ -12,9 +12,9 @@ use Rattle.tree_core.proofs.EachLemmas.{nodes-each, size-each}
 use Rattle.tree_core.specs.declared.marks.Mark.{Mark}
 use Rattle.catalogue_core.specs.Aids.{numbered_boxes}
 use Rattle.catalogue_core.specs.Bounds.{IsKept}
-use Rattle.catalogue_core.specs.Marking.{AreWalkMarks, mark_of, unnumbered}
-use Rattle.catalogue_core.specs.Merging.{Catalogue, box_number}
-use Rattle.catalogue_core.specs.Publishing.{Told, public_unit, stub_of}
+use Rattle.catalogue_core.specs.UnitMarks.{AreWalkMarks, mark_of, unnumbered}
+use Rattle.catalogue_core.specs.CatalogueMerge.{Catalogue, box_number}
+use Rattle.catalogue_core.specs.PublicForest.{Told, public_unit, stub_of}
 use Rattle.catalogue_core.specs.Units.{Unit, has_id, is_closed, is_later}
 use Rattle.catalogue_core.proofs.DistinctLists.{all_so}
 use Rattle.catalogue_core.proofs.EachAfter.{all_tree}
@@ -22,7 +22,7 @@ use Rattle.catalogue_core.proofs.EachOf.{all_append, all_split}
 use Rattle.catalogue_core.proofs.NodeLemmas.{length-nodes}
 use Rattle.catalogue_store.specs.declared.unit_values.UnitValues.{UnitValues}
 use Rattle.public_queries.proofs.FoundUnits.{found_each}
-use Rattle.public_queries.specs.Aiding.{IsOf, Walked, public_units, seen_of, seen_values, with_numbers}
+use Rattle.public_queries.specs.FindingAids.{IsOf, Walked, public_units, seen_of, seen_values, with_numbers}
 
 -- ---- what is read of one unit
 

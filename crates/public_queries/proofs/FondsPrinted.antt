@@ -2,7 +2,7 @@
 use Rattle.std.proofs.Common.{◌≡◌, ℕ, [], ◌∷◌, ◌++◌, ap}
 use Rattle.std.specs.Prelude.{map}
 use Rattle.std.specs.Fmt.{decimal}
-use Rattle.isad_core.specs.Printed.{line, head_line}
+use Rattle.isad_core.specs.PrintedDescriptions.{line, head_line}
 use Rattle.isad_core.specs.declared.display.Shown.{Shown}
 use Rattle.office_core.specs.Queries.{answer, press}
 use Rattle.office_core.specs.State.{State}

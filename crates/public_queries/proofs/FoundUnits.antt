@@ -7,7 +7,7 @@ use Rattle.std.proofs.lemmas.List.{length-map}
 use Rattle.tree_core.specs.Forest.{Forest, Empty, Node, nodes, has, path}
 use Rattle.tree_core.proofs.Lists.{eqb_comm}
 use Rattle.catalogue_core.specs.Bounds.{IsKept}
-use Rattle.catalogue_core.specs.Merging.{Catalogue}
+use Rattle.catalogue_core.specs.CatalogueMerge.{Catalogue}
 use Rattle.catalogue_core.specs.Units.{Unit, has_id}
 use Rattle.catalogue_core.proofs.EachOf.{all_split, some_found}
 use Rattle.catalogue_store.proofs.UnitsThere.{no_unit}

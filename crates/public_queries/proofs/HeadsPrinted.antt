@@ -5,13 +5,13 @@ use Rattle.std.specs.List.{flat_map, cons_option}
 use Rattle.isad_core.specs.Texts.{Bytes}
 use Rattle.isad_core.specs.Codes.{code_of}
 use Rattle.isad_core.specs.Values.{identifier}
-use Rattle.isad_core.specs.Printed.{head_line}
+use Rattle.isad_core.specs.PrintedDescriptions.{head_line}
 use Rattle.isad_core.specs.declared.display.Body.TheVariants.{Full, Closed}
 use Rattle.isad_core.specs.declared.display.Shown.{Shown}
 use Rattle.isad_core.specs.declared.values.BoxKey.{BoxKey}
 use Rattle.tree_core.specs.Forest.{Forest, Empty, Node}
 use Rattle.catalogue_core.specs.Units.{Unit, is_closed, is_later}
-use Rattle.catalogue_core.specs.Publishing.{Told, public_of, stub_of}
+use Rattle.catalogue_core.specs.PublicForest.{Told, public_of, stub_of}
 use Rattle.catalogue_core.specs.Aids.{Repository, identifier_of, shown_unit}
 use Rattle.catalogue_core.specs.Pages.{Press, side_by_side, number_of}
 use Rattle.catalogue_store.specs.Heads.{head_of}

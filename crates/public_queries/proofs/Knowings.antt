@@ -17,9 +17,9 @@ use Rattle.office_tables.proofs.Causes.{still_unlimited}
 use Rattle.office_tables.proofs.LaterCauses.{next_cause}
 use Rattle.office_tables.specs.declared.fault.StoreFault.{StoreFault}
 use Rattle.office_tables.specs.declared.fault.StoreFault.TheVariants as fault
-use Rattle.refinement.specs.Represents.{RepresentsState}
+use Rattle.refinement.specs.Representation.{RepresentsState}
 use Rattle.refinement.proofs.Answerings.{still_shown}
-use Rattle.public_queries.specs.Knowing.{AnswersKnowing}
+use Rattle.public_queries.specs.InformedAnswers.{AnswersKnowing}
 
 module _ (places : Trees → Forest ℕ → Type 0) (version : Version) (known : State → Type 0) (asked : Query) where
   -- its first step fails

@@ -13,10 +13,10 @@ use Rattle.office_tables.specs.Step.{IsAborted, LeavesUnchanged}
 use Rattle.office_tables.proofs.CallEnds.{excused_then}
 use Rattle.office_tables.proofs.Calls.{cut_then, early, looks_then, on_err_then, on_ok_then}
 use Rattle.office_tables.specs.declared.fault.StoreFault.{StoreFault}
-use Rattle.refinement.specs.Represents.{RepresentsState}
+use Rattle.refinement.specs.Representation.{RepresentsState}
 use Rattle.refinement.proofs.Answerings.{still_shown}
 use Rattle.refinement.proofs.Tellings.{looked_crash}
-use Rattle.public_queries.specs.Knowing.{AnswersKnowing}
+use Rattle.public_queries.specs.InformedAnswers.{AnswersKnowing}
 
 pub knows_then : (places : Trees → Forest ℕ → Type 0) (version : Version) (known later : State → Type 0) (asked : Query) (a b c : store.State) (r : Result Answer StoreFault) → LeavesUnchanged a b
     → (HasCleanDisk b → (s : State) → IsSoundOffice s → known s → RepresentsState places version a.now s → later s)

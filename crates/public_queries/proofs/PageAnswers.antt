@@ -15,7 +15,7 @@ use Rattle.desk_core.specs.declared.refusal.Refusal.TheVariants.{UnknownUnit}
 use Rattle.office_core.specs.Queries.{press}
 use Rattle.catalogue_store.specs.Heads.{head_of}
 use Rattle.std.proofs.lemmas.List.{map-append}
-use Rattle.isad_core.specs.Printed.{page}
+use Rattle.isad_core.specs.PrintedDescriptions.{page}
 use Rattle.isad_core.specs.declared.display.Shown.{Shown}
 use Rattle.catalogue_core.specs.Units.{is_closed, is_later}
 use Rattle.catalogue_store.specs.declared.unit_values.UnitValues.{UnitValues}
@@ -24,7 +24,7 @@ use Rattle.public_queries.specs.PathValues.{unit_values}
 use Rattle.public_queries.specs.HeadLines.{shows_last, bare, all_bare, repository_of, ids_of}
 use Rattle.public_queries.specs.PathValues.{coded_way}
 use Rattle.public_queries.specs.PageLines.{closed_page, told_page}
-use Rattle.refinement.specs.Represents.{office_of}
+use Rattle.refinement.specs.Representation.{office_of}
 use Rattle.catalogue_store.specs.declared.heads.Head.{Head}
 use Rattle.catalogue_statements.specs.declared.office.OfficeRow.{OfficeRow}
 use Rattle.catalogue_store.proofs.UnitsThere.{no_unit}

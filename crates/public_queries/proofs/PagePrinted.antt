@@ -7,15 +7,15 @@ use Rattle.std.proofs.lemmas.Bool.{false≢true}
 use Rattle.isad_core.specs.Texts.{Bytes}
 use Rattle.isad_core.specs.Codes.{code_of}
 use Rattle.isad_core.specs.Values.{identifier, line_elements}
-use Rattle.isad_core.specs.Printed.{page, line, indent, head_line, unit_below, found_element, found_container}
+use Rattle.isad_core.specs.PrintedDescriptions.{page, line, indent, head_line, unit_below, found_element, found_container}
 use Rattle.isad_core.specs.declared.display.Page.{Page}
 use Rattle.isad_core.specs.declared.display.Shown.{Shown}
 use Rattle.isad_core.specs.declared.values.BoxKey.{BoxKey}
 use Rattle.std.proofs.lemmas.List.{map-append, reverse-append}
 use Rattle.tree_core.specs.Forest.{Forest, Empty, Node, each, has, path, tree, HasDistinctIds}
-use Rattle.catalogue_core.specs.Merging.{box_number}
+use Rattle.catalogue_core.specs.CatalogueMerge.{box_number}
 use Rattle.catalogue_core.specs.Units.{Unit, has_id, is_closed, is_later}
-use Rattle.catalogue_core.specs.Publishing.{PublicUnit, Told, public_of, stub_of}
+use Rattle.catalogue_core.specs.PublicForest.{PublicUnit, Told, public_of, stub_of}
 use Rattle.catalogue_core.specs.Aids.{Repository, identifier_of, shown_unit}
 use Rattle.catalogue_core.specs.Pages.{Press, PageBox, side_by_side, coded_below, coded, page_line, page_boxes, boxes_or, nearest_boxes, boxes_on_page, page_at, page_of, is_numbered}
 use Rattle.office_core.specs.Queries.{page_answer}

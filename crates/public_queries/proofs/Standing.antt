@@ -5,11 +5,11 @@ use Rattle.std.specs.List.{list_any}
 use Rattle.std.proofs.lemmas.List.Folds.{list_any-append}
 use Rattle.std.proofs.lemmas.Bool.{false≢true, eqb-true}
 use Rattle.tree_core.specs.Forest.{Forest, Empty, Node, nodes, each, has, path, tree, HasDistinctIds}
-use Rattle.tree_core.specs.Withheld.{public}
+use Rattle.tree_core.specs.Visibility.{public}
 use Rattle.tree_core.proofs.EachLemmas.{has-each}
 use Rattle.tree_core.proofs.LinkPaths.{Parts, parts}
 use Rattle.catalogue_core.specs.Units.{Unit, has_id, is_closed}
-use Rattle.catalogue_core.specs.Publishing.{PublicUnit, public_unit, public_of}
+use Rattle.catalogue_core.specs.PublicForest.{PublicUnit, public_unit, public_of}
 use Rattle.catalogue_core.specs.Pages.{is_numbered}
 use Rattle.catalogue_core.proofs.PublicPaths.{known_of, number_known}
 use Rattle.catalogue_store.specs.Heads.{head_of}

@@ -1,4 +1,4 @@
--- Which units the public is shown, and their head lines, as they are told from heads.
+-- Which units the public is shown, and their head lines, as computed from heads.
 use Rattle.std.specs.Prelude.{ℕ, ℤ, int_lt, Bool, false, not, ◌&&◌, ◌++◌, cond, List, [], ◌∷◌, map, filter_map, Option, Some, None}
 use Rattle.std.specs.List.{list_all}
 use Rattle.isad_core.specs.Texts.{Bytes}
@@ -11,17 +11,17 @@ use Rattle.catalogue_core.specs.Units.{is_later}
 use Rattle.catalogue_statements.specs.declared.office.OfficeRow.{OfficeRow}
 use Rattle.catalogue_store.specs.declared.heads.Head.{Head}
 
--- whose archives they are, as the office's own row tells
+-- whose archives these are, by the office's own row
 abbrev pub repository_of : OfficeRow → Repository
 repository_of row = record { country = row.country; repo = row.repo }
 
 -- ---- whether the last unit of a path is shown
 
--- the unit is no draft, and not closed on that day
+-- the unit is not a draft, and not closed on that day
 abbrev pub is_open_on : ℤ → Head → Bool
 is_open_on day head = not head.draft && not (is_later day head.until)
 
--- none on its path is a draft, and none above it is closed
+-- no unit on the path is a draft, and none above the last is closed
 abbrev pub shows_last : ℤ → List Head → Bool
 shows_last day [] = false
 shows_last day (head ∷ []) = not head.draft
@@ -32,12 +32,12 @@ are_open day heads = list_all (is_open_on day) heads
 
 -- ---- head lines
 
--- all that a head line needs of a unit's body: until when it is closed
+-- what a head line needs of a unit's body: the day until which it is closed
 abbrev pub bare_body : ℤ → Option ℤ → Body
 bare_body day None = Full [] []
 bare_body day (Some until) = cond (int_lt day until) (Closed until) (Full [] [])
 
--- a unit with its head line alone, where `ids` are the identifiers from the top down to it
+-- a unit with its head line alone; `ids` are the identifiers from the top down to it
 abbrev pub bare : Repository → List Bytes → ℤ → Head → Shown
 bare at ids day head = record {
   depth = 0;
@@ -47,7 +47,7 @@ bare at ids day head = record {
   body = bare_body day head.until;
 }
 
--- the same of a unit below others with its number, unless it is a draft
+-- the same for a unit below others, with its number, unless it is a draft
 abbrev pub bare_below : Repository → List Bytes → ℤ → Head → Option (ℕ × Shown)
 bare_below at above day head =
     cond head.draft None (Some (head.id, bare at (above ++ head.identifier ∷ []) day head))

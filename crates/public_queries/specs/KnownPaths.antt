@@ -2,17 +2,17 @@
 use Rattle.std.specs.Prelude.{◌≡◌, ℕ, true, List, map, find, Some}
 use Rattle.std.specs.List.{AllByRecursion}
 use Rattle.tree_core.specs.Forest.{nodes, path}
-use Rattle.catalogue_core.specs.Describing.{HasAllPlaces, KnowsItsContainers}
-use Rattle.catalogue_core.specs.Merging.{Catalogue}
+use Rattle.catalogue_core.specs.Descriptions.{HasAllPlaces, KnowsItsContainers}
+use Rattle.catalogue_core.specs.CatalogueMerge.{Catalogue}
 use Rattle.catalogue_core.specs.Units.{Unit, has_id}
 use Rattle.catalogue_statements.specs.declared.office.OfficeRow.{OfficeRow}
 use Rattle.office_core.specs.State.{State}
-use Rattle.refinement.specs.Represents.{office_of}
+use Rattle.refinement.specs.Representation.{office_of}
 use Rattle.public_queries.specs.HeadLines.{shows_last}
 use Rattle.catalogue_store.specs.Heads.{head_of}
 use Rattle.catalogue_store.specs.declared.heads.Head.{Head}
 
--- the values of every unit can be told: each has a place for each text, and its containers are known
+-- the values of every unit can be read: each has a place for every text, and its containers are known
 pub record IsTellable (c : Catalogue) : Type 0 where
   pub places : HasAllPlaces c
   pub containers : KnowsItsContainers c

@@ -1,6 +1,6 @@
-pub mod Knowing
+pub mod InformedAnswers
 pub mod KnownPaths
 pub mod HeadLines
-pub mod Aiding
+pub mod FindingAids
 pub mod PathValues
 pub mod PageLines

@@ -10,12 +10,12 @@ use Rattle.catalogue_core.specs.Pages.{PageBox, page_line}
 use Rattle.public_queries.specs.PathValues.{coded_of}
 use Rattle.public_queries.specs.declared.path_values.OnPath.{OnPath}
 
--- containers with their numbers, and the code of the unit above where they were found
+-- containers with their numbers, and the code of the unit above where they were found, if any
 abbrev pub box_lines : Option Bytes → List ℕ → List BoxKey → List PageBox
 box_lines from numbers boxes =
     map (λ (housed : ℕ × BoxKey). (housed.0, housed.1.name, from)) (zip numbers boxes)
 
--- these containers; where there are none, what is found further up
+-- these containers, or if there are none, what is found further up
 abbrev pub lines_or : Option Bytes → List ℕ → List BoxKey → List PageBox → List PageBox
 lines_or from numbers [] further = further
 lines_or from numbers (box ∷ boxes) further = box_lines from numbers (box ∷ boxes)
@@ -26,7 +26,7 @@ nearest_lines [] = []
 nearest_lines (unit ∷ higher) =
     lines_or (Some unit.code) unit.unit.containers unit.unit.values.boxes (nearest_lines higher)
 
--- the containers that the first of these units lies in
+-- the containers of the first of these units, or else those of the nearest unit above it that has some
 abbrev pub housed_lines : List OnPath → List PageBox
 housed_lines [] = []
 housed_lines (unit ∷ higher) = lines_or None unit.unit.containers unit.unit.values.boxes (nearest_lines higher)

@@ -1,11 +1,11 @@
--- What is told of the units of a path.
+-- What is known about the units of a path.
 use Rattle.std.specs.Prelude.{List, [], ◌∷◌, ◌++◌, map}
 use Rattle.isad_core.specs.Codes.{code_of}
 use Rattle.isad_core.specs.Texts.{Bytes}
 use Rattle.isad_core.specs.Values.{identifier}
 use Rattle.isad_core.specs.declared.values.BoxKey.{BoxKey}
 use Rattle.catalogue_core.specs.Aids.{Repository}
-use Rattle.catalogue_core.specs.Merging.{box_number}
+use Rattle.catalogue_core.specs.CatalogueMerge.{box_number}
 use Rattle.catalogue_core.specs.Pages.{Coded}
 use Rattle.catalogue_core.specs.Units.{Unit}
 use Rattle.catalogue_store.specs.declared.unit_values.UnitValues.{UnitValues}
@@ -22,8 +22,8 @@ placed at above unit = record {
   unit = unit;
 }
 
--- These units with their codes, the lowest first. `above` are the identifiers of those above, and `higher` are they
--- themselves.
+-- These units with their codes, the lowest first. `above` are the identifiers of the units above, and `higher` are
+-- those units themselves.
 abbrev pub coded_way : Repository → List Bytes → List OnPath → List UnitValues → List OnPath
 coded_way at above higher [] = higher
 coded_way at above higher (unit ∷ way) =

@@ -3,20 +3,20 @@
 ghost use Rattle.std.specs.Prelude.{◌≡◌, ◌++◌, ◌∷◌, [], ⊤, List, length, map, OnOk, IfOk};
 ghost use Rattle.sqlite.specs.Held.{state};
 ghost use Rattle.isad_core.specs.Limits.{IsNumber};
-ghost use Rattle.isad_core.specs.Printed.{aid as printed, unit_lines};
+ghost use Rattle.isad_core.specs.PrintedDescriptions.{aid as printed, unit_lines};
 ghost use Rattle.tree_core.specs.Forest.{HasDistinctIds, each, tree, walk};
 ghost use Rattle.catalogue_core.specs.Bounds.{IsKept};
 ghost use Rattle.catalogue_core.specs.Units.{has_id};
 ghost use Rattle.office_tables.specs.Calls.{Answers};
 ghost use Rattle.office_tables.specs.Step.{InTransaction};
-ghost use Rattle.catalogue_statements.specs.Represents.{Represents};
+ghost use Rattle.catalogue_statements.specs.Representation.{Represents};
 ghost use Rattle.catalogue_core.specs.Aids.{shown_below};
-ghost use Rattle.catalogue_core.specs.Publishing.{public_of};
+ghost use Rattle.catalogue_core.specs.PublicForest.{public_of};
 ghost use Rattle.office_core.specs.declared.query.Query.TheVariants as query;
-ghost use Rattle.refinement.specs.Represents.{office_of};
+ghost use Rattle.refinement.specs.Representation.{office_of};
 ghost use Rattle.public_queries.specs.HeadLines.{repository_of};
-ghost use Rattle.public_queries.specs.Knowing.{AnswersKnowing};
-ghost use Rattle.public_queries.specs.Aiding.{KeepsUnits, Walked, along, kept_row, public_units, shown_at};
+ghost use Rattle.public_queries.specs.InformedAnswers.{AnswersKnowing};
+ghost use Rattle.public_queries.specs.FindingAids.{KeepsUnits, Walked, along, kept_row, public_units, shown_at};
 ghost use Rattle.public_queries.specs.KnownPaths.{IsTellable};
 
 use crate::path_heads::{identifiers_above, shows_last};
@@ -30,10 +30,10 @@ use sqlite::{Alter, Connection};
 use std::alloc::{AllocError, Global};
 use tree_core::{Kept, prune};
 
-/// More units than this an office never has: their marks could not be numbered.
+/// No office has more units than this: their marks could not be numbered.
 const MOST_MARKS: usize = 1 << 30;
 
-/// The units of a branch that the public sees, where nothing above it is withheld.
+/// The units of a branch that the public sees, if nothing above the branch is withheld.
 fn kept_of<P: Places, S: Alter>(
     alloc: Global,
     conn: &mut Connection<S>,
@@ -52,7 +52,7 @@ fn kept_of<P: Places, S: Alter>(
     Ok(prune(alloc, &marks, today.number())?)
 }
 
-/// The lines of a unit below others with these identifiers, to which its own is added.
+/// The lines of a unit below others with these identifiers. Its own identifier is added to them.
 fn unit_text(
     alloc: Global,
     known: &OfficeRow,
@@ -81,7 +81,7 @@ fn unit_text(
     aid_text(alloc, &[shown])
 }
 
-/// The lines of these units, which stand in walk order below others with these identifiers.
+/// The lines of these units, which must be in walk order, below others with these identifiers.
 fn units_text<P: Places, S: Alter>(
     alloc: Global,
     conn: &mut Connection<S>,
@@ -127,7 +127,8 @@ fn branch_text<P: Places, S: Alter>(
     units_text::<P, S>(alloc, conn, known, above, &kept)
 }
 
-/// The finding aid of a unit, or that the public is shown no such unit. The office's row is known.
+/// Answers with the finding aid of a unit, or with `UnknownUnit` if the public is shown no such
+/// unit. `known` must be the office's row.
 pub fn aid<P: Places, S: Alter>(
     alloc: Global,
     conn: &mut Connection<S>,

@@ -1,4 +1,4 @@
-//! Units of which the head line alone is printed.
+//! Units that are printed with their head line alone.
 
 ghost use Rattle.std.specs.Prelude.{◌≡◌, ◌++◌, ◌∷◌, [], IfOk, OnOk};
 ghost use Rattle.public_queries.specs.HeadLines.{all_bare, bare as bare_of, bare_body, repository_of};
@@ -20,7 +20,7 @@ fn body_of(alloc: Global, until: Option<Day>, today: Day) -> Body
     }
 }
 
-/// A unit with its head line alone, where `ids` are the identifiers from the top down to it.
+/// A unit with its head line alone. `ids` are the identifiers from the top down to it.
 pub(crate) fn bare(
     alloc: Global,
     known: &OfficeRow,
@@ -38,7 +38,7 @@ pub(crate) fn bare(
     })
 }
 
-/// A unit right below others with its head line alone.
+/// A unit right below others, with its head line alone.
 fn bare_in(
     alloc: Global,
     known: &OfficeRow,
@@ -55,7 +55,7 @@ fn bare_in(
     Ok(shown)
 }
 
-/// The units right below others, where they are no drafts, with their head lines alone.
+/// Those of the units right below others that are not drafts, with their head lines alone.
 pub(crate) fn bare_units(
     alloc: Global,
     known: &OfficeRow,

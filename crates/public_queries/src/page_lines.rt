@@ -1,7 +1,7 @@
 //! The lines of a page, from what was read of the units of a path.
 
 ghost use Rattle.std.specs.Prelude.{◌≡◌, filter_map, map, option_copied, IfOk};
-ghost use Rattle.isad_core.specs.Printed.{page as printed};
+ghost use Rattle.isad_core.specs.PrintedDescriptions.{page as printed};
 ghost use Rattle.catalogue_core.specs.Pages.{nearest_value as nearest_of, page_line as line_of};
 ghost use Rattle.public_queries.specs.PageLines.{box_lines, closed_page, housed_lines, nearest_lines, told_page};
 ghost use Rattle.public_queries.specs.PathValues.{coded_of};
@@ -11,10 +11,11 @@ use catalogue_store::UnitValues;
 use isad_core::{Element, LINE_ELEMENTS, List, Page, Shown, Text, page_text};
 use std::alloc::{AllocError, Global};
 
-/// An element with its text, and the code of the unit above where it was found.
+/// An element with its text, and the code of the unit above where it was found, if any.
 type Line = (Element, Text, Option<Text>);
 
-/// The number and the name of a container, likewise.
+/// The number and the name of a container, and the code of the unit above where it was found, if
+/// any.
 type Boxed = (u64, Text, Option<Text>);
 
 /// The value of the nearest of these units that has one.
@@ -62,7 +63,7 @@ fn page_lines(
     Ok(lines)
 }
 
-/// A copy of a code.
+/// A copy of a code, if there is one.
 fn code_or_none(from: Option<&Text>) -> Result<Option<Text>, AllocError>
     ensures { IfOk result (λ code. code ≡ option_copied from.entry) }
 {
@@ -105,7 +106,8 @@ fn nearest_boxes(alloc: Global, units: &[OnPath]) -> Result<List<Boxed>, AllocEr
     Ok(List::new(alloc))
 }
 
-/// The containers that the first of these units lies in.
+/// The containers of the first of these units, or else those of the nearest unit above it that has
+/// some.
 fn housed(alloc: Global, units: &[OnPath]) -> Result<List<Boxed>, AllocError>
     ensures { IfOk result (λ boxes. boxes ≡ housed_lines units.now) }
 {

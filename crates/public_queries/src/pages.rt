@@ -3,17 +3,17 @@
 ghost use Rattle.std.specs.Prelude.{◌≡◌, [], find, map, Some, IfOk};
 ghost use Rattle.sqlite.specs.Held.{state};
 ghost use Rattle.isad_core.specs.Limits.{IsNumber};
-ghost use Rattle.isad_core.specs.Printed.{page as printed};
+ghost use Rattle.isad_core.specs.PrintedDescriptions.{page as printed};
 ghost use Rattle.tree_core.specs.Forest.{nodes};
 ghost use Rattle.catalogue_core.specs.Bounds.{IsKept};
 ghost use Rattle.catalogue_core.specs.Units.{«Unit» as Described, has_id};
-ghost use Rattle.catalogue_statements.specs.Represents.{Represents};
+ghost use Rattle.catalogue_statements.specs.Representation.{Represents};
 ghost use Rattle.office_core.specs.declared.query.Query.TheVariants as query;
 ghost use Rattle.office_tables.specs.Calls.{Answers};
 ghost use Rattle.office_tables.specs.Step.{InTransaction};
-ghost use Rattle.refinement.specs.Represents.{office_of};
+ghost use Rattle.refinement.specs.Representation.{office_of};
 ghost use Rattle.public_queries.specs.HeadLines.{all_bare, repository_of};
-ghost use Rattle.public_queries.specs.Knowing.{AnswersKnowing};
+ghost use Rattle.public_queries.specs.InformedAnswers.{AnswersKnowing};
 ghost use Rattle.public_queries.specs.KnownPaths.{AreHeadsOf, IsTellable, RepresentsUnit};
 ghost use Rattle.public_queries.specs.PageLines.{told_page};
 ghost use Rattle.public_queries.specs.PathValues.{coded_way, unit_values};
@@ -30,7 +30,7 @@ use office_tables::value::NO_NUMBER;
 use sqlite::{Alter, Connection};
 use std::alloc::{AllocError, Global};
 
-/// The values of a unit that is there.
+/// The values of a unit, which must exist.
 fn values_there<P: Places, S: Alter>(
     alloc: Global,
     conn: &mut Connection<S>,
@@ -70,7 +70,7 @@ fn values_of_all<P: Places, S: Alter>(
     Ok(units)
 }
 
-/// The page of the last unit of a path, where the values of each unit of the path are told.
+/// The page of the last unit of a path, from the values of each unit of the path.
 fn print_way(
     alloc: Global,
     known: &OfficeRow,
@@ -88,7 +88,7 @@ fn print_way(
     print_told(alloc, head, units.as_slice(), below)
 }
 
-/// The page of the last unit of a path, which the public is shown.
+/// The page of the last unit of a path. The public must be shown this unit.
 fn shown_page<P: Places, S: Alter>(
     alloc: Global,
     conn: &mut Connection<S>,
@@ -116,7 +116,8 @@ fn shown_page<P: Places, S: Alter>(
     Ok(Answer::Text(text))
 }
 
-/// The page of a unit, where the office's row is known. What the public is not shown is unknown.
+/// Answers with the page of a unit, or with `UnknownUnit` if the public is shown no such unit.
+/// `known` must be the office's row.
 pub fn page<P: Places, S: Alter>(
     alloc: Global,
     conn: &mut Connection<S>,

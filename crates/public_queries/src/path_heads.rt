@@ -1,4 +1,4 @@
-//! The units on a path, as their heads tell them.
+//! The units on a path, by their heads.
 
 ghost use Rattle.std.specs.Prelude.{◌≡◌, IfOk};
 ghost use Rattle.catalogue_core.specs.Pages.{before_last};

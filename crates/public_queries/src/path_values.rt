@@ -8,7 +8,7 @@ use catalogue_store::{OfficeRow, UnitValues};
 use isad_core::{Element, Text, join_code};
 use std::alloc::{AllocError, Global};
 
-/// What is told of a unit on a path, with its reference code.
+/// The values of a unit on a path, with its reference code.
 #[derive(Debug, PartialEq, Drop)]
 pub struct OnPath {
     pub code: Text,

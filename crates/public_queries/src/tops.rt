@@ -1,13 +1,13 @@
-//! The units at the top.
+//! The tops, with their head lines.
 
 ghost use Rattle.std.specs.Prelude.{◌≡◌, [], IfOk};
 ghost use Rattle.sqlite.specs.Held.{state};
 ghost use Rattle.catalogue_core.specs.Pages.{tops_text};
 ghost use Rattle.office_core.specs.declared.query.Query.TheVariants as query;
 ghost use Rattle.office_tables.specs.Step.{InTransaction};
-ghost use Rattle.refinement.specs.Represents.{office_of};
+ghost use Rattle.refinement.specs.Representation.{office_of};
 ghost use Rattle.public_queries.specs.HeadLines.{all_bare, repository_of};
-ghost use Rattle.public_queries.specs.Knowing.{AnswersKnowing};
+ghost use Rattle.public_queries.specs.InformedAnswers.{AnswersKnowing};
 
 use crate::head_lines::bare_units;
 use catalogue_store::{Head, OfficeRow, Places, heads_below};
@@ -17,7 +17,7 @@ use office_tables::StoreFault;
 use sqlite::{Alter, Connection};
 use std::alloc::{AllocError, Global};
 
-/// A line for each of these tops that is no draft.
+/// A line for each of these tops that is not a draft.
 fn print_tops(alloc: Global, known: &OfficeRow, heads: &[Head]) -> Result<List<u8>, AllocError>
     ensures { IfOk result (λ text. text
         ≡ tops_text (all_bare (repository_of known.now) [] known.now.day heads.now)) }
@@ -27,7 +27,7 @@ fn print_tops(alloc: Global, known: &OfficeRow, heads: &[Head]) -> Result<List<u
     Ok(List(list_text(alloc, tops.as_slice())?))
 }
 
-/// The units at the top, where the office's row is known.
+/// Answers with a line for each top that is not a draft. `known` must be the office's row.
 pub fn fonds<P: Places, S: Alter>(
     alloc: Global,
     conn: &mut Connection<S>,

@@ -1,4 +1,4 @@
-//! What the public sees of one unit: its own description, or of a closed one that it is there.
+//! What the public sees of one unit: its own description, or only a stub if it is closed.
 
 ghost use Rattle.std.specs.Prelude.{◌≡◌, ℤ, find, IfOk, Some};
 ghost use Rattle.sqlite.specs.Held.{state};
@@ -6,12 +6,12 @@ ghost use Rattle.isad_core.specs.Limits.{IsNumber};
 ghost use Rattle.isad_core.specs.Values.{identifier};
 ghost use Rattle.tree_core.specs.Forest.{nodes};
 ghost use Rattle.catalogue_core.specs.Bounds.{IsKept};
-ghost use Rattle.catalogue_core.specs.Publishing.{«Told» as IsTold, Stub as IsClosed, public_unit};
+ghost use Rattle.catalogue_core.specs.PublicForest.{«Told» as IsTold, Stub as IsClosed, public_unit};
 ghost use Rattle.catalogue_core.specs.Units.{«Unit» as Described, has_id};
 ghost use Rattle.office_tables.specs.Calls.{Answers};
 ghost use Rattle.office_tables.specs.Step.{InTransaction};
-ghost use Rattle.catalogue_statements.specs.Represents.{Represents};
-ghost use Rattle.public_queries.specs.Aiding.{IsOf, Walked, kept_row, seen_of, seen_values, with_numbers};
+ghost use Rattle.catalogue_statements.specs.Representation.{Represents};
+ghost use Rattle.public_queries.specs.FindingAids.{IsOf, Walked, kept_row, seen_of, seen_values, with_numbers};
 ghost use Rattle.public_queries.specs.KnownPaths.{IsTellable};
 
 use crate::path_values::text_or_empty;
@@ -23,7 +23,7 @@ use sqlite::{Alter, Connection};
 use std::alloc::{AllocError, Global};
 use tree_core::Kept;
 
-/// What the public sees of a unit, but for its place.
+/// What the public sees of a unit, except its place.
 #[derive(Drop)]
 pub struct Seen {
     /// Its identifier, or the empty text.
@@ -64,7 +64,7 @@ fn described(alloc: Global, unit: &UnitValues) -> Result<Seen, AllocError>
     })
 }
 
-/// What is seen of a unit that is told.
+/// What is seen of a unit that is not closed.
 fn told<P: Places, S: Alter>(
     alloc: Global,
     conn: &mut Connection<S>,

@@ -18,7 +18,7 @@ use Rattle.office_tables.proofs.Causes.{still_unlimited}
 use Rattle.office_tables.proofs.LaterCauses.{next_cause}
 use Rattle.office_tables.specs.declared.fault.StoreFault.{StoreFault}
 use Rattle.refinement.specs.QueryAnswers.{AnswersQuery}
-use Rattle.refinement.specs.Represents.{RepresentsState}
+use Rattle.refinement.specs.Representation.{RepresentsState}
 
 module _ (places : Trees → Forest ℕ → Type 0) (version : Version) where
   -- what was shown is still shown after a look

@@ -15,7 +15,7 @@ use Rattle.tree_core.proofs.EachLemmas.{cut-each, has-each}
 use Rattle.tree_core.proofs.LinkPaths.{parts}
 use Rattle.tree_core.proofs.MarkWalks.{list_all-append}
 use Rattle.tree_core.proofs.SpanShifts.{cut_none}
-use Rattle.catalogue_core.specs.Housing.{own_or, housed_below, housed, paths_below, is_withheld_from, is_some_there, is_open}
+use Rattle.catalogue_core.specs.ContainerContents.{own_or, housed_below, housed, paths_below, is_withheld_from, is_some_there, is_open}
 use Rattle.catalogue_core.specs.Units.{Unit, has_id}
 use Rattle.std.proofs.Math.Bool.{or-false}
 use Rattle.refinement.specs.Gate.{names_some, near}

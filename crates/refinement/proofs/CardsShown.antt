@@ -1,17 +1,18 @@
 -- What a reader's card tells of an office: his seat, what he holds, and how much he ordered.
 use Rattle.std.proofs.Common.{◌≡◌, ℕ, ℤ, nat_eq, ◌&&◌, length, Option, Some, None, refl, ap, ◌∙◌}
-use Rattle.std.specs.Prelude.{option_map}
+use Rattle.std.specs.Prelude.{is_some, option_map}
 use Rattle.std.specs.Ordering.{int_eq}
 use Rattle.desk_core.specs.DeskRows.{OrderRow, ReaderRow}
-use Rattle.desk_store.specs.Readers.{card_of, held_with, live_orders, placed_on}
+use Rattle.desk_core.specs.declared.reader.Reader.{Reader as Sitter}
+use Rattle.desk_store.specs.Readers.{card_of, held_with, live_orders, placed_on, reader_with, ticket_holder}
 use Rattle.desk_store.specs.Readers as store
 use Rattle.desk_store.specs.declared.reader_summary.ReaderCard.{ReaderCard}
 use Rattle.office_core.specs.SoundOffice.{IsSoundOffice}
-use Rattle.office_core.specs.State.{Reader, State, placed}
+use Rattle.office_core.specs.State.{Reader, State, is_ticket, placed}
 use Rattle.office_core.specs.Words.{numbered}
-use Rattle.state_encoding.specs.DeskShown.{order_row, reader_row}
-use Rattle.state_encoding.specs.Reading.{tables}
-use Rattle.state_encoding.proofs.DeskLookups.{flipped}
+use Rattle.state_encoding.specs.DeskEncoding.{order_row, reader_row}
+use Rattle.state_encoding.specs.OfficeRows.{tables}
+use Rattle.state_encoding.proofs.DeskLookups.{flipped, is_some-map}
 use Rattle.state_encoding.proofs.NumberedRows.{length-rows}
 use Rattle.state_encoding.proofs.OrdersPass.{count_rows}
 use Rattle.refinement.specs.Sitters.{sitter, sitter_of}
@@ -56,10 +57,21 @@ module _ (version : Version) (s : State) (sound : IsSoundOffice s) (t : ℕ) whe
       } in c))) (found_row reader_row (λ (r : ReaderRow). r.ticket) (λ n x. refl) t s.readers)
       ∙ card_at day (numbered s.readers t)
 
-  -- the reader of the card
-  sitters : (day : ℤ) (o : Option Reader) → option_map (λ (c : ReaderCard). c.reader) (option_map (card day) o) ≡ option_map (sitter_of s t) o
-  sitters day None = refl
-  sitters day (Some reader) = refl
+  -- who has a card has a ticket
+  pub has_card : (day : ℤ) → is_some (card_of t day (tables version s).desk) ≡ is_ticket s t
+  has_card day = ap is_some (card_shown day) ∙ is_some-map (card day) (numbered s.readers t)
 
-  pub sitter_shown : (day : ℤ) → option_map (λ (c : ReaderCard). c.reader) (card_of t day (tables version s).desk) ≡ sitter s t
-  sitter_shown day = ap (option_map (λ (c : ReaderCard). c.reader)) (card_shown day) ∙ sitters day (numbered s.readers t)
+  -- the tables tell which tickets were given
+  pub known_ticket : is_some (reader_with t (tables version s).desk) ≡ is_ticket s t
+  known_ticket = ap is_some (found_row reader_row (λ (r : ReaderRow). r.ticket) (λ n x. refl) t s.readers) ∙ is_some-map (reader_row t) (numbered s.readers t)
+
+  -- the tables tell who has a ticket
+  abbrev holder_of_row : ReaderRow → Sitter
+  holder_of_row r = record { ticket = t; until = r.until; seat = store.seat_of t (tables version s).desk; held = held_with t (tables version s).desk }
+
+  holder_at : (o : Option Reader) → option_map holder_of_row (option_map (reader_row t) o) ≡ option_map (sitter_of s t) o
+  holder_at None = refl
+  holder_at (Some reader) = rw (seat_is t s.seats, held_shown s sound t version) refl
+
+  pub holder_shown : ticket_holder t (tables version s).desk ≡ sitter s t
+  holder_shown = ap (option_map holder_of_row) (found_row reader_row (λ (r : ReaderRow). r.ticket) (λ n x. refl) t s.readers) ∙ holder_at (numbered s.readers t)

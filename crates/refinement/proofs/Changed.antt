@@ -6,12 +6,12 @@ use Rattle.tree_core.specs.Forest.{Forest}
 use Rattle.tree_core.specs.Versions.{Version}
 use Rattle.catalogue_core.specs.LegibleCatalogues.{IsLegibleCatalogue}
 use Rattle.catalogue_core.specs.Units.{Unit}
-use Rattle.catalogue_statements.specs.Represents.{Represents}
+use Rattle.catalogue_statements.specs.Representation.{Represents}
 use Rattle.office_core.specs.SoundOffice.{AreTexts}
 use Rattle.office_core.specs.State.{State}
-use Rattle.state_encoding.specs.Reading.{tables}
+use Rattle.state_encoding.specs.OfficeRows.{tables}
 use Rattle.office_tables.specs.Step.{OnlyTouches}
-use Rattle.refinement.specs.Represents.{RepresentsState, office_of}
+use Rattle.refinement.specs.Representation.{RepresentsState, office_of}
 use Rattle.refinement.proofs.Frames.{are_apart, desk_kept, desk_trees}
 
 module _ (s : State) (f : Forest Unit) where

@@ -4,11 +4,11 @@ use Rattle.std.specs.Prelude.{◌&&◌, slice_index_or}
 use Rattle.std.specs.List.{AllByRecursion, list_all}
 use Rattle.tree_core.specs.Forest.{Forest, path, tree}
 use Rattle.desk_store.specs.declared.reader_permits.Permit.{Permit}
-use Rattle.catalogue_core.specs.Finding.{has_unit}
-use Rattle.catalogue_core.specs.Marking.{AreMarks, AreWalkMarks}
+use Rattle.catalogue_core.specs.UnitLookup.{has_unit}
+use Rattle.catalogue_core.specs.UnitMarks.{AreMarks, AreWalkMarks}
 use Rattle.catalogue_core.specs.OpenMarks.{is_clean_for}
 use Rattle.catalogue_core.specs.Units.{Unit, has_id}
-use Rattle.catalogue_store.specs.Attaching.{AreMarksOfEach}
+use Rattle.catalogue_store.specs.Attachments.{AreMarksOfEach}
 use Rattle.catalogue_store.specs.declared.container_marks.Attached.{Attached}
 use Rattle.refinement.specs.Openness.{TellsAllClean, TellsClean, allows}
 

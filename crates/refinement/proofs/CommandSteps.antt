@@ -4,21 +4,21 @@ use Rattle.sqlite.specs.Effect.{Database}
 use Rattle.sqlite.specs.Tree.{Trees}
 use Rattle.tree_core.specs.Forest.{Forest}
 use Rattle.tree_core.specs.Versions.{Version}
-use Rattle.catalogue_statements.specs.Represents.{catalogue_trees}
+use Rattle.catalogue_statements.specs.Representation.{catalogue_trees}
 use Rattle.desk_core.specs.DeskRows.{Desk}
 use Rattle.desk_core.specs.declared.refusal.Refusal.{Refusal}
-use Rattle.desk_store.specs.Represents.{RepresentsDesk}
+use Rattle.desk_store.specs.Representation.{RepresentsDesk}
 use Rattle.office_core.specs.Rules.{Reply, after, refusal, told}
 use Rattle.office_core.specs.SoundOffice.{AreTexts, NamesTexts}
 use Rattle.office_core.specs.State.{State}
 use Rattle.office_core.specs.declared.command.Command.{Command}
 use Rattle.office_core.specs.declared.done.Done.{Done}
 use Rattle.office_core.proofs.Texts.{always_texts}
-use Rattle.state_encoding.specs.Reading as rows
+use Rattle.state_encoding.specs.OfficeRows as rows
 use Rattle.office_tables.specs.Schema as schema
 use Rattle.office_tables.specs.Step.{OnlyTouches}
 use Rattle.refinement.specs.CommandSteps.{CarriesOutStep}
-use Rattle.refinement.specs.Represents.{RepresentsState, office_of}
+use Rattle.refinement.specs.Representation.{RepresentsState, office_of}
 use Rattle.refinement.proofs.DeskSteps.{desk_step}
 use Rattle.refinement.proofs.Doings.{accepted, refused}
 use Rattle.refinement.proofs.Frames.{are_apart}

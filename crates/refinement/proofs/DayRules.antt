@@ -15,8 +15,8 @@ use Rattle.tree_core.proofs.Lists.{any_agree, list_any-map}
 use Rattle.office_core.specs.State.{Order, State, containers, held, is_by, is_out_with, is_seated, opens, order_out}
 use Rattle.office_core.specs.Words.{first_that, numbered, some_and}
 use Rattle.state_encoding.specs.Causes.{holds_well, is_held_against_rules}
-use Rattle.state_encoding.specs.DeskShown.{holding_row, order_rows}
-use Rattle.state_encoding.specs.Reading.{tables}
+use Rattle.state_encoding.specs.DeskEncoding.{holding_row, order_rows}
+use Rattle.state_encoding.specs.OfficeRows.{tables}
 use Rattle.state_encoding.proofs.DeskLookups.{flipped, is_some-map}
 use Rattle.refinement.specs.DayRules.{are_against_rules, breaks_day_rules, has_no_row, has_too_many, is_against_rules, is_without_seat, stands_over}
 use Rattle.refinement.specs.Gate.{first_closed, is_closed_to}

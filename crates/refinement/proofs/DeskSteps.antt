@@ -4,17 +4,17 @@ use Rattle.sqlite.specs.Effect.{Database}
 use Rattle.sqlite.specs.Tree.{Trees}
 use Rattle.tree_core.specs.Forest.{Forest}
 use Rattle.tree_core.specs.Versions.{Version}
-use Rattle.catalogue_core.specs.Merging.{Catalogue}
-use Rattle.catalogue_statements.specs.Represents.{Represents, catalogue_trees}
+use Rattle.catalogue_core.specs.CatalogueMerge.{Catalogue}
+use Rattle.catalogue_statements.specs.Representation.{Represents, catalogue_trees}
 use Rattle.catalogue_statements.specs.declared.office.OfficeRow.{OfficeRow}
 use Rattle.desk_core.specs.DeskRows.{Desk}
-use Rattle.desk_store.specs.Represents.{RepresentsDesk}
+use Rattle.desk_store.specs.Representation.{RepresentsDesk}
 use Rattle.office_core.specs.SoundOffice.{AreTexts}
 use Rattle.office_core.specs.State.{State}
-use Rattle.state_encoding.specs.Reading as rows
+use Rattle.state_encoding.specs.OfficeRows as rows
 use Rattle.office_tables.specs.Schema as tables
 use Rattle.office_tables.specs.Step.{OnlyTouches}
-use Rattle.refinement.specs.Represents.{RepresentsState, office_of}
+use Rattle.refinement.specs.Representation.{RepresentsState, office_of}
 use Rattle.refinement.proofs.Frames.{are_apart, catalogue_kept}
 
 -- the catalogue and the office's own row stay

@@ -17,7 +17,7 @@ use Rattle.office_tables.proofs.CallEnds.{excused_then}
 use Rattle.office_tables.proofs.Calls.{early, cut_then, goes_then, on_err_then, on_ok_then}
 use Rattle.office_tables.specs.declared.fault.StoreFault.{StoreFault}
 use Rattle.refinement.specs.CommandSteps.{CarriesOut, CarriesOutStep}
-use Rattle.refinement.specs.Represents.{RepresentsState}
+use Rattle.refinement.specs.Representation.{RepresentsState}
 use Rattle.refinement.proofs.Crashes.{went}
 
 module _ (places : Trees → Forest ℕ → Type 0) (version : Version) (known : State → Type 0) (asked : Command) where

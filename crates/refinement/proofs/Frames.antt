@@ -7,12 +7,12 @@ use Rattle.sqlite.specs.Order.{Row}
 use Rattle.sqlite.specs.Tree.{Trees}
 use Rattle.tree_core.specs.Forest.{Forest, each}
 use Rattle.tree_core.specs.Versions.{Version}
-use Rattle.catalogue_core.specs.Merging.{Catalogue}
-use Rattle.catalogue_statements.specs.Represents.{Represents, RepresentsOffice, catalogue_trees, described_trees}
+use Rattle.catalogue_core.specs.CatalogueMerge.{Catalogue}
+use Rattle.catalogue_statements.specs.Representation.{Represents, RepresentsOffice, catalogue_trees, described_trees}
 use Rattle.catalogue_statements.specs.declared.office.OfficeRow.{OfficeRow}
 use Rattle.desk_core.specs.DeskRows.{Desk}
-use Rattle.desk_store.specs.Represents.{RepresentsDesk}
-use Rattle.office_tables.specs.Numbered.{HasNumbered}
+use Rattle.desk_store.specs.Representation.{RepresentsDesk}
+use Rattle.office_tables.specs.RowNumbers.{HasNumbered}
 use Rattle.office_tables.specs.Schema as tables
 use Rattle.office_tables.specs.Step.{OnlyTouches, table_trees}
 

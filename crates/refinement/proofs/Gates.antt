@@ -11,10 +11,10 @@ use Rattle.tree_core.specs.Versions.{Version}
 use Rattle.office_core.specs.Rules.{is_kept_from_holder, kept}
 use Rattle.office_core.specs.State.{Order, State, containers, opens, order_out}
 use Rattle.office_core.specs.Words.{first_that, numbered, some_and}
-use Rattle.state_encoding.specs.DeskShown.{holding_row, order_row, order_rows}
-use Rattle.state_encoding.specs.Reading.{tables}
+use Rattle.state_encoding.specs.DeskEncoding.{holding_row, order_row, order_rows}
+use Rattle.state_encoding.specs.OfficeRows.{tables}
 use Rattle.refinement.specs.Gate.{AreEnough, first_closed, is_closed_to}
-use Rattle.refinement.specs.Judging.{CanBeJudged}
+use Rattle.refinement.specs.AccessConditions.{CanBeJudged}
 use Rattle.refinement.proofs.RowsOfLists.{found_row}
 
 -- ---- the first that passes, found one by one

@@ -18,8 +18,8 @@ use Rattle.office_core.proofs.OrderLaws.{out_stands, stands_out}
 use Rattle.office_core.proofs.Orders.{out_is}
 use Rattle.office_core.proofs.Places.{out_known}
 use Rattle.office_core.proofs.Words.{numbered_within, other_number, same_number}
-use Rattle.state_encoding.specs.DeskShown.{order_row, rows_from, state_number}
-use Rattle.state_encoding.specs.Reading.{tables}
+use Rattle.state_encoding.specs.DeskEncoding.{order_row, rows_from, state_number}
+use Rattle.state_encoding.specs.OfficeRows.{tables}
 use Rattle.state_encoding.proofs.DeskLookups.{flipped}
 use Rattle.state_encoding.proofs.Members.{to_from}
 use Rattle.tree_core.specs.Versions.{Version}

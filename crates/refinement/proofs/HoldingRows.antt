@@ -14,7 +14,7 @@ use Rattle.office_core.specs.State.{State, is_container}
 use Rattle.office_core.specs.Words.{numbers_to, put}
 use Rattle.office_core.proofs.Counts.{numbered_from_one}
 use Rattle.office_core.proofs.Words.{numbered_within, put_here, put_there, same_number}
-use Rattle.state_encoding.specs.DeskShown.{holding_row, holding_rows}
+use Rattle.state_encoding.specs.DeskEncoding.{holding_row, holding_rows}
 use Rattle.state_encoding.proofs.Members.{to_from}
 use Rattle.office_tables.proofs.numbered.Counted.{below_less}
 

@@ -7,7 +7,7 @@ use Rattle.tree_core.specs.Forest.{Forest, HasDistinctIds, each, nodes}
 use Rattle.tree_core.proofs.EachLemmas.{nodes-each}
 use Rattle.catalogue_core.specs.GoodCatalogues.{AreGoodUnits, IsSomeDay}
 use Rattle.catalogue_core.specs.LegibleCatalogues.{IsLegibleCatalogue}
-use Rattle.catalogue_core.specs.Merging.{Catalogue}
+use Rattle.catalogue_core.specs.CatalogueMerge.{Catalogue}
 use Rattle.catalogue_core.specs.Units.{Unit}
 use Rattle.catalogue_core.proofs.KeptCatalogues.{kept, knows}
 use Rattle.catalogue_core.proofs.KeptUnits.{same_containers}
@@ -17,7 +17,7 @@ use Rattle.office_core.specs.State.{Order, State, container_of, order_out}
 use Rattle.office_core.specs.Words.{numbered, stands}
 use Rattle.office_core.proofs.Words.{same_number}
 use Rattle.state_encoding.proofs.LegibleRows.{desk_legible}
-use Rattle.refinement.specs.Judging.{CanBeJudged}
+use Rattle.refinement.specs.AccessConditions.{CanBeJudged}
 
 -- what is out is so by an order that is there
 pub orders_there : (s : State) → AreFiled s → (c o : ℕ) → order_out (s.place c) ≡ Some o → is_some (numbered s.orders o) ≡ true

@@ -8,8 +8,8 @@ use Rattle.std.proofs.lemmas.Bool.Decides.{nat_tests}
 use Rattle.isad_core.specs.Boxes.{distinct, is_same as is_same_box}
 use Rattle.isad_core.specs.Texts.{Bytes}
 use Rattle.isad_core.specs.declared.values.BoxKey.{BoxKey}
-use Rattle.catalogue_core.specs.Marking.{names}
-use Rattle.catalogue_core.specs.Merging.{box_number}
+use Rattle.catalogue_core.specs.UnitMarks.{names}
+use Rattle.catalogue_core.specs.CatalogueMerge.{box_number}
 use Rattle.catalogue_core.specs.Units.{Unit}
 use Rattle.catalogue_core.proofs.BoxPlaces.{numbers_are_places}
 use Rattle.catalogue_core.proofs.ImportedAgain.{box_itself, one_text}

@@ -11,14 +11,14 @@ use Rattle.sqlite.specs.Tree.{Trees}
 use Rattle.isad_core.specs.declared.values.BoxKey.{BoxKey}
 use Rattle.tree_core.specs.Forest.{Forest, Empty, Node, branch, has, nodes, path, tree}
 use Rattle.tree_core.proofs.Lists.{any_agree, eqb_comm, list_any-map}
-use Rattle.catalogue_core.specs.Housing.{is_some_there}
-use Rattle.catalogue_core.specs.Marking.{names}
-use Rattle.catalogue_core.specs.Merging.{box_number}
+use Rattle.catalogue_core.specs.ContainerContents.{is_some_there}
+use Rattle.catalogue_core.specs.UnitMarks.{names}
+use Rattle.catalogue_core.specs.CatalogueMerge.{box_number}
 use Rattle.catalogue_core.specs.Units.{Unit, has_id}
 use Rattle.catalogue_core.proofs.DistinctLists.{all_so}
 use Rattle.catalogue_core.proofs.EachOf.{all_append, all_split}
 use Rattle.catalogue_statements.specs.Rows.{HousingRow, counted_from}
-use Rattle.catalogue_statements.specs.Represents.{RepresentsHousings, housing_cells, housings_of}
+use Rattle.catalogue_statements.specs.Representation.{RepresentsHousings, housing_cells, housings_of}
 use Rattle.catalogue_statements.specs.declared.row_types.Housing.{Housing}
 use Rattle.refinement.specs.Gate.{has_row, is_one_of, names_some, near, says_so}
 use Rattle.std.proofs.Math.Bool.{or-false}

@@ -5,7 +5,7 @@ use Rattle.std.specs.List.{AllByRecursion, list_all, list_any}
 use Rattle.std.proofs.lemmas.Bool.{eqb-true, false≢true}
 use Rattle.isad_core.specs.declared.values.BoxKey.{BoxKey}
 use Rattle.tree_core.specs.Forest.{Forest, Empty, Node, nodes}
-use Rattle.catalogue_core.specs.Housing.{is_open, is_some_there, is_withheld_from, paths_below}
+use Rattle.catalogue_core.specs.ContainerContents.{is_open, is_some_there, is_withheld_from, paths_below}
 use Rattle.catalogue_core.specs.Units.{Unit, is_closed}
 use Rattle.catalogue_core.proofs.EachOf.{all_append, all_filtered, all_split}
 use Rattle.office_core.specs.State.{Permit, is_permitted}

@@ -13,22 +13,22 @@ use Rattle.tree_core.proofs.Lists.{eqb_comm, list_any-map}
 use Rattle.desk_core.specs.DeskRows.{Desk, PermitRow}
 use Rattle.desk_store.specs.Permits.{permits_of}
 use Rattle.desk_store.specs.declared.reader_permits.Permit.{Permit}
-use Rattle.catalogue_core.specs.Finding.{has_unit}
-use Rattle.catalogue_core.specs.Housing.{is_open, is_some_there}
-use Rattle.catalogue_core.specs.Marking.{names}
+use Rattle.catalogue_core.specs.UnitLookup.{has_unit}
+use Rattle.catalogue_core.specs.ContainerContents.{is_open, is_some_there}
+use Rattle.catalogue_core.specs.UnitMarks.{names}
 use Rattle.catalogue_core.specs.OpenMarks.{is_clean_for, naming}
 use Rattle.catalogue_core.specs.Units.{Unit}
 use Rattle.catalogue_core.proofs.EachOf.{all_filtered}
 use Rattle.catalogue_core.proofs.OpenLemmas.{open_by_marks}
 use Rattle.catalogue_core.proofs.UnitsAfter.{each_there}
-use Rattle.catalogue_store.specs.Attaching.{AreMarksOfContents, AreMarksOfEach}
+use Rattle.catalogue_store.specs.Attachments.{AreMarksOfContents, AreMarksOfEach}
 use Rattle.catalogue_store.specs.declared.container_marks.Attached.{Attached}
 use Rattle.office_core.specs.State as office
 use Rattle.office_core.specs.State.{State, is_permitted, opens}
 use Rattle.office_core.specs.Words.{is_empty, numbered, some_and}
-use Rattle.state_encoding.specs.DeskShown.{permit_rows}
+use Rattle.state_encoding.specs.DeskEncoding.{permit_rows}
 use Rattle.state_encoding.proofs.ReadBack.{permits_known}
-use Rattle.refinement.specs.Judging.{CanBeJudged}
+use Rattle.refinement.specs.AccessConditions.{CanBeJudged}
 use Rattle.refinement.specs.Openness.{TellsAllClean, allows}
 use Rattle.refinement.proofs.NamedContainers.{named, names_it}
 

@@ -11,8 +11,8 @@ use Rattle.isad_core.specs.declared.values.BoxKey.{BoxKey}
 use Rattle.tree_core.specs.Forest.{Forest, Empty, Node, HasDistinctIds, branch, cut, each, nodes, path}
 use Rattle.tree_core.proofs.EachLemmas.{branch-each, path-each}
 use Rattle.tree_core.proofs.Lists.{any_agree, list_any-map}
-use Rattle.catalogue_core.specs.Housing.{is_open, is_some_there, is_withheld_from}
-use Rattle.catalogue_core.specs.Marking.{names}
+use Rattle.catalogue_core.specs.ContainerContents.{is_open, is_some_there, is_withheld_from}
+use Rattle.catalogue_core.specs.UnitMarks.{names}
 use Rattle.catalogue_core.specs.Units.{Unit, has_id}
 use Rattle.catalogue_core.proofs.EachOf.{all_append}
 use Rattle.office_core.specs.Rules.{is_kept_from_holder}
@@ -20,7 +20,7 @@ use Rattle.office_core.specs.SoundOffice.{IsSoundOffice}
 use Rattle.office_core.specs.State.{Order, Permit, State, is_permitted, opens, order_out}
 use Rattle.office_core.specs.Words.{numbered, some_and}
 use Rattle.refinement.specs.Gate.{OthersAreOpen, is_named_near, names_some, near}
-use Rattle.refinement.specs.Judging.{CanBeJudged}
+use Rattle.refinement.specs.AccessConditions.{CanBeJudged}
 use Rattle.refinement.proofs.BranchesApart.{cut_alike, fewer, lying, lying_without, names_box, open_without, some_named}
 use Rattle.refinement.proofs.Judged.{judged_now}
 use Rattle.refinement.proofs.NamedContainers.{names_one}

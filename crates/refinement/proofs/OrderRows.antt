@@ -9,8 +9,8 @@ use Rattle.desk_store.specs.declared.orders.PlacedOrder.{PlacedOrder}
 use Rattle.office_core.specs.Laws.{Waiting, WithItsReader, Ended, stands_as, standing}
 use Rattle.office_core.specs.State.{Cancelled, Done, End, Order, State, container_of, waits}
 use Rattle.office_core.specs.Words.{numbered, some_and}
-use Rattle.state_encoding.specs.DeskShown.{order_row, state_number}
-use Rattle.state_encoding.specs.Reading.{tables}
+use Rattle.state_encoding.specs.DeskEncoding.{order_row, state_number}
+use Rattle.state_encoding.specs.OfficeRows.{tables}
 use Rattle.refinement.proofs.RowsOfLists.{found_row}
 
 ended_at : (past : Option End) → nat_eq (state_number (option_map Ended past)) 1 ≡ false

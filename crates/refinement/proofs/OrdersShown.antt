@@ -18,8 +18,8 @@ use Rattle.office_core.proofs.Filed.{out_with, waiting}
 use Rattle.office_core.proofs.OrderLaws.{stands_out, stands_waiting}
 use Rattle.office_core.proofs.Orders.{is_by_its_ticket, out_is}
 use Rattle.office_core.proofs.Words.{same_number}
-use Rattle.state_encoding.specs.DeskShown.{order_row, order_rows, state_number}
-use Rattle.state_encoding.specs.Reading.{tables}
+use Rattle.state_encoding.specs.DeskEncoding.{order_row, order_rows, state_number}
+use Rattle.state_encoding.specs.OfficeRows.{tables}
 use Rattle.state_encoding.proofs.DeskLookups.{flipped, order_there, some_is}
 use Rattle.state_encoding.proofs.Grouped.{any_filter}
 use Rattle.state_encoding.proofs.Members.{any_of_in, some_in}

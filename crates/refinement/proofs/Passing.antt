@@ -23,8 +23,8 @@ use Rattle.office_tables.proofs.CallEnds.{excused_then}
 use Rattle.office_tables.proofs.Calls.{cut_then, early, goes_then, on_err_then, on_ok_then}
 use Rattle.refinement.specs.CommandSteps.{CarriesOut, CarriesOutStep}
 use Rattle.refinement.specs.Gate.{gated, unless_refused}
-use Rattle.refinement.specs.Judging.{CanBeJudged, RepresentsWhole}
-use Rattle.refinement.specs.Represents.{RepresentsState}
+use Rattle.refinement.specs.AccessConditions.{CanBeJudged, RepresentsWhole}
+use Rattle.refinement.specs.Representation.{RepresentsState}
 use Rattle.refinement.proofs.Tellings.{looked_crash}
 
 -- the step of a command whose other checks do not hold

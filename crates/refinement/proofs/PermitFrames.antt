@@ -4,8 +4,8 @@ use Rattle.std.specs.List.{AllByRecursion}
 use Rattle.sqlite.specs.Effect.{Database}
 use Rattle.desk_core.specs.DeskRows.{Desk, PermitRow}
 use Rattle.desk_store.specs.Rows.{run_line_cells}
-use Rattle.desk_store.specs.Represents.{IsNumberOf, RepresentsDesk}
-use Rattle.office_tables.specs.Numbered.{HasNumbered}
+use Rattle.desk_store.specs.Representation.{IsNumberOf, RepresentsDesk}
+use Rattle.office_tables.specs.RowNumbers.{HasNumbered}
 use Rattle.office_tables.specs.Permits.{permit_cells}
 use Rattle.office_tables.specs.Schema as tables
 use Rattle.office_tables.specs.Step.{OnlyTouches}

@@ -11,14 +11,14 @@ use Rattle.std.proofs.lemmas.List.Sorted.{IsPermutation-append_comm, IsPermutati
 use Rattle.sqlite.specs.Tree.{Trees}
 use Rattle.desk_core.specs.DeskRows.{Desk, PermitRow}
 use Rattle.desk_store.specs.Permits.{is_permit, permits_of, without_permit, by_unit}
-use Rattle.desk_store.specs.Represents.{IsNumberOf, RepresentsDesk}
+use Rattle.desk_store.specs.Representation.{IsNumberOf, RepresentsDesk}
 use Rattle.desk_store.specs.declared.reader_permits.Permit.{Permit as Told}
 use Rattle.office_core.specs.SoundDesk.{AreGoodPermits, ByUnit}
 use Rattle.office_core.specs.State.{Permit, State, granted, granted_until, revoked}
 use Rattle.office_core.specs.Words.{numbers_to, put}
 use Rattle.office_core.proofs.Words.{other_number, put_here, put_there, same_number}
-use Rattle.state_encoding.specs.DeskShown.{permit_row, permit_rows}
-use Rattle.state_encoding.specs.Reading.{tables}
+use Rattle.state_encoding.specs.DeskEncoding.{permit_row, permit_rows}
+use Rattle.state_encoding.specs.OfficeRows.{tables}
 use Rattle.state_encoding.proofs.DeskLookups.{flipped}
 use Rattle.state_encoding.proofs.ReadBack.{permits_back}
 use Rattle.office_tables.proofs.Reading.{all_found}

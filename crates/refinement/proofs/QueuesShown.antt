@@ -10,7 +10,7 @@ use Rattle.desk_store.specs.Orders.{IsAt}
 use Rattle.office_core.specs.SoundDesk.{IsSoundDesk}
 use Rattle.office_core.specs.State.{Order, State}
 use Rattle.office_core.specs.Words.{numbered}
-use Rattle.state_encoding.specs.DeskShown.{holding_rows, order_from, order_row, order_rows, place_from, place_in}
+use Rattle.state_encoding.specs.DeskEncoding.{holding_rows, order_from, order_row, order_rows, place_from, place_in}
 use Rattle.state_encoding.proofs.DeskLookups.{flipped}
 use Rattle.state_encoding.proofs.Members.{in_filter}
 use Rattle.state_encoding.proofs.NumberedRows.{in_rows}

@@ -4,7 +4,7 @@ use Rattle.std.specs.Prelude.{find, option_map, slice_get}
 use Rattle.std.proofs.lemmas.Bool.Decides.{nat_tests}
 use Rattle.office_core.specs.Words.{numbered}
 use Rattle.office_core.proofs.Words.{same_number}
-use Rattle.state_encoding.specs.DeskShown.{rows_from}
+use Rattle.state_encoding.specs.DeskEncoding.{rows_from}
 
 pub other : (n j : ℕ) → nat_eq (n + suc j) n ≡ false
 other n j = grind (arith, nat_tests)

@@ -11,9 +11,9 @@ use Rattle.office_core.specs.SoundDesk.{SitOnce}
 use Rattle.office_core.specs.State.{is_seat_of, rise, sit}
 use Rattle.office_core.specs.Words.{place_of}
 use Rattle.office_core.proofs.Words.{same_number}
-use Rattle.state_encoding.specs.DeskShown.{seat_rows_from}
+use Rattle.state_encoding.specs.DeskEncoding.{seat_rows_from}
 use Rattle.state_encoding.proofs.DeskLookups.{is_some-map}
-use Rattle.office_tables.specs.Put.{put_by}
+use Rattle.office_tables.specs.OrderedInsertion.{put_by}
 use Rattle.office_tables.proofs.numbered.Counted.{below_less}
 use Rattle.refinement.proofs.HoldingRows.{greater}
 

@@ -4,7 +4,7 @@ use Rattle.std.specs.Prelude.{find, is_some, option_map}
 use Rattle.std.specs.List.{AllByRecursion}
 use Rattle.sqlite.specs.Effect.{Database}
 use Rattle.sqlite.specs.Tree.{Trees}
-use Rattle.isad_core.specs.Legible.{IsLegibleBox}
+use Rattle.isad_core.specs.LegibleValues.{IsLegibleBox}
 use Rattle.isad_core.specs.declared.values.BoxKey.{BoxKey}
 use Rattle.tree_core.specs.Forest.{Forest}
 use Rattle.tree_core.specs.Versions.{Version}
@@ -13,13 +13,13 @@ use Rattle.desk_store.specs.Stacks.{IsLegibleStacks, RepresentsQueues, Stacks, b
 use Rattle.office_core.specs.SoundOffice.{IsSoundOffice}
 use Rattle.office_core.specs.State.{State, is_container}
 use Rattle.office_core.specs.Words.{numbered}
-use Rattle.state_encoding.specs.DeskShown.{rows_from}
-use Rattle.state_encoding.specs.Reading.{tables}
+use Rattle.state_encoding.specs.DeskEncoding.{rows_from}
+use Rattle.state_encoding.specs.OfficeRows.{tables}
 use Rattle.state_encoding.proofs.DeskLookups.{is_some-map}
 use Rattle.state_encoding.proofs.LegibleRows.{desk_legible}
 use Rattle.state_encoding.proofs.NumberedRows.{length-rows}
-use Rattle.office_tables.specs.Numbered.{AreCountedFrom}
-use Rattle.refinement.specs.Represents.{RepresentsState}
+use Rattle.office_tables.specs.RowNumbers.{AreCountedFrom}
+use Rattle.refinement.specs.Representation.{RepresentsState}
 use Rattle.refinement.proofs.RowsOfLists.{found_row}
 
 abbrev pub stacks_of : Version → State → Stacks

@@ -1,4 +1,4 @@
--- What carrying out a command does inside its transaction.
+-- What a command does inside its transaction.
 use Rattle.std.specs.Prelude.{◌≡◌, ℕ, IsOk, IfOk, OnOk, OnErr, Result}
 use Rattle.sqlite.specs.Effect.{Database}
 use Rattle.sqlite.specs.State as store
@@ -13,16 +13,16 @@ use Rattle.office_core.specs.declared.command.Command.{Command}
 use Rattle.office_tables.specs.Faults.{FaultsHaveCause}
 use Rattle.office_tables.specs.Step.{Goes, IsAborted}
 use Rattle.office_tables.specs.declared.fault.StoreFault.{StoreFault}
-use Rattle.refinement.specs.Represents.{RepresentsState}
+use Rattle.refinement.specs.Representation.{RepresentsState}
 
--- The reply is that of the step. Where the command is accepted, the tables show the next state; where it is refused,
--- the caller takes back what was done.
+-- The reply is that of the step. If the command is accepted, the tables represent the next state. If it is refused, the
+-- caller rolls back what was done.
 pub record CarriesOutStep (places : Trees → Forest ℕ → Type 0) (version : Version) (s : State) (asked : Command) (reply : Reply) (now : Database) : Type 0 where
   pub told : reply ≡ (step s asked).1
   pub represents : IsOk reply → RepresentsState places version now (step s asked).0
 
--- Over the tables of a sound office of which this much is known, the command's step is done, and it fails only for want
--- of memory or by the disk; the transaction then goes on, or was taken back.
+-- Over the tables of a sound office for which `known` holds, the call carries out the command's step, and it fails only
+-- for want of memory or because of the disk. The transaction goes on if the call succeeds, and is aborted if it fails.
 pub record CarriesOut (places : Trees → Forest ℕ → Type 0) (version : Version) (known : State → Type 0) (asked : Command) (old new : store.State) (r : Result Reply StoreFault) : Type 0 where
   pub steps : HasCleanDisk new → (s : State) → IsSoundOffice s → known s → RepresentsState places version old.now s → IfOk r (λ reply. CarriesOutStep places version s asked reply new.now)
   pub goes : OnOk r (Goes old new)

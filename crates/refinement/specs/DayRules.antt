@@ -1,4 +1,5 @@
--- The rules of the day on what is out: who has it sits, has no more than fills the hands, and may see what lies in it.
+-- The rules of the day about the containers that are out. A reader who has one must have a seat, must not have more
+-- containers than are allowed at once, and must be allowed to see what lies in it.
 use Rattle.std.specs.Prelude.{ℕ, Bool, not, ◌||◌, List, nat_eq, nat_lt}
 use Rattle.std.specs.List.{count_by, list_any}
 use Rattle.desk_core.specs.DeskRows.{Desk, SeatRow}
@@ -11,27 +12,27 @@ use Rattle.refinement.specs.Gate.{is_closed_to}
 abbrev pub breaks_day_rules : State → Bool
 breaks_day_rules s = list_any (is_held_against_rules s) (containers s)
 
--- ---- the same, told of those that are out, each with its reader
+-- ---- the same of loans: the containers that are out, each with its reader
 
--- the reader of this one has more of them than fill the hands
+-- the reader of this loan has more than `hands` of these loans
 abbrev pub has_too_many : ℕ → List Loan → Loan → Bool
 has_too_many hands loans loan = nat_lt hands (count_by (λ (other : Loan). nat_eq loan.ticket other.ticket) loans)
 
--- he does not sit
+-- the reader has no seat
 abbrev pub is_without_seat : State → Loan → Bool
 is_without_seat s loan = not (is_seated s loan.ticket)
 
--- either of these, or he may not see it
+-- either of these, or the reader may not see what lies in the container
 abbrev pub is_against_rules : State → List Loan → Loan → Bool
 is_against_rules s loans loan = has_too_many s.settings.hands loans loan || (is_without_seat s loan || is_closed_to s loan)
 
--- one of them is out against a rule of the day, where they are all that are out
+-- one of these containers is out against a rule of the day, given that no others are out
 abbrev pub are_against_rules : State → List Loan → Bool
 are_against_rules s loans = list_any (is_against_rules s loans) loans
 
--- ---- of numbers, and of rows
+-- ---- numbers and rows
 
--- a number stands there more than so many times
+-- a number occurs more than `most` times
 abbrev pub stands_over : ℕ → List ℕ → Bool
 stands_over most numbers = list_any (λ n. nat_lt most (count_by (nat_eq n) numbers)) numbers
 

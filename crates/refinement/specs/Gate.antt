@@ -1,9 +1,9 @@
--- The gate, as it is read from tables.
+-- The gate, as it is checked over tables.
 use Rattle.std.specs.Prelude.{◌≡◌, ℕ, Bool, false, not, List, filter, ◌++◌, Option, Some, None, Ok, Err, option_map, option_to_list, ◌&&◌, nat_eq}
 use Rattle.std.specs.List.{last_or, list_any}
 use Rattle.tree_core.specs.Forest.{Forest, branch, path}
-use Rattle.catalogue_core.specs.Housing.{is_some_there}
-use Rattle.catalogue_core.specs.Marking.{names}
+use Rattle.catalogue_core.specs.ContainerContents.{is_some_there}
+use Rattle.catalogue_core.specs.UnitMarks.{names}
 use Rattle.catalogue_core.specs.Units.{Unit, has_id}
 use Rattle.catalogue_statements.specs.Rows.{HousingRow}
 use Rattle.desk_core.specs.declared.refusal.Refusal.{Refusal}
@@ -17,16 +17,16 @@ use Rattle.office_core.specs.declared.done.Done.{Done}
 abbrev pub is_closed_to : State → Loan → Bool
 is_closed_to s loan = not (opens s loan.ticket loan.container)
 
--- the container of the first of these that is not open to the reader who has it
+-- the first container of these loans that is not open to the reader who has it
 abbrev pub first_closed : State → List Loan → Option ℕ
 first_closed s loans = option_map (λ (loan : Loan). loan.container) (first_that (is_closed_to s) loans)
 
--- the refusal, or what was done
+-- the refusal if there is one, otherwise what was done
 abbrev pub unless_refused : Option Refusal → Done → Reply
 unless_refused None done = Ok done
 unless_refused (Some why) done = Err why
 
--- what is told of a change that led to this state: what was done, unless the gate refuses it
+-- the outcome of a change that led to this state: what was done, unless the gate refuses it
 abbrev pub gated : State → Done → Reply
 gated s done = unless_refused (gate s) done
 
@@ -35,8 +35,9 @@ gated s done = unless_refused (gate s) done
 abbrev pub names_some : Unit → Bool
 names_some unit = is_some_there unit.values.boxes
 
--- The units whose containers hold something of the branch: its units, and the one that the first of them has its containers
--- from, which is the nearest above, itself among them, that names some.
+-- The units whose containers hold something of the branch: the units of the branch, and the unit from which the first
+-- of them takes its containers. That is the first of them itself if it names any, otherwise the nearest unit above it
+-- that does.
 abbrev pub near : ℕ → Forest Unit → List Unit
 near u f = branch (has_id u) f ++ option_to_list (last_or None (filter names_some (path (has_id u) f)))
 
@@ -44,21 +45,21 @@ near u f = branch (has_id u) f ++ option_to_list (last_or None (filter names_som
 abbrev pub is_named_near : ℕ → State → ℕ → Bool
 is_named_near u s c = list_any (names s.catalogue.containers c) (near u s.catalogue.forest)
 
--- What is out is open to the reader who has it, but where something of the branch lies in the container.
+-- Every container that is out is open to the reader who has it, except perhaps if something of the branch lies in it.
 abbrev pub OthersAreOpen : ℕ → State → Type 0
 OthersAreOpen u s = (c : ℕ) → is_named_near u s c ≡ false → is_kept_from_holder s c ≡ false
 
--- ---- what is read of it
+-- ---- what is read for the gate
 
 abbrev pub is_one_of : ℕ → List ℕ → Bool
 is_one_of n ns = list_any (λ m. nat_eq m n) ns
 
--- The first of these that is not open to the reader who has it is the first of all that is out: no other need be asked.
+-- The first of these loans that is not open to its reader is also the first such loan of all: no other need be checked.
 abbrev pub AreEnough : List Loan → State → Type 0
 AreEnough loans s = kept s ≡ first_closed s loans
 
--- These are those of the loans whose containers pass some test, which each container passes in which something of the branch
--- lies.
+-- `asked` are the loans whose containers pass some test. Every container in which something of the branch lies passes
+-- that test.
 pub record AreAsked (u : ℕ) (s : State) (loans asked : List Loan) : Type 0 where
   pub test : ℕ → Bool
   pub near : (c : ℕ) → test c ≡ false → is_named_near u s c ≡ false

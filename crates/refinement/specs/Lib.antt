@@ -1,9 +1,9 @@
-pub mod Represents
+pub mod Representation
 pub mod CommandSteps
 pub mod QueryAnswers
-pub mod Allowed
+pub mod ReadingRoomLimits
 pub mod Sitters
-pub mod Judging
+pub mod AccessConditions
 pub mod Openness
 pub mod Gate
 pub mod DayRules

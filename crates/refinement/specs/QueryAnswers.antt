@@ -1,4 +1,4 @@
--- What answering a question does inside its transaction.
+-- What a question does inside its transaction.
 use Rattle.std.specs.Prelude.{◌≡◌, ℕ, IfOk, OnOk, OnErr, Result}
 use Rattle.sqlite.specs.State as store
 use Rattle.sqlite.specs.State.{HasCleanDisk}
@@ -13,10 +13,10 @@ use Rattle.office_core.specs.declared.query.Answer.{Answer}
 use Rattle.office_tables.specs.Faults.{FaultsHaveCause}
 use Rattle.office_tables.specs.Step.{LeavesUnchanged, IsAborted}
 use Rattle.office_tables.specs.declared.fault.StoreFault.{StoreFault}
-use Rattle.refinement.specs.Represents.{RepresentsState}
+use Rattle.refinement.specs.Representation.{RepresentsState}
 
--- Over the tables of a sound office, the answer is the one of the rules, and nothing is changed. It fails only for want of
--- memory or by the disk; the transaction then goes on, or was taken back.
+-- Over the tables of a sound office, the answer is the machine's, and no row is changed. The call fails only for want
+-- of memory or because of the disk, and the transaction is then aborted.
 pub record AnswersQuery (places : Trees → Forest ℕ → Type 0) (version : Version) (asked : Query) (old new : store.State) (r : Result Answer StoreFault) : Type 0 where
   pub answers : HasCleanDisk new → (s : State) → IsSoundOffice s → RepresentsState places version old.now s → IfOk r (λ told. told ≡ answer s asked)
   pub looks : OnOk r (LeavesUnchanged old new)

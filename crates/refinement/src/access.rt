@@ -7,7 +7,7 @@ ghost use Rattle.catalogue_core.specs.OpenMarks.{is_opened_above, with_permit};
 ghost use Rattle.office_core.specs.State.{opens};
 ghost use Rattle.office_tables.specs.Calls.{Answers};
 ghost use Rattle.office_tables.specs.Step.{InTransaction};
-ghost use Rattle.refinement.specs.Judging.{CanBeJudged, RepresentsWhole};
+ghost use Rattle.refinement.specs.AccessConditions.{CanBeJudged, RepresentsWhole};
 ghost use Rattle.refinement.specs.Openness.{TellsAllClean, TellsClean, allows};
 
 use catalogue_store::{Attached, Places, contents_marks};
@@ -26,7 +26,7 @@ fn is_permitted(permits: &[Permit], unit: u64, today: Day) -> bool
     permits.iter().any(|permit| permit.unit == unit && today.number() <= permit.until.number())
 }
 
-/// The marks with whether there is a permit for the unit on this day.
+/// The marks, each with `permit` set to whether there is a permit for its unit that is valid on this day.
 fn with_permits(
     alloc: Global,
     marks: &[Mark],
@@ -50,7 +50,7 @@ fn has_permit(marks: &[Mark]) -> bool
     marks.iter().any(|mark| mark.permit)
 }
 
-/// Whether a permit stands on the path above its last unit.
+/// Whether there is a permit for a unit on the path above the last one.
 fn is_permitted_above(path: &[Mark]) -> bool
     ensures { result ≡ is_opened_above path.now }
 {
@@ -60,7 +60,7 @@ fn is_permitted_above(path: &[Mark]) -> bool
     }
 }
 
-/// Whether nothing withholds the unit with these marks, or what takes its containers from it.
+/// Whether nothing withholds the unit with these marks, nor the units that take their containers from it.
 fn is_clean(
     alloc: Global,
     attached: &Attached,
@@ -77,7 +77,7 @@ fn is_clean(
     Ok(clean_path(&path, day) && is_within)
 }
 
-/// Whether that holds of all units with these marks.
+/// Whether this holds for all units with these marks.
 fn are_clean(
     alloc: Global,
     found: &[Attached],
@@ -94,7 +94,8 @@ fn are_clean(
     Ok(true)
 }
 
-/// Whether a container is open on this day to the reader with this ticket. Who has no ticket is the public.
+/// Whether a container is open on this day to the reader with this ticket. A ticket that was not given stands for the
+/// public.
 pub fn is_open_to<P: Places, S: Alter>(
     alloc: Global,
     conn: &mut Connection<S>,

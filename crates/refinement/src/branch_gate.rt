@@ -1,5 +1,6 @@
-//! After a change within a branch of units, nothing that is out may be withheld from the reader who has it. Only a
-//! container in which a unit of the branch lies can be: where more than a few are out, only these are asked.
+//! After a change within a branch of units, nothing that is out may be withheld from the reader who has it. Such a
+//! change can only withhold containers in which a unit of the branch lies. If more than a few containers are out, only
+//! these are checked.
 
 ghost use Rattle.std.specs.Prelude.{◌≡◌, ⊤, ℕ, List, ◌++◌, None, map, filter, option_to_list, IfOk};
 ghost use Rattle.std.specs.List.{AllByRecursion, last_or, list_any};
@@ -9,15 +10,16 @@ ghost use Rattle.sqlite.specs.State.{HasCleanDisk};
 ghost use Rattle.isad_core.specs.Limits.{IsNumber};
 ghost use Rattle.catalogue_statements.specs.Rows.{HousingRow, housing_row};
 ghost use Rattle.desk_store.specs.Holdings.{issued_of};
-ghost use Rattle.state_encoding.specs.Reading.{tables as tables_of};
-ghost use Rattle.office_tables.specs.Asking.{Reads};
+ghost use Rattle.state_encoding.specs.OfficeRows.{tables as tables_of};
+ghost use Rattle.office_tables.specs.Query.{Reads};
 ghost use Rattle.office_tables.specs.Calls.{Answers};
 ghost use Rattle.office_tables.specs.Faults.{FaultsHaveCause};
-ghost use Rattle.office_tables.specs.Numbered.{HoldsNumbered};
+ghost use Rattle.office_tables.specs.RowNumbers.{HoldsNumbered};
 ghost use Rattle.office_tables.specs.Schema as tables;
 ghost use Rattle.office_tables.specs.Step.{InOffice, InTransaction};
-ghost use Rattle.refinement.specs.Gate.{AreAsked, AreEnough, AreNear, OthersAreOpen, gated, has_row, is_one_of, says_so};
-ghost use Rattle.refinement.specs.Judging.{CanBeJudged, RepresentsWhole};
+ghost use Rattle.refinement.specs.Gate.{AreAsked, AreEnough, AreNear, OthersAreOpen};
+ghost use Rattle.refinement.specs.Gate.{gated, has_row, is_one_of, says_so};
+ghost use Rattle.refinement.specs.AccessConditions.{CanBeJudged, RepresentsWhole};
 
 use crate::gate::first_closed;
 use catalogue_statements::containers::housings_of;
@@ -31,8 +33,9 @@ use office_tables::value::NO_NUMBER;
 use sqlite::{Alter, Connection};
 use std::alloc::{AllocError, Global};
 
-/// Up to so many containers that are out are all asked, at a fifth of a millisecond each and more where a large branch lies
-/// in one. To find those near a unit, the units of its branch are read, and what houses each.
+/// If at most this many containers are out, all of them are checked. Each check takes a fifth of a millisecond, and
+/// more if a large branch lies in the container. To find those near a unit instead, the units of its branch and the
+/// housings of each are read.
 const FEW: usize = 8;
 
 /// The containers of these rows.
@@ -138,7 +141,7 @@ fn last_with_containers<S: Alter>(
     Ok(last)
 }
 
-/// These units, and one more where there is one.
+/// These units, and one more if there is one.
 fn and_one(units: Vec<u64>, more: Option<u64>) -> Result<Vec<u64>, AllocError>
     ensures { IfOk result (λ all. all.items ≡ units.items ++ option_to_list more) }
 {
@@ -149,7 +152,7 @@ fn and_one(units: Vec<u64>, more: Option<u64>) -> Result<Vec<u64>, AllocError>
     Ok(units)
 }
 
-/// The containers in which the unit lies, or one below it.
+/// The containers in which the unit or one below it lies.
 fn containers_near<P: Places, S: Alter>(
     alloc: Global,
     conn: &mut Connection<S>,
@@ -167,7 +170,7 @@ fn containers_near<P: Places, S: Alter>(
     containers_of_each(alloc, conn, &units)
 }
 
-/// Whether the number is one of these. They ascend, so that it is found by halving.
+/// Whether the number is one of these. They must be in ascending order, for a binary search.
 fn is_among(ascending: &[u64], number: u64) -> bool
     requires rise { IsNonDecreasing ascending.now }
     ensures { result ≡ is_one_of number ascending.now }
@@ -175,7 +178,7 @@ fn is_among(ascending: &[u64], number: u64) -> bool
     ascending.binary_search(&number).is_ok()
 }
 
-/// Those of the loans whose containers are among these, which ascend.
+/// The loans whose containers are among these. The containers must be in ascending order.
 fn loans_of(alloc: Global, loans: &[Loan], ascending: &[u64]) -> Result<Vec<Loan>, AllocError>
     requires rise { IsNonDecreasing ascending.now }
     ensures { IfOk result (λ v. v.items ≡ filter (λ loan. is_one_of loan.container ascending.now) loans.now) }
@@ -190,7 +193,7 @@ fn loans_of(alloc: Global, loans: &[Loan], ascending: &[u64]) -> Result<Vec<Loan
     Ok(found)
 }
 
-/// Of what is out, what a change near the unit may withhold: all of it where it is little.
+/// The loans that must be checked after a change near the unit. If there are few loans, these are all of them.
 fn loans_to_ask<P: Places, S: Alter>(
     alloc: Global,
     conn: &mut Connection<S>,
@@ -210,7 +213,8 @@ fn loans_to_ask<P: Places, S: Alter>(
     Ok(loans_of(alloc, &loans, &containers)?)
 }
 
-/// What is out that a change near the unit may withhold, by number, and maybe more of what is out.
+/// The loans of all containers that a change near the unit may withhold, by number of the container. Other loans may be
+/// among them.
 pub fn loans_near<P: Places, S: Alter>(
     alloc: Global,
     conn: &mut Connection<S>,
@@ -225,7 +229,8 @@ pub fn loans_near<P: Places, S: Alter>(
     loans_to_ask::<P, S>(alloc, conn, unit, loans)
 }
 
-/// What is told of a change that bears on these loans alone: what was done, unless it withholds what is out.
+/// The outcome of a change that the tables already show and that affects only these loans: what was done, or a refusal
+/// if it would close a container to the reader who has it.
 pub fn pass_of<P: Places, S: Alter>(
     alloc: Global,
     conn: &mut Connection<S>,
@@ -243,8 +248,8 @@ pub fn pass_of<P: Places, S: Alter>(
     }
 }
 
-/// What is told of a change that bears on a unit and on those below it alone: what was done, unless it withholds what is
-/// out.
+/// The outcome of a change that the tables already show and that affects only a unit and those below it: what was done,
+/// or a refusal if it would close a container to the reader who has it.
 pub fn pass_near<P: Places, S: Alter>(
     alloc: Global,
     conn: &mut Connection<S>,

@@ -1,4 +1,5 @@
-//! The rules of the day on what is out: who has it sits, has no more than fills the hands, and may see what lies in it.
+//! The rules of the day about the containers that are out. A reader who has one must have a seat, must not have more
+//! containers than are allowed at once, and must be allowed to see what lies in it.
 
 ghost use Rattle.std.specs.Prelude.{◌≡◌, ⊤, IfOk, IsPermutation, map, nat_eq, not};
 ghost use Rattle.std.specs.List.{list_any};
@@ -6,12 +7,12 @@ ghost use Rattle.std.specs.List.Sorted.{IsNonDecreasing};
 ghost use Rattle.sqlite.specs.Held.{state};
 ghost use Rattle.desk_store.specs.declared.holdings.Loan.{Loan as Lent};
 ghost use Rattle.desk_store.specs.declared.taken_seats.TakenSeat.{TakenSeat as Taken};
-ghost use Rattle.desk_store.specs.Represents.{RepresentsDeskAlone, IsLegible};
+ghost use Rattle.desk_store.specs.Representation.{RepresentsDeskAlone, IsLegible};
 ghost use Rattle.office_tables.specs.Calls.{Answers};
 ghost use Rattle.office_tables.specs.Step.{InOffice, InTransaction};
 ghost use Rattle.refinement.specs.DayRules.{are_against_rules as are_against_rules_of, breaks_day_rules};
 ghost use Rattle.refinement.specs.DayRules.{has_no_row, has_too_many, stands_over};
-ghost use Rattle.refinement.specs.Judging.{CanBeJudged, RepresentsWhole};
+ghost use Rattle.refinement.specs.AccessConditions.{CanBeJudged, RepresentsWhole};
 
 use crate::gate::first_closed;
 use catalogue_store::Places;
@@ -21,7 +22,7 @@ use office_tables::StoreFault;
 use sqlite::{Alter, Connection};
 use std::alloc::{AllocError, Global};
 
-/// Who has these containers: a ticket for each, ascending.
+/// The tickets that have these containers: one for each container, in ascending order.
 fn holders(alloc: Global, loans: &[Loan]) -> Result<Vec<u64>, AllocError>
     ensures same { IfOk result (λ tickets. IsPermutation (map (λ (loan : Lent). loan.ticket) loans.now) tickets.items) }
     ensures rise { IfOk result (λ tickets. IsNonDecreasing tickets.items) }
@@ -34,8 +35,8 @@ fn holders(alloc: Global, loans: &[Loan]) -> Result<Vec<u64>, AllocError>
     Ok(tickets)
 }
 
-/// Whether one of these numbers stands there more than so many times. They ascend, so that equal ones stand side by
-/// side.
+/// Whether one of these numbers occurs more than `most` times. They must be in ascending order, so that equal ones are
+/// adjacent.
 fn stands_over(numbers: &[u64], most: usize) -> bool
     ensures { IsNonDecreasing numbers.now → result ≡ stands_over most numbers.now }
 {
@@ -47,7 +48,7 @@ fn stands_over(numbers: &[u64], most: usize) -> bool
     false
 }
 
-/// Whether a reader has more of these containers than fill the hands.
+/// Whether a reader has more than `hands` of these containers.
 fn are_too_many(alloc: Global, loans: &[Loan], hands: u32) -> Result<bool, AllocError>
     ensures { IfOk result (λ yes. yes ≡ list_any (has_too_many hands loans.now) loans.now) }
 {
@@ -55,14 +56,14 @@ fn are_too_many(alloc: Global, loans: &[Loan], hands: u32) -> Result<bool, Alloc
     Ok(stands_over(&tickets, hands as usize))
 }
 
-/// Whether a ticket has one of these seats. There are no more of them than an office has.
+/// Whether a ticket has one of these seats. There are no more of them than seats in an office.
 fn has_seat(taken: &[TakenSeat], ticket: u64) -> bool
     ensures { result ≡ list_any (λ (seat : Taken). nat_eq ticket seat.ticket) taken.now }
 {
     taken.iter().any(|seat| ticket == seat.ticket)
 }
 
-/// Whether one who has these containers has none of these seats.
+/// Whether a reader who has one of these containers has none of these seats.
 fn lacks_seat(loans: &[Loan], taken: &[TakenSeat]) -> bool
     ensures { result ≡ list_any (λ (loan : Lent). not (list_any
         (λ (seat : Taken). nat_eq loan.ticket seat.ticket) taken.now)) loans.now }
@@ -70,7 +71,7 @@ fn lacks_seat(loans: &[Loan], taken: &[TakenSeat]) -> bool
     loans.iter().any(|loan| !has_seat(taken, loan.ticket))
 }
 
-/// Whether one who has these containers does not sit.
+/// Whether a reader who has one of these containers has no seat.
 fn is_one_without_seat<S: Alter>(
     alloc: Global,
     conn: &mut Connection<S>,
@@ -84,7 +85,7 @@ fn is_one_without_seat<S: Alter>(
     Ok(lacks_seat(loans, &taken))
 }
 
-/// Whether one of these containers is out against a rule of the day, where they are all that are out.
+/// Whether one of these containers is out against a rule of the day, given that no others are out.
 fn are_against_rules<P: Places, S: Alter>(
     alloc: Global,
     conn: &mut Connection<S>,

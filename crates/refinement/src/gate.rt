@@ -1,4 +1,4 @@
-//! After a change nothing that is out may be withheld from the reader who has it.
+//! The gate: after a change, nothing that is out may be withheld from the reader who has it.
 
 ghost use Rattle.std.specs.Prelude.{◌≡◌, ⊤};
 ghost use Rattle.sqlite.specs.Held.{state};
@@ -6,7 +6,7 @@ ghost use Rattle.office_core.specs.Rules.{kept};
 ghost use Rattle.office_tables.specs.Calls.{Answers};
 ghost use Rattle.office_tables.specs.Step.{InTransaction};
 ghost use Rattle.refinement.specs.Gate.{first_closed as first_closed_of, gated};
-ghost use Rattle.refinement.specs.Judging.{CanBeJudged, RepresentsWhole};
+ghost use Rattle.refinement.specs.AccessConditions.{CanBeJudged, RepresentsWhole};
 
 use crate::access::is_open_to;
 use catalogue_store::Places;
@@ -51,7 +51,8 @@ pub fn kept_back<P: Places, S: Alter>(
     first_closed::<P, S>(alloc, conn, &loans, today)
 }
 
-/// What is told of a change that the tables show: what was done, unless it withholds what is out.
+/// The outcome of a change that the tables already show: what was done, or a refusal if it would close a container to
+/// the reader who has it.
 pub fn pass<P: Places, S: Alter>(
     alloc: Global,
     conn: &mut Connection<S>,

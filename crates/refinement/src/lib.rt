@@ -1,4 +1,4 @@
-//! When the tables of a store show an office, and what carrying out a command does to them.
+//! When the tables of a store represent an office, and what a command does to them.
 #![tactic(auto)]
 
 mod access;

@@ -13,7 +13,7 @@ use Rattle.sqlite_trees.proofs.ListLemmas.{IsPermutation-same}
 use Rattle.sqlite_value.specs.Order.{value_cmp}
 use Rattle.sqlite_value.proofs.OrderLemmas.{value_cmp-Int}
 use Rattle.office_tables.specs.Cells.{whole_in, has_unread}
-use Rattle.office_tables.specs.Numbered.{HasNumbered}
+use Rattle.office_tables.specs.RowNumbers.{HasNumbered}
 use Rattle.office_tables.specs.Order.{Rises}
 
 -- a whole number

@@ -1,4 +1,4 @@
--- The rows of the places that can be read, whether they can be those of an office, and what they show.
+-- The rows of the places that can be read, whether an office can have them, and what they represent.
 use Rattle.std.specs.Prelude.{◌≡◌, ℕ, Bool, false, ◌||◌, not, List, length}
 use Rattle.std.specs.List.{AllByRecursion}
 use Rattle.sqlite.specs.Order.{Row, column}
@@ -11,19 +11,19 @@ use Rattle.catalogue_core.specs.CatalogueRows.{places_said}
 use Rattle.office_tables.specs.Schema as tables
 use Rattle.row_decoding.specs.TableRows.{places_in, places_are_unread}
 
--- some row cannot be read, or those that can are no office's
+-- some row cannot be read, or no office can have those that can be read
 abbrev pub places_are_doubtful : Version → Trees → Bool
 places_are_doubtful version db = places_are_unread version db || not (are_good_places version (places_in version db))
 
--- ---- what rows without a doubt show
+-- ---- what rows that are not doubtful represent
 
--- They stand by their numbers, and each has its four cells, with null where its number would stand again.
+-- The rows are sorted by their numbers, and each has its four cells, with null in the column that repeats its number.
 pub record AreWholePlaces (rows : List Row) : Type 0 where
   pub rise : IsTable rows
   pub cells : AllByRecursion (λ (row : Row). length row ≡ 4) rows
   pub keys : AllByRecursion (λ (row : Row). column row 1 ≡ Null) rows
 
--- whole rows that can be an office's show the forest that they say
+-- whole rows that an office can have represent the forest that they describe
 abbrev pub RepresentsWhatItSays : (Trees → Forest ℕ → Type 0) → Version → Trees → Type 0
 RepresentsWhatItSays represents version db =
     AreWholePlaces (db tables.link.tree) → places_are_doubtful version db ≡ false → represents db (places_said (places_in version db))

@@ -1,17 +1,17 @@
-//! Laws of whole rows, each the contract of a function that does nothing.
+//! Laws about whole rows. Each is the contract of a function that does nothing.
 
-ghost use Rattle.catalogue_statements.specs.Represents.{RepresentsLinkRows};
-ghost use Rattle.nested_sets.specs.Represents.{RepresentsSpanRows};
+ghost use Rattle.catalogue_statements.specs.Representation.{RepresentsLinkRows};
+ghost use Rattle.nested_sets.specs.Representation.{RepresentsSpanRows};
 ghost use Rattle.sqlite.specs.Tree.{Trees};
 ghost use Rattle.tree_core.specs.Versions.{Links, Spans};
 ghost use Rattle.row_completeness.specs.WholePlaces.{RepresentsWhatItSays};
 
-/// Whole rows of links that can be an office's show the forest that they say.
+/// Whole rows of links that an office can have represent the forest that they describe.
 pub fn links_show()
     ensures { (db : Trees) → RepresentsWhatItSays RepresentsLinkRows Links db }
 {}
 
-/// Whole rows of spans that can be an office's show the forest that they say.
+/// Whole rows of spans that an office can have represent the forest that they describe.
 pub fn spans_show()
     ensures { (db : Trees) → RepresentsWhatItSays RepresentsSpanRows Spans db }
 {}

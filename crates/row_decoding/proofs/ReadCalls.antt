@@ -1,7 +1,7 @@
 -- Calls that read, one after the other.
 use Rattle.std.proofs.Common.{◌≡◌, Result, Ok, Err, ap, refl}
 use Rattle.sqlite.specs.State.{State, HasCleanDisk}
-use Rattle.office_tables.specs.Asking.{Reads}
+use Rattle.office_tables.specs.Query.{Reads}
 use Rattle.office_tables.specs.Step.{LeavesUnchanged}
 use Rattle.office_tables.specs.declared.fault.StoreFault.{StoreFault}
 use Rattle.office_tables.proofs.CallEnds.{read_well, read_cut}

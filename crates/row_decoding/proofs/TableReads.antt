@@ -14,10 +14,10 @@ use Rattle.sqlite.specs.State.{State, HasCleanDisk, Shown, Survives, FailsToQuer
 use Rattle.sqlite_typing.specs.Types.{accepts_program}
 use Rattle.sqlite_value.specs.declared.keys.Key.{Key}
 use Rattle.tree_core.specs.Versions.{Version}
-use Rattle.office_tables.specs.Asking.{IsOurQuery, Gathers, StopsShort}
+use Rattle.office_tables.specs.Query.{IsOurQuery, Gathers, StopsShort}
 use Rattle.office_tables.specs.Cells.{has_unread}
 use Rattle.office_tables.specs.Faults.{fault_of, IsUnlimited, HasCause, FaultsHaveCause}
-use Rattle.office_tables.specs.Meaning.{Means}
+use Rattle.office_tables.specs.StatementMeaning.{Means}
 use Rattle.office_tables.specs.Schema.{schema}
 use Rattle.office_tables.specs.Step.{InOffice, InTransaction}
 use Rattle.office_tables.specs.declared.fault.StoreFault.{StoreFault}

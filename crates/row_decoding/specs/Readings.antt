@@ -1,4 +1,4 @@
--- Rows of doubtful origin, as they are read.
+-- How rows of doubtful origin are read.
 use Rattle.std.specs.Prelude.{◌≡◌, ℕ, Bool, not, List, [], ◌∷◌, map, filter_map, Option}
 use Rattle.std.specs.declared.cmp.Ordering.{Ordering}
 use Rattle.std.specs.declared.cmp.Ordering.TheVariants.{Equal}
@@ -13,12 +13,12 @@ use Rattle.office_tables.specs.Cells.{has_unread, number_in}
 use Rattle.row_decoding.specs.declared.decoded_rows.Gathered.{Gathered}
 use Rattle.office_tables.specs.DeskCells.{read_seat, read_order, read_holding, read_run, read_run_line, read_permit}
 
--- what was kept of rows: those that can be read, as they stand, and whether all of them can
+-- what was kept of these rows: those that can be read, in their order, and whether all of them can be read
 pub record AreGathered {X Told : Type 0} (told : X → Told) (says : Row → Option Told) (rows : List Row) (kept : List X) (are_read : Bool) : Type 0 where
   pub are : map told kept ≡ filter_map says rows
   pub all : are_read ≡ not (has_unread says rows)
 
--- ---- what the cells say that a query shows of a row: they are put back to their places in the table's row
+-- ---- the record in the cells that a query shows of a row: the cells are put back in their places in the table's row
 
 abbrev pub said_seat : Row → Option SeatRow
 said_seat cells = read_seat (column cells 0 ∷ Null ∷ column cells 1 ∷ [])
@@ -50,7 +50,7 @@ by_rowid a b = value_cmp (column a 0) (column b 0)
 abbrev pub in_any_order : Row → Row → Ordering
 in_any_order a b = Equal
 
--- These are the rows of the table that can be read, in such an order, and whether all of them can.
+-- The rows of the table that can be read, sorted by `comes`, and whether all of them can be read.
 pub record AreRead {Told : Type 0} (comes : Row → Row → Ordering) (reads : Row → Option Told) (table : List Row) (rows : List Told) (are_read : Bool) : Type 0 where
   pub stored : List Row
   pub same : IsPermutation table stored
@@ -58,6 +58,6 @@ pub record AreRead {Told : Type 0} (comes : Row → Row → Ordering) (reads : R
   pub are : rows ≡ filter_map reads stored
   pub all : are_read ≡ not (has_unread reads table)
 
--- the same of a table of the state, and of what was gathered of it
+-- the same of a table of the state and the rows that were gathered from it
 abbrev pub IsTable : {X Told : Type 0} → (Row → Row → Ordering) → (Row → Option Told) → Table → (X → Told) → State → Gathered X → Type 0
 IsTable comes reads table told s all = AreRead comes reads (s.now.trees table.tree) (map told all.rows.items) all.are_read

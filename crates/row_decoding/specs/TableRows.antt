@@ -1,4 +1,5 @@
--- The rows of tables of doubtful origin that can be read, each table's in the order of its key, and whether some cannot.
+-- The rows of tables of doubtful origin that can be read, each table's in the order of its key, and whether some cannot
+-- be read.
 use Rattle.std.specs.Prelude.{ℕ, Bool, ◌||◌, ◌&&◌, List, filter_map, nat_eq, nat_lt}
 use Rattle.sqlite.specs.Tree.{Trees}
 use Rattle.tree_core.specs.declared.rows.Link.{Link}
@@ -12,7 +13,7 @@ use Rattle.office_tables.specs.CatalogueCells.{read_unit, read_link, read_span, 
 use Rattle.office_tables.specs.DeskCells.{read_reader, read_seat, read_order, read_holding, read_run, read_run_line, read_permit}
 use Rattle.office_tables.specs.Schema as tables
 
--- by one number, and by a second where that is the same
+-- `by`: by one number; `then_by`: by one number, then by a second
 abbrev pub by : {X : Type 0} → (X → ℕ) → X → X → Bool
 by number a b = nat_lt (number a) (number b)
 
@@ -57,7 +58,7 @@ desk_in db =
       permits = in_order (then_by (λ (row : PermitRow). row.ticket) (λ (row : PermitRow). row.unit)) (filter_map read_permit (db tables.permit.tree));
     }
 
--- ---- some row cannot be read, where one cause has several tables
+-- ---- some row cannot be read, for the causes that have several tables
 
 abbrev pub places_are_unread : Version → Trees → Bool
 places_are_unread Links db = has_unread read_link (db tables.link.tree)

@@ -1,4 +1,4 @@
-//! What cells of doubtful origin say.
+//! Decoding cells of doubtful origin.
 
 ghost use Rattle.std.specs.Prelude.{◌≡◌};
 ghost use Rattle.sqlite.specs.Order.{column};
@@ -8,7 +8,7 @@ ghost use Rattle.office_tables.specs.Cells.{number_in as number_said, whole_in a
 use sqlite::Row;
 use sqlite::types::ValueRef;
 
-/// The cell in a column, and null past the last.
+/// The cell in a column, or null past the last column.
 pub fn cell(row: &Row, at: usize) -> ValueRef<'_>
     ensures { owned result ≡ column row.now at }
 {
@@ -18,7 +18,7 @@ pub fn cell(row: &Row, at: usize) -> ValueRef<'_>
     }
 }
 
-/// A number, from 0 on.
+/// The value as a number from 0 on, or none if it is not one.
 pub fn number_in(value: ValueRef<'_>) -> Option<u64>
     ensures { result ≡ number_said (owned value.entry) }
 {
@@ -28,7 +28,7 @@ pub fn number_in(value: ValueRef<'_>) -> Option<u64>
     }
 }
 
-/// A whole number.
+/// The value as a whole number, or none if it is not one.
 pub fn whole_in(value: ValueRef<'_>) -> Option<i64>
     ensures { result ≡ whole_said (owned value.entry) }
 {
@@ -38,7 +38,7 @@ pub fn whole_in(value: ValueRef<'_>) -> Option<i64>
     }
 }
 
-/// Null, or else a number.
+/// The value as null or as a number from 0 on, or none if it is neither.
 pub fn number_or_null_in(value: ValueRef<'_>) -> Option<Option<u64>>
     ensures { result ≡ or_null_in number_said (owned value.entry) }
 {

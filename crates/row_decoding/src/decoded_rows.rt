@@ -3,38 +3,38 @@
 ghost use Rattle.std.specs.Prelude.{◌≡◌, true, [], IfOk, IfErr};
 ghost use Rattle.sqlite.specs.Held.{state};
 ghost use Rattle.sqlite.specs.State.{HasCleanDisk};
-ghost use Rattle.office_tables.specs.Asking.{IsOurQuery, Reads, Gathers, StopsShort};
+ghost use Rattle.office_tables.specs.Query.{IsOurQuery, Reads, Gathers, StopsShort};
 ghost use Rattle.row_decoding.specs.Readings.{AreGathered};
 
 use office_tables::{Gathering, StoreFault, gather};
 use sqlite::{Alter, Connection, Row};
 use std::alloc::Global;
 
-/// What a row says, whatever its cells are.
+/// A record that can be read from rows with any cells.
 pub trait FromCells {
     ghost use Rattle.std.specs.Prelude.{◌≡◌, Option, option_map};
     ghost use Rattle.sqlite.specs.Order.{Row};
 
-    /// What it is in the definitions of the desk's causes.
+    /// The type of the record in the definitions.
     ghost Told: { Type 0 };
 
     ghost told: { Self → Told };
 
-    /// What the cells of a row of the query say.
+    /// The record in the cells of a row of the query, or none if they contain no such record.
     ghost says: { Row → Option Told };
 
-    /// Reads a row, where it can be read.
+    /// Reads a row. Returns none if it cannot be read.
     fn read(row: &Row) -> Option<Self>
     where
         Self: Sized,
         ensures { option_map told result ≡ says row.now };
 }
 
-/// The rows of a query that can be read, one after the other.
+/// The rows of a query that can be read, in the order of the query.
 #[derive(Drop)]
 pub struct Gathered<R> {
     pub rows: Vec<R>,
-    /// Each row could be read.
+    /// True if every row could be read.
     pub are_read: bool,
 }
 
@@ -63,7 +63,7 @@ fn no_rows<R>(alloc: Global) -> Gathered<R>
     }
 }
 
-/// The rows of a query of ours, as far as they can be read.
+/// Reads the rows of a query, as far as they can be read. The query must be one with a known meaning.
 pub fn read_rows<R: FromCells + Drop, S: Alter>(
     alloc: Global,
     conn: &mut Connection<S>,

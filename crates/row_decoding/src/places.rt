@@ -1,4 +1,4 @@
-//! The rows of the tables of places, where they can be an office's.
+//! The rows of the tables of places that an office can have.
 
 ghost use Rattle.std.specs.Prelude.{◌≡◌, IfOk, true};
 ghost use Rattle.std.specs.Option.{option_map_or};
@@ -6,7 +6,7 @@ ghost use Rattle.sqlite.specs.Held.{state};
 ghost use Rattle.sqlite.specs.State.{HasCleanDisk};
 ghost use Rattle.tree_core.specs.Versions.{Links, Spans};
 ghost use Rattle.catalogue_core.specs.CatalogueCauses as causes;
-ghost use Rattle.office_tables.specs.Asking.{Reads};
+ghost use Rattle.office_tables.specs.Query.{Reads};
 ghost use Rattle.office_tables.specs.Faults.{FaultsHaveCause};
 ghost use Rattle.office_tables.specs.Schema as tables;
 ghost use Rattle.office_tables.specs.Step.{InTransaction};
@@ -15,6 +15,7 @@ ghost use Rattle.row_decoding.specs.Readings.{IsTable, by_rowid};
 
 use crate::cells::{cell, number_in, number_or_null_in};
 use crate::decoded_rows::{FromCells, Gathered, read_rows};
+use isad_core::limits::MOST_UNIT_NUMBERS;
 use office_tables::StoreFault;
 use sqlite::{Alter, Connection, Row};
 use std::alloc::Global;
@@ -24,10 +25,10 @@ use tree_core::{Link, Span};
 fn is_unit_number(n: u64) -> bool
     ensures { result ≡ causes.is_unit_number n }
 {
-    1 <= n && n <= 100_000_000
+    1 <= n && n <= MOST_UNIT_NUMBERS
 }
 
-/// Whether a parent may be this one, or none.
+/// Whether a parent may have this number; a top has no parent.
 fn may_be_parent(parent: Option<u64>) -> bool
     ensures { result ≡ option_map_or causes.is_unit_number parent true }
 {
@@ -44,7 +45,7 @@ fn is_place_number(n: u64) -> bool
     n < 1 << 32
 }
 
-/// The link of these numbers, where it may have them.
+/// The link with these numbers, or none if a link may not have them.
 fn link_of(id: u64, parent: Option<u64>, ord: u64) -> Option<Link>
     ensures { result ≡ only causes.is_good_link (record { id = id; parent = parent; ord = ord }) }
 {
@@ -59,7 +60,7 @@ fn link_of(id: u64, parent: Option<u64>, ord: u64) -> Option<Link>
     }
 }
 
-/// The span of these numbers, where it may have them.
+/// The span with these numbers, or none if a span may not have them.
 fn span_of(id: u64, lft: u64, rgt: u64) -> Option<Span>
     ensures { result ≡ only causes.is_good_span (record { id = id; lft = lft; rgt = rgt }) }
 {
@@ -110,7 +111,7 @@ impl FromCells for Span {
     }
 }
 
-/// The links, by unit.
+/// Reads the links, by unit.
 pub fn links<S: Alter>(
     alloc: Global,
     conn: &mut Connection<S>,
@@ -124,7 +125,7 @@ pub fn links<S: Alter>(
     read_rows(alloc, conn, "SELECT id, parent, ord FROM link ORDER BY id")
 }
 
-/// The spans, by their first number, and by unit where that is the same.
+/// Reads the spans, by their first number and then by unit.
 pub fn spans<S: Alter>(
     alloc: Global,
     conn: &mut Connection<S>,

@@ -1,9 +1,9 @@
-//! The rows of each table of the desk but the readers', and the numbers of units and containers.
+//! The rows of each table of the desk except the readers', and the numbers of units and containers.
 
 ghost use Rattle.std.specs.Prelude.{IfOk};
 ghost use Rattle.sqlite.specs.Held.{state};
 ghost use Rattle.sqlite.specs.State.{HasCleanDisk};
-ghost use Rattle.office_tables.specs.Asking.{Reads};
+ghost use Rattle.office_tables.specs.Query.{Reads};
 ghost use Rattle.office_tables.specs.DeskCells as cells;
 ghost use Rattle.office_tables.specs.Faults.{FaultsHaveCause};
 ghost use Rattle.office_tables.specs.Schema as tables;
@@ -167,7 +167,7 @@ impl FromCells for RunLineRow {
     }
 }
 
-/// The seats.
+/// Reads the seats, in any order.
 pub fn seats<S: Alter>(
     alloc: Global,
     conn: &mut Connection<S>,
@@ -181,7 +181,7 @@ pub fn seats<S: Alter>(
     read_rows(alloc, conn, "SELECT seat, ticket FROM seat")
 }
 
-/// The permits.
+/// Reads the permits, in any order.
 pub fn permits<S: Alter>(
     alloc: Global,
     conn: &mut Connection<S>,
@@ -195,7 +195,7 @@ pub fn permits<S: Alter>(
     read_rows(alloc, conn, "SELECT ticket, unit, until FROM permit")
 }
 
-/// The orders, by their numbers.
+/// Reads the orders, by number.
 pub fn orders<S: Alter>(
     alloc: Global,
     conn: &mut Connection<S>,
@@ -213,7 +213,7 @@ pub fn orders<S: Alter>(
     )
 }
 
-/// The holdings.
+/// Reads the holdings, in any order.
 pub fn holdings<S: Alter>(
     alloc: Global,
     conn: &mut Connection<S>,
@@ -227,7 +227,7 @@ pub fn holdings<S: Alter>(
     read_rows(alloc, conn, "SELECT container, place, held_by FROM holding")
 }
 
-/// The runs, by their numbers.
+/// Reads the runs, by number.
 pub fn runs<S: Alter>(
     alloc: Global,
     conn: &mut Connection<S>,
@@ -241,7 +241,7 @@ pub fn runs<S: Alter>(
     read_rows(alloc, conn, "SELECT id, day FROM run ORDER BY id")
 }
 
-/// The lines of the runs.
+/// Reads the lines of the runs, in any order.
 pub fn run_lines<S: Alter>(
     alloc: Global,
     conn: &mut Connection<S>,
@@ -260,7 +260,7 @@ pub fn run_lines<S: Alter>(
     )
 }
 
-/// The numbers of the units.
+/// Reads the numbers of the units, in any order.
 pub fn unit_numbers<S: Alter>(
     alloc: Global,
     conn: &mut Connection<S>,
@@ -274,7 +274,7 @@ pub fn unit_numbers<S: Alter>(
     read_rows(alloc, conn, "SELECT id FROM unit")
 }
 
-/// The numbers of the containers.
+/// Reads the numbers of the containers, in any order.
 pub fn container_numbers<S: Alter>(
     alloc: Global,
     conn: &mut Connection<S>,

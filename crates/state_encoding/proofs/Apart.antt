@@ -9,7 +9,7 @@ use Rattle.isad_core.specs.Boxes.{distinct, is_same as is_same_box}
 use Rattle.tree_core.proofs.Lists.{In, In-append, In-map, head_apart, any_from_In}
 use Rattle.catalogue_core.proofs.EachOf.{all_append}
 use Rattle.catalogue_core.specs.Units.{Unit}
-use Rattle.state_encoding.specs.Reading.{number_of}
+use Rattle.state_encoding.specs.OfficeRows.{number_of}
 use Rattle.office_core.proofs.Words.{other_number}
 use Rattle.catalogue_core.proofs.Imported.{distinct_filter, distinct_again}
 use Rattle.state_encoding.proofs.RowsByNumber.{each_in, in_each, in_filter}

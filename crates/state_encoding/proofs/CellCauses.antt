@@ -17,7 +17,7 @@ use Rattle.office_tables.specs.DeskCells.{read_reader}
 use Rattle.office_tables.proofs.CellTexts.{from_first, is_text, all_read}
 use Rattle.state_encoding.specs.Causes.{first_held, desk_tests, catalogue_tests}
 use Rattle.state_encoding.specs.CellCauses.{rows_in, unread, either_of, no_office}
-use Rattle.state_encoding.specs.CellJudged.{IsLegibleUnitRow, IsLegibleContainerRow, AreLegibleRows, CellsHaveNoCause, CellsSayASoundState}
+use Rattle.state_encoding.specs.CellSoundness.{IsLegibleUnitRow, IsLegibleContainerRow, AreLegibleRows, CellsHaveNoCause, CellsSayASoundState}
 use Rattle.state_encoding.proofs.Judging.{none_held, hold_none}
 use Rattle.state_encoding.proofs.JudgedWhole.{rows_are_said}
 use Rattle.state_encoding.proofs.DeskSound.{desk_sound}

@@ -11,9 +11,9 @@ use Rattle.office_core.specs.State.{State, Line, Run, Permit, is_seat_of, contai
 use Rattle.catalogue_core.specs.Members.{StandsIn}
 use Rattle.office_core.specs.SoundDesk.{IsAscending, SitOnce, ByContainer, ByUnit, IsSoundDesk}
 use Rattle.desk_core.specs.DeskRows.{ReaderRow, SeatRow, OrderRow, HoldingRow, RunRow, RunLineRow, PermitRow}
-use Rattle.state_encoding.specs.DeskShown.{reader_row, seat_rows_from, order_row, holding_row, run_row, run_line_row, lines_from, permit_row}
+use Rattle.state_encoding.specs.DeskEncoding.{reader_row, seat_rows_from, order_row, holding_row, run_row, run_line_row, lines_from, permit_row}
 use Rattle.tree_core.specs.Versions.{Version}
-use Rattle.state_encoding.specs.Reading.{tables}
+use Rattle.state_encoding.specs.OfficeRows.{tables}
 use Rattle.desk_core.specs.DeskCauses.{AreInOrder, MeetsDeskKeys}
 use Rattle.office_core.proofs.Words.{same_number, ascending-push}
 use Rattle.state_encoding.proofs.Members.{all_in, all_of_in, none_in, in_append, in_filter_map, in_map, in_flat_map, in_numbers}

@@ -10,13 +10,13 @@ use Rattle.tree_core.proofs.Lists.{list_any-map}
 use Rattle.catalogue_core.specs.Units.{Unit}
 use Rattle.office_core.specs.Words.{numbered, some_and}
 use Rattle.office_core.specs.State.{State, Order, is_ticket, is_container}
-use Rattle.catalogue_core.specs.Finding.{has_unit}
+use Rattle.catalogue_core.specs.UnitLookup.{has_unit}
 use Rattle.catalogue_core.specs.Sources.{is_between}
 use Rattle.desk_core.specs.DeskRows.{ReaderRow, OrderRow, RunRow}
-use Rattle.state_encoding.specs.DeskShown.{reader_row, order_row, order_rows, run_row}
+use Rattle.state_encoding.specs.DeskEncoding.{reader_row, order_row, order_rows, run_row}
 use Rattle.tree_core.specs.Versions.{Version}
 use Rattle.catalogue_core.specs.CatalogueRows.{UnitRow, unit_row, ContainerRow, container_row}
-use Rattle.state_encoding.specs.Reading.{tables}
+use Rattle.state_encoding.specs.OfficeRows.{tables}
 use Rattle.desk_core.specs.DeskCauses.{is_registered}
 use Rattle.state_encoding.specs.Causes.{is_container_there, is_unit_there}
 use Rattle.office_core.proofs.Words.{other_number}

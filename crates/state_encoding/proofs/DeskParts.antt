@@ -11,9 +11,9 @@ use Rattle.catalogue_core.specs.Members.{StandsIn}
 use Rattle.office_core.specs.Rules.{is_name}
 use Rattle.catalogue_core.specs.Sources.{is_between}
 use Rattle.desk_core.specs.DeskRows.{ReaderRow, SeatRow, OrderRow, PermitRow}
-use Rattle.state_encoding.specs.DeskShown.{reader_from}
+use Rattle.state_encoding.specs.DeskEncoding.{reader_from}
 use Rattle.catalogue_core.specs.CatalogueRows.{ContainerRow, box_from}
-use Rattle.state_encoding.specs.Reading.{OfficeRows, state_of}
+use Rattle.state_encoding.specs.OfficeRows.{OfficeRows, state_of}
 use Rattle.isad_core.specs.Words.{are_numbered_from}
 use Rattle.desk_core.specs.DeskCauses.{is_registered, is_good_reader, is_good_seat, is_good_permit, are_good_readers, are_twice, is_of_the_day, is_good_order, are_good_orders}
 use Rattle.state_encoding.specs.Causes.{around, is_unit_there, is_container_there}

@@ -1,8 +1,8 @@
 -- Rows with none of the causes 6 to 10 say a sound desk, which shows just those rows.
 use Rattle.tree_core.specs.Versions.{Version}
-use Rattle.state_encoding.specs.Reading.{OfficeRows}
+use Rattle.state_encoding.specs.OfficeRows.{OfficeRows}
 use Rattle.desk_core.specs.DeskCauses.{are_good_readers, are_good_orders, are_good_holdings, are_good_runs}
-use Rattle.state_encoding.specs.DeskJudged.{PassingRowsAreSound}
+use Rattle.state_encoding.specs.DeskSoundness.{PassingRowsAreSound}
 use Rattle.state_encoding.proofs.DeskParts.{reader_parts, orders_parts, not_bad}
 use Rattle.state_encoding.proofs.SaidReaders.{said_readers, reader_days, readers_again, said_seats, seats_again, said_permits, permit_days, permits_placed, permits_again}
 use Rattle.state_encoding.proofs.SaidOrders.{holding_parts, said_filed, orders_again}

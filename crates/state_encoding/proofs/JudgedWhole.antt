@@ -10,12 +10,12 @@ use Rattle.catalogue_core.specs.Units.{has_id}
 use Rattle.office_core.specs.State.{State}
 use Rattle.office_core.specs.Soundness.{IsSound}
 use Rattle.catalogue_core.specs.CatalogueRows.{UnitRow, unit_row, ContainerRow}
-use Rattle.state_encoding.specs.Reading.{OfficeRows, tables, state_of}
+use Rattle.state_encoding.specs.OfficeRows.{OfficeRows, tables, state_of}
 use Rattle.state_encoding.specs.Causes.{around, catalogue_tests, day_is_broken, first_held, desk_tests}
-use Rattle.state_encoding.specs.Judged.{IsCatalogueOf, IsSoundCatalogue, SaysASoundState, HasNoCause}
+use Rattle.state_encoding.specs.RowSoundness.{IsCatalogueOf, IsSoundCatalogue, SaysASoundState, HasNoCause}
 use Rattle.isad_core.specs.Words.{are_numbered_from}
 use Rattle.desk_core.specs.DeskCauses.{readers_are_bad, orders_are_bad, holdings_are_bad, runs_are_bad}
-use Rattle.state_encoding.specs.DeskJudged.{HasNoDeskCause, HasGoodCatalogue, SoundTablesPass, PassingRowsAreSound}
+use Rattle.state_encoding.specs.DeskSoundness.{HasNoDeskCause, HasGoodCatalogue, SoundTablesPass, PassingRowsAreSound}
 use Rattle.state_encoding.proofs.Judging.{none_held, hold_none, none_before, none_behind, none_in_both}
 use Rattle.state_encoding.proofs.RowsByNumber.{in_map}
 use Rattle.state_encoding.proofs.told.ToldCatalogue.{no_cause, catalogue_is_said}

@@ -13,9 +13,9 @@ use Rattle.office_core.specs.SoundOffice.{IsSoundOffice}
 use Rattle.office_core.specs.State.{Reader, State}
 use Rattle.office_core.specs.Words.{numbers_to}
 use Rattle.state_encoding.specs.Causes.{around}
-use Rattle.state_encoding.specs.DeskJudged.{PassesAtTheDesk}
-use Rattle.state_encoding.specs.DeskShown.{reader_row, rows_from}
-use Rattle.state_encoding.specs.Reading.{tables}
+use Rattle.state_encoding.specs.DeskSoundness.{PassesAtTheDesk}
+use Rattle.state_encoding.specs.DeskEncoding.{reader_row, rows_from}
+use Rattle.state_encoding.specs.OfficeRows.{tables}
 use Rattle.state_encoding.proofs.DeskLookups.{is_between_so}
 use Rattle.state_encoding.proofs.DeskParts.{not_bad}
 use Rattle.state_encoding.proofs.DeskPasses.{desk_passes}

@@ -5,7 +5,7 @@ use Rattle.std.specs.List.{list_any, AllByRecursion}
 use Rattle.std.proofs.lemmas.Bool.{and_parts, and_from, and_left, or_from, eqb-true}
 use Rattle.office_core.specs.Words.{numbered, some_and}
 use Rattle.catalogue_core.specs.Members.{StandsIn}
-use Rattle.state_encoding.specs.DeskShown.{rows_from}
+use Rattle.state_encoding.specs.DeskEncoding.{rows_from}
 use Rattle.desk_core.specs.DeskCauses.{AreInOrder}
 use Rattle.isad_core.specs.Words.{are_numbered_from}
 use Rattle.office_core.proofs.Words.{same_number, other_number}

@@ -18,9 +18,9 @@ use Rattle.office_core.specs.SoundDesk.{ExactlyOne, IsFiled, is_out_for}
 use Rattle.office_core.specs.Soundness.{IsSound}
 use Rattle.catalogue_core.specs.Sources.{is_between}
 use Rattle.desk_core.specs.DeskRows.{OrderRow, HoldingRow}
-use Rattle.state_encoding.specs.DeskShown.{rows_from, order_row, order_rows, state_number, holding_row, holding_rows}
+use Rattle.state_encoding.specs.DeskEncoding.{rows_from, order_row, order_rows, state_number, holding_row, holding_rows}
 use Rattle.tree_core.specs.Versions.{Version}
-use Rattle.state_encoding.specs.Reading.{tables}
+use Rattle.state_encoding.specs.OfficeRows.{tables}
 use Rattle.isad_core.specs.Words.{are_numbered_from}
 use Rattle.desk_core.specs.DeskCauses.{is_registered, is_live, are_twice, is_of_the_day, is_good_order, are_good_orders, is_out_order, is_good_holding, is_holding_of, has_its_holding, are_good_holdings}
 use Rattle.state_encoding.specs.Causes.{around, is_container_there}

@@ -11,10 +11,10 @@ use Rattle.catalogue_core.proofs.EachOf.{all_append}
 use Rattle.office_core.specs.Words.{numbered, numbers_to, stands}
 use Rattle.office_core.specs.State.{Line, Run, Permit, State}
 use Rattle.desk_core.specs.DeskRows.{SeatRow, RunLineRow, PermitRow}
-use Rattle.state_encoding.specs.DeskShown.{rows_from, seat_rows_from, run_row, run_line_row, lines_from, permit_row, permit_rows}
+use Rattle.state_encoding.specs.DeskEncoding.{rows_from, seat_rows_from, run_row, run_line_row, lines_from, permit_row, permit_rows}
 use Rattle.tree_core.specs.Versions.{Version}
 use Rattle.catalogue_core.specs.CatalogueRows.{container_row, box_from}
-use Rattle.state_encoding.specs.Reading.{seats_said, line_from, run_from, permits_said, SaysAllButUnits}
+use Rattle.state_encoding.specs.OfficeRows.{seats_said, line_from, run_from, permits_said, SaysAllButUnits}
 use Rattle.state_encoding.proofs.TableLaws.{rows_back, reads_back}
 use Rattle.office_core.specs.SoundDesk.{AreGoodPermits, IsSoundDesk}
 use Rattle.office_core.proofs.Words.{same_number, other_number, stands-push, numbered_within}

@@ -9,16 +9,16 @@ use Rattle.isad_core.specs.Days.{IsDayNumber, is_day_number}
 use Rattle.isad_core.proofs.DayLemmas.{is_day_number-true}
 use Rattle.office_core.specs.Words.{numbers_to}
 use Rattle.office_core.specs.State.{Permit, State, is_ticket, is_seat_of}
-use Rattle.catalogue_core.specs.Finding.{has_unit}
+use Rattle.catalogue_core.specs.UnitLookup.{has_unit}
 use Rattle.catalogue_core.specs.Members.{StandsIn}
 use Rattle.office_core.specs.Soundness.{IsSound}
 use Rattle.office_core.specs.Rules.{is_name}
 use Rattle.catalogue_core.specs.Sources.{is_between}
 use Rattle.isad_core.specs.Limits.{most_tickets, most_permits}
 use Rattle.desk_core.specs.DeskRows.{ReaderRow, SeatRow, PermitRow}
-use Rattle.state_encoding.specs.DeskShown.{reader_row, reader_rows, seat_rows_from, seat_rows, permit_row, permit_rows}
+use Rattle.state_encoding.specs.DeskEncoding.{reader_row, reader_rows, seat_rows_from, seat_rows, permit_row, permit_rows}
 use Rattle.tree_core.specs.Versions.{Version}
-use Rattle.state_encoding.specs.Reading.{tables}
+use Rattle.state_encoding.specs.OfficeRows.{tables}
 use Rattle.isad_core.specs.Words.{are_numbered_from}
 use Rattle.desk_core.specs.DeskCauses.{is_good_reader, is_good_seat, is_good_permit, are_good_readers, is_registered}
 use Rattle.state_encoding.specs.Causes.{around, is_unit_there}

@@ -14,9 +14,9 @@ use Rattle.office_core.specs.SoundDesk.{IsGoodLine}
 use Rattle.office_core.specs.Soundness.{IsSound}
 use Rattle.isad_core.specs.Limits.{most_runs}
 use Rattle.desk_core.specs.DeskRows.{RunRow, RunLineRow, OrderRow}
-use Rattle.state_encoding.specs.DeskShown.{run_row, run_rows, run_line_row, lines_from, run_line_rows}
+use Rattle.state_encoding.specs.DeskEncoding.{run_row, run_rows, run_line_row, lines_from, run_line_rows}
 use Rattle.tree_core.specs.Versions.{Version}
-use Rattle.state_encoding.specs.Reading.{line_from, run_from, tables}
+use Rattle.state_encoding.specs.OfficeRows.{line_from, run_from, tables}
 use Rattle.isad_core.specs.Words.{are_numbered_from}
 use Rattle.desk_core.specs.DeskCauses.{is_good_run, is_order_of_line, is_good_line, are_good_runs}
 use Rattle.state_encoding.specs.Causes.{around, holds_well, is_held_against_rules, day_is_broken}

@@ -11,8 +11,8 @@ use Rattle.catalogue_core.specs.Members.{StandsIn}
 use Rattle.office_core.specs.Laws.{standing}
 use Rattle.office_core.specs.SoundDesk.{IsAscending, IsFiled, AreFiled, is_out_for}
 use Rattle.desk_core.specs.DeskRows.{OrderRow, waiting_for, HoldingRow}
-use Rattle.state_encoding.specs.DeskShown.{order_row, order_rows, order_from, state_number, end_of, past_in, place_from, place_in}
-use Rattle.state_encoding.specs.Reading.{OfficeRows, state_of}
+use Rattle.state_encoding.specs.DeskEncoding.{order_row, order_rows, order_from, state_number, end_of, past_in, place_from, place_in}
+use Rattle.state_encoding.specs.OfficeRows.{OfficeRows, state_of}
 use Rattle.desk_core.specs.DeskCauses.{AreInOrder, MeetsDeskKeys, is_out_order, is_at_desk, is_out_well, is_good_holding, is_holding_of, has_its_holding, are_good_holdings}
 use Rattle.state_encoding.specs.Causes.{around, is_container_there}
 use Rattle.office_core.proofs.Words.{same_number, other_number}

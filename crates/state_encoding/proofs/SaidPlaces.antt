@@ -16,11 +16,11 @@ use Rattle.catalogue_core.specs.Members.{StandsIn}
 use Rattle.office_core.specs.SoundDesk.{IsGoodOrder, AreGoodOrders, AreGoodPlaces}
 use Rattle.catalogue_core.specs.Sources.{is_between}
 use Rattle.desk_core.specs.DeskRows.{OrderRow, HoldingRow}
-use Rattle.state_encoding.specs.DeskShown.{order_from, end_of, holding_row, holding_rows, place_from, place_in}
-use Rattle.state_encoding.specs.Reading.{OfficeRows, state_of}
+use Rattle.state_encoding.specs.DeskEncoding.{order_from, end_of, holding_row, holding_rows, place_from, place_in}
+use Rattle.state_encoding.specs.OfficeRows.{OfficeRows, state_of}
 use Rattle.desk_core.specs.DeskCauses.{MeetsDeskKeys, is_live, are_twice}
 use Rattle.state_encoding.specs.Causes.{holds_well, holder_of, is_held_against_rules, day_is_broken}
-use Rattle.state_encoding.specs.DeskJudged.{HasGoodCatalogue}
+use Rattle.state_encoding.specs.DeskSoundness.{HasGoodCatalogue}
 use Rattle.office_core.proofs.Words.{numbered_within}
 use Rattle.office_core.proofs.Counts.{numbered_from_one}
 use Rattle.state_encoding.proofs.Members.{all_of_in, none_in, in_map, in_filter, numbers_in, to_from}

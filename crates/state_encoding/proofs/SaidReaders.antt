@@ -9,7 +9,7 @@ use Rattle.std.proofs.lemmas.List.Sums.{length-filter}
 use Rattle.isad_core.specs.Days.{IsDayNumber}
 use Rattle.office_core.specs.Words.{numbers_to}
 use Rattle.office_core.specs.State.{Reader, Permit, is_seat_of}
-use Rattle.catalogue_core.specs.Finding.{has_unit}
+use Rattle.catalogue_core.specs.UnitLookup.{has_unit}
 use Rattle.catalogue_core.specs.Members.{StandsIn}
 use Rattle.office_core.specs.Laws.{numbers_from}
 use Rattle.office_core.specs.SoundDesk.{SitOnce, AreGoodSeats, AreGoodReaders, ByUnit, AreGoodPermits}
@@ -17,8 +17,8 @@ use Rattle.office_core.specs.Soundness.{ArePermitsOfUnits}
 use Rattle.office_core.specs.Rules.{is_name}
 use Rattle.isad_core.specs.Limits.{most_permits}
 use Rattle.desk_core.specs.DeskRows.{ReaderRow, SeatRow, PermitRow}
-use Rattle.state_encoding.specs.DeskShown.{reader_row, reader_rows, reader_from, seat_rows_from, seat_rows, permit_row, permit_rows}
-use Rattle.state_encoding.specs.Reading.{OfficeRows, state_of, seats_said, permits_said}
+use Rattle.state_encoding.specs.DeskEncoding.{reader_row, reader_rows, reader_from, seat_rows_from, seat_rows, permit_row, permit_rows}
+use Rattle.state_encoding.specs.OfficeRows.{OfficeRows, state_of, seats_said, permits_said}
 use Rattle.desk_core.specs.DeskCauses.{AreInOrder, MeetsDeskKeys, is_registered}
 use Rattle.state_encoding.specs.Causes.{is_unit_there}
 use Rattle.office_core.proofs.Words.{numbered_within}

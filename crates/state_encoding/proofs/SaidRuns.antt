@@ -15,8 +15,8 @@ use Rattle.office_core.specs.SoundDesk.{IsGoodLine, ByContainer, IsGoodRun, AreG
 use Rattle.catalogue_core.specs.Sources.{is_between}
 use Rattle.isad_core.specs.Limits.{most_runs}
 use Rattle.desk_core.specs.DeskRows.{OrderRow, RunRow, RunLineRow}
-use Rattle.state_encoding.specs.DeskShown.{order_from, run_row, run_rows, run_line_row, lines_from, run_line_rows}
-use Rattle.state_encoding.specs.Reading.{OfficeRows, state_of, line_from, run_from}
+use Rattle.state_encoding.specs.DeskEncoding.{order_from, run_row, run_rows, run_line_row, lines_from, run_line_rows}
+use Rattle.state_encoding.specs.OfficeRows.{OfficeRows, state_of, line_from, run_from}
 use Rattle.desk_core.specs.DeskCauses.{AreInOrder, MeetsDeskKeys, is_good_run, is_order_of_line, is_good_line, are_good_runs}
 use Rattle.isad_core.specs.Words.{are_numbered_from}
 use Rattle.state_encoding.proofs.Members.{all_of_in, in_map, in_filter, test_in}

@@ -3,7 +3,7 @@ use Rattle.std.proofs.Common.{◌≡◌, ℕ, zero, suc, ◌&&◌, Bool, length,
 use Rattle.std.specs.Prelude.{find, option_map, unwrap_or, IfSome, false}
 use Rattle.std.specs.List.{AllByRecursion, cons_option}
 use Rattle.std.proofs.lemmas.Str.{IsUtf8-nil}
-use Rattle.isad_core.specs.Legible.{IsLegibleBox, AreLegibleValues}
+use Rattle.isad_core.specs.LegibleValues.{IsLegibleBox, AreLegibleValues}
 use Rattle.isad_core.specs.Texts.{Bytes}
 use Rattle.isad_core.specs.declared.values.BoxKey.{BoxKey}
 use Rattle.tree_core.specs.Forest.{nodes}
@@ -15,9 +15,9 @@ use Rattle.catalogue_core.specs.CatalogueRows.{UnitRow, ElementRow, ContainerRow
 use Rattle.office_core.specs.Words.{numbered}
 use Rattle.office_core.specs.Laws.{numbers_from}
 use Rattle.office_core.specs.SoundOffice.{AreTexts}
-use Rattle.state_encoding.specs.DeskShown.{reader_from}
-use Rattle.state_encoding.specs.Reading.{OfficeRows, state_of, box_at, boxes_from, values_said, unit_from, unit_said}
-use Rattle.state_encoding.specs.CellJudged.{IsLegibleUnitRow, IsLegibleContainerRow, AreLegibleRows}
+use Rattle.state_encoding.specs.DeskEncoding.{reader_from}
+use Rattle.state_encoding.specs.OfficeRows.{OfficeRows, state_of, box_at, boxes_from, values_said, unit_from, unit_said}
+use Rattle.state_encoding.specs.CellSoundness.{IsLegibleUnitRow, IsLegibleContainerRow, AreLegibleRows}
 use Rattle.state_encoding.proofs.RowsByNumber.{each_in}
 use Rattle.state_encoding.proofs.NumberedRows.{numbered_in}
 

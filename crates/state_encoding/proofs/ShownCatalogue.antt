@@ -4,10 +4,10 @@ use Rattle.std.specs.List.{list_all}
 use Rattle.std.proofs.lemmas.Bool.{and_from, not_from_true}
 use Rattle.tree_core.specs.Versions.{Version}
 use Rattle.office_core.specs.State.{State}
-use Rattle.state_encoding.specs.Reading.{OfficeRows, tables}
+use Rattle.state_encoding.specs.OfficeRows.{OfficeRows, tables}
 use Rattle.state_encoding.specs.Causes.{is_good_office, office_is_bad}
 use Rattle.catalogue_core.specs.CatalogueCauses.{are_good_places, are_good_units, unit_numbers, is_good_element, are_good_container_rows, is_good_housing, places_are_bad, units_are_bad, elements_are_bad, containers_are_bad}
-use Rattle.state_encoding.specs.Judged.{HasNoCatalogueCause}
+use Rattle.state_encoding.specs.RowSoundness.{HasNoCatalogueCause}
 use Rattle.state_encoding.proofs.Judging.{hold_none}
 use Rattle.state_encoding.proofs.ShownUnits.{office_shown, AreShownUnits, units_shown}
 use Rattle.state_encoding.proofs.ShownElements.{elements_shown, AreShownContainers, containers_shown, AreShownHousings, housings_shown}

@@ -10,19 +10,19 @@ use Rattle.tree_core.specs.Forest.{nodes}
 use Rattle.tree_core.proofs.Lists.{In, In-map, any_from_In}
 use Rattle.tree_core.specs.Versions.{Version}
 use Rattle.catalogue_core.specs.Units.{Unit}
-use Rattle.catalogue_core.specs.Merging.{box_number}
+use Rattle.catalogue_core.specs.CatalogueMerge.{box_number}
 use Rattle.isad_core.specs.Limits.{most_containers}
 use Rattle.office_core.specs.Laws.{numbers_from}
 use Rattle.office_core.specs.State.{State}
 use Rattle.office_core.specs.Words.{numbered, stands}
-use Rattle.state_encoding.specs.DeskShown.{rows_from}
+use Rattle.state_encoding.specs.DeskEncoding.{rows_from}
 use Rattle.catalogue_core.specs.Sources.{is_between}
 use Rattle.catalogue_core.specs.GoodCatalogues.{is_good_text, IsGoodUnit}
 use Rattle.catalogue_core.specs.CatalogueRows.{ElementRow, after_level, element_rows_from, ContainerRow, container_row, HousingRow, housing_row, housings_of}
-use Rattle.state_encoding.specs.Reading.{OfficeRows, tables, number_of}
+use Rattle.state_encoding.specs.OfficeRows.{OfficeRows, tables, number_of}
 use Rattle.isad_core.specs.Words.{are_numbered_from}
 use Rattle.catalogue_core.specs.CatalogueCauses.{unit_numbers, is_good_element, is_good_housing, are_good_container_rows, is_same_element, is_same_container, is_same_place, is_housed_alike}
-use Rattle.state_encoding.specs.Judged.{IsSoundCatalogue}
+use Rattle.state_encoding.specs.RowSoundness.{IsSoundCatalogue}
 use Rattle.office_core.proofs.Words.{same_number, other_number}
 use Rattle.catalogue_core.proofs.ImportedAgain.{box_itself}
 use Rattle.state_encoding.proofs.UnitRows.{HasRows, all_rows, number_there, number_back, after_less, elements_own, housings_own}

@@ -31,10 +31,10 @@ use Rattle.catalogue_core.proofs.Heights.{height-each}
 use Rattle.office_core.specs.Soundness.{is_country, is_repository}
 use Rattle.catalogue_core.specs.GoodCatalogues.{IsSomeDay, IsGoodUnit, is_same_unit}
 use Rattle.catalogue_core.specs.CatalogueRows.{OfficeRow, UnitRow, unit_row, place_rows, places_said}
-use Rattle.state_encoding.specs.Reading.{number_of, tables, unit_said}
+use Rattle.state_encoding.specs.OfficeRows.{number_of, tables, unit_said}
 use Rattle.state_encoding.specs.Causes.{is_good_office}
 use Rattle.catalogue_core.specs.CatalogueCauses.{is_unit_number, is_good_link, is_good_span, are_good_places, is_some_day, is_good_unit_row, unit_numbers, place_numbers, all_stand_in, are_good_units, is_named_alike}
-use Rattle.state_encoding.specs.Judged.{IsSoundCatalogue}
+use Rattle.state_encoding.specs.RowSoundness.{IsSoundCatalogue}
 use Rattle.office_core.proofs.Words.{same_number}
 use Rattle.state_encoding.proofs.UnitRows.{units_back}
 use Rattle.state_encoding.proofs.RowsByNumber.{in_all, each_in, in_map}

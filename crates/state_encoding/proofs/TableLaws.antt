@@ -14,7 +14,7 @@ use Rattle.office_core.specs.Rules.{Reply, step, issued}
 use Rattle.office_core.specs.SoundDesk.{ExactlyOne, IsFiled, IsAscending, AreFiled, AreGoodPlaces, IsSoundDesk, is_out_for}
 use Rattle.office_core.specs.Laws.{Standing, Waiting, WithItsReader, Ended, stands_as, standing}
 use Rattle.desk_core.specs.DeskRows.{HoldingRow, OrderRow, with_state, waiting_for}
-use Rattle.state_encoding.specs.DeskShown.{reader_row, reader_from, order_from, OneRowChanges, holding_row, holding_rows, place_in, end_of, past_in, ReadsBack, state_number, rows_from, order_row, order_rows}
+use Rattle.state_encoding.specs.DeskEncoding.{reader_row, reader_from, order_from, OneRowChanges, holding_row, holding_rows, place_in, end_of, past_in, ReadsBack, state_number, rows_from, order_row, order_rows}
 use Rattle.office_core.proofs.Words.{same_number, other_number, below_none, numbered_within}
 use Rattle.office_core.proofs.Steps.{held_so, step_at}
 use Rattle.office_core.proofs.Counts.{none_to, numbered_from_one}

@@ -11,17 +11,17 @@ use Rattle.isad_core.specs.declared.values.BoxKey.{BoxKey}
 use Rattle.isad_core.specs.Boxes.{is_same as is_same_box}
 use Rattle.tree_core.proofs.EachLemmas.{nodes-each}
 use Rattle.catalogue_core.specs.Units.{Unit}
-use Rattle.catalogue_core.specs.Merging.{box_number, number_in}
+use Rattle.catalogue_core.specs.CatalogueMerge.{box_number, number_in}
 use Rattle.tree_core.specs.Forest.{Forest, Empty, Node, nodes, each}
 use Rattle.tree_core.specs.Links.{siblings}
 use Rattle.office_core.specs.State.{State}
 use Rattle.catalogue_core.specs.GoodCatalogues.{IsGoodUnit}
 use Rattle.office_core.specs.Words.{numbered}
 use Rattle.office_core.specs.Laws.{numbers_from}
-use Rattle.state_encoding.specs.DeskShown.{rows_from}
+use Rattle.state_encoding.specs.DeskEncoding.{rows_from}
 use Rattle.tree_core.specs.Versions.{Version, Links, Spans}
 use Rattle.catalogue_core.specs.CatalogueRows.{UnitRow, unit_row, ElementRow, after_level, element_rows_from, HousingRow, housing_row, text_said, container_row, box_from, places_said, place_rows}
-use Rattle.state_encoding.specs.Reading.{number_of, box_at, boxes_from, boxes_said, OfficeRows, tables, values_said, unit_from, unit_said, SaysUnits}
+use Rattle.state_encoding.specs.OfficeRows.{number_of, box_at, boxes_from, boxes_said, OfficeRows, tables, values_said, unit_from, unit_said, SaysUnits}
 use Rattle.state_encoding.proofs.TableLaws.{rows_back}
 use Rattle.state_encoding.proofs.Nested.{spans_say}
 use Rattle.state_encoding.proofs.Linked.{links_say}

@@ -1,6 +1,6 @@
 -- What the causes 1 to 5 say of a small office, computed.
 use Rattle.std.proofs.Common.{refl}
-use Rattle.catalogue_core.specs.Housing.{is_open}
+use Rattle.catalogue_core.specs.ContainerContents.{is_open}
 use Rattle.state_encoding.specs.WorkedCatalogueCauses.{Told}
 
 pub told : Told

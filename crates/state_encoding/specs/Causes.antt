@@ -1,8 +1,8 @@
--- Why the rows of all tables show no sound state: the list of ten causes, and the least that holds, by its number.
+-- Why the rows of all tables represent no sound state: the list of ten causes, and the number of the first that holds.
 use Rattle.std.specs.Prelude.{ℕ, ◌+◌, Bool, not, ◌&&◌, List, [], ◌∷◌, ◌++◌, Option, option_and_then, option_map, nat_eq, nat_le}
 use Rattle.std.specs.List.{list_any}
 use Rattle.isad_core.specs.Days.{is_day_number}
-use Rattle.isad_core.specs.Limits.{most_unit_numbers}
+use Rattle.isad_core.specs.Limits.{most_daily, most_hands, most_run_size, most_seats, most_unit_numbers}
 use Rattle.isad_core.specs.Words.{is_between, some_and}
 use Rattle.tree_core.specs.Versions.{version_number, Version}
 use Rattle.desk_core.specs.DeskCauses.{Around, readers_are_bad, orders_are_bad, holdings_are_bad, runs_are_bad, MeetsDeskKeys}
@@ -11,15 +11,15 @@ use Rattle.catalogue_core.specs.CatalogueCauses.{places_are_bad, units_are_bad, 
 use Rattle.office_core.specs.Words.{numbered, place_of}
 use Rattle.office_core.specs.State.{State, containers, is_seated, held, opens, order_out}
 use Rattle.office_core.specs.Soundness.{is_country, is_repository}
-use Rattle.state_encoding.specs.Reading.{OfficeRows, state_of}
+use Rattle.state_encoding.specs.OfficeRows.{OfficeRows, state_of}
 
 -- ---- 1: the office
 
--- the settings, the version, the day and the next unit number
+-- the settings, the version, the day and the next unit number are good
 abbrev pub is_good_office : Version → OfficeRow → Bool
 is_good_office version row =
     nat_eq row.version (version_number version) && (is_country row.country && (is_repository row.repo
-    && (is_between 1 200 row.seats && (is_between 1 50 row.daily && (is_between 1 10 row.hands && (is_between 1 100 row.run_size
+    && (is_between 1 most_seats row.seats && (is_between 1 most_daily row.daily && (is_between 1 most_hands row.hands && (is_between 1 most_run_size row.run_size
     && (is_day_number row.day && is_between 1 (most_unit_numbers + 1) row.next_unit)))))))
 
 abbrev pub office_is_bad : Version → OfficeRows → Bool
@@ -54,11 +54,11 @@ around t =
 
 -- ---- 10: the rules of the day
 
--- whose order the container is out with
+-- the ticket of the order that the container is out with
 abbrev pub holder_of : State → ℕ → Option ℕ
 holder_of s c = option_and_then (λ o. option_map (λ order. order.ticket) (numbered s.orders o)) (order_out (s.place c))
 
--- who has the container sits, has no more than fills the hands, and may see what lies in it
+-- the reader who has the container has a seat, no more containers than are allowed at once, and may see what lies in it
 abbrev pub holds_well : State → ℕ → ℕ → Bool
 holds_well s c ticket = is_seated s ticket && (nat_le (held s ticket) s.settings.hands && opens s ticket c)
 
@@ -74,13 +74,13 @@ desk_tests t =
     readers_are_bad (around t) t.desk ∷ orders_are_bad (around t) t.desk ∷ holdings_are_bad (around t) t.desk ∷ runs_are_bad (around t) t.desk
     ∷ day_is_broken t ∷ []
 
--- ---- the least
+-- ---- the first cause
 
--- the place of the first test that holds, counted from 1
+-- the position of the first test that holds, counted from 1
 abbrev pub first_held : List Bool → Option ℕ
 first_held tests = place_of (λ held. held) tests
 
--- the number of the first cause that holds of rows that are to be of this version, 1 to 10
+-- the number of the first cause that holds for rows that must be of this version, 1 to 10
 abbrev pub cause : Version → OfficeRows → Option ℕ
 cause version t = first_held (catalogue_tests version t ++ desk_tests t)
 
@@ -88,7 +88,7 @@ cause version t = first_held (catalogue_tests version t ++ desk_tests t)
 abbrev pub catalogue_cause : Version → OfficeRows → Option ℕ
 catalogue_cause version t = first_held (catalogue_tests version t)
 
--- what the schema keeps of the rows
+-- what the keys of the schema guarantee about the rows
 pub record MeetsKeys (t : OfficeRows) : Type 0 where
   pub catalogue : MeetsCatalogueKeys t.catalogue
   pub desk : MeetsDeskKeys t.desk

@@ -1,5 +1,6 @@
--- Why the tables of a file show no sound state, whatever their cells are: the least cause, by its number. A row with a cell that its
--- column cannot have cannot be read, which is its table's cause; the rows that can be read are judged as ever.
+-- Why the tables of a file represent no sound state, whatever their cells are: the number of the first cause. A row
+-- with a cell that its column cannot have cannot be read, so the cause of its table holds. The rows that can be read
+-- are judged as usual.
 use Rattle.std.specs.Prelude.{ℕ, pos, Bool, false, ◌||◌, List, [], ◌∷◌, ◌++◌, filter_map, Option, unwrap_or}
 use Rattle.sqlite.specs.Tree.{Trees}
 use Rattle.tree_core.specs.Versions.{Version}
@@ -10,12 +11,12 @@ use Rattle.office_tables.specs.Cells.{has_unread}
 use Rattle.office_tables.specs.CatalogueCells.{read_office, read_unit, read_element}
 use Rattle.office_tables.specs.DeskCells.{read_order, read_holding}
 use Rattle.row_decoding.specs.TableRows.{catalogue_in, desk_in, places_are_unread, containers_are_unread, registration_is_unread, runs_are_unread}
-use Rattle.state_encoding.specs.Reading.{OfficeRows}
+use Rattle.state_encoding.specs.OfficeRows.{OfficeRows}
 use Rattle.state_encoding.specs.Causes.{catalogue_tests, first_held, desk_tests}
 
 -- ---- the rows that can be read
 
--- where the office's row cannot be read, one that no office has
+-- a row that no office has, which is used if the office's row cannot be read
 abbrev pub no_office : OfficeRow
 no_office = record { version = 0; country = []; repo = []; seats = 0; daily = 0; hands = 0; run_size = 0; day = pos 0; next_unit = 0 }
 
@@ -44,12 +45,12 @@ unread version db =
     ∷ false
     ∷ []
 
--- at each place either holds
+-- at each position, whether either holds
 abbrev pub either_of : List Bool → List Bool → List Bool
 either_of (a ∷ these) (b ∷ those) = (a || b) ∷ either_of these those
 either_of _ _ = []
 
--- the number of the first cause that holds of tables that are to be of this version, 1 to 10
+-- the number of the first cause that holds for tables that must be of this version, 1 to 10
 abbrev pub cell_cause : Version → Trees → Option ℕ
 cell_cause version db =
     first_held (either_of (unread version db) (catalogue_tests version (rows_in version db) ++ desk_tests (rows_in version db)))

@@ -1,5 +1,5 @@
--- The trees that show an office: each table has the rows of the office's state, told in cells, and no others. The order
--- in which they stand tells nothing, nor does the number of its own that a row without an INTEGER PRIMARY KEY has.
+-- The trees that represent an office: each table has the rows of the office's state, as cells, and no others. The order
+-- of the rows has no meaning, nor has the hidden number of a row without an INTEGER PRIMARY KEY.
 use Rattle.std.specs.Prelude.{◌≡◌, List, [], ◌∷◌, None, map, IsPermutation}
 use Rattle.sqlite.specs.Order.{Row}
 use Rattle.sqlite.specs.Tree.{Trees}
@@ -9,19 +9,19 @@ use Rattle.catalogue_core.specs.CatalogueRows.{CatalogueRows, PlaceRows, LinkRow
 use Rattle.office_core.specs.State.{State}
 use Rattle.office_core.specs.SoundOffice.{IsSoundOffice}
 use Rattle.office_tables.specs.Schema as tables
-use Rattle.office_tables.specs.Numbered.{HasNumbered}
+use Rattle.office_tables.specs.RowNumbers.{HasNumbered}
 use Rattle.office_tables.specs.Permits.{permit_cells}
 pub use Rattle.office_tables.specs.RowCells.{unit_cells, element_cells, container_cells, housing_cells, link_cells, span_cells}
 pub use Rattle.office_tables.specs.RowCells.{reader_cells, seat_cells, order_cells, holding_cells, run_cells, run_line_cells}
-use Rattle.office_tables.specs.Shared.{office_cells}
+use Rattle.office_tables.specs.SharedRows.{office_cells}
 use Rattle.state_encoding.specs.Causes.{first_held, MeetsKeys}
 use Rattle.state_encoding.specs.CellCauses.{rows_in, unread, cell_cause}
-use Rattle.state_encoding.specs.Judged.{IsCatalogueOf}
-use Rattle.state_encoding.specs.Reading.{OfficeRows, tables as tables_of, state_of}
+use Rattle.state_encoding.specs.RowSoundness.{IsCatalogueOf}
+use Rattle.state_encoding.specs.OfficeRows.{OfficeRows, tables as tables_of, state_of}
 
--- ---- the trees that show an office
+-- ---- the trees that represent an office
 
--- the table has these rows, in whatever order
+-- the table has these rows, in any order
 pub record HasRows {R : Type 0} (cells : R → Row) (there : List Row) (rows : List R) : Type 0 where
   pub stored : List R
   pub are : there ≡ map cells stored
@@ -53,17 +53,17 @@ pub record HasTables (db : Trees) (t : OfficeRows) : Type 0 where
   pub catalogue : HasCatalogue db t.catalogue
   pub desk : HasDesk db t.desk
 
--- the tables of this version show the state
+-- the tables of this version represent the state
 abbrev pub RepresentsState : Version → Trees → State → Type 0
 RepresentsState version db s = HasTables db (tables_of version s)
 
--- some trees do
+-- some trees represent the state
 abbrev pub IsRepresentedByTrees : Version → State → Type 0
 IsRepresentedByTrees version s = (db : Trees) × RepresentsState version db s
 
 -- ---- what is read of a sound office
 
--- each row is read: the desk's by their keys, as the state shows them, and the catalogue's up to their order
+-- every row is read: the desk's are the rows of the state in the order of their keys, the catalogue's up to their order
 pub record IsRead (version : Version) (db : Trees) (s : State) : Type 0 where
   pub all : first_held (unread version db) ≡ None
   pub catalogue : IsCatalogueOf version (rows_in version db) s
@@ -72,7 +72,7 @@ pub record IsRead (version : Version) (db : Trees) (s : State) : Type 0 where
 abbrev pub SoundOfficesAreRead : Version → Trees → State → Type 0
 SoundOfficesAreRead version db s = RepresentsState version db s → IsSoundOffice s → IsRead version db s
 
--- its tables meet the keys and have no cause, and say it
+-- the tables meet the keys, have no cause, and describe the state
 pub record IsTold (version : Version) (db : Trees) (s : State) : Type 0 where
   pub keys : MeetsKeys (rows_in version db)
   pub causes : cell_cause version db ≡ None

@@ -4,7 +4,7 @@ use Rattle.tree_core.specs.Spans.{number}
 use Rattle.tree_core.specs.Versions.{Spans, version_number}
 use Rattle.catalogue_core.specs.CatalogueRows.{SpanRows}
 use Rattle.office_core.specs.State.{State}
-use Rattle.state_encoding.specs.Reading.{OfficeRows, number_of}
+use Rattle.state_encoding.specs.OfficeRows.{OfficeRows, number_of}
 
 -- the state's tables of one version, with the version and the places of version 2
 abbrev pub with_spans : State → OfficeRows → OfficeRows

@@ -1,10 +1,10 @@
--- What each of the causes 1 to 5 says where one row of a small sound office is changed.
+-- Which of the causes 1 to 5 is found after a few rows of a small sound office are changed.
 use Rattle.std.specs.Prelude.{◌≡◌, ℕ, ◌+◌, ◌^◌, zero, suc, pos, List, [], ◌∷◌, Option, Some, None, codes, replicate}
 use Rattle.tree_core.specs.declared.rows.Link.{Link}
-use Rattle.tree_core.specs.Worked.{link, span}
+use Rattle.tree_core.specs.WorkedExamples.{link, span}
 use Rattle.tree_core.specs.Versions.{Links, Spans}
 use Rattle.catalogue_core.specs.CatalogueRows.{CatalogueRows, LinkRows, SpanRows, ElementRow, ContainerRow, HousingRow}
-use Rattle.state_encoding.specs.Reading.{OfficeRows}
+use Rattle.state_encoding.specs.OfficeRows.{OfficeRows}
 use Rattle.state_encoding.specs.Causes.{cause}
 use Rattle.state_encoding.specs.WorkedDeskCauses.{sound as office_rows, catalogue as plans_housed, plans, many_units}
 
@@ -49,15 +49,15 @@ deep n =
       catalogue = record catalogue { units = many_units n; places = LinkRows (way_down n) };
     }
 
--- what is told of rows of version 1
+-- the first cause in rows of version 1
 abbrev pub told : OfficeRows → Option ℕ
 told t = cause Links t
 
--- what is told where the office has these rows of its catalogue
+-- the first cause if the office's catalogue has these rows
 abbrev pub told_with : CatalogueRows → Option ℕ
 told_with rows = told (record sound { catalogue = rows })
 
--- the same in version 2, of these places
+-- the same in version 2
 abbrev pub told_of_spans : CatalogueRows → Option ℕ
 told_of_spans rows = cause Spans (record nested { catalogue = rows })
 
@@ -106,5 +106,5 @@ pub record Told : Type 0 where
   pub in_no_container : told_with (record catalogue { housings = in_box_1 ∷ record in_box_2 { container = 3 } ∷ [] }) ≡ Some 5
   pub of_no_unit : told_with (record catalogue { housings = in_box_1 ∷ in_box_2 ∷ record { unit = 2; ord = 1; container = 2 } ∷ [] }) ≡ Some 5
   pub place_left_out : told_with (record catalogue { housings = in_box_1 ∷ record in_box_2 { ord = 3 } ∷ [] }) ≡ Some 5
-  -- the least of two is told
+  -- of two causes, the first is found
   pub two_causes : told_with (record catalogue { elements = []; units = record plans { source = [] } ∷ []; containers = [] }) ≡ Some 3

@@ -1,4 +1,5 @@
--- Rows with a cell that its column cannot have, and whose cause each is. Numbers alone: whether a text is UTF-8 is told by lemmas.
+-- Rows with a cell that its column cannot have, and the cause of each. All texts here are UTF-8: lemmas cover the other
+-- texts.
 use Rattle.std.specs.Prelude.{◌≡◌, ℕ, ℤ, pos, neg_ℤ, Bool, true, false, cond, [], ◌∷◌, Option, Some, codes, nat_eq}
 use Rattle.sqlite.specs.declared.types.Value.{Value}
 use Rattle.sqlite.specs.declared.types.Value.TheVariants.{Null, Int, Text}
@@ -15,7 +16,7 @@ use Rattle.state_encoding.specs.CellCauses.{unread, cell_cause}
 abbrev pub only : ℕ → Row → Trees
 only tree row = λ other. cond (nat_eq other tree) (row ∷ []) []
 
--- whether the row cannot be read for which this is the cause
+-- whether this cause has a row that cannot be read, in a file with only this row
 abbrev pub is_unread : ℕ → ℕ → Row → Option Bool
 is_unread cause tree row = numbered (unread Links (only tree row)) cause
 
@@ -25,7 +26,7 @@ is_unread_span row = numbered (unread Spans (only tables.span.tree row)) 2
 abbrev pub text : Value
 text = Text (codes "a")
 
--- the row of an office, but for the number that it has, its version, its seats and its day
+-- the row of an office with this number, this version, these seats and this day
 abbrev pub office : ℤ → ℤ → Value → Value → Row
 office one version seats day =
     Int one ∷ Null ∷ Int version ∷ Text (codes "GB") ∷ Text (codes "0999") ∷ seats ∷ Int (pos 2) ∷ Int (pos 1) ∷ Int (pos 2) ∷ day ∷ Int (pos 2) ∷ []
@@ -33,11 +34,11 @@ office one version seats day =
 abbrev pub minus : ℕ → Value
 minus n = Int (neg_ℤ (pos n))
 
--- the unit 1, but for its draft and until when it is closed
+-- the row of unit 1 with this draft cell and this end of its closure
 abbrev pub unit : Value → Value → Row
 unit draft until = Int (pos 1) ∷ Null ∷ text ∷ text ∷ text ∷ until ∷ draft ∷ []
 
--- ---- what is told of them
+-- ---- their causes
 
 pub record Told : Type 0 where
   -- the office

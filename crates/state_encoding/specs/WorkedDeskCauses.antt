@@ -1,11 +1,11 @@
--- Rows of a small office that are sound, and what each of the causes 6 to 10 says where one row is changed.
+-- The rows of a small sound office, and which of the causes 6 to 10 hold after a few of them are changed.
 use Rattle.std.specs.Prelude.{◌≡◌, ℕ, ℤ, pos, neg_ℤ, true, false, Bool, List, [], ◌∷◌, map, Some, None, codes}
-use Rattle.tree_core.specs.Worked.{link}
+use Rattle.tree_core.specs.WorkedExamples.{link}
 use Rattle.desk_core.specs.DeskRows.{Desk, ReaderRow, SeatRow, OrderRow, HoldingRow, RunLineRow, PermitRow}
 use Rattle.catalogue_core.specs.CatalogueRows.{CatalogueRows, LinkRows, UnitRow}
-use Rattle.state_encoding.specs.Reading.{OfficeRows}
+use Rattle.state_encoding.specs.OfficeRows.{OfficeRows}
 use Rattle.office_core.specs.Laws.{numbers_from}
-use Rattle.office_core.specs.Worked.{february_1, march_1, march_2, year_end}
+use Rattle.office_core.specs.WorkedExamples.{february_1, march_1, march_2, year_end}
 use Rattle.state_encoding.specs.Causes.{desk_tests}
 
 -- ---- which of the causes 6, 7, 8, 9 and 10 hold
@@ -47,7 +47,7 @@ first_order = record { id = 1; ticket = 1; container = 1; day = february_1; stat
 abbrev pub second_order : OrderRow
 second_order = record { id = 2; ticket = 2; container = 1; day = march_1; state = 1 }
 
--- and has had container 2
+-- Bob has had container 2
 abbrev pub third_order : OrderRow
 third_order = record { id = 3; ticket = 2; container = 2; day = march_1; state = 3 }
 
@@ -106,22 +106,22 @@ sound =
 abbrev pub year_10000 : ℤ
 year_10000 = pos 2932897
 
--- so many units, and a permit for each
+-- n units, and a permit for each
 abbrev pub many_units : ℕ → List UnitRow
 many_units n = map (λ u. record plans { id = u }) (numbers_from 1 n)
 
 abbrev pub many_permits : ℕ → List PermitRow
 many_permits n = map (λ u. record permit_of_bob { unit = u }) (numbers_from 1 n)
 
--- which causes hold where the office has these rows of its desk
+-- which causes hold if the office's desk has these rows
 abbrev pub tests_with : Desk → List Bool
 tests_with rows = desk_tests (record sound { desk = rows })
 
--- which hold where its desk stands among these units
+-- which causes hold if the office has these units, and its desk these rows
 abbrev pub tests_among : List UnitRow → Desk → List Bool
 tests_among units rows = desk_tests (record sound { catalogue = record catalogue { units = units }; desk = rows })
 
--- Which causes hold of the rows with some of them changed
+-- which causes hold after some of the rows are changed
 pub record Told : Type 0 where
   pub nothing : desk_tests sound ≡ none_of_them
   -- readers

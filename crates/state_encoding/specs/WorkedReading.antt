@@ -1,14 +1,14 @@
--- The rows of a small office, and the state that they say.
+-- The rows of a small office, and the state that they describe.
 use Rattle.std.specs.Prelude.{◌≡◌, ℕ, false, replicate, [], ◌∷◌, Some, None, codes, List}
 use Rattle.isad_core.specs.declared.values.BoxKey.{BoxKey}
 use Rattle.tree_core.specs.Forest.{Empty, Node}
-use Rattle.tree_core.specs.Worked.{link, span}
+use Rattle.tree_core.specs.WorkedExamples.{link, span}
 use Rattle.catalogue_core.specs.Units.{Unit}
 use Rattle.office_core.specs.State.{State}
 use Rattle.tree_core.specs.Versions.{Version, Links, Spans}
 use Rattle.catalogue_core.specs.CatalogueRows.{LinkRows, SpanRows}
-use Rattle.state_encoding.specs.Reading.{tables, state_of}
-use Rattle.office_core.specs.Worked.{office, march_1, march_2, year_end}
+use Rattle.state_encoding.specs.OfficeRows.{tables, state_of}
+use Rattle.office_core.specs.WorkedExamples.{office, march_1, march_2, year_end}
 
 abbrev pub box : ℕ → BoxKey
 box letter = record { name = letter ∷ []; location = codes "L"; kind = [] }
@@ -24,7 +24,7 @@ unit n boxes =
       until = Some march_2;
     }
 
--- unit 4 came before unit 2 below unit 1, by a move
+-- a move has put unit 4 below unit 1, before unit 2
 abbrev pub sample : State
 sample =
     record office {
@@ -39,7 +39,7 @@ sample =
           ∷ record { day = march_1; lines = record { container = 1; order = 3; ticket = 1 } ∷ [] } ∷ [];
     }
 
--- the state that the rows of the sample say, part by part
+-- the state that the rows of the sample describe, part by part
 pub record SaysAgain (version : Version) : Type 0 where
   pub settings : (state_of (tables version sample)).settings ≡ sample.settings
   pub next : (state_of (tables version sample)).catalogue.next ≡ sample.catalogue.next
@@ -52,6 +52,6 @@ pub record SaysAgain (version : Version) : Type 0 where
 pub record ReadAgain : Type 0 where
   pub linked : SaysAgain Links
   pub nested : SaysAgain Spans
-  -- places go by their order, not by numbers
+  -- places follow the order of the units in the tree, not their numbers
   pub links : (tables Links sample).catalogue.places ≡ LinkRows (link 1 None 1 ∷ link 4 (Some 1) 1 ∷ link 2 (Some 1) 2 ∷ link 3 None 2 ∷ [])
   pub spans : (tables Spans sample).catalogue.places ≡ SpanRows (span 1 1 6 ∷ span 4 2 3 ∷ span 2 4 5 ∷ span 3 7 8 ∷ [])

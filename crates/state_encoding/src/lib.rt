@@ -1,4 +1,4 @@
-//! What rows of an office's tables say, and each cause for which they are refused.
+//! What the rows of an office's tables describe, and each cause for which they are refused.
 #![tactic(auto)]
 
 pub mod desk_consistency;

@@ -1,26 +1,26 @@
-//! Rows of small offices, worked by hand, and the causes against them.
+//! Worked examples: the rows of small offices, and the causes in them.
 
 ghost use Rattle.state_encoding.specs.WorkedCatalogueCauses as causes;
 ghost use Rattle.state_encoding.specs.WorkedCells as cell_causes;
 ghost use Rattle.state_encoding.specs.WorkedDeskCauses as desk_causes;
 ghost use Rattle.state_encoding.specs.WorkedReading as tables;
 
-/// The rows of small offices say the states that they show, in both versions.
+/// The rows of a small office describe the state that they represent, in both versions.
 pub fn worked_tables()
     ensures { tables.ReadAgain }
 {}
 
-/// Each of the causes 1 to 5 is told of a small office with one row changed, and of the office as it was none is.
+/// Each of the causes 1 to 5 is found in a small office after a few of its rows are changed, and none of them before.
 pub fn worked_catalogue_causes()
     ensures { causes.Told }
 {}
 
-/// Each of the causes 6 to 10 is told of a small office with a row or two changed, and of the office as it was none is.
+/// Each of the causes 6 to 10 is found in a small office after a few of its rows are changed, and none of them before.
 pub fn worked_desk_causes()
     ensures { desk_causes.Told }
 {}
 
-/// Rows with a cell that its column cannot have cannot be read, and make the cause of their table.
+/// A row with a cell that its column cannot have cannot be read, so the cause of its table holds.
 pub fn worked_cell_causes()
     ensures { cell_causes.Told }
 {}

@@ -2,7 +2,7 @@
 use Rattle.std.proofs.Common.{refl}
 use Rattle.sqlite.specs.State.{State}
 use Rattle.tree_core.specs.Versions.{Links}
-use Rattle.office_tables.specs.Changing.{IsOurs}
+use Rattle.office_tables.specs.ChangeStatement.{IsOurs}
 use Rattle.office_tables.specs.Step.{InTransaction}
 use Rattle.office_tables.proofs.RowWrites.{ours_in}
 use Rattle.desk_store.proofs.ReaderRows.{insert_reader_text, insert_reader_command, insert_reader_means}

@@ -1,4 +1,4 @@
-//! The check of the desk's tables, in memory and in a file. Rows that no call writes are told by their cause.
+//! The check of the desk's tables, in memory and in a file. Rows that no call writes are found, with their cause.
 
 ghost use Rattle.std.specs.Prelude.{OnOk};
 ghost use Rattle.sqlite.specs.Held.{state};
@@ -21,7 +21,7 @@ use std::fs;
 use std::process::Abort;
 use std::test::Fail;
 
-/// Ann sits and may see unit 1. She had container 1, which the first run brought, and gave it back.
+/// Ann has a seat and may see unit 1. She had container 1, which the first run brought, and returned it.
 #[tactic(auto, using(crate::proofs::Going::went_on))]
 fn served<S: Alter>(alloc: Global, conn: &mut Connection<S>) -> Result<(), StoreFault>
     requires inside { InTransaction Links (state S.Store conn.old) }
@@ -65,7 +65,7 @@ enum Row {
 /// A row, whatever its cells are.
 type Write = (Row, &'static [ValueRef<'static>]);
 
-/// Writes a row by a statement of the desk's.
+/// Writes a row with one of the desk's statements.
 #[tactic(auto, using(crate::proofs::Going::went_on))]
 fn put<S: Alter>(
     conn: &mut Connection<S>,
@@ -117,7 +117,7 @@ fn put_all<S: Alter>(conn: &mut Connection<S>, writes: &[Write]) -> Result<(), S
     Ok(())
 }
 
-/// The cause that is told of a sound desk with these rows too, once they are committed, or 0.
+/// The cause that the check finds in a sound desk with these rows added, once they are committed, or 0.
 #[tactic(auto, using(crate::proofs::Going::in_some))]
 fn told<S: Alter>(
     alloc: Global,
@@ -163,12 +163,12 @@ fn causes(alloc: Global, desks: &[&'static [Write]]) -> Result<String, Fail> {
     Ok(text)
 }
 
-/// The first of March 2024, on which the office is.
+/// The first of March 2024, the day of the office.
 const TODAY: ValueRef<'static> = Int(19783);
 
 const TOMORROW: ValueRef<'static> = Int(19784);
 
-/// A day before the calendar's first.
+/// A day before the first of the calendar.
 const NO_DAY: ValueRef<'static> = Int(-25568);
 
 const ANN: ValueRef<'static> = Int(1);
@@ -209,7 +209,8 @@ fn sound_desks_are_not_doubted(rt: HostRuntime) -> Result<(), Fail> {
     Ok(())
 }
 
-/// A ticket left out, or none; names and days that no reader has; seats and permits of nobody, and a seat too many.
+/// A ticket number that is skipped or invalid; names and days that no reader can have; seats and permits of unknown
+/// tickets, and a seat too many.
 #[test]
 fn doubtful_readers_are_told(rt: HostRuntime) -> Result<(), Fail> {
     let desks: [&'static [Write]; 15] = [
@@ -234,8 +235,9 @@ fn doubtful_readers_are_told(rt: HostRuntime) -> Result<(), Fail> {
     Ok(())
 }
 
-/// A number left out, or none; orders of nobody, for no container, in no state or on no day; the fourth of a day, and
-/// the second that waits for a container.
+/// An order number that is skipped or invalid; orders of an unknown ticket, for an unknown container, in an invalid
+/// state or on an invalid day; the fourth order of a day, and a second order of a ticket that waits for the same
+/// container.
 #[test]
 fn doubtful_orders_are_told(rt: HostRuntime) -> Result<(), Fail> {
     let desks: [&'static [Write]; 12] = [
@@ -257,8 +259,8 @@ fn doubtful_orders_are_told(rt: HostRuntime) -> Result<(), Fail> {
     Ok(())
 }
 
-/// No container; a third place, or none; at the desk for an order, or out for none that is out; an order that is out
-/// without its container.
+/// An unknown container; an invalid place; a container at the desk with an order, or out without an order that is out;
+/// an order that is out without its container.
 #[test]
 fn doubtful_holdings_are_told(rt: HostRuntime) -> Result<(), Fail> {
     let desks: [&'static [Write]; 11] = [
@@ -283,8 +285,8 @@ fn doubtful_holdings_are_told(rt: HostRuntime) -> Result<(), Fail> {
     Ok(())
 }
 
-/// A number left out, or none; a run of no lines, of too many, or on no day; a line without its run, or for no order
-/// of that container and ticket.
+/// A run number that is skipped or invalid; a run without lines, with too many, or on an invalid day; a line without
+/// its run, or one that does not match an order of that container and ticket.
 #[test]
 fn doubtful_runs_are_told(rt: HostRuntime) -> Result<(), Fail> {
     let desks: [&'static [Write]; 11] = [
@@ -316,13 +318,13 @@ fn doubtful_runs_are_told(rt: HostRuntime) -> Result<(), Fail> {
     Ok(())
 }
 
-/// A container in no place.
+/// A container in an invalid place.
 const LOST: Write = (Row::Holding, &[Int(1), Int(3), Null]);
 
-/// A seat of nobody.
+/// A seat of an unknown ticket.
 const EMPTY: Write = (Row::Seat, &[Int(2), Int(2)]);
 
-/// Of several causes the first is told, whichever was written first.
+/// Of several causes the first is found, whichever was written first.
 #[test]
 fn the_first_doubt_is_told(rt: HostRuntime) -> Result<(), Fail> {
     let desks: [&'static [Write]; 5] = [
@@ -338,7 +340,7 @@ fn the_first_doubt_is_told(rt: HostRuntime) -> Result<(), Fail> {
 }
 
 const FILE: &str = "doubtful-desk-of-the-tests.db";
-/// What is written before it goes into the file stands here.
+/// The write-ahead log of the file.
 const LOG: &str = "doubtful-desk-of-the-tests.db-wal";
 
 fn cause_in_file(rt: &HostRuntime, writes: &[Write]) -> Result<u8, Fail> {

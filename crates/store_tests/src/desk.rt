@@ -1,5 +1,6 @@
-//! The desk's tables, over a store in memory: readers, seats, orders, places and permits. The desk's calls look at no
-//! places of units, so these tests, and those of its days and its check, run over one keeping of them: links.
+//! The desk's tables, over a store in memory: readers, seats, orders, places and permits. The desk's calls do not read
+//! the places of units, so these tests, and those of its days and its check, run over only one way to store them:
+//! links.
 
 ghost use Rattle.std.specs.Prelude.{OnOk};
 ghost use Rattle.sqlite.specs.Held.{state};
@@ -12,7 +13,7 @@ use desk_core::Place;
 use desk_store::{
     FirstOrder, OrderState, add_reader, append_order, at_desk, candidates, end_order, grant,
     issued, open_day, order, permits, queue, reader, record_run, renew, revoke, run, seats,
-    set_place, set_seat,
+    set_place, set_seat, ticket_holder,
 };
 use isad_core::{Day, Text};
 use office_tables::roll_back;
@@ -21,7 +22,7 @@ use std::alloc::Global;
 use std::process::Abort;
 use std::test::Fail;
 
-/// The first of March 2024, and so many days later.
+/// The day that is `days` days after the first of March 2024.
 pub(crate) fn day_after(days: u8) -> Result<Day, StoreFault> {
     match Day::from_number(19783 + i32::from(days)) {
         Some(day) => Ok(day),
@@ -29,7 +30,7 @@ pub(crate) fn day_after(days: u8) -> Result<Day, StoreFault> {
     }
 }
 
-/// A reader with a ticket for the first day alone: the ticket.
+/// Registers a reader with a ticket for the first day only, and writes the ticket.
 #[tactic(auto, using(crate::proofs::Going::went_on))]
 pub(crate) fn register<S: Alter>(
     alloc: Global,
@@ -46,7 +47,7 @@ pub(crate) fn register<S: Alter>(
     Ok(())
 }
 
-/// Ann's ticket 1 is renewed. Bob sits and leaves, Ann takes the second seat.
+/// Ann's ticket 1 is renewed. Bob takes a seat and leaves it; Ann takes the second seat.
 #[tactic(auto, using(crate::proofs::Going::went_on))]
 fn seated<S: Alter>(
     alloc: Global,
@@ -86,7 +87,7 @@ fn ordered<S: Alter>(
     set_place(conn, 1, Place::Out(1))
 }
 
-/// What Ann's card tells on the second day, and that nobody has ticket 9.
+/// Ann's card on the second day, and that nobody has ticket 9.
 #[tactic(auto, using(crate::proofs::Going::looked_on))]
 fn carded<S: Alter>(
     alloc: Global,
@@ -110,7 +111,44 @@ fn carded<S: Alter>(
     Ok(())
 }
 
-/// Ann brings container 1 back, and order 2 is cancelled: what is told of the orders 1 to 3.
+/// The seat and the number of containers of the reader who has a ticket.
+#[tactic(auto, using(crate::proofs::Going::looked_on))]
+fn show_holder<S: Alter>(
+    alloc: Global,
+    conn: &mut Connection<S>,
+    ticket: u64,
+    text: &mut String,
+) -> Result<(), StoreFault>
+    requires inside { InTransaction Links (state S.Store conn.old) }
+    ensures inside { OnOk result (InTransaction Links (state S.Store conn.new)) }
+{
+    let Some(holder) = ticket_holder(alloc, conn, ticket)? else {
+        text.push_str("nobody\n")?;
+        return Ok(());
+    };
+    let (seat, held) = (holder.seat.unwrap_or(0), holder.held);
+    write!(text, "{seat} {held}\n")?;
+    Ok(())
+}
+
+/// Ann has container 1 and no seat, Bob has seat 2 and no container, and nobody has ticket 3.
+#[tactic(auto, using(crate::proofs::Going::went_on))]
+fn held<S: Alter>(
+    alloc: Global,
+    conn: &mut Connection<S>,
+    text: &mut String,
+) -> Result<(), StoreFault>
+    requires inside { InTransaction Links (state S.Store conn.old) }
+{
+    ordered(alloc, conn, text)?;
+    register(alloc, conn, "Bob", text)?;
+    set_seat(conn, 2, Some(2))?;
+    show_holder(alloc, conn, 1, text)?;
+    show_holder(alloc, conn, 2, text)?;
+    show_holder(alloc, conn, 3, text)
+}
+
+/// Ann returns container 1, and order 2 is cancelled: whether order 1 is done, and order 3 unknown.
 #[tactic(auto, using(crate::proofs::Going::went_on))]
 fn ended<S: Alter>(
     alloc: Global,
@@ -129,7 +167,7 @@ fn ended<S: Alter>(
     Ok(())
 }
 
-/// A run is kept that brought container 2 for order 2, and what is out is told.
+/// Records a run that brought container 2 for order 2, and lists what is out.
 #[tactic(auto, using(crate::proofs::Going::went_on))]
 fn brought<S: Alter>(
     alloc: Global,
@@ -153,7 +191,7 @@ fn brought<S: Alter>(
     Ok(())
 }
 
-/// Ann has permits for units 1 and 2, the second prolonged and the first taken back.
+/// Ann has permits for units 1 and 2; the second is extended and the first is revoked.
 #[tactic(auto, using(crate::proofs::Going::went_on))]
 fn permitted<S: Alter>(
     alloc: Global,
@@ -174,8 +212,8 @@ fn permitted<S: Alter>(
     Ok(())
 }
 
-/// Orders 1 to 4 wait for containers 2, 1, 2 and 3, and container 3 is at the desk: what a run may
-/// take, what is at the desk, and that nobody knows container 1 and run 1.
+/// Orders 1 to 4 wait for containers 2, 1, 2 and 3, and container 3 is at the desk: what a run may take, what is at the
+/// desk, and that container 1 and run 1 are unknown.
 #[tactic(auto, using(crate::proofs::Going::went_on, crate::proofs::Going::looked_on))]
 fn picked<S: Alter>(
     alloc: Global,
@@ -202,7 +240,7 @@ fn picked<S: Alter>(
     Ok(())
 }
 
-/// Bob sits, and the next day begins.
+/// Bob takes a seat, and the next day begins.
 #[tactic(auto, using(crate::proofs::Going::went_on))]
 fn opened<S: Alter>(
     alloc: Global,
@@ -221,6 +259,7 @@ fn opened<S: Alter>(
 enum Act {
     Sit,
     Card,
+    Hold,
     End,
     Run,
     Permit,
@@ -228,7 +267,7 @@ enum Act {
     Open,
 }
 
-/// Does it, and writes what the calls say.
+/// Does it, and writes the results of the calls.
 fn carry_out<S: Alter>(
     alloc: Global,
     conn: &mut Connection<S>,
@@ -240,6 +279,7 @@ fn carry_out<S: Alter>(
     match done {
         Act::Sit => seated(alloc, conn, text),
         Act::Card => carded(alloc, conn, text),
+        Act::Hold => held(alloc, conn, text),
         Act::End => ended(alloc, conn, text),
         Act::Run => brought(alloc, conn, text),
         Act::Permit => permitted(alloc, conn, text),
@@ -248,7 +288,7 @@ fn carry_out<S: Alter>(
     }
 }
 
-/// What was done is committed, and another transaction begins.
+/// Commits what was done, and begins another transaction.
 pub(crate) fn next_turn<S: Alter>(conn: &mut Connection<S>) -> Result<(), StoreFault>
     requires inside { InTransaction Links (state S.Store conn.old) }
     ensures inside { OnOk result (InTransaction Links (state S.Store conn.new)) }
@@ -257,7 +297,7 @@ pub(crate) fn next_turn<S: Alter>(conn: &mut Connection<S>) -> Result<(), StoreF
     begin(conn)
 }
 
-/// All that the desk's tables have, and the office's row.
+/// All rows of the desk's tables, and the office's row.
 fn show_desk<S: Alter>(alloc: Global, conn: &mut Connection<S>) -> Result<String, Fail> {
     let mut text = String::new(alloc);
     for query in [READERS, SEATS, ORDERS, HOLDINGS, RUNS, LINES, PERMITS, DAY] {
@@ -266,7 +306,7 @@ fn show_desk<S: Alter>(alloc: Global, conn: &mut Connection<S>) -> Result<String
     Ok(text)
 }
 
-/// The transaction of calls of which one failed is taken back: nothing is left of them in a new office.
+/// Rolls back the transaction of calls of which one failed: nothing is left of them in a new office.
 fn taken_back<S: Alter>(
     alloc: Global,
     conn: &mut Connection<S>,
@@ -281,7 +321,7 @@ fn taken_back<S: Alter>(
     }
 }
 
-/// What the calls say and then the rows of these queries.
+/// The results of the calls, and then the rows of these queries.
 fn told<S: Alter>(
     alloc: Global,
     conn: &mut Connection<S>,
@@ -305,7 +345,7 @@ fn told_in_memory(alloc: Global, done: Act, queries: &[Query]) -> Result<String,
     told(alloc, &mut conn, done, queries)
 }
 
-/// What is done, which queries are asked then, and what is told.
+/// What is done, the queries that are then asked, and the expected text.
 type Case = (Act, &'static [Query], &'static str);
 
 fn see(rt: &impl Abort, alloc: Global, cases: &[Case]) -> Result<(), Fail> {
@@ -346,7 +386,7 @@ const PERMITS: Query = (
 
 #[test]
 fn the_desk_keeps_its_register(rt: HostRuntime) -> Result<(), Fail> {
-    let cases: [Case; 7] = [
+    let cases: [Case; 8] = [
         (Act::Sit, &[READERS], "1\n2\n2 1\n 1 19792\n 2 19783\n"),
         (
             Act::Card,
@@ -355,6 +395,7 @@ fn the_desk_keeps_its_register(rt: HostRuntime) -> Result<(), Fail> {
              \u{20}1 1 1 19783 2\n 2 1 2 19784 1\n\
              \u{20}1 2 1\n 2 1 -\n",
         ),
+        (Act::Hold, &[SEATS], "1\n2\n0 1\n2 0\nnobody\n 2 2\n"),
         (
             Act::End,
             &[ORDERS, HOLDINGS],

@@ -1,4 +1,4 @@
-//! Days in the reading room, by the desk's calls: what they tell and what the tables keep, in memory and in a file.
+//! Days in the reading room, by the desk's calls: their results and the rows in the tables, in memory and in a file.
 
 ghost use Rattle.std.specs.Prelude.{◌<◌, ◌^◌, OnOk};
 ghost use Rattle.std.specs.List.{AllByRecursion};
@@ -22,7 +22,7 @@ use std::process::Abort;
 use std::test::Fail;
 use std::{array, fs};
 
-/// A description that tells of one container alone.
+/// A description with one container and nothing else.
 fn boxed(alloc: Global, name: &str, location: &str) -> Result<Values, AllocError> {
     let mut boxes = List::new(alloc);
     boxes.push(BoxKey {
@@ -124,7 +124,7 @@ fn show_candidates<S: Alter>(
     Ok(())
 }
 
-/// A run on the first day that brings these containers to the desk: its number.
+/// Records a run on the first day that brings these containers to the desk, and returns its number.
 #[tactic(auto, using(crate::proofs::Going::went_on))]
 fn fetch<S: Alter>(
     conn: &mut Connection<S>,
@@ -162,7 +162,7 @@ fn show_slip<S: Alter>(
     Ok(())
 }
 
-/// A container is given out for an order.
+/// Issues a container for an order.
 fn lend<S: Alter>(conn: &mut Connection<S>, container: u64, order: u64) -> Result<(), StoreFault>
     requires inside { InTransaction Links (state S.Store conn.old) }
     requires container { container < 2 ^ 63 }
@@ -173,7 +173,7 @@ fn lend<S: Alter>(conn: &mut Connection<S>, container: u64, order: u64) -> Resul
     set_place(conn, container, Place::Out(order))
 }
 
-/// A container that was out for an order comes back to the desk.
+/// Returns a container that was out with an order to the desk.
 fn give_back<S: Alter>(
     conn: &mut Connection<S>,
     container: u64,
@@ -188,7 +188,8 @@ fn give_back<S: Alter>(
     set_place(conn, container, Place::Desk)
 }
 
-/// Two orders wait for container 1. A run brings it; it goes to the first and, when it is back, waits for the second.
+/// Two orders wait for container 1. A run brings it; it is issued for the first and, once returned, waits for the
+/// second.
 fn lent_in_turn<S: Alter>(
     alloc: Global,
     conn: &mut Connection<S>,
@@ -338,7 +339,7 @@ fn show_seats<S: Alter>(
     Ok(())
 }
 
-/// Ann and Bob have the two seats; Ann leaves, Cy takes hers, and a day later nobody sits.
+/// Ann and Bob have the two seats; Ann leaves, Cy takes hers, and a day later all seats are free.
 #[tactic(auto, using(crate::proofs::Going::went_on))]
 fn seated_in_turn<S: Alter>(
     alloc: Global,
@@ -377,7 +378,7 @@ fn show_desk<S: Alter>(
     Ok(())
 }
 
-/// Of two containers at the desk one goes out and comes back; nobody waits for it, and it goes to the shelf.
+/// One of two containers at the desk is issued and returned; nobody waits for it, and it goes to the shelf.
 fn reshelved<S: Alter>(
     alloc: Global,
     conn: &mut Connection<S>,
@@ -408,7 +409,7 @@ enum Visit {
     Reshelve,
 }
 
-/// What the calls of that day say. What they did is committed.
+/// The results of the calls of that day. Commits what they did.
 #[tactic(auto, using(crate::proofs::Going::went_on))]
 fn spend<S: Alter>(
     alloc: Global,
@@ -427,7 +428,7 @@ fn spend<S: Alter>(
     commit(conn)
 }
 
-/// A day, what its calls say, and which rows are kept.
+/// A day, the expected results of its calls, and the queries and rows expected afterwards.
 type Case = (Visit, &'static str, &'static [Query], &'static str);
 
 const ORDERS: Query = ("SELECT id, container, state FROM orders ORDER BY id", 3);
@@ -514,7 +515,7 @@ fn days_in_the_reading_room(rt: HostRuntime) -> Result<(), Fail> {
 }
 
 const FILE: &str = "reading-room-of-the-tests.db";
-/// What is written before it goes into the file stands here.
+/// The write-ahead log of the file.
 const LOG: &str = "reading-room-of-the-tests.db-wal";
 
 fn said_in_file(rt: &HostRuntime, visit: Visit) -> Result<String, Fail> {
@@ -531,7 +532,7 @@ fn rows_in_file(rt: &HostRuntime, queries: &[Query]) -> Result<String, Fail> {
     Ok(text)
 }
 
-/// What the calls say in a new file, and the rows that it then has.
+/// The results of the calls in a new file, and the rows that it then has.
 fn told_in_file(
     rt: &HostRuntime,
     visit: Visit,

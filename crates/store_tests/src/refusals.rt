@@ -14,7 +14,7 @@ use std::alloc::Global;
 use std::process::Abort;
 use std::test::Fail;
 
-/// A call that is not accepted where there are units 1 to 4, and unit 2 is below unit 1.
+/// A call that is not accepted if there are units 1 to 4, and unit 2 is below unit 1.
 #[derive(Clone, Copy)]
 enum Slip {
     AddBelowNone,
@@ -46,7 +46,7 @@ fn attempt<P: Places, S: Alter>(
     }
 }
 
-/// What the call ends with, in a new office with four units.
+/// The result of the call in a new office with four units.
 fn attempted<P: Places, S: Alter>(
     alloc: Global,
     conn: &mut Connection<S>,
@@ -57,7 +57,7 @@ fn attempted<P: Places, S: Alter>(
     attempt::<P, S>(alloc, conn, done)
 }
 
-/// The call blames the schema, and then these rows are there.
+/// Checks that the call blames the schema and that these rows are there afterwards.
 fn see_over<P: Places>(
     rt: &impl Abort,
     alloc: Global,

@@ -40,7 +40,7 @@ fn settings(alloc: Global) -> Result<OfficeRow, StoreFault>
     })
 }
 
-/// Begins a transaction and makes the tables of an office, where there are none.
+/// Begins a transaction and makes the tables of an office. There must be none yet.
 fn open_office<P: Places, S: Alter>(
     alloc: Global,
     conn: &mut Connection<S>,
@@ -54,7 +54,7 @@ fn open_office<P: Places, S: Alter>(
     create::<P, S>(conn, &row)
 }
 
-/// An office in a store that has nothing else.
+/// Makes an office in a store that has nothing else.
 pub(crate) fn new_office<P: Places, S: Alter>(
     alloc: Global,
     conn: &mut Connection<S>,
@@ -104,7 +104,7 @@ fn texts(
     Ok(texts)
 }
 
-/// A container of the first strongroom, or none.
+/// One container of the first strongroom, or none.
 fn boxes(alloc: Global, container: Option<&str>) -> Result<List<BoxKey>, AllocError> {
     let mut boxes = List::new(alloc);
     if let Some(name) = container {
@@ -165,7 +165,7 @@ pub(crate) fn two_units<P: Places, S: Alter>(
     add::<P, S>(alloc, conn, 2, Some(1), MINUTES)
 }
 
-/// These with unit 3, in Box 2, below unit 1 too, and unit 4, in Box 1, at the top.
+/// The same, with unit 3, in Box 2, also below unit 1, and unit 4, in Box 1, at the top.
 pub(crate) fn four_units<P: Places, S: Alter>(
     alloc: Global,
     conn: &mut Connection<S>,
@@ -178,7 +178,7 @@ pub(crate) fn four_units<P: Places, S: Alter>(
     add::<P, S>(alloc, conn, 4, None, MAPS)
 }
 
-/// Unit 2 goes elsewhere.
+/// Unit 2 is moved.
 #[tactic(auto, using(crate::proofs::Going::went_on))]
 fn moved<P: Places, S: Alter>(
     alloc: Global,
@@ -192,7 +192,7 @@ fn moved<P: Places, S: Alter>(
     move_unit::<P, S>(alloc, conn, 2, parent)
 }
 
-/// Unit 2 goes to the top and comes back.
+/// Unit 2 is moved to the top and back.
 fn moved_back<P: Places, S: Alter>(
     alloc: Global,
     conn: &mut Connection<S>,
@@ -204,7 +204,7 @@ fn moved_back<P: Places, S: Alter>(
     moved::<P, S>(alloc, conn, Some(1))
 }
 
-/// Unit 2 goes to the top.
+/// Unit 2 is moved to the top.
 fn moved_up<P: Places, S: Alter>(alloc: Global, conn: &mut Connection<S>) -> Result<(), StoreFault>
     requires inside { InTransaction P.version (state S.Store conn.old) }
 {
@@ -212,7 +212,7 @@ fn moved_up<P: Places, S: Alter>(alloc: Global, conn: &mut Connection<S>) -> Res
     moved::<P, S>(alloc, conn, None)
 }
 
-/// Unit 2 goes below unit 4.
+/// Unit 2 is moved below unit 4.
 fn moved_below<P: Places, S: Alter>(
     alloc: Global,
     conn: &mut Connection<S>,
@@ -224,7 +224,7 @@ fn moved_below<P: Places, S: Alter>(
     moved::<P, S>(alloc, conn, Some(4))
 }
 
-/// Unit 1 is removed with all below it: how many units that are.
+/// Unit 1 is removed with all below it: how many units were removed.
 fn removed<P: Places, S: Alter>(
     alloc: Global,
     conn: &mut Connection<S>,
@@ -238,7 +238,7 @@ fn removed<P: Places, S: Alter>(
     Ok(())
 }
 
-/// Whether unit 1 is described so, and lies in this container alone.
+/// Whether unit 1 has this description, and is in this container only.
 #[tactic(auto, using(crate::proofs::Going::looked_on))]
 fn is_described<P: Places, S: Alter>(
     alloc: Global,
@@ -257,7 +257,7 @@ fn is_described<P: Places, S: Alter>(
     })
 }
 
-/// Unit 1 takes other values: whether it has the first before and the others after.
+/// Unit 1 gets other values: whether it has the first ones before and the others afterwards.
 #[tactic(auto, using(crate::proofs::Going::went_on))]
 fn revised<P: Places, S: Alter>(
     alloc: Global,
@@ -286,7 +286,7 @@ fn show_marks(text: &mut String, marks: &[Mark]) -> Result<(), StoreFault> {
     Ok(())
 }
 
-/// The same of marks in walk order, and their numbers, counted from the first one's, which is each version's own.
+/// The same for marks in walk order, with their numbers counted from the first one's, which depends on the version.
 fn show_walk(text: &mut String, marks: &[Mark]) -> Result<(), StoreFault> {
     show_marks(text, marks)?;
     let start = match marks.first() {
@@ -305,7 +305,7 @@ fn show_walk(text: &mut String, marks: &[Mark]) -> Result<(), StoreFault> {
     Ok(())
 }
 
-/// The marks of what Box 1 is attached to.
+/// The marks of the units that Box 1 is attached to.
 #[tactic(auto, using(crate::proofs::Going::looked_on))]
 fn show_contents<P: Places, S: Alter>(
     alloc: Global,
@@ -335,7 +335,7 @@ fn show_path<P: Places, S: Alter>(
     show_marks(text, &path_marks::<P, S>(alloc, conn, 2)?)
 }
 
-/// Unit 2, which goes below unit 4, is closed, and the marks of Box 1, of unit 2's path and of all units are read.
+/// Unit 2 is moved below unit 4 and closed, and the marks of Box 1, of unit 2's path and of all units are read.
 #[tactic(auto, using(crate::proofs::Going::went_on))]
 fn marked<P: Places, S: Alter>(
     alloc: Global,
@@ -361,7 +361,7 @@ fn show_heads(text: &mut String, heads: &[Head]) -> Result<(), StoreFault> {
     Ok(())
 }
 
-/// Unit 2 goes below unit 4: the tops, what is right below unit 4, and the path of unit 2, each with its title.
+/// Unit 2 is moved below unit 4: the tops, the units right below unit 4, and the path of unit 2, each with its title.
 #[tactic(auto, using(crate::proofs::Going::looked_on))]
 fn headed<P: Places, S: Alter>(
     alloc: Global,
@@ -376,7 +376,7 @@ fn headed<P: Places, S: Alter>(
     show_heads(text, &path_heads::<P, S>(alloc, conn, 2)?)
 }
 
-/// Unit 1 and all below it are drafts, then unit 2 is published: how many were set each time.
+/// Unit 1 and all below it become drafts, then unit 2 is published: how many units were set each time.
 #[tactic(auto, using(crate::proofs::Going::went_on))]
 fn set<P: Places, S: Alter>(
     alloc: Global,
@@ -407,7 +407,7 @@ fn known_as_two<P: Places, S: Alter>(
     known(alloc, conn, &source, &legacy)
 }
 
-/// Which unit number 2 of source `a` is, whether source `b` has none, and how much is catalogued.
+/// Which unit has number 2 in source `a`, whether none has it in source `b`, and the counts of the catalogue.
 #[tactic(auto, using(crate::proofs::Going::in_some))]
 fn looked_up<P: Places, S: Alter>(
     alloc: Global,
@@ -425,7 +425,7 @@ fn looked_up<P: Places, S: Alter>(
     Ok(())
 }
 
-/// Both kinds of tables are there and are made again: whether either call blames the schema.
+/// Both kinds of tables exist and are made again: whether each call blames the schema.
 fn made_again<P: Places, S: Alter>(
     alloc: Global,
     conn: &mut Connection<S>,
@@ -457,7 +457,7 @@ pub(crate) enum Act {
     MakeAgain,
 }
 
-/// Does it, and writes what the calls say.
+/// Does it, and writes the results of the calls.
 fn carry_out<P: Places, S: Alter>(
     alloc: Global,
     conn: &mut Connection<S>,
@@ -509,7 +509,7 @@ fn show_row(text: &mut String, row: &Row, width: usize) -> Result<(), Fail> {
     Ok(())
 }
 
-/// What the calls say, the rows of these queries, and then those of the places.
+/// The results of the calls, the rows of these queries, and then those of the places.
 fn told<P: Places, S: Alter>(
     alloc: Global,
     conn: &mut Connection<S>,
@@ -541,13 +541,13 @@ pub(crate) const LINKS: Query = ("SELECT id, parent, ord FROM link ORDER BY id",
 
 pub(crate) const SPANS: Query = ("SELECT id, lft, rgt FROM span ORDER BY id", 3);
 
-/// What is wanted, in either version.
+/// What is expected, in either version.
 #[derive(Clone, Copy)]
 pub(crate) struct Case {
     pub(crate) done: Act,
-    /// What is asked of the tables then.
+    /// The queries that are then asked.
     pub(crate) queries: &'static [Query],
-    /// What the calls and these queries tell.
+    /// The expected results of the calls and of these queries.
     pub(crate) told: &'static str,
     /// The rows of the places in version 1.
     pub(crate) links: &'static str,
@@ -555,7 +555,7 @@ pub(crate) struct Case {
     pub(crate) spans: &'static str,
 }
 
-/// What is told in this version is what is wanted in either, and then these rows of the places.
+/// Checks that the results in this version are those expected in either, followed by these rows of the places.
 fn see_over<P: Places>(
     rt: &impl Abort,
     alloc: Global,
@@ -584,7 +584,7 @@ pub(crate) const HOUSING: Query = (
     3,
 );
 
-/// Units 1 and 2 where they came to.
+/// Units 1 and 2 where they were added.
 const TWO: Case = Case {
     done: Act::MoveBack,
     queries: &[],
@@ -593,7 +593,7 @@ const TWO: Case = Case {
     spans: " 1 1 4\n 2 2 3\n",
 };
 
-/// Four units where they came to.
+/// Four units where they were added.
 pub(crate) const FOUR: Case = Case {
     done: Act::Add,
     queries: &[ELEMENTS, HOUSING],
@@ -603,7 +603,7 @@ pub(crate) const FOUR: Case = Case {
     spans: " 1 1 6\n 2 2 3\n 3 4 5\n 4 7 8\n",
 };
 
-/// Four units of which the second went below the last.
+/// Four units, the second of which was moved below the last.
 const MOVED: Case = Case {
     done: Act::MoveBelow,
     queries: &[],
@@ -709,7 +709,7 @@ fn tables_are_made_once(rt: HostRuntime) -> Result<(), Fail> {
     Ok(())
 }
 
-/// An office with four units, of which unit 3 moves below unit 2 and unit 4 goes.
+/// An office with four units, in which unit 3 is moved below unit 2 and unit 4 is removed.
 #[tactic(auto, using(crate::proofs::Going::went_on))]
 fn changed_office<P: Places, S: Alter>(
     alloc: Global,
@@ -723,7 +723,7 @@ fn changed_office<P: Places, S: Alter>(
 }
 
 const FILE: &str = "office-of-the-tests.db";
-/// What is written before it goes into the file stands here.
+/// The write-ahead log of the file.
 const LOG: &str = "office-of-the-tests.db-wal";
 
 fn write_office<P: Places>(rt: &HostRuntime) -> Result<(), Fail> {
@@ -733,7 +733,7 @@ fn write_office<P: Places>(rt: &HostRuntime) -> Result<(), Fail> {
     Ok(())
 }
 
-/// The rows of what was written, and whether a new office is refused there.
+/// The rows that were written, and whether a new office is refused in that store.
 fn reopened<P: Places, S: Alter>(
     alloc: Global,
     conn: &mut Connection<S>,
@@ -762,7 +762,7 @@ fn told_in_file<P: Places>(rt: &HostRuntime, places: Query) -> Result<String, Fa
     read_office::<P>(rt, places)
 }
 
-/// It is no new office then.
+/// After that, no new office can be made in the file.
 #[test]
 fn an_office_stands_in_its_file(rt: HostRuntime) -> Result<(), Fail> {
     let over_links = told_in_file::<LinkPlaces>(&rt, LINKS)?;

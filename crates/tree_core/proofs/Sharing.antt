@@ -7,7 +7,7 @@ use Rattle.std.proofs.Math.Bool.{or-false}
 use Rattle.std.specs.List.{list_any, list_all}
 use Rattle.tree_core.specs.declared.marks.Mark.{Mark}
 use Rattle.tree_core.specs.Forest.{Forest, Empty, Node, nodes, each, has, path, HasDistinctIds}
-use Rattle.tree_core.specs.Withheld.{sharing, sharing_paths}
+use Rattle.tree_core.specs.Visibility.{sharing, sharing_paths}
 use Rattle.tree_core.specs.Marks.{is_closed, withholds, contents_paths}
 use Rattle.tree_core.proofs.Lists.{In, In-append, In-append_left, In-append_right, In-map, any_from_In}
 use Rattle.tree_core.proofs.LinkPaths.{parts, other_id}

@@ -1,11 +1,11 @@
-pub mod Worked
+pub mod WorkedExamples
 pub mod Forest
-pub mod Bearing
+pub mod ChangeConditions
 pub mod Links
 pub mod LastPlace
 pub mod Spans
 pub mod Shifts
-pub mod Withheld
+pub mod Visibility
 pub mod Marks
 pub mod SpanFaults
 pub mod LinkFaults
@@ -13,8 +13,8 @@ pub mod Steps
 pub mod Versions
 pub mod Tops
 pub mod Members
-pub mod Growing
-pub mod Grown
+pub mod Arrivals
+pub mod ForestGrowth
 pub mod Gains
 pub mod Lifts
 pub mod NewRows

@@ -1,7 +1,7 @@
--- What stands in a list.
+-- Membership in a list.
 use Rattle.std.specs.Prelude.{◌≡◌, ◌⊎◌, List, [], ◌∷◌}
 
--- x stands in the list
+-- x is an element of the list
 abbrev pub StandsIn : {X : Type 0} → X → List X → Type 0
 StandsIn x [] = ⊥
 StandsIn x (y ∷ ys) = (x ≡ y) ⊎ StandsIn x ys

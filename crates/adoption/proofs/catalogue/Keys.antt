@@ -35,7 +35,7 @@ use Rattle.row_completeness.specs.WholeRows.{IsWholeTable}
 use Rattle.row_completeness.proofs.KeptPlaces.{links_rise, spans_rise}
 use Rattle.row_completeness.proofs.KeptRows.{rows_rise}
 use Rattle.row_completeness.proofs.UniqueRows.{KeysDiffer, keys_differ, read_pairs, distinct_pairs, distinct_numbers, stay_in_order}
-use Rattle.adoption.specs.Found.{AreGoodTables}
+use Rattle.adoption.specs.SoundTables.{AreGoodTables}
 use Rattle.adoption.proofs.catalogue.Rules.{IsKeyed, live, rows_keyed, place_whole, unit_whole, element_whole, container_whole, housing_whole, unit_keyed, container_keyed}
 use Rattle.adoption.proofs.catalogue.Readings.{unit_parts, element_parts, container_parts, housing_parts}
 use Rattle.std.proofs.Math.Bool.{and_comm}

@@ -12,7 +12,7 @@ use Rattle.catalogue_core.specs.CatalogueRows.{OfficeRow}
 use Rattle.office_core.specs.Words.{first}
 use Rattle.office_tables.specs.Cells.{has_unread}
 use Rattle.office_tables.specs.CatalogueCells.{read_office}
-use Rattle.office_tables.specs.Shared.{office_cells}
+use Rattle.office_tables.specs.SharedRows.{office_cells}
 use Rattle.office_tables.proofs.numbered.Counted.{less_below}
 use Rattle.state_encoding.specs.CellCauses.{no_office}
 use Rattle.adoption.proofs.catalogue.Rules.{IsKeyed}

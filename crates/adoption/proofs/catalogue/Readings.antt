@@ -11,7 +11,7 @@ use Rattle.office_tables.specs.Cells.{whole_in, number_in, text_in, flag_in, or_
 use Rattle.office_tables.specs.CatalogueCells.{read_office, read_unit, read_element, read_container, read_housing}
 use Rattle.office_tables.specs.Flags.{flag}
 use Rattle.office_tables.specs.RowCells.{unit_cells, element_cells, container_cells, housing_cells}
-use Rattle.office_tables.specs.Shared.{office_cells}
+use Rattle.office_tables.specs.SharedRows.{office_cells}
 use Rattle.office_tables.proofs.CellTexts.{from_first}
 use Rattle.row_decoding.proofs.ToldCells.{is_number, is_whole, is_text, is_flag, is_or_null}
 use Rattle.row_completeness.proofs.KeptRows.{whole_row}

@@ -18,7 +18,7 @@ use Rattle.office_tables.specs.Schema.{schema}
 use Rattle.row_completeness.proofs.FullRows.{whole_tables}
 use Rattle.row_completeness.specs.WholeRows.{IsWholeTable, AreWholeTables}
 use Rattle.adoption.specs.OrderedTables.{StandInOrder}
-use Rattle.adoption.specs.Found.{AreGoodTables}
+use Rattle.adoption.specs.SoundTables.{AreGoodTables}
 
 -- ---- a row of a table
 

@@ -15,25 +15,25 @@ use Rattle.desk_core.proofs.OrderLemmas.{in_order-permutation}
 use Rattle.catalogue_core.specs.CatalogueCauses.{are_good_places}
 use Rattle.catalogue_core.specs.CatalogueRows.{unit_row, ElementRow, element_rows_from, ContainerRow, HousingRow, housing_row, places_said}
 use Rattle.catalogue_core.specs.Units.{Unit}
-use Rattle.catalogue_statements.specs.Represents.{RepresentsCatalogue, RepresentsOffice, RepresentsUnits, RepresentsElements, element_cells, elements_of, RepresentsContainers, RepresentsHousings, housing_cells, housings_of}
+use Rattle.catalogue_statements.specs.Representation.{RepresentsCatalogue, RepresentsOffice, RepresentsUnits, RepresentsElements, element_cells, elements_of, RepresentsContainers, RepresentsHousings, housing_cells, housings_of}
 use Rattle.office_tables.specs.Cells.{has_unread}
 use Rattle.office_tables.specs.CatalogueCells.{read_unit, read_element, read_container, read_housing}
 use Rattle.office_tables.specs.RowCells.{unit_cells, container_cells, element_cells as element_row_cells, housing_cells as housing_row_cells}
 use Rattle.office_tables.specs.Schema as tables
-use Rattle.office_tables.specs.Shared.{office_cells}
+use Rattle.office_tables.specs.SharedRows.{office_cells}
 use Rattle.office_core.specs.State.{State}
 use Rattle.row_decoding.specs.TableRows.{then_by}
 use Rattle.state_encoding.specs.CellCauses.{rows_in, unread}
-use Rattle.state_encoding.specs.DeskShown.{rows_from}
-use Rattle.state_encoding.specs.Judged.{IsCatalogueOf, IsSoundCatalogue}
-use Rattle.state_encoding.specs.Reading.{OfficeRows, state_of, unit_said}
+use Rattle.state_encoding.specs.DeskEncoding.{rows_from}
+use Rattle.state_encoding.specs.RowSoundness.{IsCatalogueOf, IsSoundCatalogue}
+use Rattle.state_encoding.specs.OfficeRows.{OfficeRows, state_of, unit_said}
 use Rattle.state_encoding.proofs.told.ToldCatalogue.{HasNoCause, no_cause, catalogue_is_said}
 use Rattle.state_encoding.proofs.told.ToldUnits.{said_id}
-use Rattle.refinement.specs.Represents.{office_of}
+use Rattle.refinement.specs.Representation.{office_of}
 use Rattle.row_completeness.specs.WholePlaces.{RepresentsWhatItSays, places_are_doubtful}
 use Rattle.row_completeness.proofs.KeptRows.{rows_kept, has_numbered}
 use Rattle.adoption.specs.Catalogue.{RepresentsItsCatalogue}
-use Rattle.adoption.specs.Found.{AreGoodTables}
+use Rattle.adoption.specs.SoundTables.{AreGoodTables}
 use Rattle.adoption.proofs.tables.Causeless.{ArePassed, are_passed}
 use Rattle.adoption.proofs.catalogue.Rules.{IsKeyed, IsNumbered, office_whole, office_keyed, unit_keyed, container_keyed, element_whole, element_numbered, housing_whole, housing_numbered}
 use Rattle.adoption.proofs.catalogue.Readings.{is_unit, is_element, is_container, is_housing}

@@ -6,12 +6,12 @@ use Rattle.isad_core.specs.Texts.{Bytes}
 use Rattle.isad_core.specs.Words.{are_numbered_from}
 use Rattle.isad_core.specs.declared.values.BoxKey.{BoxKey}
 use Rattle.catalogue_core.specs.CatalogueRows.{ElementRow, element_rows_from, after_level, ContainerRow, box_from, HousingRow, housing_row}
-use Rattle.catalogue_core.specs.Merging.{box_number}
+use Rattle.catalogue_core.specs.CatalogueMerge.{box_number}
 use Rattle.catalogue_statements.specs.Rows.{counted_from}
-use Rattle.catalogue_statements.specs.Represents.{texts_from, element_number}
-use Rattle.state_encoding.specs.DeskShown.{rows_from}
+use Rattle.catalogue_statements.specs.Representation.{texts_from, element_number}
+use Rattle.state_encoding.specs.DeskEncoding.{rows_from}
 use Rattle.office_tables.specs.RowCells.{container_cells}
-use Rattle.office_tables.specs.Shared.{container_row}
+use Rattle.office_tables.specs.SharedRows.{container_row}
 
 -- ---- elements
 

@@ -12,11 +12,11 @@ use Rattle.tree_core.proofs.EachLemmas.{nodes-each}
 use Rattle.catalogue_core.specs.CatalogueRows.{CatalogueRows, UnitRow, unit_row as row_of_unit}
 use Rattle.catalogue_core.specs.Units.{Unit}
 use Rattle.catalogue_statements.specs.Rows.{by_number, unit_row}
-use Rattle.catalogue_statements.specs.Represents.{RepresentsUnits}
+use Rattle.catalogue_statements.specs.Representation.{RepresentsUnits}
 use Rattle.office_tables.specs.Order.{Rises}
 use Rattle.office_tables.specs.RowCells.{unit_cells}
 use Rattle.office_tables.specs.Schema as tables
-use Rattle.state_encoding.specs.Reading.{unit_from, unit_said, values_said}
+use Rattle.state_encoding.specs.OfficeRows.{unit_from, unit_said, values_said}
 
 module _ (c : CatalogueRows) where
   abbrev made : ℕ → Option UnitRow → Unit

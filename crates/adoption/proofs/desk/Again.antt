@@ -24,9 +24,9 @@ use Rattle.state_encoding.proofs.SaidTexts.{texts_said}
 use Rattle.state_encoding.proofs.told.ToldCatalogue.{catalogue_is_said, no_cause}
 use Rattle.state_encoding.specs.CellCauses.{rows_in}
 use Rattle.state_encoding.specs.Causes.{around, catalogue_cause}
-use Rattle.state_encoding.specs.DeskJudged.{HasGoodCatalogue}
-use Rattle.state_encoding.specs.Judged.{IsCatalogueOf, IsSoundCatalogue}
-use Rattle.state_encoding.specs.Reading.{OfficeRows, state_of, tables}
+use Rattle.state_encoding.specs.DeskSoundness.{HasGoodCatalogue}
+use Rattle.state_encoding.specs.RowSoundness.{IsCatalogueOf, IsSoundCatalogue}
+use Rattle.state_encoding.specs.OfficeRows.{OfficeRows, state_of, tables}
 use Rattle.adoption.specs.Tables.{IsSoundButForTheDay}
 use Rattle.adoption.proofs.desk.ShownDesk.{reader_facts, order_facts, run_facts}
 use Rattle.adoption.proofs.tables.Causeless.{ArePassed}

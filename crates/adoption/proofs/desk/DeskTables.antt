@@ -8,7 +8,7 @@ use Rattle.sqlite_schema.specs.Rules.{Obeys}
 use Rattle.tree_core.specs.Versions.{Version}
 use Rattle.office_tables.specs.Schema.{schema}
 use Rattle.adoption.specs.Desk.{RowsShowTheDesk}
-use Rattle.adoption.specs.Found.{AreGoodTables}
+use Rattle.adoption.specs.SoundTables.{AreGoodTables}
 use Rattle.row_completeness.proofs.FullRows.{whole_tables}
 use Rattle.row_completeness.specs.WholeRows.{IsWholeTable}
 use Rattle.adoption.proofs.desk.KeptDesk.{keys}

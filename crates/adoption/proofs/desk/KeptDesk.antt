@@ -22,7 +22,7 @@ use Rattle.state_encoding.proofs.Members.{test_in}
 use Rattle.row_decoding.specs.TableRows.{then_by}
 use Rattle.state_encoding.specs.CellCauses.{rows_in}
 use Rattle.office_tables.specs.DeskCells.{read_reader, read_seat, read_order, read_holding, read_run, read_run_line, read_permit}
-use Rattle.office_tables.specs.Numbered.{HasNumbered}
+use Rattle.office_tables.specs.RowNumbers.{HasNumbered}
 use Rattle.office_tables.specs.Permits.{permit_cells}
 use Rattle.office_tables.specs.RowCells.{reader_cells, seat_cells, order_cells, holding_cells, run_cells, run_line_cells}
 use Rattle.office_tables.specs.Schema as tables

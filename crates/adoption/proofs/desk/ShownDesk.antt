@@ -9,14 +9,14 @@ use Rattle.isad_core.specs.Words.{are_numbered_from}
 use Rattle.tree_core.specs.Versions.{Version}
 use Rattle.desk_core.specs.DeskCauses.{are_good_readers, are_good_orders, are_good_runs}
 use Rattle.desk_core.specs.DeskRows.{ReaderRow, OrderRow, RunRow, RunLineRow, PermitRow}
-use Rattle.desk_store.specs.Represents.{IsNumberOf, RepresentsDesk}
+use Rattle.desk_store.specs.Representation.{IsNumberOf, RepresentsDesk}
 use Rattle.state_encoding.proofs.DeskParts.{ReaderParts, OrdersParts, not_bad, reader_parts, orders_parts}
 use Rattle.state_encoding.proofs.Members.{all_of_in}
 use Rattle.state_encoding.proofs.SaidRuns.{RunParts, run_parts}
 use Rattle.state_encoding.specs.CellCauses.{rows_in}
 use Rattle.state_encoding.specs.Causes.{around}
-use Rattle.state_encoding.specs.Reading.{OfficeRows}
-use Rattle.office_tables.specs.Numbered.{AreCountedFrom}
+use Rattle.state_encoding.specs.OfficeRows.{OfficeRows}
+use Rattle.office_tables.specs.RowNumbers.{AreCountedFrom}
 use Rattle.office_tables.specs.Schema.{schema}
 use Rattle.row_completeness.specs.WholeRows.{IsWholeTable}
 use Rattle.adoption.proofs.desk.KeptDesk.{readers, seats, orders, holdings, runs, run_lines, permits}

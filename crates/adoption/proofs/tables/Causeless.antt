@@ -10,12 +10,12 @@ use Rattle.state_encoding.proofs.Judging.{hold_none}
 use Rattle.row_decoding.specs.TableRows.{places_are_unread}
 use Rattle.state_encoding.specs.CellCauses.{rows_in, unread, cell_cause}
 use Rattle.state_encoding.specs.Causes.{around, catalogue_cause, day_is_broken, first_held, office_is_bad}
-use Rattle.state_encoding.specs.Reading.{OfficeRows}
+use Rattle.state_encoding.specs.OfficeRows.{OfficeRows}
 use Rattle.office_tables.specs.Cells.{has_unread}
 use Rattle.office_tables.specs.CatalogueCells.{read_office, read_unit, read_element, read_container, read_housing}
 use Rattle.office_tables.specs.DeskCells.{read_reader, read_seat, read_order, read_holding, read_run, read_run_line, read_permit}
 use Rattle.office_tables.specs.Schema as tables
-use Rattle.adoption.specs.DeskChecked.{catalogue_cell_cause, of_desk}
+use Rattle.adoption.specs.DeskCheck.{catalogue_cell_cause, of_desk}
 
 -- ---- nine of ten tests do not hold
 

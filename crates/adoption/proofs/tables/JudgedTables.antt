@@ -20,9 +20,9 @@ use Rattle.state_encoding.proofs.Members.{all_in, all_of_in}
 use Rattle.state_encoding.proofs.SaidOrders.{HoldingKind, AtDesk, OutWith}
 use Rattle.state_encoding.proofs.SaidRuns.{RunParts}
 use Rattle.state_encoding.specs.CellCauses.{rows_in}
-use Rattle.state_encoding.specs.Reading.{OfficeRows, state_of}
+use Rattle.state_encoding.specs.OfficeRows.{OfficeRows, state_of}
 use Rattle.refinement.proofs.Judged.{distinct_ids, orders_there}
-use Rattle.refinement.specs.Judging.{CanBeJudged}
+use Rattle.refinement.specs.AccessConditions.{CanBeJudged}
 use Rattle.adoption.specs.Tables.{IsSoundButForTheDay}
 use Rattle.adoption.proofs.desk.Again.{q, said_again, holding_known, sound_but}
 use Rattle.adoption.proofs.desk.ShownDesk.{reader_facts, order_facts, run_facts}

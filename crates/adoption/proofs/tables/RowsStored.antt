@@ -14,7 +14,7 @@ use Rattle.desk_core.specs.Orders.{in_order}
 use Rattle.row_decoding.specs.TableRows.{by}
 use Rattle.office_tables.proofs.numbered.Counted.{less_below}
 use Rattle.office_tables.specs.Cells.{has_unread}
-use Rattle.office_tables.specs.Numbered.{AreByNumber, HasNumbered}
+use Rattle.office_tables.specs.RowNumbers.{AreByNumber, HasNumbered}
 use Rattle.row_completeness.proofs.KeptRows.{has_numbered, rows_kept, rows_rise}
 use Rattle.row_completeness.proofs.UniqueRows.{stay_in_order}
 

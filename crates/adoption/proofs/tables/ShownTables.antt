@@ -5,15 +5,15 @@ use Rattle.sqlite.specs.Effect.{Database}
 use Rattle.sqlite.specs.Tree.{Trees}
 use Rattle.tree_core.specs.Forest.{Forest}
 use Rattle.tree_core.specs.Versions.{Version}
-use Rattle.desk_store.specs.Represents.{RepresentsDesk}
+use Rattle.desk_store.specs.Representation.{RepresentsDesk}
 use Rattle.state_encoding.proofs.CellCauses.{cells_are_said}
 use Rattle.state_encoding.proofs.Judging.{none_before}
 use Rattle.state_encoding.specs.CellCauses.{rows_in, unread, either_of, cell_cause}
 use Rattle.state_encoding.specs.Causes.{catalogue_tests, desk_tests}
-use Rattle.adoption.specs.DeskChecked.{catalogue_cell_cause, of_desk}
+use Rattle.adoption.specs.DeskCheck.{catalogue_cell_cause, of_desk}
 use Rattle.adoption.specs.Catalogue.{RepresentsItsCatalogue}
 use Rattle.adoption.specs.Desk.{RepresentsItsDesk}
-use Rattle.adoption.specs.Found.{AreGoodTables, AreSoundTables}
+use Rattle.adoption.specs.SoundTables.{AreGoodTables, AreSoundTables}
 use Rattle.adoption.specs.Tables.{RepresentsAGoodState, RepresentsItsState}
 use Rattle.adoption.proofs.desk.Again.{said_again, sound_but}
 use Rattle.adoption.proofs.desk.DeskTables.{passed, desk_shown}

@@ -1,12 +1,12 @@
-//! What the desk's rows are held against.
+//! What the desk's rows are checked against.
 ghost use Rattle.std.specs.Prelude.{◌≡◌};
 ghost use Rattle.isad_core.specs.Days.{is_day_number};
 ghost use Rattle.isad_core.specs.Words.{is_between};
 
 use crate::consistency::number_set::Numbers;
 
-/// The office's settings and day, its units and containers, and how many readers it has. The readers
-/// have the tickets from 1 on.
+/// The office's settings and day, its units and containers, and the number of readers. The readers have
+/// the tickets from 1 on.
 #[derive(Drop)]
 pub struct Around {
     pub seats: u64,
@@ -18,14 +18,14 @@ pub struct Around {
     pub containers: Numbers,
 }
 
-/// Whether it is a day of the calendar.
+/// Whether it is the number of a day of the calendar.
 pub(crate) fn is_day(number: i64) -> bool
     ensures { result ≡ is_day_number number }
 {
     -25_567 <= number && number <= 2_932_896
 }
 
-/// Whether it is one of the numbers from 1 to the last.
+/// Whether it is a number from 1 to the last.
 pub(crate) fn is_given(number: u64, last: u64) -> bool
     ensures { result ≡ is_between 1 last number }
 {

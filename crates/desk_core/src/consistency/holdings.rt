@@ -13,8 +13,8 @@ use crate::consistency::rows::{HoldingRow, OrderRow};
 use crate::consistency::tally::Tally;
 use std::alloc::{AllocError, Global};
 
-/// Whether the holdings are such as a desk with these orders has. The orders are to be good; in which
-/// order the holdings come is open.
+/// Whether the holdings are those of a desk with these orders. The orders must be good. The holdings
+/// may come in any order.
 pub fn are_good_holdings(
     alloc: Global,
     around: &Around,
@@ -33,7 +33,7 @@ pub fn are_good_holdings(
     Ok(are_held(&tally, orders))
 }
 
-/// Whether each container lies where it may.
+/// Whether each holding is of a known container and in a state that the orders allow.
 fn are_fit(around: &Around, orders: &[OrderRow], holdings: &[HoldingRow]) -> bool
     ensures { result ≡ list_all (is_fit_holding around.now orders.now) holdings.now }
 {
@@ -49,7 +49,7 @@ fn lies_well(orders: &[OrderRow], row: &HoldingRow) -> bool
     }
 }
 
-/// Whether the order with that number is out, for this container.
+/// Whether the order with this number is out with this container.
 fn is_out(orders: &[OrderRow], container: u64, number: u64) -> bool
     ensures { result ≡ is_out_for orders.now container number }
 {
@@ -59,7 +59,7 @@ fn is_out(orders: &[OrderRow], container: u64, number: u64) -> bool
     }
 }
 
-/// The order that each is out with, or 0.
+/// The order that each container is out with, or 0.
 fn holders_of(alloc: Global, holdings: &[HoldingRow]) -> Result<Vec<u64>, AllocError>
     ensures { IfOk result (λ holders. holders.items ≡ map holder holdings.now) }
 {

@@ -1,10 +1,10 @@
-//! Whether a key stands in a list too often.
+//! Whether a key occurs in a list too often.
 ghost use Rattle.std.specs.Prelude.{◌≡◌, ◌<◌, ◌≤◌, cond, length, slice_index_or};
 ghost use Rattle.std.specs.List.Sorted.{IsSorted};
 ghost use Rattle.std.specs.Ordering.{is_eq};
 ghost use Rattle.desk_core.specs.KeyCounts.{stands_over as stands_over_of};
 
-/// Whether a key stands there more than so many times.
+/// Whether a key occurs more than `most` times.
 pub(crate) fn stands_over<K: Ord + Copy + Drop>(mut keys: Vec<K>, most: u64) -> bool
     ensures { result ≡ stands_over_of K.cmp most keys.items }
 {
@@ -12,7 +12,7 @@ pub(crate) fn stands_over<K: Ord + Copy + Drop>(mut keys: Vec<K>, most: u64) -> 
     runs_over(&keys, most)
 }
 
-/// The same of keys that are sorted, so that equal ones stand side by side.
+/// The same for sorted keys, in which equal ones are adjacent.
 fn runs_over<K: Ord + Copy>(keys: &[K], most: u64) -> bool
     ensures { IsSorted K.cmp keys.now → result ≡ stands_over_of K.cmp most keys.now }
 {
@@ -26,7 +26,8 @@ fn runs_over<K: Ord + Copy>(keys: &[K], most: u64) -> bool
     false
 }
 
-/// Where the run begins that the key at `i` stands in, if a run before it began at `first`.
+/// The start of the run of equal keys that contains the key at `i`. `first` is the start of the run of
+/// the key before it.
 fn first_alike<K: Ord>(keys: &[K], first: usize, i: usize) -> usize
     requires before { first ≤ i }
     requires within { i < length keys.now }

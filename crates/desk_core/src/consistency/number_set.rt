@@ -1,10 +1,10 @@
-//! A set of numbers that is looked up quickly.
+//! A set of numbers with fast look-up.
 ghost use Rattle.std.specs.Prelude.{◌≡◌, ℕ, nat_eq};
 ghost use Rattle.std.specs.List.{list_any};
 
 use std::marker::Model;
 
-/// Numbers, which a clause sees as their list, ascending.
+/// Numbers. Their model is an ascending list.
 #[derive(Drop)]
 pub struct Numbers {
     numbers: Vec<u64>,
@@ -22,7 +22,7 @@ impl Model for Numbers {
 }
 
 impl Numbers {
-    /// These numbers, which may come in any order.
+    /// The set of these numbers, which may come in any order.
     pub fn sorted(mut numbers: Vec<u64>) -> Numbers
         ensures { (n : ℕ) → list_any (nat_eq n) result ≡ list_any (nat_eq n) numbers.items }
     {

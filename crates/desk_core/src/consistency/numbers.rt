@@ -1,11 +1,11 @@
-//! Rows that are numbered from 1 on.
+//! Rows that are numbered from 1.
 ghost use Rattle.std.specs.Prelude.{◌≡◌};
 ghost use Rattle.isad_core.specs.Words.{are_numbered_from};
 ghost use Rattle.desk_core.specs.Consistency.{nth_order};
 
 use crate::consistency::rows::OrderRow;
 
-/// Whether these are the numbers from 1 on, in order.
+/// Whether these are the numbers from 1 on, in order and without a gap.
 pub(crate) fn are_numbered(numbers: &[u64]) -> bool
     ensures { result ≡ are_numbered_from (λ n. n) 1 numbers.now }
 {
@@ -19,7 +19,7 @@ pub(crate) fn are_numbered(numbers: &[u64]) -> bool
     true
 }
 
-/// The order with this number, where orders are numbered from 1 on.
+/// The order with this number. The orders must be numbered from 1.
 pub(crate) fn nth_order(orders: &[OrderRow], number: u64) -> Option<OrderRow>
     ensures { result ≡ nth_order orders.now number }
 {

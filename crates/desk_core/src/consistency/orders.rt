@@ -18,12 +18,12 @@ use crate::consistency::rows::OrderRow;
 use isad_core::limits;
 use std::alloc::{AllocError, Global};
 
-/// How many orders there may ever be.
+/// The most orders that may ever be placed.
 const MOST_ORDERS: usize = limits::MOST_ORDERS as usize;
 
-/// Whether the orders are such as a desk has: numbered from 1, each by itself, no more of a ticket and a
-/// day than may be, and no two of a ticket that wait or are out for one container. It takes about n log n
-/// steps, in whatever order tickets and days come.
+/// Whether the orders are those of a desk: they are numbered from 1, each is valid by itself, no ticket
+/// placed more on a day than it may, and no ticket has two orders for one container that wait or are
+/// out. Takes about n log n steps, whatever the order of tickets and days.
 pub fn are_good_orders(
     alloc: Global,
     around: &Around,
@@ -44,8 +44,7 @@ pub fn are_good_orders(
     Ok(once)
 }
 
-/// Whether the orders have these numbers from 1 on, are no more than may be, and each by itself is such
-/// as a desk has.
+/// Whether these numbers count from 1, the orders are not too many, and each order is valid by itself.
 fn are_plain(around: &Around, numbers: &[u64], orders: &[OrderRow]) -> bool
     ensures { result ≡ (are_numbered_from (λ n. n) 1 numbers.now
         && (nat_le (length orders.now) most_orders && list_all (is_fit_order_of around.now) orders.now)) }
@@ -53,7 +52,7 @@ fn are_plain(around: &Around, numbers: &[u64], orders: &[OrderRow]) -> bool
     are_numbered(numbers) && orders.len() <= MOST_ORDERS && are_fit(around, orders)
 }
 
-/// Whether no ticket placed more on a day than it may.
+/// Whether no ticket placed more orders on a day than it may.
 fn keep_the_limit(alloc: Global, daily: u64, orders: &[OrderRow]) -> Result<bool, AllocError>
     ensures { IfOk result (λ good. good
         ≡ not (stands_over_of placing_cmp daily (map placing orders.now))) }
@@ -77,7 +76,7 @@ fn numbers_of(alloc: Global, orders: &[OrderRow]) -> Result<Vec<u64>, AllocError
     orders.iter().map(|row| row.id).collect(alloc)
 }
 
-/// Whether each order by itself is such as a desk has.
+/// Whether each order is valid by itself.
 fn are_fit(around: &Around, orders: &[OrderRow]) -> bool
     ensures { result ≡ list_all (is_fit_order_of around.now) orders.now }
 {
@@ -95,7 +94,7 @@ fn is_fit_order(around: &Around, row: &OrderRow) -> bool
         && row.day <= around.day
 }
 
-/// Who placed each, and when.
+/// Who placed each order, and when.
 fn placings_of(alloc: Global, orders: &[OrderRow]) -> Result<Vec<(u64, i64)>, AllocError>
     ensures { IfOk result (λ placings. placings.items ≡ map placing orders.now) }
 {
@@ -111,7 +110,7 @@ fn waits_or_is_out(row: &OrderRow) -> bool
     1 <= row.state && row.state <= 2
 }
 
-/// Who asks for what: the orders that wait or are out.
+/// Who asks for which container: the orders that wait or are out.
 fn askings_of(alloc: Global, orders: &[OrderRow]) -> Result<Vec<(u64, u64)>, AllocError>
     ensures { IfOk result (λ askings. askings.items
         ≡ map asking (filter waits_or_is_out_of orders.now)) }

@@ -12,7 +12,7 @@ use crate::consistency::tally::Tally;
 use isad_core::limits::MOST_PERMITS;
 use std::alloc::{AllocError, Global};
 
-/// Whether each seat is one of the office, taken by a reader.
+/// Whether each seat is one of the office's and is taken by a reader.
 pub fn are_good_seats(around: &Around, seats: &[SeatRow]) -> bool
     ensures { (a : Held) (d : Desk) → Surrounds around.now a d → d.seats ≡ map seat_row seats.now
         → result ≡ list_all (is_good_seat a d) d.seats }
@@ -26,8 +26,8 @@ fn seats_are_fit(around: &Around, seats: &[SeatRow]) -> bool
     seats.iter().all(|row| is_given(row.seat, around.seats) && is_given(row.ticket, around.readers))
 }
 
-/// Whether each permit is a reader's, for a unit that is there, to a day of the calendar, and no ticket
-/// has more of them than it may. They may come in any order.
+/// Whether each permit is a reader's, for a unit that exists, until a day of the calendar, and no
+/// ticket has more permits than it may. They may come in any order.
 pub fn are_good_permits(
     alloc: Global,
     around: &Around,

@@ -13,13 +13,13 @@ pub struct OrderRow {
     pub id: u64,
     pub ticket: u64,
     pub container: u64,
-    /// When it was placed, as a day's number.
+    /// The number of the day on which it was placed.
     pub day: i64,
     /// 1 waiting, 2 out, 3 done, 4 cancelled.
     pub state: u64,
 }
 
-/// Where a container is that is not on the shelf.
+/// The place of a container that is not on the shelf.
 #[derive(Clone, Copy, Debug, PartialEq, Eq)]
 pub struct HoldingRow {
     pub container: u64,
@@ -36,7 +36,7 @@ pub struct RunRow {
     pub day: i64,
 }
 
-/// What a run brought.
+/// A line of a run: a container that the run brought, with its order and its ticket.
 #[derive(Clone, Copy, Debug, PartialEq, Eq)]
 pub struct RunLineRow {
     pub run: u64,

@@ -16,11 +16,11 @@ use crate::consistency::tally::Tally;
 use isad_core::limits;
 use std::alloc::{AllocError, Global};
 
-/// How many runs there may ever be.
+/// The most runs that may ever be made.
 const MOST_RUNS: usize = limits::MOST_RUNS as usize;
 
-/// Whether the runs and their lines are such as a desk with these orders has. The orders are to be good;
-/// in which order the lines come is open.
+/// Whether the runs and their lines are those of a desk with these orders. The orders must be good. The
+/// lines may come in any order.
 pub fn are_good_runs(
     alloc: Global,
     around: &Around,
@@ -42,8 +42,8 @@ pub fn are_good_runs(
     Ok(are_fit(around, &tally, runs))
 }
 
-/// Whether the runs have these numbers from 1 on, are no more than may be, and each line is of a run and
-/// of an order.
+/// Whether these numbers count from 1, the runs are not too many, and each line is of a run and of an
+/// order.
 fn are_plain(orders: &[OrderRow], numbers: &[u64], runs: &[RunRow], lines: &[RunLineRow]) -> bool
     ensures { result ≡ (are_numbered_from (λ n. n) 1 numbers.now
         && (nat_le (length runs.now) most_runs
@@ -67,7 +67,8 @@ fn runs_of(alloc: Global, lines: &[RunLineRow]) -> Result<Vec<u64>, AllocError>
     lines.iter().map(|line| line.run).collect(alloc)
 }
 
-/// Whether each run is of a day that was, with as many lines as it may have.
+/// Whether each run is of a day that is not after today, with at least one line and no more than it may
+/// have.
 fn are_fit(around: &Around, lines: &Tally, runs: &[RunRow]) -> bool
     ensures { result ≡ list_all (is_fit_run_of around.now lines.now) runs.now }
 {
@@ -80,7 +81,7 @@ fn is_fit_run(around: &Around, lines: &Tally, row: &RunRow) -> bool
     is_day(row.day) && row.day <= around.day && is_given(lines.times(row.id), around.run_size)
 }
 
-/// Whether each line is of a run, and tells its order.
+/// Whether each line is of a run, and has the container and the ticket of its order.
 fn lines_are_fit(orders: &[OrderRow], runs: u64, lines: &[RunLineRow]) -> bool
     ensures { result ≡ list_all (is_fit_line_of orders.now runs) lines.now }
 {

@@ -1,18 +1,18 @@
-//! How often each number stands in a list.
+//! How often each number occurs in a list.
 ghost use Rattle.std.specs.Prelude.{◌≡◌, ◌≤◌, ℕ, IfOk, nat_eq};
 ghost use Rattle.std.specs.List.{count_by};
 ghost use Rattle.desk_core.specs.Consistency.{times as times_of};
 
 use std::alloc::{AllocError, Global};
 
-/// How often each number stands in a list, up to a last number.
+/// How often each number up to a last one occurs in a list.
 #[derive(Drop)]
 pub(crate) struct Tally {
     pub(crate) counts: Vec<u64>,
 }
 
 impl Tally {
-    /// Counts the numbers up to the last.
+    /// Counts the numbers up to the last. Larger ones are ignored.
     pub(crate) fn of(alloc: Global, last: u64, numbers: &[u64]) -> Result<Tally, AllocError>
         ensures { IfOk result (λ tally. (n : ℕ)
             → n ≤ last → times_of tally n ≡ count_by (nat_eq n) numbers.now) }

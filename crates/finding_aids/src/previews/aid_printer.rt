@@ -2,8 +2,8 @@
 ghost use Rattle.std.specs.Prelude.{◌≡◌, ◌≤◌, ◌+◌, ◌++◌, []};
 ghost use Rattle.std.specs.Prelude.{IfOk, OnOk, List, map, option_copied, unwrap_or};
 ghost use Rattle.isad_core.specs.Limits.{most_deep};
-ghost use Rattle.isad_core.specs.Printed.{aid, unit_lines};
-ghost use Rattle.finding_aids.specs.Planting.{grove, height_of_all};
+ghost use Rattle.isad_core.specs.PrintedDescriptions.{aid, unit_lines};
+ghost use Rattle.finding_aids.specs.RowTrees.{grove, height_of_all};
 ghost use Rattle.finding_aids.specs.Numbers.{number_by};
 ghost use Rattle.catalogue_core.specs.Aids.{shown_by, shown_told};
 
@@ -24,7 +24,7 @@ pub struct Printer<'a> {
 }
 
 impl<'a> Printer<'a> {
-    /// What is shown of a unit, where `ids` are the identifiers from the top down to it.
+    /// How a unit is shown. `ids` are the identifiers from the top down to it.
     fn shown(&self, ids: &[Text], depth: u32, values: &'a Values) -> Result<Shown, AllocError>
         ensures { IfOk result (λ shown. shown
             ≡ shown_told (record { country = self.now.country.now; repo = self.now.repo.now })

@@ -15,7 +15,7 @@ use std::collections::BTreeMap;
 /// The number of each container, by its name, its location and its kind.
 pub type Numbers<'a> = BTreeMap<(&'a str, &'a str, &'a str), u64>;
 
-/// The numbers of the containers of rows, from 1 as they first appear.
+/// The numbers of the containers of rows, from 1, in the order in which they first appear.
 pub fn number_boxes(alloc: Global, rows: &[Row]) -> Result<Numbers<'_>, AllocError>
     ensures { IfOk result (λ numbers. AreNumbered (flat_map (λ row. row.values.boxes) rows.now) numbers) }
 {
@@ -26,7 +26,7 @@ pub fn number_boxes(alloc: Global, rows: &[Row]) -> Result<Numbers<'_>, AllocErr
     Ok(numbers)
 }
 
-/// The number of a container.
+/// The number of a container, if it has one.
 pub fn number_of<'a>(numbers: &Numbers<'a>, container: &'a BoxKey) -> Option<u64>
     ensures { result ≡ number_at numbers.now container.now }
 {
@@ -61,7 +61,7 @@ fn number_box<'a>(numbers: &mut Numbers<'a>, container: &'a BoxKey) -> Result<()
     set_number(numbers, container, next)
 }
 
-/// Gives a container its number.
+/// Sets the number of a container.
 fn set_number<'a>(
     numbers: &mut Numbers<'a>,
     container: &'a BoxKey,

@@ -1,4 +1,4 @@
-//! Where the rows of a file stand.
+//! The places of a file's rows.
 ghost use Rattle.std.specs.Prelude.{◌≡◌, ◌≤◌, ◌∷◌, [], if◌then◌else◌};
 ghost use Rattle.std.specs.Prelude.{IfOk, IfErr, OnOk, Some, option_copied};
 ghost use Rattle.std.specs.BTreeMap.{get_by_text};
@@ -6,7 +6,7 @@ ghost use Rattle.std.specs.List.{All};
 ghost use Rattle.std.specs.Str.{bytes_eq};
 ghost use Rattle.isad_core.specs.Limits.{most_deep};
 ghost use Rattle.isad_core.specs.Texts.{Bytes};
-ghost use Rattle.atom_csv.specs.Reads.{IsBad};
+ghost use Rattle.atom_csv.specs.ReadProgress.{IsBad};
 ghost use Rattle.finding_aids.specs.Places.{ArePlaced, faults};
 ghost use Rattle.finding_aids.specs.Places as spec;
 
@@ -15,23 +15,24 @@ use isad_core::{Text, limits};
 use std::alloc::{AllocError, Global};
 use std::collections::BTreeMap;
 
-/// How deep a unit may lie, where a top is 1.
+/// The greatest depth of a unit; a top has depth 1.
 const MAX_DEPTH: u32 = limits::MOST_DEEP as u32;
 
-/// Where a row stands in a file.
+/// The place of a row among the rows of a file.
 #[derive(Clone, Copy)]
 pub struct RowPosition {
     /// The index of its parent's row, or none for a top.
     pub parent: Option<usize>,
-    /// How deep it lies, where a top is 1.
+    /// Its depth; a top has depth 1.
     pub depth: u32,
 }
 
 /// The index of the last row with each legacyId.
 type Known = BTreeMap<String, usize>;
 
-/// The place of each row, below the nearest row above it that has its parent's legacyId; or the
-/// first row that has none, because there is no such row, or because it would lie too deep.
+/// The place of each row, below the nearest row above it that has its parent's legacyId. If some row
+/// has no place, returns the first such row: its parent's row does not exist, or the row would lie too
+/// deep.
 pub fn place_rows(alloc: Global, rows: &[Row]) -> Result<Vec<RowPosition>, FileFault>
     ensures none_bad { IfOk result (λ places. faults rows.now ≡ []) }
     ensures places { IfOk result (λ places. ArePlaced rows.now places.items) }
@@ -64,7 +65,7 @@ fn bad(row: &Row, cause: u8) -> FileFault
     }
 }
 
-/// The place below this parent, or of a top, where the parent is known.
+/// The place below this parent, if the parent is known, or the place of a top.
 fn place_of(known: &Known, places: &[RowPosition], parent: Option<&Text>) -> Option<RowPosition>
     requires { All (λ p. p.depth ≤ most_deep) places.now }
     ensures { result ≡ spec.place_of (get_by_text known.now) places.now (option_copied parent.entry) }
@@ -97,7 +98,7 @@ fn place_at(places: &[RowPosition], index: usize) -> Option<RowPosition>
     })
 }
 
-/// Keeps the index of a row.
+/// Remembers the index of a row.
 #[tactic(auto, using(std::proofs::lemmas::Map::Text::text_keys))]
 fn remember(known: &mut Known, alloc: Global, legacy: &Text, index: usize) -> Result<(), AllocError>
     ensures { OnOk result ((q : Bytes) → get_by_text known.new q

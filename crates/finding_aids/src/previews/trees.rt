@@ -3,18 +3,18 @@ ghost use Rattle.std.specs.Prelude.{◌≡◌, ◌≤◌, ◌<◌, ◌++◌, ◌
 ghost use Rattle.std.specs.Prelude.{IfOk, OnOk, None, Option, length, map, nat_eq};
 ghost use Rattle.std.specs.List.{All};
 ghost use Rattle.std.specs.Option.{option_eq};
-ghost use Rattle.catalogue_core.specs.Merging.{numbered_from};
+ghost use Rattle.catalogue_core.specs.CatalogueMerge.{numbered_from};
 ghost use Rattle.tree_core.specs.Forest.{Empty};
 ghost use Rattle.isad_core.specs.Limits.{most_deep};
 ghost use Rattle.finding_aids.specs.Places.{ArePlaced};
-ghost use Rattle.finding_aids.specs.Planting.{grove, height_of_all, seen_below};
+ghost use Rattle.finding_aids.specs.RowTrees.{grove, height_of_all, seen_below};
 ghost use Rattle.finding_aids.specs.Slots.{IsBelow, children_at, grown_at};
 
 use crate::previews::places::RowPosition;
 use atom_csv::Row;
 use std::alloc::{AllocError, Global};
 
-/// A published row, with those right below it.
+/// A published row, with the rows right below it.
 #[derive(Drop)]
 pub struct Tree<'a> {
     /// The number that its unit gets.
@@ -23,7 +23,7 @@ pub struct Tree<'a> {
     pub children: Vec<Tree<'a>>,
 }
 
-/// Where a row stands, and what has grown below it so far, the last child first.
+/// The place of a row, and the trees that have grown below it so far, the last child first.
 #[derive(Drop)]
 struct Slot<'a> {
     place: RowPosition,

@@ -14,8 +14,8 @@ use Rattle.tree_core.specs.Forest.{nodes, size}
 use Rattle.catalogue_core.specs.Units.{Unit}
 use Rattle.office_core.specs.Words.{numbered}
 use Rattle.office_core.specs.State.{Reader, Permit, is_ticket}
-use Rattle.catalogue_core.specs.Finding.{has_unit}
-use Rattle.catalogue_core.specs.Housing.{is_open}
+use Rattle.catalogue_core.specs.UnitLookup.{has_unit}
+use Rattle.catalogue_core.specs.ContainerContents.{is_open}
 use Rattle.catalogue_core.specs.Moves.{height}
 use Rattle.office_core.specs.Rules.{is_name}
 use Rattle.isad_core.specs.Limits.{most_permits}
@@ -23,7 +23,7 @@ use Rattle.office_core.specs.SoundDesk.{ByUnit, IsSoundDesk}
 use Rattle.catalogue_core.specs.GoodCatalogues.{IsSomeDay, IsGoodUnit, is_same_unit, AreGoodUnits}
 use Rattle.office_core.specs.Soundness.{IsSound}
 use Rattle.office_core.specs.WorkedReplies.{MostPermits}
-use Rattle.office_core.specs.Worked.{office, march_1, march_31, year_end, titled, units_from, permits_from, hundred_permits}
+use Rattle.office_core.specs.WorkedExamples.{office, march_1, march_31, year_end, titled, units_from, permits_from, hundred_permits}
 use Rattle.office_core.proofs.Words.{put_each}
 use Rattle.office_core.proofs.SoundDesk.{desk_start, no_value}
 

@@ -8,8 +8,8 @@ use Rattle.std.proofs.lemmas.Bool.Decides.{nat_tests}
 use Rattle.sqlite_rules.specs.Lists.{Has}
 use Rattle.sqlite_trees.proofs.ListLemmas.{all_weaker}
 use Rattle.office_tables.specs.Order.{Rises}
-use Rattle.office_tables.specs.Put.{put_by}
-use Rattle.office_tables.specs.Numbered.{AreCountedFrom}
+use Rattle.office_tables.specs.OrderedInsertion.{put_by}
+use Rattle.office_tables.specs.RowNumbers.{AreCountedFrom}
 
 pub below_less : (m n : ℕ) → m < n → int_cmp (pos m) (pos n) ≡ Less
 below_less m n h = rw (lt-ltb m n h) refl

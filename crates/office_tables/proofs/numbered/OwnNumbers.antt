@@ -11,9 +11,9 @@ use Rattle.sqlite.specs.Edit.{is_taken}
 use Rattle.sqlite.specs.Tree.{rowid, put_row}
 use Rattle.sqlite_trees.proofs.ListLemmas.{map-map, filter-map, IsPermutation-filter, ascending-filter, all-permutation, all-map, all_from_map}
 use Rattle.office_tables.specs.Order.{IsOrdered}
-use Rattle.office_tables.specs.Put.{put_by}
+use Rattle.office_tables.specs.OrderedInsertion.{put_by}
 use Rattle.office_tables.proofs.Puts.{put_rows, put_rises, put_more, fresh_key}
-use Rattle.office_tables.specs.Numbered.{HasNumbered}
+use Rattle.office_tables.specs.RowNumbers.{HasNumbered}
 
 -- what no row is, none is in another order
 

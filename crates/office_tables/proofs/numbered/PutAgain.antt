@@ -7,7 +7,7 @@ use Rattle.std.proofs.lemmas.Bool.{cases_Bool, ltb-true}
 use Rattle.std.proofs.lemmas.Bool.Decides.{nat_tests}
 use Rattle.sqlite_trees.proofs.ListLemmas.{all_weaker}
 use Rattle.office_tables.specs.Order.{Rises}
-use Rattle.office_tables.specs.Put.{put_by}
+use Rattle.office_tables.specs.OrderedInsertion.{put_by}
 use Rattle.office_tables.proofs.numbered.Counted.{below_less, less_below}
 
 greater : (m n : ℕ) → n < m → int_cmp (pos m) (pos n) ≡ Greater

@@ -14,10 +14,10 @@ use Rattle.sqlite.specs.State.{State, Shown}
 use Rattle.sqlite.proofs.Callers.{reads_as}
 use Rattle.sqlite_schema.specs.declared.program.Program.{Program}
 use Rattle.sqlite_typing.specs.Types.{accepts_program}
-use Rattle.office_tables.specs.Asking.{FindsFirst, Misses}
-use Rattle.office_tables.specs.Counting.{capped}
+use Rattle.office_tables.specs.Query.{FindsFirst, Misses}
+use Rattle.office_tables.specs.RowCounts.{capped}
 use Rattle.office_tables.specs.Faults.{IsUnlimited, HasCause}
-use Rattle.office_tables.specs.Meaning.{Means}
+use Rattle.office_tables.specs.StatementMeaning.{Means}
 use Rattle.office_tables.specs.Schema.{Version, schema}
 use Rattle.office_tables.specs.declared.fault.StoreFault.{StoreFault}
 use Rattle.office_tables.proofs.Causes.{read_cause, none_refuse, counts_always}

@@ -16,9 +16,9 @@ use Rattle.sqlite.proofs.Callers.{statement_of, runs_as}
 use Rattle.sqlite_schema.specs.Rules.{references_fit}
 use Rattle.sqlite_schema.specs.declared.program.Program.{Program}
 use Rattle.sqlite_typing.specs.Types.{accepts_program}
-use Rattle.office_tables.specs.Changing.{Ran}
+use Rattle.office_tables.specs.ChangeStatement.{Ran}
 use Rattle.office_tables.specs.Faults.{IsUnlimited, HasCause}
-use Rattle.office_tables.specs.Meaning.{Means}
+use Rattle.office_tables.specs.StatementMeaning.{Means}
 use Rattle.office_tables.specs.Order.{Rises}
 use Rattle.office_tables.specs.Schema.{Version, schema}
 use Rattle.office_tables.specs.Step.{HasRows}

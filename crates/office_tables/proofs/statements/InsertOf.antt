@@ -13,9 +13,9 @@ use Rattle.sqlite.specs.Listing.{understood}
 use Rattle.sqlite.specs.State.{State, Executes, IsLive, mode_of}
 use Rattle.sqlite.proofs.Callers.{statement_of, runs_as}
 use Rattle.sqlite_typing.specs.Types.{accepts_terms}
-use Rattle.office_tables.specs.Changing.{Ran}
+use Rattle.office_tables.specs.ChangeStatement.{Ran}
 use Rattle.office_tables.specs.Faults.{IsUnlimited, HasCause}
-use Rattle.office_tables.specs.Meaning.{Means}
+use Rattle.office_tables.specs.StatementMeaning.{Means}
 use Rattle.office_tables.specs.Schema.{Version, schema}
 use Rattle.office_tables.specs.Step.{PutsRow}
 use Rattle.office_tables.specs.declared.fault.StoreFault.{StoreFault}

@@ -25,9 +25,9 @@ use Rattle.sqlite_trees.proofs.ListLemmas.{map-map, all_weaker}
 use Rattle.sqlite_typing.specs.Types.{accepts_program}
 use Rattle.sqlite_value.specs.declared.keys.Key.{Key}
 use Rattle.sqlite_value.proofs.OrderLemmas.{then-Equal, value_cmp-Int}
-use Rattle.office_tables.specs.Asking.{FindsFirst, Misses}
+use Rattle.office_tables.specs.Query.{FindsFirst, Misses}
 use Rattle.office_tables.specs.Faults.{IsUnlimited, HasCause}
-use Rattle.office_tables.specs.Meaning.{Means}
+use Rattle.office_tables.specs.StatementMeaning.{Means}
 use Rattle.office_tables.specs.Schema.{Version, schema}
 use Rattle.office_tables.specs.declared.fault.StoreFault.{StoreFault}
 use Rattle.office_tables.proofs.Causes.{read_cause, none_refuse, sums_nothing}
@@ -36,7 +36,7 @@ use Rattle.office_tables.proofs.Reading.{all_found}
 use Rattle.office_tables.proofs.RowReads.{all_caused}
 use Rattle.office_tables.proofs.Rows.{had, kept_all}
 use Rattle.office_tables.proofs.Sorted.{head_below}
-use Rattle.office_tables.specs.Numbered.{AreCounted}
+use Rattle.office_tables.specs.RowNumbers.{AreCounted}
 use Rattle.office_tables.proofs.numbered.Counted.{counted_within, counted_last}
 
 abbrev descending : Key

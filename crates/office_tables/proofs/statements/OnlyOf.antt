@@ -7,8 +7,8 @@ use Rattle.sqlite.specs.Listing.{understood}
 use Rattle.sqlite.specs.State.{State, mode_of}
 use Rattle.sqlite.proofs.Callers.{statement_of, runs_as}
 use Rattle.sqlite_schema.specs.declared.program.Program.{Program}
-use Rattle.office_tables.specs.Changing.{Ran}
-use Rattle.office_tables.specs.Meaning.{Means}
+use Rattle.office_tables.specs.ChangeStatement.{Ran}
+use Rattle.office_tables.specs.StatementMeaning.{Means}
 use Rattle.office_tables.specs.Schema.{Version, Links, Spans, schema}
 use Rattle.office_tables.specs.Step.{OnlyTouches}
 use Rattle.office_tables.specs.declared.fault.StoreFault.{StoreFault}

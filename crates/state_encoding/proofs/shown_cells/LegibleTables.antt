@@ -3,7 +3,7 @@ use Rattle.std.proofs.Common.{ℕ, suc, List, [], ◌∷◌, ◌++◌, Option, S
 use Rattle.std.specs.Prelude.{IfSome}
 use Rattle.std.specs.List.{AllByRecursion, flat_map}
 use Rattle.std.proofs.lemmas.List.Concat.{flat_map-cons}
-use Rattle.isad_core.specs.Legible.{IsLegibleBox}
+use Rattle.isad_core.specs.LegibleValues.{IsLegibleBox}
 use Rattle.isad_core.specs.Texts.{Bytes}
 use Rattle.isad_core.specs.declared.values.BoxKey.{BoxKey}
 use Rattle.tree_core.specs.Forest.{nodes}
@@ -14,9 +14,9 @@ use Rattle.catalogue_core.specs.LegibleCatalogues.{HasLegibleTexts}
 use Rattle.catalogue_core.specs.CatalogueRows.{ElementRow, unit_row, element_rows_from, container_row}
 use Rattle.office_core.specs.SoundOffice.{AreTexts}
 use Rattle.office_core.specs.State.{Reader, State}
-use Rattle.state_encoding.specs.CellJudged.{IsLegibleUnitRow, IsLegibleContainerRow, AreLegibleRows}
-use Rattle.state_encoding.specs.DeskShown.{rows_from, reader_row}
-use Rattle.state_encoding.specs.Reading.{tables}
+use Rattle.state_encoding.specs.CellSoundness.{IsLegibleUnitRow, IsLegibleContainerRow, AreLegibleRows}
+use Rattle.state_encoding.specs.DeskEncoding.{rows_from, reader_row}
+use Rattle.state_encoding.specs.OfficeRows.{tables}
 
 units_legible : (us : List Unit) → AllByRecursion HasLegibleTexts us → AllByRecursion IsLegibleUnitRow (map unit_row us)
 units_legible [] h = tt

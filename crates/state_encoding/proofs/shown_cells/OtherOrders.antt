@@ -21,7 +21,7 @@ use Rattle.catalogue_core.specs.CatalogueRows.{CatalogueRows, UnitRow, ElementRo
 use Rattle.catalogue_core.specs.Moves.{height}
 use Rattle.catalogue_core.specs.Units.{Unit}
 use Rattle.office_core.specs.Laws.{numbers_from}
-use Rattle.state_encoding.specs.Reading.{box_at, boxes_from, boxes_said, values_said, unit_from, unit_said}
+use Rattle.state_encoding.specs.OfficeRows.{box_at, boxes_from, boxes_said, values_said, unit_from, unit_said}
 use Rattle.state_encoding.proofs.RowsByNumber.{all_in, in_all, each_in, found_by}
 use Rattle.state_encoding.proofs.UnitRows.{found_kept}
 use Rattle.state_encoding.proofs.told.ToldCatalogue.{alike_flips}

@@ -10,7 +10,7 @@ use Rattle.catalogue_core.specs.CatalogueRows.{CatalogueRows, UnitRow, Container
 use Rattle.office_core.specs.State.{State, containers}
 use Rattle.office_core.specs.Soundness.{IsSound}
 use Rattle.state_encoding.specs.Causes.{around, catalogue_tests, desk_tests, day_is_broken, is_held_against_rules, is_good_office, first_held, cause}
-use Rattle.state_encoding.specs.Reading.{OfficeRows, tables, state_of}
+use Rattle.state_encoding.specs.OfficeRows.{OfficeRows, tables, state_of}
 use Rattle.state_encoding.proofs.DeskPasses.{desk_passes}
 use Rattle.state_encoding.proofs.JudgedWhole.{sound_catalogue, tables_are_shown}
 use Rattle.state_encoding.proofs.Judging.{none_behind, none_in_both}

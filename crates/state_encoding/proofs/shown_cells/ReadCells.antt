@@ -17,11 +17,11 @@ use Rattle.office_tables.specs.Cells.{whole_in, number_in, text_in, flag_in, or_
 use Rattle.office_tables.specs.CatalogueCells.{read_office, read_unit, read_link, read_span, read_element, read_container, read_housing}
 use Rattle.office_tables.specs.DeskCells.{read_reader, read_seat, read_order, read_holding, read_run, read_run_line, read_permit}
 use Rattle.office_tables.specs.Flags.{flag}
-use Rattle.office_tables.specs.Numbered.{HasNumbered}
+use Rattle.office_tables.specs.RowNumbers.{HasNumbered}
 use Rattle.office_tables.specs.Permits.{permit_cells}
 use Rattle.office_tables.proofs.CellTexts.{says_text}
-use Rattle.state_encoding.specs.CellJudged.{IsLegibleUnitRow, IsLegibleContainerRow}
-use Rattle.office_tables.specs.Shared.{office_cells}
+use Rattle.state_encoding.specs.CellSoundness.{IsLegibleUnitRow, IsLegibleContainerRow}
+use Rattle.office_tables.specs.SharedRows.{office_cells}
 use Rattle.state_encoding.specs.CellsOfOffices.{HasRows, unit_cells, element_cells, container_cells, housing_cells, link_cells, span_cells, reader_cells, seat_cells, order_cells, holding_cells, run_cells, run_line_cells}
 
 -- ---- cells

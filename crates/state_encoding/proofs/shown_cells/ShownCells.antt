@@ -24,10 +24,10 @@ use Rattle.office_tables.specs.DeskCells.{read_reader, read_seat, read_order, re
 use Rattle.office_tables.specs.Permits.{permit_cells}
 use Rattle.state_encoding.specs.Causes.{catalogue_tests, desk_tests, cause, first_held}
 use Rattle.state_encoding.specs.CellCauses.{rows_in, unread, either_of, no_office}
-use Rattle.state_encoding.specs.CellJudged.{AreLegibleRows, IsLegibleUnitRow, IsLegibleContainerRow}
-use Rattle.office_tables.specs.Shared.{office_cells}
+use Rattle.state_encoding.specs.CellSoundness.{AreLegibleRows, IsLegibleUnitRow, IsLegibleContainerRow}
+use Rattle.office_tables.specs.SharedRows.{office_cells}
 use Rattle.state_encoding.specs.CellsOfOffices.{HasTables, IsRead, IsTold, SoundOfficesAreRead, SoundOfficesAreTold, unit_cells, element_cells, container_cells, housing_cells, reader_cells, seat_cells, order_cells, holding_cells, run_cells, run_line_cells}
-use Rattle.state_encoding.specs.Reading.{OfficeRows, tables as tables_of, state_of, number_of}
+use Rattle.state_encoding.specs.OfficeRows.{OfficeRows, tables as tables_of, state_of, number_of}
 use Rattle.state_encoding.proofs.DeskPasses.{desk_passes}
 use Rattle.state_encoding.proofs.JudgedWhole.{tables_are_shown}
 use Rattle.state_encoding.proofs.Judging.{none_held, hold_none}

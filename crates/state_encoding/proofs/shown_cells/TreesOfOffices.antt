@@ -10,13 +10,13 @@ use Rattle.tree_core.specs.Versions.{Version}
 use Rattle.catalogue_core.specs.CatalogueRows.{PlaceRows, LinkRows, SpanRows}
 use Rattle.office_core.specs.State.{State}
 use Rattle.office_tables.specs.Schema as tables
-use Rattle.office_tables.specs.Numbered.{HasNumbered}
+use Rattle.office_tables.specs.RowNumbers.{HasNumbered}
 use Rattle.office_tables.specs.Order.{Rises}
 use Rattle.office_tables.specs.Permits.{permit_cells}
 use Rattle.office_tables.proofs.numbered.Counted.{below_less}
-use Rattle.office_tables.specs.Shared.{office_cells}
+use Rattle.office_tables.specs.SharedRows.{office_cells}
 use Rattle.state_encoding.specs.CellsOfOffices.{HasRows, HasPlaces, HasTables, IsRepresentedByTrees, unit_cells, element_cells, container_cells, housing_cells, link_cells, span_cells, reader_cells, seat_cells, order_cells, holding_cells, run_cells, run_line_cells}
-use Rattle.state_encoding.specs.Reading.{OfficeRows, tables as tables_of}
+use Rattle.state_encoding.specs.OfficeRows.{OfficeRows, tables as tables_of}
 
 module _ {R : Type 0} where
   counted_from : ℕ → List R → List (ℤ × R)

@@ -29,11 +29,11 @@ use Rattle.office_core.specs.Soundness.{is_country, is_repository, AreGoodSettin
 use Rattle.catalogue_core.specs.GoodCatalogues.{IsSomeDay, IsGoodUnit, AreGoodUnits, is_same_unit}
 use Rattle.office_core.specs.Laws.{numbers_from}
 use Rattle.catalogue_core.specs.CatalogueRows.{OfficeRow, UnitRow, unit_row, ElementRow, ContainerRow, HousingRow, place_rows, box_from, text_said, places_said, housings_of}
-use Rattle.state_encoding.specs.Reading.{number_of, OfficeRows, state_of, boxes_said, unit_said, unit_from}
+use Rattle.state_encoding.specs.OfficeRows.{number_of, OfficeRows, state_of, boxes_said, unit_said, unit_from}
 use Rattle.isad_core.specs.Words.{are_numbered_from}
 use Rattle.state_encoding.specs.Causes.{is_good_office, office_is_bad, catalogue_cause}
 use Rattle.catalogue_core.specs.CatalogueCauses.{is_unit_number, are_good_places, is_some_day, is_good_unit_row, unit_numbers, place_numbers, all_stand_in, are_good_units, is_good_element, is_good_housing, are_good_container_rows, places_are_bad, units_are_bad, elements_are_bad, containers_are_bad, is_named_alike, MeetsCatalogueKeys, ArePlacesOf}
-use Rattle.state_encoding.specs.Judged.{IsCatalogueOf, IsSoundCatalogue, SaysTheCatalogue}
+use Rattle.state_encoding.specs.RowSoundness.{IsCatalogueOf, IsSoundCatalogue, SaysTheCatalogue}
 use Rattle.state_encoding.proofs.Judging.{none_held}
 use Rattle.state_encoding.proofs.RowsByNumber.{in_map, all_in, stands_in}
 use Rattle.state_encoding.proofs.told.ToldPlaces.{ArePlaced, good_places, numbers_given}

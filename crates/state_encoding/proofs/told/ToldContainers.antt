@@ -5,10 +5,10 @@ use Rattle.std.specs.List.{IsDistinct, AllByRecursion, list_any}
 use Rattle.std.proofs.lemmas.Bool.{and_parts, eqb-true, eq-eqb, false≢true, false_from_ne_true, or_left, or_right}
 use Rattle.isad_core.specs.declared.values.BoxKey.{BoxKey}
 use Rattle.isad_core.specs.Boxes.{distinct, is_same as is_same_box}
-use Rattle.catalogue_core.specs.Merging.{box_number, number_in}
+use Rattle.catalogue_core.specs.CatalogueMerge.{box_number, number_in}
 use Rattle.tree_core.proofs.Lists.{In}
 use Rattle.office_core.specs.Words.{numbered}
-use Rattle.state_encoding.specs.DeskShown.{rows_from}
+use Rattle.state_encoding.specs.DeskEncoding.{rows_from}
 use Rattle.catalogue_core.specs.CatalogueRows.{ContainerRow, container_row, box_from}
 use Rattle.isad_core.specs.Words.{are_numbered_from}
 use Rattle.catalogue_core.specs.CatalogueCauses.{is_same_container}

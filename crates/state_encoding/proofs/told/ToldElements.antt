@@ -19,7 +19,7 @@ use Rattle.office_core.specs.Words.{stands}
 use Rattle.catalogue_core.specs.Sources.{is_between}
 use Rattle.catalogue_core.specs.GoodCatalogues.{is_good_text}
 use Rattle.catalogue_core.specs.CatalogueRows.{ElementRow, after_level, element_rows_from, text_said}
-use Rattle.state_encoding.specs.Reading.{OfficeRows, unit_said}
+use Rattle.state_encoding.specs.OfficeRows.{OfficeRows, unit_said}
 use Rattle.catalogue_core.specs.CatalogueCauses.{is_same_element, is_good_element}
 use Rattle.state_encoding.proofs.UnitRows.{found_kept}
 use Rattle.state_encoding.proofs.RowsByNumber.{in_filter, flat_map_same, flat_map_reordered, grouped, one_kept, in_numbers, own_apart}

@@ -17,12 +17,12 @@ use Rattle.tree_core.proofs.Lists.{In, eqb_comm}
 use Rattle.tree_core.proofs.EachLemmas.{nodes-each}
 use Rattle.tree_core.proofs.Reading.{fills}
 use Rattle.catalogue_core.specs.Units.{Unit}
-use Rattle.catalogue_core.specs.Merging.{box_number}
+use Rattle.catalogue_core.specs.CatalogueMerge.{box_number}
 use Rattle.office_core.specs.Laws.{numbers_from}
 use Rattle.office_core.specs.Words.{numbered}
-use Rattle.state_encoding.specs.DeskShown.{rows_from}
+use Rattle.state_encoding.specs.DeskEncoding.{rows_from}
 use Rattle.catalogue_core.specs.CatalogueRows.{HousingRow, housing_row, box_from, housings_of}
-use Rattle.state_encoding.specs.Reading.{OfficeRows, box_at, boxes_from, boxes_said, unit_said}
+use Rattle.state_encoding.specs.OfficeRows.{OfficeRows, box_at, boxes_from, boxes_said, unit_said}
 use Rattle.catalogue_core.specs.CatalogueCauses.{is_same_place, is_housed_alike}
 use Rattle.state_encoding.proofs.RowsByNumber.{in_map, in_filter, flat_map_same, flat_map_reordered, grouped, found_by, one_kept, in_numbers, numbers_length, numbers_apart, own_apart}
 use Rattle.state_encoding.proofs.told.ToldUnits.{said_id, said_boxes}

@@ -11,7 +11,7 @@ use Rattle.tree_core.proofs.Members.{permutation_from_members}
 use Rattle.catalogue_core.specs.Units.{Unit}
 use Rattle.office_core.specs.Laws.{numbers_from}
 use Rattle.catalogue_core.specs.CatalogueRows.{UnitRow, unit_row, box_from, text_said}
-use Rattle.state_encoding.specs.Reading.{OfficeRows, boxes_said, values_said, unit_from, unit_said}
+use Rattle.state_encoding.specs.OfficeRows.{OfficeRows, boxes_said, values_said, unit_from, unit_said}
 use Rattle.catalogue_core.specs.CatalogueCauses.{unit_numbers}
 use Rattle.state_encoding.proofs.RowsByNumber.{From, in_map, found_by}
 

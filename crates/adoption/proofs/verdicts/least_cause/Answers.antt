@@ -9,7 +9,7 @@ use Rattle.office_tables.specs.Faults.{FaultsHaveCause}
 use Rattle.office_tables.proofs.CallEnds.{excused_then}
 use Rattle.office_tables.proofs.Calls.{early, looks_then, cut_then}
 use Rattle.row_decoding.proofs.ReadCalls.{before, same_trees}
-use Rattle.adoption.specs.DeskChecked.{catalogue_cell_cause}
+use Rattle.adoption.specs.DeskCheck.{catalogue_cell_cause}
 use Rattle.adoption.specs.OwnRows.{own_row_of}
 use Rattle.adoption.specs.OrderedTables.{StandInOrder}
 use Rattle.adoption.proofs.CauseLemmas.{no_own_row, told_catalogue, fine_catalogue}

@@ -1,7 +1,7 @@
 use Rattle.std.proofs.Common.{take, filter}
 use Rattle.atom_csv.specs.Fields.{seen}
 use Rattle.atom_csv.specs.Values.{is_named_box, triples}
-use Rattle.atom_csv.specs.Known.{Holds}
+use Rattle.atom_csv.specs.KnownContainers.{Holds}
 use Rattle.atom_csv.proofs.boxes.boxes.Given as goal
 
 abbrev pub invariant-loop-i : goal.invariant-loop-i

@@ -1,6 +1,6 @@
 use Rattle.std.proofs.Common.{◌≡◌, ◌+◌, ◌-◌, ◌<◌, ◌≤◌, ◌++◌, List, length, map}
 use Rattle.atom_csv.specs.Fields.{Fields, trimmed}
-use Rattle.atom_csv.specs.Reads.{Tells}
+use Rattle.atom_csv.specs.ReadProgress.{Tells}
 use Rattle.atom_csv.specs.Source.{IsReading, left}
 use Rattle.atom_csv.proofs.read.below.Given as goal
 

@@ -4,8 +4,8 @@ use Rattle.std.specs.Str.{IsUtf8, is_utf8}
 use Rattle.std.proofs.lemmas.Result.{IfErr-weaker, IfOk-weaker}
 use Rattle.std.proofs.lemmas.Str.{IsUtf8-from_is_utf8, is_utf8-from_IsUtf8}
 use Rattle.isad_core.specs.Texts.{Bytes}
-use Rattle.atom_csv.specs.FileOf.{file_of, of_records, records_of}
-use Rattle.atom_csv.specs.Reads.{IsBad}
+use Rattle.atom_csv.specs.FileContents.{file_of, of_records, records_of}
+use Rattle.atom_csv.specs.ReadProgress.{IsBad}
 use Rattle.atom_csv.specs.declared.file.FileFault.{FileFault}
 use Rattle.atom_csv.specs.declared.file.FileFault.TheVariants.{Memory, Bad}
 use Rattle.atom_csv.proofs.read.read_file.Goals as goal

@@ -1,12 +1,12 @@
 use Rattle.std.proofs.Common.{◌≡◌, true}
 use Rattle.sqlite.specs.Held.{state}
-use Rattle.catalogue_core.specs.Finding.{has_unit}
+use Rattle.catalogue_core.specs.UnitLookup.{has_unit}
 use Rattle.office_core.specs.declared.command.Command.TheVariants as command
 use Rattle.office_core.specs.declared.done.Done.TheVariants as done
 use Rattle.office_core.proofs.KeptOffices.{office_kept}
 use Rattle.office_tables.proofs.CallEnds.{same_fault}
 use Rattle.refinement.specs.Gate.{OthersAreOpen}
-use Rattle.refinement.specs.Represents.{office_of}
+use Rattle.refinement.specs.Representation.{office_of}
 use Rattle.refinement.proofs.Doings.{does_not}
 use Rattle.refinement.proofs.Passing.{passed_where}
 use Rattle.catalogue_commands.proofs.Closed.{closes, closes_near}

@@ -1,15 +1,15 @@
 use Rattle.std.proofs.Common.{◌≡◌, true}
 use Rattle.sqlite.specs.Held.{state}
-use Rattle.catalogue_core.specs.Finding.{has_unit}
+use Rattle.catalogue_core.specs.UnitLookup.{has_unit}
 use Rattle.desk_store.specs.Holdings.{issued_of}
 use Rattle.office_core.specs.declared.command.Command.TheVariants as command
 use Rattle.office_core.specs.declared.done.Done.TheVariants as done
 use Rattle.office_core.proofs.KeptOffices.{office_kept}
-use Rattle.state_encoding.specs.DeskShown.{permit_rows}
-use Rattle.state_encoding.specs.Reading.{tables}
+use Rattle.state_encoding.specs.DeskEncoding.{permit_rows}
+use Rattle.state_encoding.specs.OfficeRows.{tables}
 use Rattle.office_tables.proofs.CallEnds.{same_fault}
 use Rattle.refinement.specs.Gate.{AreAsked, AreEnough}
-use Rattle.refinement.specs.Represents.{office_of}
+use Rattle.refinement.specs.Representation.{office_of}
 use Rattle.refinement.proofs.Doings.{does_not}
 use Rattle.refinement.proofs.Passing.{passed_where}
 use Rattle.catalogue_commands.proofs.Removed.{removes, removes_near}

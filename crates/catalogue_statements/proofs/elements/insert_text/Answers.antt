@@ -3,9 +3,9 @@ use Rattle.std.proofs.Common.{◌≡◌, ℤ, List, [], ◌∷◌, ap, sym, subs
 use Rattle.std.specs.List.{list_any}
 use Rattle.sqlite.specs.Held.{state}
 use Rattle.sqlite.specs.Edit.{next_rowid}
-use Rattle.catalogue_statements.specs.Adding.{AreElements, WithTexts, text_cells}
+use Rattle.catalogue_statements.specs.DescriptionRows.{AreElements, WithTexts, text_cells}
 use Rattle.catalogue_statements.specs.Rows.{ElementRow, element_row}
-use Rattle.catalogue_statements.specs.Represents.{element_number}
+use Rattle.catalogue_statements.specs.Representation.{element_number}
 use Rattle.office_tables.specs.Step.{PutsRow}
 use Rattle.office_tables.proofs.Calls.{on_ok_then}
 use Rattle.catalogue_statements.proofs.TextLemmas.{one_element}

@@ -4,9 +4,9 @@ use Rattle.std.specs.List.{list_any}
 use Rattle.std.proofs.lemmas.List.{take_all}
 use Rattle.sqlite.specs.Held.{state}
 use Rattle.isad_core.specs.Texts.{Bytes}
-use Rattle.catalogue_statements.specs.Adding.{WithTexts, cell_of, text_cells}
+use Rattle.catalogue_statements.specs.DescriptionRows.{WithTexts, cell_of, text_cells}
 use Rattle.catalogue_statements.specs.Rows.{ElementRow}
-use Rattle.catalogue_statements.specs.Represents.{element_number, texts_from}
+use Rattle.catalogue_statements.specs.Representation.{element_number, texts_from}
 use Rattle.office_tables.proofs.Calls.{early, goes_then}
 use Rattle.office_tables.proofs.Touching.{touched_again}
 use Rattle.catalogue_statements.proofs.Parts.{cells_then}

@@ -2,7 +2,7 @@ use Rattle.office_tables.specs.Schema as tables
 use Rattle.std.proofs.Common.{◌≡◌, List, [], ◌∷◌}
 use Rattle.sqlite.specs.Held.{state}
 use Rattle.sqlite.specs.State.{HasCleanDisk}
-use Rattle.catalogue_statements.specs.Adding.{AreElements, WithTexts}
+use Rattle.catalogue_statements.specs.DescriptionRows.{AreElements, WithTexts}
 use Rattle.catalogue_statements.specs.Rows.{ElementRow}
 use Rattle.office_tables.specs.Step.{InOffice, Goes, OnlyTouches}
 use Rattle.catalogue_statements.proofs.TextLemmas.{first_cells}

@@ -3,7 +3,7 @@ use Rattle.std.proofs.Common.{rules, ◌≡◌, ◌+◌, length, ap, ◌∙◌, 
 use Rattle.sqlite.specs.Effect.{Database}
 use Rattle.sqlite.specs.Held.{state}
 use Rattle.catalogue_statements.specs.Rows.{counted_from}
-use Rattle.catalogue_statements.specs.Represents.{RepresentsContainers}
+use Rattle.catalogue_statements.specs.Representation.{RepresentsContainers}
 use Rattle.office_tables.proofs.Calls.{early}
 use Rattle.catalogue_statements.proofs.Numbered.{one_container}
 use Rattle.office_tables.proofs.Causes.{cause_then, still_unlimited}

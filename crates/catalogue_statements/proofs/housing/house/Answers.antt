@@ -3,9 +3,9 @@ use Rattle.std.proofs.Common.{◌≡◌, ℤ, List, [], ◌∷◌, false, nat_eq
 use Rattle.std.specs.List.{list_any}
 use Rattle.sqlite.specs.Held.{state}
 use Rattle.sqlite.specs.Edit.{next_rowid}
-use Rattle.catalogue_statements.specs.Adding.{AreHoused, WithHousings}
-use Rattle.catalogue_core.specs.Describing.{with_boxes}
-use Rattle.catalogue_core.specs.Merging.{box_number}
+use Rattle.catalogue_statements.specs.DescriptionRows.{AreHoused, WithHousings}
+use Rattle.catalogue_core.specs.Descriptions.{with_boxes}
+use Rattle.catalogue_core.specs.CatalogueMerge.{box_number}
 use Rattle.catalogue_statements.specs.Rows.{HousingRow, housing_row}
 use Rattle.office_tables.specs.Step.{Goes, PutsRow, OnlyTouches, Spares}
 use Rattle.office_tables.proofs.Calls.{early, on_ok_both}

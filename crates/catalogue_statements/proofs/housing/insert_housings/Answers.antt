@@ -6,9 +6,9 @@ use Rattle.std.proofs.lemmas.List.Sorted.{IsPermutation-refl}
 use Rattle.isad_core.specs.Boxes.{distinct}
 use Rattle.sqlite.specs.Held.{state}
 use Rattle.isad_core.specs.declared.values.BoxKey.{BoxKey}
-use Rattle.catalogue_statements.specs.Adding.{AreHoused, WithHousings, housing_cell}
-use Rattle.catalogue_core.specs.Describing.{with_boxes}
-use Rattle.catalogue_core.specs.Merging.{box_number}
+use Rattle.catalogue_statements.specs.DescriptionRows.{AreHoused, WithHousings, housing_cell}
+use Rattle.catalogue_core.specs.Descriptions.{with_boxes}
+use Rattle.catalogue_core.specs.CatalogueMerge.{box_number}
 use Rattle.catalogue_statements.specs.Rows.{HousingRow}
 use Rattle.office_tables.proofs.Calls.{early, goes_nowhere, goes_then}
 use Rattle.office_tables.proofs.Touching.{touched_again, nothing_touched}

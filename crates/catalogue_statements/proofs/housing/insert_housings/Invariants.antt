@@ -3,8 +3,8 @@ use Rattle.std.proofs.Common.{◌≡◌, List, [], ◌∷◌, take}
 use Rattle.sqlite.specs.Held.{state}
 use Rattle.sqlite.specs.State.{HasCleanDisk}
 use Rattle.isad_core.specs.declared.values.BoxKey.{BoxKey}
-use Rattle.catalogue_statements.specs.Adding.{AreHoused, WithHousings}
-use Rattle.catalogue_core.specs.Describing.{with_boxes}
+use Rattle.catalogue_statements.specs.DescriptionRows.{AreHoused, WithHousings}
+use Rattle.catalogue_core.specs.Descriptions.{with_boxes}
 use Rattle.catalogue_statements.specs.Rows.{HousingRow}
 use Rattle.office_tables.specs.Step.{InOffice, Goes, OnlyTouches}
 use Rattle.catalogue_statements.proofs.HousingLemmas.{cells_in}

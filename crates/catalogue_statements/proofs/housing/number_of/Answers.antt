@@ -3,10 +3,10 @@ use Rattle.std.proofs.Common.{arith, ◌≡◌, ◌+◌, ◌++◌, ◌∷◌, []
 use Rattle.std.proofs.lemmas.Result.{IfOk-weaker}
 use Rattle.sqlite.specs.Effect.{Database}
 use Rattle.sqlite.specs.Held.{state}
-use Rattle.catalogue_core.specs.Describing.{with_boxes}
-use Rattle.catalogue_core.specs.Merging.{number_in, box_number}
+use Rattle.catalogue_core.specs.Descriptions.{with_boxes}
+use Rattle.catalogue_core.specs.CatalogueMerge.{number_in, box_number}
 use Rattle.catalogue_statements.specs.Rows.{counted_from}
-use Rattle.catalogue_statements.specs.Represents.{RepresentsContainers}
+use Rattle.catalogue_statements.specs.Representation.{RepresentsContainers}
 use Rattle.office_tables.specs.Step.{Goes}
 use Rattle.office_tables.proofs.Calls.{early}
 use Rattle.office_tables.proofs.Outcomes.{if_ok_by}

@@ -2,7 +2,7 @@ use Rattle.std.proofs.Common.{refl}
 use Rattle.sqlite.specs.Held.{state}
 use Rattle.office_tables.proofs.Calls.{early}
 use Rattle.office_tables.proofs.RowWrites.{ours}
-use Rattle.catalogue_statements.specs.Added.{unit_of}
+use Rattle.catalogue_statements.specs.NewUnit.{unit_of}
 use Rattle.catalogue_statements.proofs.UnitWrites.{insert_unit_text, insert_unit_command, insert_unit_means, insert_unit_puts, insert_unit_faults}
 use Rattle.catalogue_statements.proofs.units.insert_unit.Goals as goal
 

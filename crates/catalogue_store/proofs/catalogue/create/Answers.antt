@@ -8,7 +8,7 @@ use Rattle.office_tables.specs.Step.{InTransaction, Continues, Goes, PutsRow, Sp
 use Rattle.office_tables.proofs.Calls.{early, continues_then, on_ok_both, on_ok_then}
 use Rattle.office_tables.proofs.CallEnds.{same_fault, making_last, making_not, making_then}
 use Rattle.catalogue_statements.specs.Rows.{office_row}
-use Rattle.catalogue_statements.specs.Represents.{Represents}
+use Rattle.catalogue_statements.specs.Representation.{Represents}
 use Rattle.catalogue_store.proofs.Beginning.{shows_beginning, desk_kept}
 use Rattle.office_tables.proofs.Sparing.{if_err_then}
 use Rattle.office_tables.specs.Faults.{BlamesDisk}

@@ -1,9 +1,9 @@
 use Rattle.std.proofs.Common.{ap, ◌≡◌, subst, sym, ◌∙◌, map, slice_get}
 use Rattle.std.specs.Prelude.{⊤}
 use Rattle.catalogue_core.specs.Units.{Unit, is_from}
-use Rattle.catalogue_core.specs.Finding.{Finds}
+use Rattle.catalogue_core.specs.UnitLookup.{Finds}
 use Rattle.office_tables.specs.Calls.{RepresentsAlone}
-use Rattle.catalogue_statements.specs.Represents.{RepresentsUnits}
+use Rattle.catalogue_statements.specs.Representation.{RepresentsUnits}
 use Rattle.office_tables.proofs.CallEnds.{same_fault}
 use Rattle.office_tables.proofs.StoreCalls.{tells_not}
 use Rattle.catalogue_statements.proofs.Finding.{finds_first}

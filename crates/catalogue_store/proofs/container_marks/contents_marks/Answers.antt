@@ -5,11 +5,11 @@ use Rattle.sqlite.specs.Effect.{Database}
 use Rattle.sqlite.specs.Held.{state}
 use Rattle.sqlite.specs.State.{HasCleanDisk}
 use Rattle.catalogue_core.specs.Bounds.{IsKept}
-use Rattle.catalogue_core.specs.Merging.{Catalogue}
+use Rattle.catalogue_core.specs.CatalogueMerge.{Catalogue}
 use Rattle.office_tables.specs.Step.{IsAborted, LeavesUnchanged}
-use Rattle.catalogue_statements.specs.Represents.{Represents}
+use Rattle.catalogue_statements.specs.Representation.{Represents}
 use Rattle.catalogue_statements.specs.declared.office.OfficeRow.{OfficeRow}
-use Rattle.catalogue_store.specs.Attaching.{AreMarksOfEach, AreMarksOfContents}
+use Rattle.catalogue_store.specs.Attachments.{AreMarksOfEach, AreMarksOfContents}
 use Rattle.office_tables.proofs.CallEnds.{excused_then, same_fault}
 use Rattle.office_tables.proofs.StoreCalls.{tells_not}
 use Rattle.office_tables.proofs.Calls.{cut_then, early, looks_then, office_of, on_err_then, on_ok_then}

@@ -7,12 +7,12 @@ use Rattle.sqlite_trees.proofs.ListLemmas.{all-get_or}
 use Rattle.isad_core.specs.Limits.{IsNumber}
 use Rattle.tree_core.specs.Forest.{each, tree}
 use Rattle.catalogue_core.specs.Bounds.{IsKept}
-use Rattle.catalogue_core.specs.Marking.{AreMarks, AreWalkMarks}
+use Rattle.catalogue_core.specs.UnitMarks.{AreMarks, AreWalkMarks}
 use Rattle.catalogue_core.specs.Units.{has_id}
 use Rattle.office_tables.specs.declared.fault.StoreFault.TheVariants as fault
-use Rattle.catalogue_statements.specs.Represents.{Represents}
+use Rattle.catalogue_statements.specs.Representation.{Represents}
 use Rattle.catalogue_statements.proofs.Moves.{id_of, units_once}
-use Rattle.catalogue_store.specs.Attaching.{AreMarksOfEach}
+use Rattle.catalogue_store.specs.Attachments.{AreMarksOfEach}
 use Rattle.catalogue_store.specs.declared.container_marks.Attached.{Attached}
 use Rattle.office_tables.proofs.CallEnds.{same_fault}
 use Rattle.office_tables.proofs.StoreCalls.{tells_not, tells_cut}

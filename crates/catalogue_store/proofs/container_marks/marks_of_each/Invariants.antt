@@ -1,10 +1,10 @@
 use Rattle.std.proofs.Common.{take}
 use Rattle.sqlite.specs.Held.{state}
 use Rattle.sqlite.specs.State.{HasCleanDisk}
-use Rattle.catalogue_core.specs.Marking.{AreMarks}
-use Rattle.catalogue_core.specs.Merging.{Catalogue}
-use Rattle.catalogue_statements.specs.Represents.{Represents}
-use Rattle.catalogue_store.specs.Attaching.{AreMarksOfEach, way_to}
+use Rattle.catalogue_core.specs.UnitMarks.{AreMarks}
+use Rattle.catalogue_core.specs.CatalogueMerge.{Catalogue}
+use Rattle.catalogue_statements.specs.Representation.{Represents}
+use Rattle.catalogue_store.specs.Attachments.{AreMarksOfEach, way_to}
 use Rattle.office_tables.specs.Step.{InTransaction, LeavesUnchanged}
 use Rattle.catalogue_statements.specs.declared.office.OfficeRow.{OfficeRow}
 use Rattle.catalogue_store.proofs.container_marks.marks_of_each.Given as goal

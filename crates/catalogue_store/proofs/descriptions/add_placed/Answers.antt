@@ -4,13 +4,13 @@ use Rattle.sqlite.specs.Held.{state}
 use Rattle.tree_core.specs.Forest.{add, each, nodes}
 use Rattle.tree_core.proofs.EachLemmas.{has_place-each, has-each}
 use Rattle.catalogue_core.specs.Bounds.{IsKept}
-use Rattle.catalogue_core.specs.Describing.{with_numbered, HasPlaceFor, IsNew}
+use Rattle.catalogue_core.specs.Descriptions.{with_numbered, HasPlaceFor, IsNew}
 use Rattle.catalogue_core.specs.Units.{Unit, has_id, is_from}
 use Rattle.office_tables.specs.Schema as tables
 use Rattle.office_tables.specs.Step.{Goes, HasRows, IsAborted, OnlyTouches}
-use Rattle.catalogue_statements.specs.Added.{unit_of}
+use Rattle.catalogue_statements.specs.NewUnit.{unit_of}
 use Rattle.catalogue_statements.specs.Rows.{ElementRow, HousingRow, office_row}
-use Rattle.catalogue_statements.specs.Represents.{RepresentsNumbered, catalogue_trees}
+use Rattle.catalogue_statements.specs.Representation.{RepresentsNumbered, catalogue_trees}
 use Rattle.office_tables.proofs.CallEnds.{excused_then, same_fault}
 use Rattle.office_tables.proofs.StoreCalls.{makes_not, makes_cut}
 use Rattle.office_tables.proofs.Calls.{cut_then, early, goes_then, office_of, on_err_then, on_ok_then, still_office}

@@ -3,14 +3,14 @@ use Rattle.std.proofs.lemmas.Bool.{false≢true}
 use Rattle.sqlite.specs.Held.{state}
 use Rattle.tree_core.specs.Forest.{has_place}
 use Rattle.catalogue_core.specs.Bounds.{IsKept}
-use Rattle.catalogue_core.specs.Describing.{HasPlaceFor, IsNew, with_numbered}
+use Rattle.catalogue_core.specs.Descriptions.{HasPlaceFor, IsNew, with_numbered}
 use Rattle.catalogue_core.specs.Units.{has_id}
 use Rattle.office_tables.specs.Step.{Goes}
 use Rattle.office_tables.proofs.CallEnds.{same_fault}
 use Rattle.office_tables.proofs.Calls.{early, on_ok_then, still}
 use Rattle.office_tables.proofs.StoreCalls.{makes_not}
-use Rattle.catalogue_statements.specs.Added.{unit_of}
-use Rattle.catalogue_statements.specs.Represents.{RepresentsNumbered, catalogue_trees}
+use Rattle.catalogue_statements.specs.NewUnit.{unit_of}
+use Rattle.catalogue_statements.specs.Representation.{RepresentsNumbered, catalogue_trees}
 use Rattle.catalogue_store.proofs.Accepted.{makes_after, makes_refused}
 use Rattle.catalogue_store.proofs.descriptions.add_unit.Goals as goal
 

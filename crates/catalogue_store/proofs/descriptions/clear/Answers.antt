@@ -1,9 +1,9 @@
 use Rattle.office_tables.specs.Schema as tables
 use Rattle.std.proofs.Common.{[], ◌∷◌, filter, not, nat_eq, refl, ◌∙◌}
 use Rattle.sqlite.specs.Held.{state}
-use Rattle.catalogue_statements.specs.Adding.{AreElements, AreHoused}
+use Rattle.catalogue_statements.specs.DescriptionRows.{AreElements, AreHoused}
 use Rattle.catalogue_statements.specs.Rows.{ElementRow, HousingRow, housing_row}
-use Rattle.office_tables.specs.Numbered.{HoldsNumbered}
+use Rattle.office_tables.specs.RowNumbers.{HoldsNumbered}
 use Rattle.office_tables.specs.Step.{Goes, OnlyTouches}
 use Rattle.office_tables.proofs.Calls.{early, on_ok_both, on_ok_then}
 use Rattle.office_tables.proofs.Outcomes.{on_ok_by}

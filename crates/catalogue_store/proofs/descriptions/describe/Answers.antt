@@ -1,10 +1,10 @@
 use Rattle.office_tables.specs.Schema as tables
 use Rattle.std.proofs.Common.{rules, List, refl, [], ◌∷◌}
 use Rattle.sqlite.specs.Held.{state}
-use Rattle.catalogue_statements.specs.Adding.{AreHoused, IsDescribed, WithHousings}
-use Rattle.catalogue_core.specs.Describing.{with_boxes}
+use Rattle.catalogue_statements.specs.DescriptionRows.{AreHoused, IsDescribed, WithHousings}
+use Rattle.catalogue_core.specs.Descriptions.{with_boxes}
 use Rattle.catalogue_statements.specs.Rows.{HousingRow}
-use Rattle.catalogue_statements.specs.Represents.{housing_cells}
+use Rattle.catalogue_statements.specs.Representation.{housing_cells}
 use Rattle.office_tables.specs.Step.{Goes, OnlyTouches, Spares}
 use Rattle.office_tables.proofs.Calls.{early, on_ok_both}
 use Rattle.office_tables.proofs.Outcomes.{on_ok_by}

@@ -3,9 +3,9 @@ use Rattle.std.proofs.lemmas.Bool.{false≢true}
 use Rattle.sqlite.specs.Held.{state}
 use Rattle.tree_core.specs.Forest.{has}
 use Rattle.catalogue_core.specs.Bounds.{IsKept}
-use Rattle.catalogue_core.specs.Describing.{AreWhole, MayDescribe, with_values}
+use Rattle.catalogue_core.specs.Descriptions.{AreWhole, MayDescribe, with_values}
 use Rattle.catalogue_core.specs.Units.{Unit, has_id}
-use Rattle.catalogue_statements.specs.Represents.{Represents, described_trees}
+use Rattle.catalogue_statements.specs.Representation.{Represents, described_trees}
 use Rattle.catalogue_statements.proofs.Statuses.{each_each}
 use Rattle.office_tables.specs.Step.{Goes}
 use Rattle.office_tables.proofs.CallEnds.{same_fault}

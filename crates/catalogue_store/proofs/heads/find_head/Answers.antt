@@ -12,7 +12,7 @@ use Rattle.catalogue_core.specs.Units.{Unit, has_id}
 use Rattle.office_tables.specs.Schema as tables
 use Rattle.office_tables.specs.declared.fault.StoreFault.TheVariants as fault
 use Rattle.catalogue_statements.specs.Rows.{element_row}
-use Rattle.catalogue_statements.specs.Represents.{Represents, element_cells, elements_of}
+use Rattle.catalogue_statements.specs.Representation.{Represents, element_cells, elements_of}
 use Rattle.catalogue_statements.specs.Standings.{standing_of}
 use Rattle.catalogue_statements.specs.declared.row_types.Element.{Element}
 use Rattle.catalogue_store.specs.Heads.{head_of}

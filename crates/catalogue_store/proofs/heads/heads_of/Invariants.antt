@@ -1,8 +1,8 @@
 use Rattle.std.proofs.Common.{◌≡◌, Some, map, take}
 use Rattle.sqlite.specs.Held.{state}
 use Rattle.sqlite.specs.State.{HasCleanDisk}
-use Rattle.catalogue_core.specs.Merging.{Catalogue}
-use Rattle.catalogue_statements.specs.Represents.{Represents}
+use Rattle.catalogue_core.specs.CatalogueMerge.{Catalogue}
+use Rattle.catalogue_statements.specs.Representation.{Represents}
 use Rattle.office_tables.specs.Step.{InTransaction, LeavesUnchanged}
 use Rattle.catalogue_statements.specs.declared.office.OfficeRow.{OfficeRow}
 use Rattle.catalogue_store.specs.Heads.{head_at}

@@ -5,7 +5,7 @@ use Rattle.sqlite.specs.Effect.{Database}
 use Rattle.sqlite.specs.Held.{state}
 use Rattle.tree_core.specs.Forest.{each, path}
 use Rattle.catalogue_core.specs.Bounds.{IsKept}
-use Rattle.catalogue_core.specs.Finding.{has_unit}
+use Rattle.catalogue_core.specs.UnitLookup.{has_unit}
 use Rattle.catalogue_core.specs.Units.{Unit, has_id}
 use Rattle.office_tables.specs.Step.{IsAborted, LeavesUnchanged}
 use Rattle.office_tables.proofs.CallEnds.{excused_then, same_fault}
@@ -13,7 +13,7 @@ use Rattle.office_tables.proofs.StoreCalls.{tells_not}
 use Rattle.office_tables.proofs.Calls.{early, cut_then, looks_then, on_err_then, on_ok_then}
 use Rattle.office_tables.proofs.Outcomes.{if_ok_by}
 use Rattle.std.proofs.lemmas.Result.{IfOk-weaker}
-use Rattle.catalogue_statements.specs.Represents.{Represents}
+use Rattle.catalogue_statements.specs.Representation.{Represents}
 use Rattle.catalogue_store.specs.Heads.{head_of}
 use Rattle.catalogue_store.proofs.HeadForests.{all_there, heads_are}
 use Rattle.catalogue_store.proofs.MarkForests.{path_in, path_ids}

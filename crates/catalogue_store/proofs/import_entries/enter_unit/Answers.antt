@@ -3,21 +3,21 @@ use Rattle.std.proofs.lemmas.List.Sorted.{list_any-IsPermutation}
 use Rattle.sqlite.specs.Held.{state}
 use Rattle.tree_core.specs.Forest.{nodes}
 use Rattle.catalogue_core.specs.Bounds.{IsKept}
-use Rattle.catalogue_core.specs.Describing.{HasPlaceFor, IsNew}
+use Rattle.catalogue_core.specs.Descriptions.{HasPlaceFor, IsNew}
 use Rattle.catalogue_core.specs.Units.{has_id, is_from}
 use Rattle.office_tables.specs.Schema as tables
 use Rattle.office_tables.specs.Step.{Goes, IsAborted, OnlyTouches}
-use Rattle.catalogue_statements.specs.Added.{unit_of}
-use Rattle.catalogue_statements.specs.Adding.{IsDescribed}
+use Rattle.catalogue_statements.specs.NewUnit.{unit_of}
+use Rattle.catalogue_statements.specs.DescriptionRows.{IsDescribed}
 use Rattle.catalogue_statements.specs.Rows.{ElementRow, HousingRow}
-use Rattle.catalogue_statements.specs.Represents.{RepresentsCatalogue, described_trees}
+use Rattle.catalogue_statements.specs.Representation.{RepresentsCatalogue, described_trees}
 use Rattle.office_tables.proofs.CallEnds.{excused_then, same_fault}
 use Rattle.office_tables.proofs.StoreCalls.{makes_not}
 use Rattle.office_tables.proofs.Calls.{cut_then, early, goes_then, on_err_then, on_ok_both, on_ok_then, still_office}
 use Rattle.office_tables.proofs.Outcomes.{on_ok_by}
 use Rattle.office_tables.proofs.Touching.{touched_then, touched_wider}
 use Rattle.catalogue_statements.proofs.Untold.{none_yet, unit_added}
-use Rattle.catalogue_store.specs.Entering.{with_entered}
+use Rattle.catalogue_store.specs.ImportEntries.{with_entered}
 use Rattle.catalogue_store.proofs.Entered.{shows_entered}
 use Rattle.catalogue_store.proofs.Telling.{elements_shown, housed_shown, same_elements, same_housed}
 use Rattle.office_tables.proofs.Sparing.{last_touched, wider_last}

@@ -4,13 +4,13 @@ use Rattle.std.proofs.lemmas.List.Sorted.{list_any-IsPermutation}
 use Rattle.sqlite.specs.Held.{state}
 use Rattle.tree_core.specs.Forest.{nodes}
 use Rattle.catalogue_core.specs.Bounds.{IsKept}
-use Rattle.catalogue_core.specs.Describing.{with_values, AreWhole, MayDescribe}
+use Rattle.catalogue_core.specs.Descriptions.{with_values, AreWhole, MayDescribe}
 use Rattle.catalogue_core.specs.Units.{has_id}
 use Rattle.office_tables.specs.Schema as tables
 use Rattle.office_tables.specs.Step.{Goes, IsAborted, OnlyTouches}
-use Rattle.catalogue_statements.specs.Adding.{IsDescribed}
+use Rattle.catalogue_statements.specs.DescriptionRows.{IsDescribed}
 use Rattle.catalogue_statements.specs.Rows.{ElementRow, HousingRow}
-use Rattle.catalogue_statements.specs.Represents.{RepresentsCatalogue, described_trees}
+use Rattle.catalogue_statements.specs.Representation.{RepresentsCatalogue, described_trees}
 use Rattle.office_tables.proofs.CallEnds.{excused_then, same_fault}
 use Rattle.office_tables.proofs.StoreCalls.{makes_not, makes_cut}
 use Rattle.office_tables.proofs.Calls.{cut_then, early, goes_then, on_err_then, on_ok_both, on_ok_then, still_office}

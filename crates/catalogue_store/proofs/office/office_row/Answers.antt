@@ -5,12 +5,12 @@ use Rattle.sqlite.specs.Effect.{Database}
 use Rattle.sqlite.specs.Held.{state}
 use Rattle.tree_core.specs.Forest.{nodes}
 use Rattle.catalogue_core.proofs.NodeLemmas.{length-nodes}
-use Rattle.office_tables.specs.Counting.{capped}
+use Rattle.office_tables.specs.RowCounts.{capped}
 use Rattle.office_tables.specs.Schema as tables
 use Rattle.office_tables.specs.declared.fault.StoreFault.TheVariants as fault
 use Rattle.catalogue_statements.specs.Rows.{counted_from}
 use Rattle.catalogue_statements.specs.Settings.{AreLegibleSettings}
-use Rattle.catalogue_statements.specs.Represents.{RepresentsSettings}
+use Rattle.catalogue_statements.specs.Representation.{RepresentsSettings}
 use Rattle.catalogue_store.specs.Offices.{told_office}
 use Rattle.office_tables.proofs.CallEnds.{same_fault}
 use Rattle.office_tables.proofs.StoreCalls.{tells_not, tells_cut}

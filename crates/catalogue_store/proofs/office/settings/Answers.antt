@@ -3,7 +3,7 @@ use Rattle.std.specs.Prelude.{⊤}
 use Rattle.sqlite.specs.Held.{state}
 use Rattle.office_tables.specs.declared.fault.StoreFault.TheVariants as fault
 use Rattle.catalogue_statements.specs.Settings.{AreLegibleSettings}
-use Rattle.catalogue_statements.specs.Represents.{RepresentsSettings}
+use Rattle.catalogue_statements.specs.Representation.{RepresentsSettings}
 use Rattle.office_tables.proofs.CallEnds.{same_fault}
 use Rattle.office_tables.proofs.StoreCalls.{tells_not}
 use Rattle.office_tables.proofs.Calls.{cut_after, office_of}

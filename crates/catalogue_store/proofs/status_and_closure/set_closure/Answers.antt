@@ -6,7 +6,7 @@ use Rattle.office_tables.specs.Schema as tables
 use Rattle.office_tables.specs.Step.{Goes, HasRows}
 use Rattle.office_tables.proofs.Calls.{on_ok_both, office_of}
 use Rattle.catalogue_statements.specs.Rows.{unit_row}
-use Rattle.catalogue_statements.specs.Represents.{Represents}
+use Rattle.catalogue_statements.specs.Representation.{Represents}
 use Rattle.catalogue_statements.proofs.Statuses.{shows_changed, kept_by}
 use Rattle.office_tables.proofs.Sparing.{untouched_last}
 use Rattle.catalogue_store.proofs.status_and_closure.set_closure.Goals as goal

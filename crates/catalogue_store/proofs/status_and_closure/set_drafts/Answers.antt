@@ -1,14 +1,14 @@
 use Rattle.std.proofs.Common.{rules, ℕ, List, [], ◌∷◌, take, get_or, sym, subst, arith}
 use Rattle.std.proofs.lemmas.List.{take_more, take_all}
 use Rattle.sqlite.specs.Held.{state}
-use Rattle.catalogue_core.specs.Merging.{Catalogue}
+use Rattle.catalogue_core.specs.CatalogueMerge.{Catalogue}
 use Rattle.catalogue_core.specs.Statuses.{with_status}
 use Rattle.office_tables.specs.Schema as tables
 use Rattle.office_tables.proofs.Calls.{early, goes_nowhere, goes_then, office_of}
 use Rattle.office_tables.proofs.CallEnds.{same_fault, left_fault, left_known, left_well}
 use Rattle.office_tables.proofs.Causes.{cause_then, still_unlimited}
 use Rattle.office_tables.proofs.Touching.{nothing_touched, touched_again}
-use Rattle.catalogue_statements.specs.Represents.{Represents}
+use Rattle.catalogue_statements.specs.Representation.{Represents}
 use Rattle.catalogue_statements.proofs.Statuses.{draft_step, status_of_none}
 use Rattle.office_tables.proofs.Sparing.{untouched}
 use Rattle.catalogue_store.proofs.status_and_closure.set_drafts.Goals as goal

@@ -15,7 +15,7 @@ use Rattle.office_tables.proofs.CallEnds.{same_fault}
 use Rattle.office_tables.proofs.StoreCalls.{makes_not, makes_part}
 use Rattle.office_tables.proofs.Causes.{still_unlimited}
 use Rattle.office_tables.proofs.LaterCauses.{next_cause}
-use Rattle.catalogue_statements.specs.Represents.{Represents}
+use Rattle.catalogue_statements.specs.Representation.{Represents}
 use Rattle.catalogue_statements.proofs.Statuses.{low_chosen}
 use Rattle.office_tables.proofs.Sparing.{looked_spares}
 use Rattle.catalogue_store.proofs.status_and_closure.set_status.Goals as goal

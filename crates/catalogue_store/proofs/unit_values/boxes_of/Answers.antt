@@ -3,8 +3,8 @@ use Rattle.std.proofs.lemmas.List.{get_or-map, length-map, take_more}
 use Rattle.sqlite.specs.Effect.{Database}
 use Rattle.sqlite.specs.Held.{state}
 use Rattle.isad_core.specs.declared.values.BoxKey.{BoxKey}
-use Rattle.catalogue_core.specs.Merging.{box_number}
-use Rattle.catalogue_statements.specs.Represents.{RepresentsContainers}
+use Rattle.catalogue_core.specs.CatalogueMerge.{box_number}
+use Rattle.catalogue_statements.specs.Representation.{RepresentsContainers}
 use Rattle.office_tables.specs.Schema as tables
 use Rattle.office_tables.proofs.CallEnds.{same_fault, read_not, read_cut}
 use Rattle.office_tables.proofs.Calls.{early, looks_then, cut_after}

@@ -2,8 +2,8 @@ use Rattle.std.proofs.Common.{◌≡◌, List, map, take}
 use Rattle.sqlite.specs.Held.{state}
 use Rattle.sqlite.specs.State.{HasCleanDisk}
 use Rattle.isad_core.specs.declared.values.BoxKey.{BoxKey}
-use Rattle.catalogue_core.specs.Merging.{box_number}
-use Rattle.catalogue_statements.specs.Represents.{RepresentsContainers}
+use Rattle.catalogue_core.specs.CatalogueMerge.{box_number}
+use Rattle.catalogue_statements.specs.Representation.{RepresentsContainers}
 use Rattle.office_tables.specs.Step.{InOffice, LeavesUnchanged}
 use Rattle.catalogue_store.proofs.unit_values.boxes_of.Given as goal
 

@@ -6,9 +6,9 @@ use Rattle.sqlite.specs.State.{HasCleanDisk}
 use Rattle.isad_core.specs.declared.values.Values.{«Values» as Description}
 use Rattle.sqlite_trees.proofs.ListLemmas.{map-map}
 use Rattle.office_tables.specs.Faults.{HasCause}
-use Rattle.catalogue_statements.specs.Adding.{cell_of}
+use Rattle.catalogue_statements.specs.DescriptionRows.{cell_of}
 use Rattle.catalogue_statements.specs.Rows.{ElementRow}
-use Rattle.catalogue_statements.specs.Represents.{element_cells}
+use Rattle.catalogue_statements.specs.Representation.{element_cells}
 use Rattle.catalogue_statements.specs.Values.{TellsTexts}
 use Rattle.catalogue_statements.specs.declared.row_types.Element.{Element}
 use Rattle.office_tables.proofs.CallEnds.{same_fault}

@@ -4,13 +4,13 @@ use Rattle.std.proofs.lemmas.List.{length-map}
 use Rattle.sqlite.specs.Effect.{Database}
 use Rattle.sqlite.specs.Held.{state}
 use Rattle.catalogue_core.specs.Bounds.{IsKept}
-use Rattle.catalogue_core.specs.Describing.{KnowsItsContainers}
-use Rattle.catalogue_core.specs.Merging.{box_number}
+use Rattle.catalogue_core.specs.Descriptions.{KnowsItsContainers}
+use Rattle.catalogue_core.specs.CatalogueMerge.{box_number}
 use Rattle.catalogue_core.specs.Units.{Unit}
 use Rattle.office_tables.specs.Schema as tables
-use Rattle.catalogue_statements.specs.Represents.{RepresentsContainers}
+use Rattle.catalogue_statements.specs.Representation.{RepresentsContainers}
 use Rattle.catalogue_statements.specs.Values.{RepresentsValues, TellsTexts}
-use Rattle.catalogue_store.specs.Valuing.{values_of}
+use Rattle.catalogue_store.specs.UnitValues.{values_of}
 use Rattle.catalogue_store.specs.declared.unit_values.UnitValues.{UnitValues}
 use Rattle.office_tables.proofs.CallEnds.{same_fault}
 use Rattle.office_tables.proofs.StoreCalls.{tells_not, tells_cut}

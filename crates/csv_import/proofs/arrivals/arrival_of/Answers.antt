@@ -1,7 +1,7 @@
 use Rattle.std.proofs.Common.{◌≡◌, Bool, true, false, cond, Some, None, sym, ap, ◌∙◌}
 use Rattle.std.specs.Prelude.{is_some, option_and_then}
 use Rattle.sqlite.specs.Held.{state}
-use Rattle.catalogue_core.specs.Merging.{is_known, number_of}
+use Rattle.catalogue_core.specs.CatalogueMerge.{is_known, number_of}
 use Rattle.office_tables.proofs.Calls.{looks_nowhere, office_of}
 use Rattle.csv_import.proofs.KnownUnits.{is_known_by}
 use Rattle.csv_import.proofs.arrivals.arrival_of.Goals as goal

@@ -14,9 +14,9 @@ use Rattle.catalogue_store.specs.Arrivals.{IsNumbered}
 use Rattle.office_tables.specs.declared.fault.StoreFault.TheVariants as fault
 use Rattle.office_tables.proofs.CallEnds.{same_fault, tells_cut, tells_not}
 use Rattle.office_tables.proofs.Calls.{cut_after, early, looks_then, still}
-use Rattle.csv_import.specs.Arriving.{arrivals_of}
-use Rattle.csv_import.specs.Entering.{RepresentsEntering}
-use Rattle.csv_import.specs.Known.{TellsUnits}
+use Rattle.csv_import.specs.Arrivals.{arrivals_of}
+use Rattle.csv_import.specs.RowEntry.{RepresentsEntering}
+use Rattle.csv_import.specs.KnownUnits.{TellsUnits}
 use Rattle.csv_import.proofs.Arrived.{AreTold, all_told, at_number, brings_none, brings_one, low_more}
 use Rattle.csv_import.proofs.KnownUnits.{told_at}
 use Rattle.csv_import.proofs.arrivals.arrivals.Goals as goal

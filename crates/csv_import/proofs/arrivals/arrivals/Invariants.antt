@@ -6,12 +6,12 @@ use Rattle.sqlite.specs.State.{HasCleanDisk}
 use Rattle.isad_core.specs.Limits.{IsNumber}
 use Rattle.isad_core.specs.Texts.{Bytes}
 use Rattle.catalogue_core.specs.GoodCatalogues.{AreGoodUnits}
-use Rattle.catalogue_core.specs.Merging.{Catalogue}
+use Rattle.catalogue_core.specs.CatalogueMerge.{Catalogue}
 use Rattle.catalogue_statements.specs.declared.office.OfficeRow.{OfficeRow}
 use Rattle.catalogue_store.specs.Arrivals.{IsNumbered}
 use Rattle.office_tables.specs.Step.{InTransaction, LeavesUnchanged}
-use Rattle.csv_import.specs.Entering.{RepresentsEntering}
-use Rattle.csv_import.specs.Known.{TellsUnits}
+use Rattle.csv_import.specs.RowEntry.{RepresentsEntering}
+use Rattle.csv_import.specs.KnownUnits.{TellsUnits}
 use Rattle.csv_import.proofs.Arrived.{AreTold}
 use Rattle.csv_import.proofs.arrivals.arrivals.Given as goal
 

@@ -4,10 +4,10 @@ use Rattle.std.specs.BTreeMap.{get_by_text}
 use Rattle.isad_core.specs.Limits.{IsNumber}
 use Rattle.atom_csv.specs.declared.file.Row.{Row}
 use Rattle.catalogue_core.specs.GoodCatalogues.{AreGoodUnits}
-use Rattle.catalogue_core.specs.Merging.{number_of}
-use Rattle.catalogue_core.specs.RowByRow.{number_there}
-use Rattle.csv_import.specs.Arriving.{KnowsNumbers}
-use Rattle.csv_import.specs.Planning.{or_there}
+use Rattle.catalogue_core.specs.CatalogueMerge.{number_of}
+use Rattle.catalogue_core.specs.EntryByRow.{number_there}
+use Rattle.csv_import.specs.Arrivals.{KnowsNumbers}
+use Rattle.csv_import.specs.RowPlan.{or_there}
 use Rattle.csv_import.proofs.arrivals.parent_of.Goals as goal
 use Rattle.refinement.proofs.Passing.{if_ok_then}
 

@@ -1,7 +1,7 @@
 use Rattle.std.proofs.Common.{◌≡◌, true, Err, subst}
 use Rattle.sqlite.specs.Held.{state}
-use Rattle.atom_csv.specs.FileOf.{file_of}
-use Rattle.atom_csv.specs.Reads.{IsBad}
+use Rattle.atom_csv.specs.FileContents.{file_of}
+use Rattle.atom_csv.specs.ReadProgress.{IsBad}
 use Rattle.atom_csv.specs.declared.file.FileFault.{FileFault}
 use Rattle.desk_core.specs.declared.refusal.Refusal.TheVariants.{BadFile}
 use Rattle.catalogue_core.specs.Sources.{is_source}

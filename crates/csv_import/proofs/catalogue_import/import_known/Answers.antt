@@ -7,11 +7,11 @@ use Rattle.catalogue_core.specs.Sources.{is_source}
 use Rattle.office_core.specs.declared.command.Command.TheVariants as command
 use Rattle.office_core.proofs.KeptOffices.{office_kept}
 use Rattle.office_tables.proofs.CallEnds.{same_fault}
-use Rattle.refinement.specs.Represents.{office_of}
+use Rattle.refinement.specs.Representation.{office_of}
 use Rattle.refinement.proofs.Doings.{does_after, does_not, does_refuse, refuses}
-use Rattle.csv_import.specs.Importing.{CanBePlaced}
-use Rattle.csv_import.specs.Known.{TellsUnits}
-use Rattle.csv_import.specs.Planning.{plan_of}
+use Rattle.csv_import.specs.CatalogueImport.{CanBePlaced}
+use Rattle.csv_import.specs.KnownUnits.{TellsUnits}
+use Rattle.csv_import.specs.RowPlan.{plan_of}
 use Rattle.csv_import.proofs.Refused.{faulty, fits_planned}
 use Rattle.csv_import.proofs.catalogue_import.import_known.Goals as goal
 

@@ -6,10 +6,10 @@ use Rattle.catalogue_core.specs.Sources.{is_source}
 use Rattle.office_core.specs.declared.command.Command.TheVariants as command
 use Rattle.office_core.proofs.KeptOffices.{office_settings}
 use Rattle.office_tables.proofs.CallEnds.{same_fault}
-use Rattle.refinement.specs.Represents.{office_of}
+use Rattle.refinement.specs.Representation.{office_of}
 use Rattle.refinement.proofs.Doings.{does_after, does_not, does_refuse, refuses}
-use Rattle.csv_import.specs.Importing.{CanBePlaced, FitsIn, has_room}
-use Rattle.csv_import.specs.Known.{TellsUnits}
+use Rattle.csv_import.specs.CatalogueImport.{CanBePlaced, FitsIn, has_room}
+use Rattle.csv_import.specs.KnownUnits.{TellsUnits}
 use Rattle.csv_import.proofs.Carried.{settings_shown}
 use Rattle.csv_import.proofs.Refused.{full}
 use Rattle.csv_import.proofs.catalogue_import.import_placed.Goals as goal

@@ -2,15 +2,15 @@ use Rattle.std.proofs.Common.{◌≡◌, true, List, map, sym, ap, subst, ◌∙
 use Rattle.atom_csv.specs.declared.file.Row.{Row as RowTold}
 use Rattle.std.specs.BTreeMap.{get_by_text}
 use Rattle.sqlite.specs.Held.{state}
-use Rattle.catalogue_core.specs.RowByRow.{number_there}
+use Rattle.catalogue_core.specs.EntryByRow.{number_there}
 use Rattle.catalogue_core.specs.Sources.{is_source}
 use Rattle.office_core.specs.declared.command.Command.TheVariants as command
 use Rattle.office_tables.proofs.CallEnds.{same_fault}
-use Rattle.refinement.specs.Represents.{office_of}
+use Rattle.refinement.specs.Representation.{office_of}
 use Rattle.refinement.proofs.Doings.{does_not}
-use Rattle.csv_import.specs.Entering.{CanEnter, RepresentsLegible, counts_of, entered}
-use Rattle.csv_import.specs.Importing.{FitsIn}
-use Rattle.csv_import.specs.Known.{TellsUnits}
+use Rattle.csv_import.specs.RowEntry.{CanEnter, RepresentsLegible, counts_of, entered}
+use Rattle.csv_import.specs.CatalogueImport.{FitsIn}
+use Rattle.csv_import.specs.KnownUnits.{TellsUnits}
 use Rattle.csv_import.proofs.Carried.{imports, shown_legible}
 use Rattle.csv_import.proofs.Imports.{can_enter}
 use Rattle.csv_import.proofs.catalogue_import.import_rows.Goals as goal

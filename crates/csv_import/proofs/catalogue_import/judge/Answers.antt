@@ -12,9 +12,9 @@ use Rattle.office_core.specs.declared.done.Remark.{Remark}
 use Rattle.office_tables.proofs.CallEnds.{same_fault, tells_cut, tells_not}
 use Rattle.office_tables.proofs.Calls.{early, looks_then, still}
 use Rattle.refinement.specs.Gate.{gated}
-use Rattle.refinement.specs.Judging.{CanBeJudged, RepresentsWhole}
-use Rattle.refinement.specs.Represents.{RepresentsState, office_of}
-use Rattle.csv_import.specs.Importing.{HasNumbered, judged, told_of}
+use Rattle.refinement.specs.AccessConditions.{CanBeJudged, RepresentsWhole}
+use Rattle.refinement.specs.Representation.{RepresentsState, office_of}
+use Rattle.csv_import.specs.CatalogueImport.{HasNumbered, judged, told_of}
 use Rattle.csv_import.proofs.Carried.{have_units, settings_shown}
 use Rattle.csv_import.proofs.Tellings.{told_last}
 use Rattle.csv_import.proofs.catalogue_import.judge.Goals as goal

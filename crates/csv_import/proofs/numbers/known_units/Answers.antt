@@ -11,8 +11,8 @@ use Rattle.catalogue_core.specs.GoodCatalogues.{AreGoodUnits}
 use Rattle.office_tables.specs.declared.fault.StoreFault.TheVariants as fault
 use Rattle.office_tables.proofs.CallEnds.{same_fault, tells_cut, tells_not}
 use Rattle.office_tables.proofs.Calls.{cut_after, early, looks_then, still}
-use Rattle.csv_import.specs.Entering.{RepresentsEntering}
-use Rattle.csv_import.specs.Known.{KnowsUnits}
+use Rattle.csv_import.specs.RowEntry.{RepresentsEntering}
+use Rattle.csv_import.specs.KnownUnits.{KnowsUnits}
 use Rattle.csv_import.proofs.Arrived.{low_more}
 use Rattle.csv_import.proofs.KnownUnits.{no_more_known, one_known}
 use Rattle.csv_import.proofs.numbers.known_units.Goals as goal

@@ -5,11 +5,11 @@ use Rattle.sqlite.specs.State.{HasCleanDisk}
 use Rattle.isad_core.specs.Limits.{IsNumber}
 use Rattle.isad_core.specs.Texts.{Bytes}
 use Rattle.catalogue_core.specs.GoodCatalogues.{AreGoodUnits}
-use Rattle.catalogue_core.specs.Merging.{Catalogue}
+use Rattle.catalogue_core.specs.CatalogueMerge.{Catalogue}
 use Rattle.catalogue_statements.specs.declared.office.OfficeRow.{OfficeRow}
 use Rattle.office_tables.specs.Step.{InTransaction, LeavesUnchanged}
-use Rattle.csv_import.specs.Entering.{RepresentsEntering}
-use Rattle.csv_import.specs.Known.{KnowsUnits}
+use Rattle.csv_import.specs.RowEntry.{RepresentsEntering}
+use Rattle.csv_import.specs.KnownUnits.{KnowsUnits}
 use Rattle.csv_import.proofs.numbers.known_units.Given as goal
 
 abbrev pub invariant-loop-row : goal.invariant-loop-row

@@ -2,8 +2,8 @@ use Rattle.std.proofs.Common.{◌≡◌, arith, refl, sym, ◌∙◌}
 use Rattle.std.specs.Prelude.{⊤}
 use Rattle.sqlite.specs.Held.{state}
 use Rattle.catalogue_core.specs.GoodCatalogues.{AreGoodUnits}
-use Rattle.catalogue_core.specs.RowByRow.{number_there}
-use Rattle.csv_import.specs.Entering.{RepresentsEntering}
+use Rattle.catalogue_core.specs.EntryByRow.{number_there}
+use Rattle.csv_import.specs.RowEntry.{RepresentsEntering}
 use Rattle.office_tables.proofs.CallEnds.{same_fault, tells_not}
 use Rattle.office_tables.proofs.Calls.{cut_after, office_of}
 use Rattle.office_tables.specs.declared.fault.StoreFault.TheVariants as fault

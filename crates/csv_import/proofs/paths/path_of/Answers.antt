@@ -5,10 +5,10 @@ use Rattle.sqlite.specs.Effect.{Database}
 use Rattle.sqlite.specs.Held.{state}
 use Rattle.tree_core.specs.Forest.{each, path}
 use Rattle.catalogue_core.specs.Bounds.{IsBounded, IsKept}
-use Rattle.catalogue_core.specs.Finding.{Finds}
+use Rattle.catalogue_core.specs.UnitLookup.{Finds}
 use Rattle.catalogue_core.specs.GoodCatalogues.{AreGoodUnits}
 use Rattle.catalogue_core.specs.Units.{Unit, is_from}
-use Rattle.catalogue_statements.specs.Represents.{Represents}
+use Rattle.catalogue_statements.specs.Representation.{Represents}
 use Rattle.catalogue_store.proofs.UnitsThere.{no_unit}
 use Rattle.office_tables.specs.Calls.{RepresentsAlone}
 use Rattle.office_tables.specs.declared.fault.StoreFault.TheVariants.{Schema}

@@ -2,7 +2,7 @@ use Rattle.std.proofs.Common.{◌≡◌, Some, subst}
 use Rattle.std.specs.Prelude.{IfSome}
 use Rattle.sqlite.specs.Held.{state}
 use Rattle.office_tables.proofs.Calls.{looks_nowhere, office_of}
-use Rattle.csv_import.specs.Remarking.{IsRankOf, IsRanked}
+use Rattle.csv_import.specs.Remarks.{IsRankOf, IsRanked}
 use Rattle.csv_import.specs.declared.remarks.Ranked.{Ranked}
 use Rattle.csv_import.proofs.remarks.kept_rank.Goals as goal
 

@@ -5,7 +5,7 @@ use Rattle.sqlite.specs.Held.{state}
 use Rattle.isad_core.specs.Levels.{rank_of}
 use Rattle.catalogue_core.specs.Bounds.{IsKept}
 use Rattle.catalogue_core.specs.Units.{Unit as Described}
-use Rattle.catalogue_statements.specs.Represents.{Represents}
+use Rattle.catalogue_statements.specs.Representation.{Represents}
 use Rattle.catalogue_statements.proofs.FoundUnits.{none_found, one_found}
 use Rattle.catalogue_store.proofs.MarkCauses.{legible_units}
 use Rattle.office_tables.proofs.CallEnds.{same_fault, tells_not}

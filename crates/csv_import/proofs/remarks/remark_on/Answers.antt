@@ -6,14 +6,14 @@ use Rattle.isad_core.specs.Levels.{rank_of}
 use Rattle.isad_core.specs.Texts.{Bytes}
 use Rattle.tree_core.specs.Forest.{nodes, path}
 use Rattle.tree_core.specs.Tops.{last_but_one}
-use Rattle.catalogue_core.specs.Merging.{Catalogue}
+use Rattle.catalogue_core.specs.CatalogueMerge.{Catalogue}
 use Rattle.catalogue_core.specs.Units.{has_id, is_from}
 use Rattle.catalogue_core.specs.Units.{Unit as Described}
 use Rattle.office_core.specs.ImportReply.{is_level_above, remark_if}
 use Rattle.office_core.specs.ImportReply as reply
 use Rattle.office_core.specs.declared.done.Remark.TheVariants.{LevelTooHigh}
 use Rattle.office_tables.proofs.Calls.{looks_nowhere, office_of}
-use Rattle.csv_import.specs.Remarking.{HasParent, IsRanked}
+use Rattle.csv_import.specs.Remarks.{HasParent, IsRanked}
 use Rattle.csv_import.proofs.Remarked.{is_below, top_remark}
 use Rattle.csv_import.proofs.RightAbove.{last_number, there}
 use Rattle.csv_import.proofs.remarks.remark_on.Goals as goal

@@ -4,14 +4,14 @@ use Rattle.sqlite.specs.Held.{state}
 use Rattle.sqlite.specs.State.{HasCleanDisk}
 use Rattle.tree_core.specs.Forest.{each}
 use Rattle.catalogue_core.specs.Bounds.{IsKept}
-use Rattle.catalogue_core.specs.Merging.{Catalogue}
+use Rattle.catalogue_core.specs.CatalogueMerge.{Catalogue}
 use Rattle.catalogue_core.specs.Units.{Unit as Described}
-use Rattle.catalogue_statements.specs.Represents.{Represents}
+use Rattle.catalogue_statements.specs.Representation.{Represents}
 use Rattle.catalogue_statements.specs.declared.office.OfficeRow.{OfficeRow}
 use Rattle.office_core.specs.ImportReply as reply
 use Rattle.office_tables.proofs.CallEnds.{same_fault, tells_not}
 use Rattle.office_tables.proofs.Calls.{still}
-use Rattle.csv_import.specs.Remarking.{HaveParents, HaveUnits}
+use Rattle.csv_import.specs.Remarks.{HaveParents, HaveUnits}
 use Rattle.csv_import.proofs.RightAbove.{above_numbers}
 use Rattle.csv_import.proofs.Tellings.{told_last}
 use Rattle.csv_import.proofs.remarks.remarks.Goals as goal

@@ -8,13 +8,13 @@ use Rattle.sqlite.specs.Effect.{Database}
 use Rattle.sqlite.specs.Held.{state}
 use Rattle.atom_csv.specs.declared.file.Row.{Row as RowTold}
 use Rattle.catalogue_core.specs.Bounds.{IsKept}
-use Rattle.catalogue_statements.specs.Represents.{Represents}
+use Rattle.catalogue_statements.specs.Representation.{Represents}
 use Rattle.office_core.specs.ImportReply as reply
 use Rattle.office_core.specs.declared.done.Remark.{Remark}
 use Rattle.office_tables.specs.declared.fault.StoreFault.TheVariants as fault
 use Rattle.office_tables.proofs.CallEnds.{same_fault, tells_cut, tells_not}
 use Rattle.office_tables.proofs.Calls.{cut_after, early, looks_then, still}
-use Rattle.csv_import.specs.Remarking.{HaveParents}
+use Rattle.csv_import.specs.Remarks.{HaveParents}
 use Rattle.csv_import.proofs.RightAbove.{parent_at, told_all, told_at}
 use Rattle.csv_import.proofs.remarks.remarks_below.Goals as goal
 

@@ -2,14 +2,14 @@ use Rattle.std.proofs.Common.{◌≡◌, ◌∙◌, ◌≤◌, ◌+◌, [], ◌�
 use Rattle.std.specs.Prelude.{⊤}
 use Rattle.std.specs.BTreeMap.{get_by_text}
 use Rattle.sqlite.specs.Held.{state}
-use Rattle.catalogue_core.specs.Merging.{Catalogue}
-use Rattle.catalogue_core.specs.RowByRow.{number_there}
-use Rattle.catalogue_statements.specs.Represents.{described_trees}
+use Rattle.catalogue_core.specs.CatalogueMerge.{Catalogue}
+use Rattle.catalogue_core.specs.EntryByRow.{number_there}
+use Rattle.catalogue_statements.specs.Representation.{described_trees}
 use Rattle.office_tables.proofs.CallEnds.{makes_cut, same_fault}
 use Rattle.office_tables.proofs.Calls.{early, goes_nowhere, goes_then, office_of, still}
 use Rattle.office_tables.proofs.Touching.{nothing_touched, touched_again}
-use Rattle.csv_import.specs.Entering.{RepresentsEntering, entered}
-use Rattle.csv_import.specs.Known.{TellsUnits}
+use Rattle.csv_import.specs.RowEntry.{RepresentsEntering, entered}
+use Rattle.csv_import.specs.KnownUnits.{TellsUnits}
 use Rattle.csv_import.specs.Turns.{AreToCome}
 use Rattle.csv_import.specs.declared.row_entry.Counts.{Counts}
 use Rattle.csv_import.proofs.KnownUnits.{known_still, told_here}

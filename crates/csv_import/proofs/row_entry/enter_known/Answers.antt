@@ -3,15 +3,15 @@ use Rattle.std.specs.Prelude.{⊤}
 use Rattle.sqlite.specs.Held.{state}
 use Rattle.isad_core.specs.declared.values.Values.{Values}
 use Rattle.catalogue_core.specs.Bounds.{IsKept}
-use Rattle.catalogue_core.specs.Describing.{AreWhole, MayDescribe, with_values}
+use Rattle.catalogue_core.specs.Descriptions.{AreWhole, MayDescribe, with_values}
 use Rattle.catalogue_core.specs.Intake.{same_values}
-use Rattle.catalogue_core.specs.Merging.{Catalogue}
+use Rattle.catalogue_core.specs.CatalogueMerge.{Catalogue}
 use Rattle.catalogue_core.proofs.KeptCatalogues.{all_places}
-use Rattle.catalogue_statements.specs.Represents.{described_trees}
+use Rattle.catalogue_statements.specs.Representation.{described_trees}
 use Rattle.office_tables.proofs.CallEnds.{makes_not, same_fault}
 use Rattle.office_tables.proofs.Calls.{cut_after, early, office_of, still_office}
 use Rattle.office_tables.specs.declared.fault.StoreFault.TheVariants as fault
-use Rattle.csv_import.specs.Entering.{RepresentsEntering}
+use Rattle.csv_import.specs.RowEntry.{RepresentsEntering}
 use Rattle.csv_import.specs.Turns.{MayChange}
 use Rattle.csv_import.specs.declared.row_entry.Entry.TheVariants as entry
 use Rattle.csv_import.proofs.Afterwards.{makes_nothing, makes_same, makes_same_fault, makes_then}

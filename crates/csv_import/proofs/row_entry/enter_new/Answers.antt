@@ -1,10 +1,10 @@
 use Rattle.std.specs.Prelude.{⊤}
 use Rattle.sqlite.specs.Held.{state}
-use Rattle.catalogue_core.specs.RowByRow.{with_new}
-use Rattle.catalogue_statements.specs.Represents.{described_trees}
+use Rattle.catalogue_core.specs.EntryByRow.{with_new}
+use Rattle.catalogue_statements.specs.Representation.{described_trees}
 use Rattle.office_tables.proofs.CallEnds.{same_fault}
 use Rattle.office_tables.proofs.Calls.{office_of}
-use Rattle.csv_import.specs.Entering.{RepresentsEntering}
+use Rattle.csv_import.specs.RowEntry.{RepresentsEntering}
 use Rattle.csv_import.specs.Turns.{MayCome}
 use Rattle.csv_import.specs.declared.row_entry.Entry.TheVariants as entry
 use Rattle.csv_import.proofs.Afterwards.{makes_same, makes_same_fault}

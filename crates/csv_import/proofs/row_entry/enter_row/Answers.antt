@@ -1,13 +1,13 @@
 use Rattle.std.proofs.Common.{◌≡◌, [], ◌∷◌, Option, refl, sym, ◌∙◌, subst}
 use Rattle.std.specs.Prelude.{IfOk, ⊤}
 use Rattle.sqlite.specs.Held.{state}
-use Rattle.catalogue_core.specs.Describing.{with_values}
-use Rattle.catalogue_core.specs.Merging.{Catalogue}
-use Rattle.catalogue_core.specs.RowByRow.{number_there, with_new}
+use Rattle.catalogue_core.specs.Descriptions.{with_values}
+use Rattle.catalogue_core.specs.CatalogueMerge.{Catalogue}
+use Rattle.catalogue_core.specs.EntryByRow.{number_there, with_new}
 use Rattle.catalogue_core.specs.Units.{Unit}
-use Rattle.catalogue_statements.specs.Represents.{described_trees}
+use Rattle.catalogue_statements.specs.Representation.{described_trees}
 use Rattle.office_tables.proofs.Calls.{looks_nowhere, office_of}
-use Rattle.csv_import.specs.Entering.{RepresentsEntering, entered}
+use Rattle.csv_import.specs.RowEntry.{RepresentsEntering, entered}
 use Rattle.csv_import.specs.Turns.{IsTurn, MayChange, MayCome, entry_of}
 use Rattle.csv_import.proofs.Afterwards.{makes_then}
 use Rattle.csv_import.proofs.OneRow.{entered_known, entered_new, is_found, may_change, may_come, none_there}

@@ -3,14 +3,14 @@ use Rattle.std.specs.Prelude.{⊤}
 use Rattle.sqlite.specs.Effect.{Database}
 use Rattle.std.specs.BTreeMap.{get_by_text}
 use Rattle.sqlite.specs.Held.{state}
-use Rattle.catalogue_core.specs.Merging.{Catalogue}
-use Rattle.catalogue_statements.specs.Represents.{RepresentsNumbered, catalogue_trees}
+use Rattle.catalogue_core.specs.CatalogueMerge.{Catalogue}
+use Rattle.catalogue_statements.specs.Representation.{RepresentsNumbered, catalogue_trees}
 use Rattle.office_tables.proofs.CallEnds.{makes_cut, makes_not, same_fault}
 use Rattle.office_tables.proofs.Calls.{cut_after, early, goes_nowhere, looks_then, office_of, still}
 use Rattle.office_tables.specs.declared.fault.StoreFault.TheVariants as fault
-use Rattle.csv_import.specs.Arriving.{BringUnits}
-use Rattle.csv_import.specs.Entering.{CanEnter, RepresentsLegible, entered}
-use Rattle.csv_import.specs.Known.{TellsUnits}
+use Rattle.csv_import.specs.Arrivals.{BringUnits}
+use Rattle.csv_import.specs.RowEntry.{CanEnter, RepresentsLegible, entered}
+use Rattle.csv_import.specs.KnownUnits.{TellsUnits}
 use Rattle.csv_import.specs.Turns.{AreToCome}
 use Rattle.csv_import.proofs.Afterwards.{makes_legible, makes_same, makes_same_fault, makes_then}
 use Rattle.csv_import.proofs.EnteredNumbers.{units_told}

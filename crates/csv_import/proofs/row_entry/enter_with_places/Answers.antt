@@ -2,19 +2,19 @@ use Rattle.std.proofs.Common.{◌≡◌, [], ◌∷◌, refl, sym, ap, subst, �
 use Rattle.std.specs.Prelude.{⊤}
 use Rattle.std.specs.BTreeMap.{get_by_text}
 use Rattle.sqlite.specs.Held.{state}
-use Rattle.tree_core.specs.Growing.{added}
-use Rattle.catalogue_core.specs.Merging.{Catalogue}
+use Rattle.tree_core.specs.Arrivals.{added}
+use Rattle.catalogue_core.specs.CatalogueMerge.{Catalogue}
 use Rattle.catalogue_core.proofs.KeptCatalogues.{kept_within}
 use Rattle.catalogue_statements.specs.Rows.{office_row}
-use Rattle.catalogue_statements.specs.Represents.{RepresentsNumbered, catalogue_trees, described_trees}
+use Rattle.catalogue_statements.specs.Representation.{RepresentsNumbered, catalogue_trees, described_trees}
 use Rattle.catalogue_statements.specs.declared.office.OfficeRow.{OfficeRow}
 use Rattle.catalogue_store.specs.Arrivals.{MayJoin}
 use Rattle.office_tables.specs.Schema as tables
 use Rattle.office_tables.proofs.CallEnds.{makes_cut, makes_not, same_fault}
 use Rattle.office_tables.proofs.Calls.{early, goes_then, office_of, still, still_office}
 use Rattle.office_tables.proofs.Touching.{touched_then, touched_wider}
-use Rattle.csv_import.specs.Arriving.{BringUnits}
-use Rattle.csv_import.specs.Entering.{entered}
+use Rattle.csv_import.specs.Arrivals.{BringUnits}
+use Rattle.csv_import.specs.RowEntry.{entered}
 use Rattle.csv_import.proofs.ComeToStand.{come_to_stand, ids, may_join}
 use Rattle.csv_import.proofs.Frames.{at_next, described_kept}
 use Rattle.csv_import.proofs.row_entry.enter_with_places.Goals as goal

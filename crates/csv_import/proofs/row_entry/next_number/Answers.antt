@@ -6,7 +6,7 @@ use Rattle.office_tables.proofs.CallEnds.{same_fault, tells_not}
 use Rattle.office_tables.proofs.Calls.{cut_after, office_of}
 use Rattle.catalogue_statements.specs.declared.office.OfficeRow.{OfficeRow}
 use Rattle.catalogue_statements.proofs.Offices.{last_of}
-use Rattle.csv_import.specs.Entering.{RepresentsLegible}
+use Rattle.csv_import.specs.RowEntry.{RepresentsLegible}
 use Rattle.csv_import.proofs.row_entry.next_number.Goals as goal
 
 pub office_rows-requires : goal.office_rows-requires

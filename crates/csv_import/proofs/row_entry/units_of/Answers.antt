@@ -6,7 +6,7 @@ use Rattle.std.proofs.lemmas.List.{drop_all, drop_more}
 use Rattle.sqlite_trees.proofs.ListLemmas.{all-append}
 use Rattle.isad_core.specs.Limits.{IsNumber}
 use Rattle.atom_csv.specs.declared.file.Row.{Row as RowTold}
-use Rattle.csv_import.specs.Known.{units_from}
+use Rattle.csv_import.specs.KnownUnits.{units_from}
 use Rattle.csv_import.proofs.EnteredNumbers.{number_or}
 use Rattle.csv_import.proofs.row_entry.units_of.Goals as goal
 

@@ -2,7 +2,7 @@ use Rattle.std.proofs.Common.{◌≡◌, ◌+◌, ◌≤◌, ◌++◌, drop}
 use Rattle.std.specs.BTreeMap.{get_by_text}
 use Rattle.std.specs.List.{AllByRecursion}
 use Rattle.isad_core.specs.Limits.{IsNumber}
-use Rattle.csv_import.specs.Known.{units_from}
+use Rattle.csv_import.specs.KnownUnits.{units_from}
 use Rattle.csv_import.proofs.row_entry.units_of.Given as goal
 
 abbrev pub invariant-loop-row : goal.invariant-loop-row

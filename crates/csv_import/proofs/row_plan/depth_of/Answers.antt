@@ -3,9 +3,9 @@ use Rattle.std.specs.BTreeMap.{get_by_text}
 use Rattle.std.proofs.lemmas.List.{length-map}
 use Rattle.isad_core.specs.Texts.{Bytes}
 use Rattle.tree_core.specs.Forest.{path}
-use Rattle.catalogue_core.specs.Merging.{depth_under}
+use Rattle.catalogue_core.specs.CatalogueMerge.{depth_under}
 use Rattle.catalogue_core.specs.Units.{Unit, is_from}
-use Rattle.csv_import.specs.Planning.{or_there}
+use Rattle.csv_import.specs.RowPlan.{or_there}
 use Rattle.csv_import.proofs.FoundPaths.{depth_found}
 use Rattle.csv_import.proofs.Planned.{knows_parent}
 use Rattle.csv_import.proofs.row_plan.depth_of.Goals as goal

@@ -1,9 +1,9 @@
 use Rattle.std.proofs.Common.{◌≡◌, Bool, true, false, cond, sym, ap, ◌∙◌}
 use Rattle.std.specs.Prelude.{is_some}
 use Rattle.sqlite.specs.Held.{state}
-use Rattle.catalogue_core.specs.Merging.{depth_under, is_known}
+use Rattle.catalogue_core.specs.CatalogueMerge.{depth_under, is_known}
 use Rattle.office_tables.proofs.Calls.{looks_nowhere, office_of}
-use Rattle.csv_import.specs.Planning.{at_depth}
+use Rattle.csv_import.specs.RowPlan.{at_depth}
 use Rattle.csv_import.specs.declared.row_plan.Placing.TheVariants as placing
 use Rattle.csv_import.proofs.KnownUnits.{is_known_by}
 use Rattle.csv_import.proofs.row_plan.place.Goals as goal

@@ -3,12 +3,12 @@ use Rattle.std.specs.Prelude.{⊤}
 use Rattle.sqlite.specs.Held.{state}
 use Rattle.desk_store.specs.Holdings.{with_place}
 use Rattle.desk_store.specs.Orders.{with_order_state}
-use Rattle.desk_store.specs.Represents.{IsLegible, RepresentsDeskAlone}
+use Rattle.desk_store.specs.Representation.{IsLegible, RepresentsDeskAlone}
 use Rattle.desk_store.proofs.MadeInTurn.{legible_state, makes_then}
 use Rattle.office_tables.specs.Schema as tables
 use Rattle.office_tables.proofs.CallEnds.{makes_not, same_fault}
 use Rattle.office_tables.proofs.Calls.{still_office}
-use Rattle.desk_commands.specs.Moving.{handed_over}
+use Rattle.desk_commands.specs.ContainerMoves.{handed_over}
 use Rattle.office_tables.proofs.StoreCalls.{as_updates}
 use Rattle.desk_commands.proofs.container_moves.hand_over.Goals as goal
 

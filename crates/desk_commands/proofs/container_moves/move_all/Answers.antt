@@ -4,14 +4,14 @@ use Rattle.std.proofs.lemmas.List.{take_more, take_all}
 use Rattle.sqlite.specs.Held.{state}
 use Rattle.isad_core.specs.Limits.{IsNumber}
 use Rattle.desk_core.specs.DeskRows.{HoldingRow}
-use Rattle.desk_store.specs.Represents.{IsLegible, RepresentsDesk, RepresentsDeskAlone}
+use Rattle.desk_store.specs.Representation.{IsLegible, RepresentsDesk, RepresentsDeskAlone}
 use Rattle.office_tables.specs.Schema as tables
 use Rattle.office_tables.specs.declared.fault.StoreFault.TheVariants as fault
 use Rattle.office_tables.proofs.CallEnds.{makes_not, same_fault}
 use Rattle.office_tables.proofs.Calls.{cut_after, cut_then, early, goes_nowhere, goes_then, still_office}
 use Rattle.office_tables.proofs.Causes.{cause_then, still_unlimited}
 use Rattle.office_tables.proofs.Touching.{nothing_touched, touched_again}
-use Rattle.desk_commands.specs.Moving.{with_all_placed}
+use Rattle.desk_commands.specs.ContainerMoves.{with_all_placed}
 use Rattle.desk_commands.proofs.MovedAll.{all_taken, each_of, legible_all, one_more_placed}
 use Rattle.desk_commands.proofs.container_moves.move_all.Goals as goal
 

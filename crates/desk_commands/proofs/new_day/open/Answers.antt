@@ -5,7 +5,7 @@ use Rattle.office_core.specs.State.{containers, is_out}
 use Rattle.office_core.specs.Words.{is_empty}
 use Rattle.office_core.specs.declared.command.Command.TheVariants as command
 use Rattle.desk_core.specs.declared.refusal.Refusal.TheVariants.{StillIssued}
-use Rattle.state_encoding.specs.Reading.{tables}
+use Rattle.state_encoding.specs.OfficeRows.{tables}
 use Rattle.state_encoding.proofs.LegibleRows.{desk_legible}
 use Rattle.office_tables.proofs.CallEnds.{same_fault}
 use Rattle.office_tables.proofs.Calls.{office_of}

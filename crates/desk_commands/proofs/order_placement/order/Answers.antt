@@ -4,14 +4,14 @@ use Rattle.desk_core.specs.declared.refusal.Refusal.TheVariants.{UnknownTicket}
 use Rattle.desk_store.specs.Readers.{card_of}
 use Rattle.sqlite.specs.Held.{state}
 use Rattle.office_core.specs.declared.command.Command.TheVariants as command
-use Rattle.state_encoding.specs.Reading.{tables}
+use Rattle.state_encoding.specs.OfficeRows.{tables}
 use Rattle.state_encoding.proofs.LegibleRows.{desk_legible}
 use Rattle.office_tables.proofs.CallEnds.{same_fault}
 use Rattle.office_tables.proofs.Calls.{office_of}
 use Rattle.refinement.proofs.CommandSteps.{refuses}
 use Rattle.refinement.proofs.Doings.{does_after, does_not, does_refuse}
+use Rattle.refinement.proofs.CardsShown.{has_card}
 use Rattle.desk_commands.proofs.Ordered.{not_known}
-use Rattle.desk_commands.proofs.Renewed.{has_card}
 use Rattle.desk_commands.proofs.order_placement.order.Goals as goal
 
 pub reader-requires : goal.reader-requires
@@ -35,7 +35,7 @@ returns-in_default g c =
     does_refuse g.P.Places.represents g.P.Places.version _ (command.Order c.args.ticket c.args.container) a b (Err UnknownTicket) told.looks
     (λ clean s sound so it. refuses g.P.Places.represents g.P.Places.version s (command.Order c.args.ticket c.args.container) b.now UnknownTicket
     (not_known s c.args.ticket c.args.container
-    (sym (has_card g.P.Places.version s c.args.ticket s.day c.args.today) ∙ ap is_some (sym (told.answers clean tt (tables g.P.Places.version s).desk it.desk)) ∙ ap is_some c.in_default.is)))
+    (sym (has_card g.P.Places.version s sound c.args.ticket c.args.today) ∙ ap is_some (sym (told.answers clean tt (tables g.P.Places.version s).desk it.desk)) ∙ ap is_some c.in_default.is)))
 
 pub returns : goal.returns
 returns g c =

@@ -3,14 +3,14 @@ use Rattle.desk_core.specs.declared.refusal.Refusal.TheVariants.{Full}
 use Rattle.desk_store.specs.Permits.{by_unit, permits_of}
 use Rattle.sqlite.specs.Held.{state}
 use Rattle.office_core.specs.declared.command.Command.TheVariants as command
-use Rattle.state_encoding.specs.Reading.{tables}
+use Rattle.state_encoding.specs.OfficeRows.{tables}
 use Rattle.state_encoding.proofs.LegibleRows.{desk_legible}
 use Rattle.office_tables.proofs.CallEnds.{same_fault}
 use Rattle.office_tables.proofs.Calls.{office_of}
 use Rattle.office_tables.specs.Order.{IsOrdered}
 use Rattle.refinement.proofs.CommandSteps.{refuses}
 use Rattle.refinement.proofs.Doings.{does_after, does_not, does_refuse}
-use Rattle.desk_commands.specs.Permitting.{later_of}
+use Rattle.desk_commands.specs.Permits.{later_of}
 use Rattle.desk_commands.proofs.Permitted.{full_is, last_check, later_read}
 use Rattle.desk_commands.proofs.permits.give_within.Goals as goal
 

@@ -3,7 +3,7 @@ use Rattle.desk_core.specs.declared.refusal.Refusal.TheVariants.{UnknownUnit}
 use Rattle.sqlite.specs.Held.{state}
 use Rattle.office_core.specs.declared.command.Command.TheVariants as command
 use Rattle.office_tables.proofs.CallEnds.{same_fault}
-use Rattle.refinement.specs.Represents.{office_of as office_row}
+use Rattle.refinement.specs.Representation.{office_of as office_row}
 use Rattle.refinement.proofs.CommandSteps.{refuses}
 use Rattle.refinement.proofs.Doings.{does_after, does_not, does_refuse}
 use Rattle.refinement.proofs.Judged.{judged_now}

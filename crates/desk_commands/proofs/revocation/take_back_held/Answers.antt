@@ -4,7 +4,7 @@ use Rattle.desk_core.specs.declared.refusal.Refusal.TheVariants.{NoPermit}
 use Rattle.desk_store.specs.Permits.{by_unit, permits_of}
 use Rattle.sqlite.specs.Held.{state}
 use Rattle.office_core.specs.declared.command.Command.TheVariants as command
-use Rattle.state_encoding.specs.Reading.{tables}
+use Rattle.state_encoding.specs.OfficeRows.{tables}
 use Rattle.state_encoding.proofs.LegibleRows.{desk_legible}
 use Rattle.office_tables.proofs.CallEnds.{same_fault}
 use Rattle.office_tables.proofs.Calls.{office_of}

@@ -4,9 +4,9 @@ use Rattle.sqlite.specs.Held.{state}
 use Rattle.isad_core.specs.Limits.{IsNumber}
 use Rattle.desk_core.specs.declared.reader.Place.TheVariants.{Desk}
 use Rattle.desk_store.specs.Runs.{TakesEachOnce, next_run, with_run}
-use Rattle.desk_store.specs.Represents.{RepresentsDesk}
+use Rattle.desk_store.specs.Representation.{RepresentsDesk}
 use Rattle.office_core.specs.declared.command.Command.TheVariants as command
-use Rattle.state_encoding.specs.Reading.{tables}
+use Rattle.state_encoding.specs.OfficeRows.{tables}
 use Rattle.state_encoding.proofs.LegibleRows.{desk_legible}
 use Rattle.office_tables.specs.Schema as schema
 use Rattle.office_tables.proofs.CallEnds.{same_fault}
@@ -14,7 +14,7 @@ use Rattle.office_tables.proofs.Calls.{cut_then, early, goes_then, office_of, st
 use Rattle.office_tables.proofs.Causes.{cause_then, still_unlimited}
 use Rattle.office_tables.proofs.Touching.{touched_again, touched_wider}
 use Rattle.refinement.proofs.Doings.{does_not}
-use Rattle.desk_commands.specs.Moving.{with_all_placed}
+use Rattle.desk_commands.specs.ContainerMoves.{with_all_placed}
 use Rattle.desk_commands.proofs.Fetched.{taken_once}
 use Rattle.desk_commands.proofs.RunMade.{legible_run, runs_out, runs_with, small_containers, today_legible}
 use Rattle.desk_commands.proofs.run_creation.bring.Goals as goal

@@ -9,8 +9,8 @@ use Rattle.office_core.specs.State.{opens}
 use Rattle.office_tables.proofs.CallEnds.{same_fault}
 use Rattle.office_tables.proofs.Calls.{early, looks_then, still}
 use Rattle.office_tables.specs.declared.fault.StoreFault.TheVariants.{Memory}
-use Rattle.refinement.specs.Judging.{CanBeJudged, RepresentsWhole}
-use Rattle.desk_commands.specs.Running.{due_of}
+use Rattle.refinement.specs.AccessConditions.{CanBeJudged, RepresentsWhole}
+use Rattle.desk_commands.specs.RunCreation.{due_of}
 use Rattle.desk_commands.proofs.Fetched.{enough, one_more_fits}
 use Rattle.desk_commands.proofs.run_creation.due.Goals.{then-branch+in_ok-push, else-branch}
 use Rattle.desk_commands.proofs.run_creation.due.Goals as goal

@@ -4,8 +4,8 @@ use Rattle.sqlite.specs.State.{HasCleanDisk}
 use Rattle.desk_store.specs.declared.holdings.FirstOrder.{FirstOrder}
 use Rattle.office_core.specs.State.{State, opens}
 use Rattle.office_tables.specs.Step.{InTransaction, LeavesUnchanged}
-use Rattle.refinement.specs.Judging.{CanBeJudged}
-use Rattle.refinement.specs.Represents.{RepresentsState}
+use Rattle.refinement.specs.AccessConditions.{CanBeJudged}
+use Rattle.refinement.specs.Representation.{RepresentsState}
 use Rattle.desk_commands.proofs.run_creation.due.Given as goal
 
 abbrev pub invariant-loop-order : goal.invariant-loop-order

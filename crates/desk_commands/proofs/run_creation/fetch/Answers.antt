@@ -5,15 +5,15 @@ use Rattle.desk_core.specs.declared.reader.Limits.{Limits}
 use Rattle.desk_core.specs.declared.refusal.Refusal.TheVariants.{NothingToMove}
 use Rattle.office_core.specs.Words.{is_empty}
 use Rattle.office_core.specs.declared.command.Command.TheVariants as command
-use Rattle.state_encoding.specs.Reading.{tables}
+use Rattle.state_encoding.specs.OfficeRows.{tables}
 use Rattle.state_encoding.proofs.LegibleRows.{desk_legible}
 use Rattle.office_tables.proofs.CallEnds.{same_fault}
 use Rattle.office_tables.proofs.Calls.{cut_then, early, looks_then, office_of, still}
 use Rattle.office_tables.proofs.Causes.{cause_then, still_unlimited}
-use Rattle.refinement.specs.Represents.{RepresentsState}
+use Rattle.refinement.specs.Representation.{RepresentsState}
 use Rattle.refinement.proofs.Doings.{does_after, does_not, does_refuse}
 use Rattle.refinement.proofs.Judged.{judged_now}
-use Rattle.desk_commands.specs.Running.{due_of, taken_by}
+use Rattle.desk_commands.specs.RunCreation.{due_of, taken_by}
 use Rattle.desk_commands.proofs.RunMade.{nothing_due}
 use Rattle.desk_commands.proofs.run_creation.fetch.Goals as goal
 

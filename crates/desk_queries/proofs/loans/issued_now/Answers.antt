@@ -4,13 +4,13 @@ use Rattle.desk_store.specs.declared.holdings.Loan.{Loan}
 use Rattle.office_core.specs.Json.{list}
 use Rattle.office_core.specs.declared.query.Answer.TheVariants.{Json}
 use Rattle.office_core.specs.declared.query.Query.TheVariants as query
-use Rattle.state_encoding.specs.Reading.{tables}
+use Rattle.state_encoding.specs.OfficeRows.{tables}
 use Rattle.state_encoding.proofs.LegibleRows.{desk_legible}
 use Rattle.office_tables.proofs.CallEnds.{same_fault}
 use Rattle.office_tables.proofs.Calls.{office_of}
 use Rattle.serde_json.specs.Written.{compact_text}
 use Rattle.refinement.proofs.Answerings.{answers_by, answers_not}
-use Rattle.desk_queries.specs.Told.{loan_data}
+use Rattle.desk_queries.specs.JsonValues.{loan_data}
 use Rattle.desk_queries.proofs.IssuedTold.{issued_told}
 use Rattle.desk_queries.proofs.Lists.{no_float}
 use Rattle.desk_queries.proofs.loans.issued_now.Goals as goal

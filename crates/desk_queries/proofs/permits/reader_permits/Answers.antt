@@ -5,15 +5,16 @@ use Rattle.desk_store.specs.declared.reader_permits.Permit.{Permit}
 use Rattle.office_core.specs.Json.{list}
 use Rattle.office_core.specs.declared.query.Answer.TheVariants.{Json, Unknown}
 use Rattle.office_core.specs.declared.query.Query.TheVariants as query
-use Rattle.state_encoding.specs.Reading.{tables}
+use Rattle.state_encoding.specs.OfficeRows.{tables}
 use Rattle.state_encoding.proofs.LegibleRows.{desk_legible}
 use Rattle.office_tables.proofs.CallEnds.{same_fault}
 use Rattle.office_tables.proofs.Calls.{early, looks_then, office_of, still_office}
 use Rattle.serde_json.specs.Written.{compact_text}
+use Rattle.refinement.proofs.CardsShown.{known_ticket}
 use Rattle.refinement.proofs.Answerings.{answers_by, answers_not, still_shown, stops_later}
-use Rattle.desk_queries.specs.Told.{permit_data}
+use Rattle.desk_queries.specs.JsonValues.{permit_data}
 use Rattle.desk_queries.proofs.Lists.{no_float}
-use Rattle.desk_queries.proofs.PermitsTold.{has_ticket, known_ticket, no_ticket, permits_told}
+use Rattle.desk_queries.proofs.PermitsTold.{has_ticket, no_ticket, permits_told}
 use Rattle.desk_queries.proofs.permits.reader_permits.Goals as goal
 
 pub is_registered-requires : goal.is_registered-requires

@@ -10,7 +10,7 @@ use Rattle.office_tables.proofs.CallEnds.{same_fault}
 use Rattle.office_tables.proofs.Calls.{office_of}
 use Rattle.refinement.proofs.Answerings.{answers_by, answers_not}
 use Rattle.refinement.proofs.StacksShown.{legible_stacks, shows_stacks, stacks_of}
-use Rattle.desk_queries.specs.Told.{queue_data}
+use Rattle.desk_queries.specs.JsonValues.{queue_data}
 use Rattle.desk_queries.proofs.QueueTold.{queue_answer}
 use Rattle.desk_queries.proofs.queues.queue.Goals as goal
 

@@ -6,12 +6,12 @@ use Rattle.desk_store.specs.declared.reader_summary.ReaderCard.{ReaderCard}
 use Rattle.office_core.specs.Queries.{known_json}
 use Rattle.office_core.specs.declared.query.Answer.TheVariants.{Json, Unknown}
 use Rattle.office_core.specs.declared.query.Query.TheVariants as query
-use Rattle.state_encoding.specs.Reading.{tables}
+use Rattle.state_encoding.specs.OfficeRows.{tables}
 use Rattle.state_encoding.proofs.LegibleRows.{desk_legible}
 use Rattle.office_tables.proofs.CallEnds.{same_fault}
 use Rattle.office_tables.proofs.Calls.{office_of}
 use Rattle.refinement.proofs.Answerings.{answers_by, answers_not}
-use Rattle.desk_queries.specs.Told.{card_data}
+use Rattle.desk_queries.specs.JsonValues.{card_data}
 use Rattle.desk_queries.proofs.CardTold.{card_answer}
 use Rattle.desk_queries.proofs.reader_card.reader_orders.Goals as goal
 

@@ -5,7 +5,7 @@ use Rattle.sqlite.specs.Held.{state}
 use Rattle.office_tables.specs.declared.fault.StoreFault.TheVariants.{Memory}
 use Rattle.office_tables.proofs.Calls.{early, looks_then}
 use Rattle.office_tables.proofs.CallEnds.{same_fault}
-use Rattle.desk_store.specs.Represents.{RepresentsDesk, RepresentsDeskAlone, IsLegible}
+use Rattle.desk_store.specs.Representation.{RepresentsDesk, RepresentsDeskAlone, IsLegible}
 use Rattle.desk_store.proofs.ReshelvingCalls.{told_more, told_whole, number_at}
 use Rattle.desk_store.proofs.desk_containers.at_desk.Goals as goal
 use Rattle.desk_store.proofs.ToldCalls.{shown_on}

@@ -5,7 +5,7 @@ use Rattle.sqlite.specs.State.{HasCleanDisk}
 use Rattle.desk_core.specs.DeskRows.{Desk, HoldingRow}
 use Rattle.office_tables.specs.Step.{LeavesUnchanged}
 use Rattle.desk_store.specs.Holdings.{waits_for}
-use Rattle.desk_store.specs.Represents.{RepresentsDesk}
+use Rattle.desk_store.specs.Representation.{RepresentsDesk}
 use Rattle.desk_store.proofs.desk_containers.at_desk.Given as goal
 
 abbrev pub invariant-loop-container : goal.invariant-loop-container

@@ -4,7 +4,7 @@ use Rattle.desk_core.specs.declared.reader.Place.{Place}
 use Rattle.office_tables.specs.Calls.{Makes}
 use Rattle.office_tables.specs.Schema as tables
 use Rattle.desk_store.specs.Holdings.{with_place}
-use Rattle.desk_store.specs.Represents.{RepresentsDeskAlone, IsLegible}
+use Rattle.desk_store.specs.Representation.{RepresentsDeskAlone, IsLegible}
 use Rattle.desk_store.proofs.HoldingWrites.{placed, shelved}
 use Rattle.desk_store.proofs.holdings.set_place.Goals as goal
 

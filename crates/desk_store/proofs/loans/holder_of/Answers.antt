@@ -5,7 +5,7 @@ use Rattle.office_tables.proofs.Calls.{looks_nowhere}
 use Rattle.desk_store.proofs.LoanCalls.{never_placed, holder_told}
 use Rattle.desk_store.proofs.loans.holder_of.Goals as goal
 use Rattle.desk_store.proofs.TellingCalls.{ends_well}
-use Rattle.desk_store.specs.Represents.{RepresentsDeskAlone, IsLegible}
+use Rattle.desk_store.specs.Representation.{RepresentsDeskAlone, IsLegible}
 
 pub returns-then-order-ge-NO_NUMBER : goal.returns-then-order-ge-NO_NUMBER
 returns-then-order-ge-NO_NUMBER g c =

@@ -5,7 +5,7 @@ use Rattle.sqlite.specs.State.{HasCleanDisk}
 use Rattle.desk_core.specs.DeskRows.{Desk}
 use Rattle.office_tables.specs.Step.{LeavesUnchanged}
 use Rattle.desk_store.specs.Holdings.{loan_by}
-use Rattle.desk_store.specs.Represents.{RepresentsDesk}
+use Rattle.desk_store.specs.Representation.{RepresentsDesk}
 use Rattle.desk_store.specs.declared.loans.HoldingLine.{HoldingLine}
 use Rattle.desk_store.proofs.LoanRows.{line_of}
 use Rattle.desk_store.proofs.loans.issued.Given as goal

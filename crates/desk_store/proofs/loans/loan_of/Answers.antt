@@ -5,7 +5,7 @@ use Rattle.office_tables.proofs.Calls.{looks_nowhere}
 use Rattle.office_tables.proofs.CallEnds.{same_fault}
 use Rattle.desk_store.specs.Holdings.{loan_by}
 use Rattle.desk_store.specs.declared.holdings.Loan.{Loan}
-use Rattle.desk_store.specs.Represents.{RepresentsDeskAlone, IsLegible}
+use Rattle.desk_store.specs.Representation.{RepresentsDeskAlone, IsLegible}
 use Rattle.desk_store.proofs.loans.loan_of.Goals as goal
 use Rattle.desk_store.proofs.TellingCalls.{ends_not, ends_well}
 

@@ -6,7 +6,7 @@ use Rattle.desk_core.specs.DeskRows.{OrderRow}
 use Rattle.office_tables.proofs.Calls.{cut_after, looks_nowhere, still_office}
 use Rattle.office_tables.proofs.CallEnds.{same_fault}
 use Rattle.desk_store.specs.Orders.{order_with, IsThere}
-use Rattle.desk_store.specs.Represents.{RepresentsDesk, RepresentsDeskAlone, IsLegible}
+use Rattle.desk_store.specs.Representation.{RepresentsDesk, RepresentsDeskAlone, IsLegible}
 use Rattle.desk_store.proofs.CardCalls.{unknown}
 use Rattle.desk_store.proofs.OrderReads.{entry_found, told_none, told_there, legible_there}
 use Rattle.office_tables.proofs.Sparing.{spares_own}

@@ -6,7 +6,7 @@ use Rattle.desk_core.specs.DeskRows.{HoldingRow}
 use Rattle.std.specs.Prelude.{nat_eq}
 use Rattle.office_tables.proofs.Calls.{cut_looks, on_ok_from}
 use Rattle.desk_store.specs.Orders.{holding_of}
-use Rattle.desk_store.specs.Represents.{RepresentsDeskAlone, IsLegible}
+use Rattle.desk_store.specs.Representation.{RepresentsDeskAlone, IsLegible}
 use Rattle.desk_store.proofs.PlaceRows.{at_entry, at_shelf, entry_told, legible_place}
 use Rattle.desk_store.proofs.ToldCalls.{never_fails}
 use Rattle.desk_store.proofs.TellingCalls.{ends_well}

@@ -5,7 +5,7 @@ use Rattle.office_tables.specs.declared.fault.StoreFault.{StoreFault}
 use Rattle.office_tables.specs.Schema as tables
 use Rattle.office_tables.proofs.CallEnds.{same_fault}
 use Rattle.desk_store.specs.Permits.{with_permit, MayHave}
-use Rattle.desk_store.specs.Represents.{RepresentsDeskAlone, IsLegible}
+use Rattle.desk_store.specs.Representation.{RepresentsDeskAlone, IsLegible}
 use Rattle.desk_store.proofs.PermitCalls.{not_cleared, grants, rows_granted}
 use Rattle.desk_store.proofs.reader_permits.grant.Goals as goal
 

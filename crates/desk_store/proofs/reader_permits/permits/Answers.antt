@@ -4,7 +4,7 @@ use Rattle.sqlite.specs.Held.{state}
 use Rattle.office_tables.proofs.Calls.{looks_nowhere}
 use Rattle.office_tables.specs.Order.{IsOrdered}
 use Rattle.desk_store.specs.Permits.{permits_of, by_unit}
-use Rattle.desk_store.specs.Represents.{RepresentsDeskAlone, IsLegible}
+use Rattle.desk_store.specs.Representation.{RepresentsDeskAlone, IsLegible}
 use Rattle.desk_store.proofs.PermitCalls.{none_given}
 use Rattle.desk_store.proofs.reader_permits.permits.Goals as goal
 use Rattle.desk_store.proofs.TellingCalls.{ends_well}

@@ -8,7 +8,7 @@ use Rattle.office_tables.proofs.CallEnds.{same_fault}
 use Rattle.desk_store.specs.declared.reader_summary.LiveOrder.{LiveOrder}
 use Rattle.desk_store.specs.declared.reader_summary.TicketOrders.{TicketOrders}
 use Rattle.desk_store.specs.declared.readers.NamedReader.{NamedReader}
-use Rattle.desk_store.specs.Represents.{RepresentsDeskAlone, IsLegible}
+use Rattle.desk_store.specs.Representation.{RepresentsDeskAlone, IsLegible}
 use Rattle.desk_store.proofs.CardCalls.{unknown, out_of_live, few_live, seat_told, first_none, card_with, card_told}
 use Rattle.desk_store.proofs.ReaderRows.{named}
 use Rattle.desk_store.proofs.reader_summary.reader.Goals as goal

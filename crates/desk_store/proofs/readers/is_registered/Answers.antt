@@ -4,7 +4,7 @@ use Rattle.sqlite.specs.Held.{state}
 use Rattle.desk_core.specs.DeskRows.{ReaderRow}
 use Rattle.office_tables.proofs.Calls.{looks_nowhere}
 use Rattle.desk_store.specs.declared.readers.NamedReader.{NamedReader}
-use Rattle.desk_store.specs.Represents.{RepresentsDeskAlone, IsLegible}
+use Rattle.desk_store.specs.Representation.{RepresentsDeskAlone, IsLegible}
 use Rattle.desk_store.proofs.CardCalls.{first_told, unknown}
 use Rattle.desk_store.proofs.ReaderRows.{named}
 use Rattle.desk_store.proofs.readers.is_registered.Goals as goal
@@ -14,23 +14,19 @@ some_mapped : {X Y : Type 0} (f : X → Y) (o : Option X) → is_some (option_ma
 some_mapped f None = refl
 some_mapped f (Some x) = refl
 
-pub returns-then-ticket-from : goal.returns-then-ticket-from
-returns-then-ticket-from g c =
-    record {
-      tells = ends_well RepresentsDeskAlone IsLegible (λ _. ⊤) g.S.Store c.args.conn.now c.args.conn.now c.args.conn.now _ (looks_nowhere (state g.S.Store c.args.conn.now) c.requires.inside) false (λ clean d shown.
-          let few = shown.few_tickets in
-          let over = c.if-ticket-from.true in
-          let most = c.from.ensures in
-          sym (ap is_some (unknown (λ (r : ReaderRow). r.ticket) c.args.ticket d.readers shown.tickets (omega (arith, few, over, most)))));
-    }
+pub returns-then-ticket-from-clause-tells : goal.returns-then-ticket-from-clause-tells
+returns-then-ticket-from-clause-tells g c =
+    ends_well RepresentsDeskAlone IsLegible (λ _. ⊤) g.S.Store c.args.conn.now c.args.conn.now c.args.conn.now _ (looks_nowhere (state g.S.Store c.args.conn.now) c.requires.inside) false (λ clean d shown.
+    let few = shown.few_tickets in
+    let over = c.if-ticket-from.true in
+    let most = c.from.ensures in
+    sym (ap is_some (unknown (λ (r : ReaderRow). r.ticket) c.args.ticket d.readers shown.tickets (omega (arith, few, over, most)))))
 
-pub returns : goal.returns
-returns g c =
-    record {
-      tells = ends_well RepresentsDeskAlone IsLegible (λ _. ⊤) g.S.Store c.args.conn.now c.args.conn.now c.readers_with.new.conn _ c.in_ok-rows.ensures.reads.looks _ (λ clean d shown.
-          let rows = c.in_ok-rows.ensures.rows clean d.readers shown.readers shown.tickets in
-          c.is_there.ensures ∙ ap (λ l. is_some (slice_get l 0)) (c.deref.ensures.value ∙ rows)
-          ∙ sym (some_mapped (λ (r : NamedReader). r) _)
-          ∙ sym (ap is_some (first_told named (λ (r : NamedReader). r) (λ (r : ReaderRow). Rattle.std.proofs.Common.nat_eq c.args.ticket r.ticket) d.readers))
-          ∙ some_mapped (λ (r : ReaderRow). named r) _);
-    }
+pub returns-clause-tells : goal.returns-clause-tells
+returns-clause-tells g c =
+    ends_well RepresentsDeskAlone IsLegible (λ _. ⊤) g.S.Store c.args.conn.now c.args.conn.now c.readers_with.new.conn _ c.in_ok-rows.ensures.reads.looks _ (λ clean d shown.
+    let rows = c.in_ok-rows.ensures.rows clean d.readers shown.readers shown.tickets in
+    c.is_there.ensures ∙ ap (λ l. is_some (slice_get l 0)) (c.deref.ensures.value ∙ rows)
+    ∙ sym (some_mapped (λ (r : NamedReader). r) _)
+    ∙ sym (ap is_some (first_told named (λ (r : NamedReader). r) (λ (r : ReaderRow). Rattle.std.proofs.Common.nat_eq c.args.ticket r.ticket) d.readers))
+    ∙ some_mapped (λ (r : ReaderRow). named r) _)

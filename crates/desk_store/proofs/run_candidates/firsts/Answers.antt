@@ -1,7 +1,7 @@
 use Rattle.std.proofs.Common.{cond, ◌&&◌, [], ◌∷◌, ◌++◌, ap, sym, ◌∙◌}
 use Rattle.std.specs.Prelude.{get_or}
 use Rattle.std.proofs.lemmas.List.{append-nil}
-use Rattle.desk_store.specs.Picking.{is_earliest, is_new}
+use Rattle.desk_store.specs.RunCandidates.{is_earliest, is_new}
 use Rattle.desk_store.specs.declared.holdings.FirstOrder.{FirstOrder}
 use Rattle.desk_store.proofs.PickingLists.{met_more, is_picked, kept_more}
 use Rattle.desk_store.proofs.run_candidates.firsts.Goals.{then-branch+in_ok-push, else-branch}

@@ -1,7 +1,7 @@
 use Rattle.std.proofs.Common.{◌≡◌, ℕ, nat_eq, ◌&&◌, ◌||◌, filter, take}
 use Rattle.std.specs.List.{list_any}
-use Rattle.desk_store.specs.Picking.{is_earliest, is_new}
-use Rattle.office_tables.specs.Numbered.{AreByNumber}
+use Rattle.desk_store.specs.RunCandidates.{is_earliest, is_new}
+use Rattle.office_tables.specs.RowNumbers.{AreByNumber}
 use Rattle.desk_store.specs.declared.holdings.FirstOrder.{FirstOrder}
 use Rattle.desk_store.proofs.run_candidates.firsts.Given as goal
 

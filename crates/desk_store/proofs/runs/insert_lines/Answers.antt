@@ -7,7 +7,7 @@ use Rattle.office_tables.proofs.Causes.{cause_then, still_unlimited}
 use Rattle.office_tables.proofs.Touching.{touched_again}
 use Rattle.office_tables.proofs.CallEnds.{same_fault}
 use Rattle.desk_store.specs.Rows.{run_line_cells}
-use Rattle.office_tables.specs.Numbered.{HasNumbered}
+use Rattle.office_tables.specs.RowNumbers.{HasNumbered}
 use Rattle.office_tables.specs.Schema as tables
 use Rattle.desk_store.proofs.RunCalls.{free_line, line_more}
 use Rattle.office_tables.proofs.Sparing.{touched_spares, untouched}

@@ -5,7 +5,7 @@ use Rattle.desk_core.specs.DeskRows.{RunLineRow}
 use Rattle.office_tables.specs.Step.{InOffice, Goes, OnlyTouches}
 use Rattle.desk_store.specs.Rows.{run_line_cells}
 use Rattle.desk_store.specs.Runs.{line_of}
-use Rattle.office_tables.specs.Numbered.{HasNumbered}
+use Rattle.office_tables.specs.RowNumbers.{HasNumbered}
 use Rattle.office_tables.specs.Schema as tables
 use Rattle.desk_store.proofs.runs.insert_lines.Given as goal
 

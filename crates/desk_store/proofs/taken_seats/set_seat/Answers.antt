@@ -6,7 +6,7 @@ use Rattle.office_tables.specs.Schema as tables
 use Rattle.office_tables.specs.Step.{PutsRow}
 use Rattle.desk_store.specs.Rows.{seat_cells}
 use Rattle.desk_store.specs.Seats.{MayTake, with_seat}
-use Rattle.desk_store.specs.Represents.{RepresentsDeskAlone, IsLegible}
+use Rattle.desk_store.specs.Representation.{RepresentsDeskAlone, IsLegible}
 use Rattle.desk_store.proofs.SeatCalls.{takes, frees}
 use Rattle.desk_store.proofs.taken_seats.set_seat.Goals as goal
 

@@ -1,6 +1,6 @@
 use Rattle.std.proofs.Common.{◌≡◌, ◌∷◌, [], ℕ, List, Err}
 use Rattle.std.proofs.lemmas.Result.{err_from_is_err_and}
-use Rattle.catalogue_core.specs.Merging.{empty_catalogue, merge}
+use Rattle.catalogue_core.specs.CatalogueMerge.{empty_catalogue, merge}
 use Rattle.catalogue_core.specs.Aids.{Repository}
 use Rattle.finding_aids.specs.Places.{faults}
 use Rattle.finding_aids.specs.Preview.{after_merging}

@@ -1,9 +1,9 @@
 use Rattle.std.proofs.Common.{◌≡◌, ◌<◌, ◌≤◌, ◌+◌, ◌++◌, [], refl, append-nil, ℕ, List, length, length-append, take, arith, ap, sym, ◌∙◌, subst}
-use Rattle.http_messages.specs.Ending.{scan}
+use Rattle.http_messages.specs.HeadScan.{scan}
 use Rattle.http_messages.specs.declared.head_scan.Scan.TheVariants.{Open}
 use Rattle.std.proofs.KnownBytes.{Consumes-nil}
 use Rattle.std.specs.Prelude.{◌||◌, Bool}
-use Rattle.http_desk.specs.Quiet.{QuietFill, fill_failed}
+use Rattle.http_desk.specs.StreamFaults.{QuietFill, fill_failed}
 use Rattle.http_desk.specs.declared.input_buffer.Filled.{Filled}
 use Rattle.http_desk.proofs.Fills.{reads_trans}
 use Rattle.http_desk.proofs.Faults.{takes_on}

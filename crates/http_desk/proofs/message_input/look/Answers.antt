@@ -1,5 +1,5 @@
 use Rattle.std.proofs.Common.{arith, ◌≡◌, ◌≤◌, ◌+◌, take, sym, ◌∙◌}
-use Rattle.http_messages.specs.Ending.{scan}
+use Rattle.http_messages.specs.HeadScan.{scan}
 use Rattle.http_messages.specs.declared.head_scan.Scan.TheVariants.{Whole, Open}
 use Rattle.http_messages.proofs.Scans.{scan_go_on, scan_take_limit}
 use Rattle.http_desk.proofs.message_input.look.Goals as goal

@@ -4,7 +4,7 @@ use Rattle.std.specs.List.{flat_map}
 use Rattle.std.specs.Io.KnownBytes.{Appends}
 use Rattle.std.proofs.KnownBytes.{Appends-trans}
 use Rattle.http_desk.specs.Session.{IsFront}
-use Rattle.http_desk.specs.Quiet.{send_failed}
+use Rattle.http_desk.specs.StreamFaults.{send_failed}
 use Rattle.http_desk.proofs.Sends.{one_more, all_pieces, gathers, front_of_all, front_at_end, within, turns_left}
 use Rattle.http_desk.proofs.output.send.Goals as goal
 

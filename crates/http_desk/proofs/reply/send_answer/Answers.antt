@@ -2,8 +2,8 @@ use Rattle.std.proofs.Common.{ap, ◌∙◌, ◌+◌, length}
 use Rattle.std.specs.Prelude.{decimal}
 use Rattle.http_messages.specs.Answers.{number_of, phrase_of, type_name, body_text}
 use Rattle.http_messages.specs.Replies.{answer_in}
-use Rattle.http_desk.specs.Quiet.{TakesCalls}
-use Rattle.http_desk.specs.Sending.{Sends}
+use Rattle.http_desk.specs.StreamFaults.{TakesCalls}
+use Rattle.http_desk.specs.AnswerOutput.{Sends}
 use Rattle.http_desk.proofs.Printed.{of_pieces}
 use Rattle.http_desk.proofs.reply.send_answer.Goals as goal
 

@@ -2,10 +2,10 @@ use Rattle.std.proofs.Common.{◌≡◌, sym, ap, ◌∙◌, subst, Some, IfOk}
 use Rattle.std.specs.Prelude.{option_map}
 use Rattle.office_core.specs.State.{State}
 use Rattle.http_messages.specs.Answers.{by_route}
-use Rattle.http_messages.specs.Heard.{request_in}
+use Rattle.http_messages.specs.HeadVerdict.{request_in}
 use Rattle.http_messages.specs.Replies.{answer_in}
 use Rattle.http_messages.specs.Routes.{route_of}
-use Rattle.http_messages.specs.Routing.{route_in}
+use Rattle.http_messages.specs.Router.{route_in}
 use Rattle.http_messages.specs.Targets.{path_of}
 use Rattle.http_desk.proofs.responses.respond.Goals as goal
 

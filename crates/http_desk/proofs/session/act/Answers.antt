@@ -1,6 +1,6 @@
 use Rattle.std.proofs.Common.{take, refl, sym, arith}
 use Rattle.std.specs.Prelude.{unwrap_or}
-use Rattle.http_messages.specs.Heard.{request_in}
+use Rattle.http_messages.specs.HeadVerdict.{request_in}
 use Rattle.http_messages.specs.Replies.{answer_in}
 use Rattle.http_desk.proofs.Turns.{answered_at, left_back}
 use Rattle.http_desk.proofs.session.act.Goals as goal

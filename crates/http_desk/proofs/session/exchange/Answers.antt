@@ -3,9 +3,9 @@ use Rattle.std.proofs.KnownBytes.{Consumes-trans, Appends-nil}
 use Rattle.http_messages.specs.declared.status.Status.TheVariants.{Busy, BadRequest}
 use Rattle.http_messages.specs.Heads.{Judges}
 use Rattle.http_messages.specs.Heads as heads
-use Rattle.http_messages.specs.Heard.{request_in, verdict_in}
+use Rattle.http_messages.specs.HeadVerdict.{request_in, verdict_in}
 use Rattle.http_desk.specs.Messages.{IsBlank, IsHeadCut, IsTooLong, NoHead, Refuses, Fails, HasHead, HeadCut, Nothing}
-use Rattle.http_desk.specs.Talking.{Turn, Through}
+use Rattle.http_desk.specs.Exchanges.{Turn, Through}
 use Rattle.http_desk.proofs.Turns.{refused, head_found, may_fail, bound_here, stops_early}
 use Rattle.http_desk.proofs.session.exchange.Goals as goal
 

@@ -1,11 +1,11 @@
 use Rattle.std.proofs.Common.{◌≡◌, ◌≢◌, ◌<◌, ◌+◌, ◌++◌, length, take, drop, refl, ap, sym, subst, inl, inr, arith, false}
 use Rattle.std.specs.Prelude.{unwrap_or, ◌||◌}
 use Rattle.std.proofs.KnownBytes.{Appends-trans}
-use Rattle.http_messages.specs.Heard.{request_in}
+use Rattle.http_messages.specs.HeadVerdict.{request_in}
 use Rattle.http_messages.specs.Heads.{Accepted}
 use Rattle.http_desk.specs.Messages.{HasHead, Fails}
 use Rattle.http_desk.specs.Session.{leave_if}
-use Rattle.http_desk.specs.Talking.{Turn, Through, after_sending}
+use Rattle.http_desk.specs.Exchanges.{Turn, Through, after_sending}
 use Rattle.http_messages.specs.declared.status.Status.TheVariants.{Busy}
 use Rattle.http_desk.specs.declared.session_end.Ended.TheVariants.{Closed, Cut, ReadFault, Bound}
 use Rattle.http_desk.proofs.Turns.{leave_broken, front_same, head_grown, head_more, stops_in_body, bound_here, may_fail_after, refused}

@@ -1,6 +1,6 @@
 use Rattle.std.proofs.Common.{◌≡◌, arith, subst, refl, ap, ◌∙◌}
 use Rattle.std.specs.Prelude.{◌||◌}
-use Rattle.http_desk.specs.Quiet.{IsFlushed, is_read_fault, is_write_fault}
+use Rattle.http_desk.specs.StreamFaults.{IsFlushed, is_read_fault, is_write_fault}
 use Rattle.http_desk.specs.declared.session_end.Ended.TheVariants.{Closed}
 use Rattle.http_desk.proofs.Sessions.{Carried, carried_none, carried_on, carried_to_end, carried_over}
 use Rattle.http_desk.proofs.session.talk_with.Goals as goal

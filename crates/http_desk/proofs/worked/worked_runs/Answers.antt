@@ -6,9 +6,9 @@ use Rattle.serde_json.proofs.OnLiterals.{serde_json_on_literals}
 use Rattle.isad_core.specs.Days.{day_text}
 use Rattle.office_core.specs.declared.query.Query.TheVariants as query
 use Rattle.office_core.specs.MixedRuns.{ToDo, ToTell}
-use Rattle.office_core.specs.Worked.{draft}
+use Rattle.office_core.specs.WorkedExamples.{draft}
 use Rattle.http_desk.specs.Runs.{Means, Puts}
-use Rattle.http_desk.specs.Worked.{filled, with_draft, fonds_list, not_found}
+use Rattle.http_desk.specs.WorkedExamples.{filled, with_draft, fonds_list, not_found}
 use Rattle.http_desk.specs.WorkedSessions.{list_request, register_head, half_a_request, draft_head, draft_request, page_request, one_unit}
 use Rattle.http_desk.proofs.Meanings.{same_answers}
 use Rattle.http_desk.proofs.WorkedHeads.{list_has, page_has, register_has, draft_has, orders_at, two_answered, one_answered}

@@ -1,5 +1,5 @@
 use Rattle.std.proofs.Common.{◌≡◌, [], drop, map}
-use Rattle.http_messages.specs.Routing.{with_all, pattern_entry}
+use Rattle.http_messages.specs.Router.{with_all, pattern_entry}
 use Rattle.http_messages.proofs.routes.router_of.Given as goal
 
 abbrev pub invariant-loop-pattern : goal.invariant-loop-pattern

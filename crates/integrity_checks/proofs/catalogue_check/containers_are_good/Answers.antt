@@ -8,7 +8,7 @@ use Rattle.office_tables.specs.Schema as tables
 use Rattle.office_tables.proofs.Calls.{early}
 use Rattle.row_decoding.proofs.ReadCalls.{same_trees, reads_then}
 use Rattle.row_decoding.specs.TableRows.{containers_in}
-use Rattle.integrity_checks.specs.CatalogueJudging.{good_housings_in}
+use Rattle.integrity_checks.specs.CatalogueJudgments.{good_housings_in}
 use Rattle.integrity_checks.proofs.CatalogueDoubts.{bad_containers, counted, rest_of_containers}
 use Rattle.integrity_checks.proofs.catalogue_check.containers_are_good.Goals as goal
 

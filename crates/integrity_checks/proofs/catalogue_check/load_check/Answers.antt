@@ -13,7 +13,7 @@ use Rattle.integrity_checks.specs.PlaceChecks.{AreUnitsPlaced, places_are_doubtf
 use Rattle.integrity_checks.specs.declared.checked_places.Placed.{Placed}
 use Rattle.row_decoding.proofs.ReadCalls.{same_trees, before, reads_then}
 use Rattle.integrity_checks.specs.CatalogueChecks.{units_are_doubtful}
-use Rattle.integrity_checks.specs.CatalogueJudging.{doubt_of_contents}
+use Rattle.integrity_checks.specs.CatalogueJudgments.{doubt_of_contents}
 use Rattle.integrity_checks.proofs.CatalogueDoubts.{bad_places, bad_units, good_units, units_are_read}
 use Rattle.office_tables.proofs.Sparing.{looked_spares}
 use Rattle.sqlite.specs.State.{HasCleanDisk}

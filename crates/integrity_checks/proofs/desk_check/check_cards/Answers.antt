@@ -6,7 +6,7 @@ use Rattle.office_tables.proofs.Calls.{early, looks_then}
 use Rattle.desk_core.specs.RowRecords.{Surrounds}
 use Rattle.row_decoding.specs.TableRows.{desk_in}
 use Rattle.integrity_checks.specs.DeskChecks.{doubt_of_orders}
-use Rattle.integrity_checks.specs.DeskJudging.{good_permits_in}
+use Rattle.integrity_checks.specs.DeskJudgments.{good_permits_in}
 use Rattle.integrity_checks.proofs.DeskDoubts.{bad_seats, bad_permits, good_cards}
 use Rattle.row_decoding.proofs.ReadCalls.{same_trees, before, reads_then}
 use Rattle.integrity_checks.proofs.desk_check.check_cards.Goals as goal

@@ -11,7 +11,7 @@ use Rattle.desk_core.specs.RowRecords.{Surrounds, order_row}
 use Rattle.desk_core.specs.declared.consistency.rows.OrderRow.{OrderRow}
 use Rattle.row_decoding.specs.TableRows.{desk_in}
 use Rattle.integrity_checks.specs.DeskChecks.{orders_are_doubtful, doubt_of_past}
-use Rattle.integrity_checks.specs.DeskJudging.{AreOrdersOf}
+use Rattle.integrity_checks.specs.DeskJudgments.{AreOrdersOf}
 use Rattle.row_decoding.specs.Readings.{AreRead, by_rowid}
 use Rattle.integrity_checks.proofs.DeskDoubts.{was_good, was_bad, bad_orders, sound_orders}
 use Rattle.integrity_checks.proofs.JudgedTables.{orders_judged}

@@ -4,7 +4,7 @@ use Rattle.sqlite.specs.Tree.{Trees}
 use Rattle.desk_core.specs.DeskCauses.{orders_are_bad}
 use Rattle.desk_core.specs.RowRecords.{Surrounds, order_row}
 use Rattle.row_decoding.specs.TableRows.{desk_in}
-use Rattle.integrity_checks.specs.DeskJudging.{AreOrdersOf, good_runs_in}
+use Rattle.integrity_checks.specs.DeskJudgments.{AreOrdersOf, good_runs_in}
 use Rattle.integrity_checks.proofs.DeskDoubts.{bad_holdings, bad_runs, no_doubt}
 use Rattle.row_decoding.proofs.ReadCalls.{same_trees, before}
 use Rattle.integrity_checks.proofs.desk_check.check_past.Goals as goal

@@ -7,7 +7,7 @@ use Rattle.office_tables.proofs.Calls.{early, looks_then}
 use Rattle.desk_core.specs.RowRecords.{Surrounds}
 use Rattle.row_decoding.specs.TableRows.{desk_in}
 use Rattle.integrity_checks.specs.DeskChecks.{around_in}
-use Rattle.integrity_checks.specs.DeskJudging.{doubt_beside_readers}
+use Rattle.integrity_checks.specs.DeskJudgments.{doubt_beside_readers}
 use Rattle.integrity_checks.specs.ReaderRows.{number_registered}
 use Rattle.integrity_checks.proofs.DeskDoubts.{doubt_of_cards}
 use Rattle.row_decoding.proofs.ReadCalls.{same_trees, before, reads_then}

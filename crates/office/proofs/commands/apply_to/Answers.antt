@@ -6,9 +6,9 @@ use Rattle.desk_core.specs.declared.refusal.Refusal.{Refusal}
 use Rattle.office_core.specs.declared.done.Done.{Done}
 use Rattle.office_core.specs.declared.machine.Reply.{Reply}
 use Rattle.office_tables.proofs.Calls.{early}
-use Rattle.refinement.specs.Represents.{RepresentsState}
+use Rattle.refinement.specs.Representation.{RepresentsState}
 use Rattle.refinement.proofs.Crashes.{went}
-use Rattle.office.specs.Applying.{TakesStep}
+use Rattle.office.specs.OfficeCall.{TakesStep}
 use Rattle.office.proofs.Applied.{refused_at_once, steps_on, finds}
 use Rattle.office.proofs.Sights.{misnamed_refuses}
 use Rattle.office.proofs.commands.apply_to.Goals as goal

@@ -4,13 +4,13 @@ use Rattle.sqlite.specs.Held.{state}
 use Rattle.sqlite.specs.Tree.{Trees}
 use Rattle.sqlite.proofs.StateLemmas.{survives_then}
 use Rattle.tree_core.specs.Versions.{Links, Spans}
-use Rattle.catalogue_statements.specs.Represents.{RepresentsLinkRows}
+use Rattle.catalogue_statements.specs.Representation.{RepresentsLinkRows}
 use Rattle.office_tables.specs.Schema.{schema}
 use Rattle.office_tables.proofs.Calls.{early}
-use Rattle.refinement.specs.Represents.{RepresentsState}
+use Rattle.refinement.specs.Representation.{RepresentsState}
 use Rattle.refinement.proofs.Crashes.{continued}
-use Rattle.nested_sets.specs.Represents.{RepresentsSpanRows}
-use Rattle.office.specs.Migrating.{MayFindSpans}
+use Rattle.nested_sets.specs.Representation.{RepresentsSpanRows}
+use Rattle.office.specs.Migration.{MayFindSpans}
 use Rattle.office.proofs.migration.bring_to_spans.Goals as goal
 
 pub returns-clause-crash : goal.returns-clause-crash

@@ -2,12 +2,12 @@ use Rattle.std.proofs.Common.{[], ◌∷◌, ◌∙◌, subst, sym}
 use Rattle.sqlite.specs.Effect.{Database}
 use Rattle.sqlite.specs.Held.{state}
 use Rattle.tree_core.specs.Versions.{Links}
-use Rattle.catalogue_statements.specs.Represents.{RepresentsLinkRows}
+use Rattle.catalogue_statements.specs.Representation.{RepresentsLinkRows}
 use Rattle.office_tables.specs.Schema as tables
 use Rattle.office_tables.specs.Step.{OnlyTouches}
 use Rattle.office_tables.proofs.Calls.{early}
-use Rattle.refinement.specs.Represents.{RepresentsState}
-use Rattle.office.specs.Adopting.{HasAdoptCause, state_in}
+use Rattle.refinement.specs.Representation.{RepresentsState}
+use Rattle.office.specs.Adoption.{HasAdoptCause, state_in}
 use Rattle.office.proofs.Migrations.{cause_of_call, migrated, shows_its_state, told_as}
 use Rattle.office.proofs.migration.judged_to_spans.Goals as goal
 

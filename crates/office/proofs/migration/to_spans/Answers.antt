@@ -2,13 +2,13 @@ use Rattle.std.proofs.Common.{[], ◌∷◌, refl}
 use Rattle.sqlite.specs.Held.{state}
 use Rattle.tree_core.specs.Versions.{Links, Spans}
 use Rattle.office_core.proofs.KeptOffices.{office_kept}
-use Rattle.state_encoding.specs.Reading as rows
+use Rattle.state_encoding.specs.OfficeRows as rows
 use Rattle.office_tables.specs.Schema as tables
 use Rattle.office_tables.specs.Step.{OnlyTouches}
 use Rattle.office_tables.proofs.Calls.{on_ok_both}
-use Rattle.catalogue_statements.specs.Represents.{Represents}
-use Rattle.nested_sets.specs.Represents.{RepresentsSpanRows}
-use Rattle.refinement.specs.Represents.{RepresentsState, office_of}
+use Rattle.catalogue_statements.specs.Representation.{Represents}
+use Rattle.nested_sets.specs.Representation.{RepresentsSpanRows}
+use Rattle.refinement.specs.Representation.{RepresentsState, office_of}
 use Rattle.refinement.proofs.Frames.{desk_kept}
 use Rattle.office.proofs.migration.to_spans.Goals as goal
 

@@ -1,4 +1,4 @@
-use Rattle.refinement.specs.Represents as shown
+use Rattle.refinement.specs.Representation as shown
 use Rattle.office.proofs.OwnRows.{legible}
 use Rattle.office.proofs.office_row.own_row.Goals as goal
 

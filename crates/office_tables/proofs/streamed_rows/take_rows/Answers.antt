@@ -5,7 +5,7 @@ use Rattle.sqlite.specs.State.{State, HasCleanDisk, Survives, CommitsShowing}
 use Rattle.sqlite.specs.Held.{state}
 use Rattle.sqlite.proofs.StateLemmas.{survives_weaker}
 use Rattle.sqlite.proofs.Callers.{IsPlain, begun_plain, never_commits}
-use Rattle.office_tables.specs.Asking.{Gathers}
+use Rattle.office_tables.specs.Query.{Gathers}
 use Rattle.office_tables.proofs.Calls.{early}
 use Rattle.office_tables.proofs.Gatherings.{shown_from, query_fails_from}
 use Rattle.office_tables.proofs.streamed_rows.take_rows.Goals as goal

@@ -1,6 +1,6 @@
 use Rattle.std.proofs.Common.{refl, subst}
 use Rattle.std.specs.Io.KnownBytes.{Appends, Consumes}
-use Rattle.program.specs.Served.{Connection, IsHeard}
+use Rattle.program.specs.Connections.{Connection, IsHeard}
 use Rattle.program.proofs.ServedLemmas.{failed_so}
 use Rattle.program.proofs.server.answer.Goals as goal
 

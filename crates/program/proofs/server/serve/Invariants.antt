@@ -1,6 +1,6 @@
 -- so many connections were served
 use Rattle.std.proofs.Common.{true}
-use Rattle.program.specs.Served.{Serves}
+use Rattle.program.specs.Connections.{Serves}
 use Rattle.program.proofs.server.serve.Given as goal
 
 abbrev pub invariant-loop-connection : goal.invariant-loop-connection

@@ -1,6 +1,6 @@
 use Rattle.std.proofs.Common.{subst}
 use Rattle.std.proofs.lemmas.Result.{IfErr-weaker}
-use Rattle.http_desk.specs.Talking.{AtEndIf, Talks}
+use Rattle.http_desk.specs.Exchanges.{AtEndIf, Talks}
 use Rattle.http_desk.specs.declared.session_end.Next.TheVariants.{Ends}
 use Rattle.program.proofs.sessions.talk_with.Goals as goal
 

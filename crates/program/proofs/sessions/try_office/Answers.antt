@@ -1,6 +1,6 @@
 use Rattle.std.proofs.Common.{sym, subst}
 use Rattle.sqlite.proofs.Callers.{memory_is_clean}
-use Rattle.program.specs.Performed.{TrialFails}
+use Rattle.program.specs.CommandEffects.{TrialFails}
 use Rattle.program.proofs.Trials.{broken_by, done_by, not_opened, talked}
 use Rattle.program.proofs.sessions.try_office.Goals as goal
 

@@ -1,10 +1,10 @@
 use Rattle.std.proofs.Common.{◌≡◌, List, ap, ◌∙◌, sym}
 use Rattle.sqlite.specs.Held.{state}
-use Rattle.isad_core.specs.Printed.{aid}
+use Rattle.isad_core.specs.PrintedDescriptions.{aid}
 use Rattle.tree_core.specs.Forest.{tree}
 use Rattle.catalogue_core.specs.Aids.{shown_below}
 use Rattle.catalogue_core.specs.Pages.{before_last}
-use Rattle.catalogue_core.specs.Publishing.{public_of}
+use Rattle.catalogue_core.specs.PublicForest.{public_of}
 use Rattle.catalogue_core.specs.Units.{has_id}
 use Rattle.catalogue_statements.specs.declared.office.OfficeRow.{OfficeRow}
 use Rattle.desk_core.specs.declared.refusal.Refusal.TheVariants.{UnknownUnit}
@@ -13,7 +13,7 @@ use Rattle.office_core.specs.declared.query.Answer.TheVariants.{Text, Unknown}
 use Rattle.office_core.proofs.KeptOffices.{office_kept}
 use Rattle.office_tables.proofs.CallEnds.{same_fault}
 use Rattle.office_tables.proofs.Calls.{early, looks_nowhere, looks_then, office_of as in_office}
-use Rattle.refinement.specs.Represents.{office_of}
+use Rattle.refinement.specs.Representation.{office_of}
 use Rattle.refinement.proofs.Answerings.{still_shown}
 use Rattle.public_queries.specs.HeadLines.{ids_of, repository_of, shows_last}
 use Rattle.catalogue_store.specs.declared.heads.Head.{Head}

@@ -2,15 +2,15 @@ use Rattle.std.proofs.Common.{rules, ◌≡◌, ◌≤◌, ◌+◌, ◌++◌, �
 use Rattle.std.proofs.lemmas.List.{length-map}
 use Rattle.sqlite.specs.Effect.{Database}
 use Rattle.sqlite.specs.Held.{state}
-use Rattle.isad_core.specs.Printed.{aid, unit_lines}
+use Rattle.isad_core.specs.PrintedDescriptions.{aid, unit_lines}
 use Rattle.tree_core.specs.declared.marks.Kept.{Kept}
 use Rattle.catalogue_core.specs.Bounds.{IsKept}
-use Rattle.catalogue_statements.specs.Represents.{Represents}
+use Rattle.catalogue_statements.specs.Representation.{Represents}
 use Rattle.office_tables.proofs.CallEnds.{same_fault, tells_cut, tells_not}
 use Rattle.office_tables.proofs.Calls.{cut_after, early, looks_then}
 use Rattle.office_tables.specs.declared.fault.StoreFault.TheVariants as fault
 use Rattle.public_queries.specs.HeadLines.{repository_of}
-use Rattle.public_queries.specs.Aiding.{along, kept_row, shown_at}
+use Rattle.public_queries.specs.FindingAids.{along, kept_row, shown_at}
 use Rattle.public_queries.proofs.AidPrinted.{along_more, drop_past, row_at}
 use Rattle.public_queries.proofs.aids.units_text.Goals as goal
 

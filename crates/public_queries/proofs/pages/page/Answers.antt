@@ -6,7 +6,7 @@ use Rattle.office_core.specs.declared.query.Answer.TheVariants.{Unknown}
 use Rattle.office_core.specs.declared.query.Query.TheVariants as query
 use Rattle.office_tables.proofs.CallEnds.{same_fault}
 use Rattle.office_tables.proofs.Calls.{looks_nowhere, office_of as in_office}
-use Rattle.refinement.specs.Represents.{office_of}
+use Rattle.refinement.specs.Representation.{office_of}
 use Rattle.public_queries.specs.HeadLines.{shows_last}
 use Rattle.public_queries.specs.KnownPaths.{RepresentsUnit}
 use Rattle.catalogue_store.specs.declared.heads.Head.{Head}

@@ -10,7 +10,7 @@ use Rattle.office_core.specs.declared.query.Query.TheVariants as query
 use Rattle.office_tables.proofs.CallEnds.{same_fault}
 use Rattle.office_tables.proofs.Calls.{early, looks_nowhere, looks_then, office_of as in_office}
 use Rattle.office_tables.specs.declared.fault.StoreFault.TheVariants as fault
-use Rattle.refinement.specs.Represents.{office_of}
+use Rattle.refinement.specs.Representation.{office_of}
 use Rattle.refinement.proofs.Answerings.{still_shown}
 use Rattle.catalogue_store.specs.Heads.{head_of}
 use Rattle.public_queries.specs.HeadLines.{bare, repository_of}

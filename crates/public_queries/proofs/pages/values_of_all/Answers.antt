@@ -3,8 +3,8 @@ use Rattle.std.proofs.lemmas.List.{take_all, map-append, length-map}
 use Rattle.sqlite.specs.Effect.{Database}
 use Rattle.sqlite.specs.Held.{state}
 use Rattle.catalogue_core.specs.Bounds.{IsKept}
-use Rattle.catalogue_core.specs.Merging.{Catalogue}
-use Rattle.catalogue_statements.specs.Represents.{Represents}
+use Rattle.catalogue_core.specs.CatalogueMerge.{Catalogue}
+use Rattle.catalogue_statements.specs.Representation.{Represents}
 use Rattle.catalogue_store.specs.declared.unit_values.UnitValues.{UnitValues}
 use Rattle.office_tables.specs.declared.fault.StoreFault.TheVariants as fault
 use Rattle.office_tables.proofs.CallEnds.{same_fault, tells_not, tells_cut}

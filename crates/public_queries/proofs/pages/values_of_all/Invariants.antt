@@ -1,8 +1,8 @@
 use Rattle.std.proofs.Common.{◌≡◌, take, map}
 use Rattle.sqlite.specs.Held.{state}
 use Rattle.sqlite.specs.State.{HasCleanDisk}
-use Rattle.catalogue_core.specs.Merging.{Catalogue}
-use Rattle.catalogue_statements.specs.Represents.{Represents}
+use Rattle.catalogue_core.specs.CatalogueMerge.{Catalogue}
+use Rattle.catalogue_statements.specs.Representation.{Represents}
 use Rattle.catalogue_statements.specs.declared.office.OfficeRow.{OfficeRow}
 use Rattle.office_tables.specs.Step.{InTransaction, LeavesUnchanged}
 use Rattle.public_queries.specs.KnownPaths.{AreHeadsOf, IsTellable}

@@ -6,7 +6,7 @@ use Rattle.office_core.proofs.KeptOffices.{office_kept}
 use Rattle.office_core.specs.declared.query.Answer.TheVariants.{Text}
 use Rattle.office_core.specs.declared.query.Query.TheVariants as query
 use Rattle.office_tables.proofs.CallEnds.{same_fault}
-use Rattle.refinement.specs.Represents.{office_of}
+use Rattle.refinement.specs.Representation.{office_of}
 use Rattle.public_queries.specs.HeadLines.{all_bare, repository_of}
 use Rattle.public_queries.proofs.FondsPrinted.{fonds_printed}
 use Rattle.public_queries.proofs.Knowings.{knows_by, knows_not}

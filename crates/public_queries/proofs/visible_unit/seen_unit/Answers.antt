@@ -4,11 +4,11 @@ use Rattle.sqlite.specs.Held.{state}
 use Rattle.tree_core.specs.Forest.{nodes}
 use Rattle.tree_core.specs.declared.marks.Kept.{Kept}
 use Rattle.catalogue_core.specs.Bounds.{IsKept}
-use Rattle.catalogue_core.specs.Publishing.{public_unit}
+use Rattle.catalogue_core.specs.PublicForest.{public_unit}
 use Rattle.catalogue_core.specs.Units.{has_id}
-use Rattle.catalogue_statements.specs.Represents.{Represents}
+use Rattle.catalogue_statements.specs.Representation.{Represents}
 use Rattle.office_tables.proofs.Calls.{cut_after, looks_nowhere, office_of}
-use Rattle.public_queries.specs.Aiding.{seen_of}
+use Rattle.public_queries.specs.FindingAids.{seen_of}
 use Rattle.public_queries.proofs.AidCalls.{tells_as}
 use Rattle.public_queries.proofs.AidUnits.{closed_until, seen_stub}
 use Rattle.public_queries.proofs.FoundUnits.{found_low}

@@ -2,10 +2,10 @@ use Rattle.std.proofs.Common.{◌≡◌, Some, None, sym, ap, ◌∙◌}
 use Rattle.std.specs.Prelude.{option_map}
 use Rattle.sqlite.specs.Held.{state}
 use Rattle.catalogue_core.specs.Bounds.{IsKept}
-use Rattle.catalogue_statements.specs.Represents.{Represents}
+use Rattle.catalogue_statements.specs.Representation.{Represents}
 use Rattle.office_tables.proofs.CallEnds.{same_fault, tells_not}
 use Rattle.office_tables.proofs.Calls.{cut_after, office_of}
-use Rattle.public_queries.specs.Aiding.{seen_values}
+use Rattle.public_queries.specs.FindingAids.{seen_values}
 use Rattle.public_queries.proofs.AidUnits.{seen_read, values_read}
 use Rattle.public_queries.proofs.visible_unit.told.Goals as goal
 

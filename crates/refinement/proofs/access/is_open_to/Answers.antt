@@ -6,12 +6,12 @@ use Rattle.desk_store.proofs.ToldCalls.{ends_not, ends_well, shown_on}
 use Rattle.desk_store.specs.declared.reader_permits.Permit.{Permit}
 use Rattle.catalogue_store.specs.declared.container_marks.Attached.{Attached}
 use Rattle.office_core.specs.State.{opens}
-use Rattle.state_encoding.specs.Reading.{tables}
+use Rattle.state_encoding.specs.OfficeRows.{tables}
 use Rattle.office_tables.proofs.CallEnds.{same_fault, tells_not}
 use Rattle.office_tables.proofs.Calls.{early, looks_nowhere, looks_then, office_of, still}
-use Rattle.refinement.specs.Judging.{CanBeJudged, RepresentsWhole}
+use Rattle.refinement.specs.AccessConditions.{CanBeJudged, RepresentsWhole}
 use Rattle.refinement.specs.Openness.{TellsAllClean}
-use Rattle.refinement.specs.Represents as shown
+use Rattle.refinement.specs.Representation as shown
 use Rattle.refinement.proofs.OpenByRows.{clean_open, empty_closed, opens_none}
 use Rattle.refinement.proofs.access.is_open_to.Goals as goal
 

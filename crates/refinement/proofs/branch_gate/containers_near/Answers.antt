@@ -13,7 +13,7 @@ use Rattle.catalogue_core.proofs.EachOf.{all_append}
 use Rattle.catalogue_statements.specs.Rows.{housing_row}
 use Rattle.catalogue_store.proofs.MarkForests.{path_ids}
 use Rattle.desk_store.proofs.ToldCalls.{ends_not, shown_on}
-use Rattle.office_tables.specs.Numbered.{HasNumbered}
+use Rattle.office_tables.specs.RowNumbers.{HasNumbered}
 use Rattle.office_tables.specs.Schema as tables
 use Rattle.office_tables.specs.Step.{IsAborted, LeavesUnchanged}
 use Rattle.office_tables.specs.declared.fault.StoreFault.{StoreFault}
@@ -22,7 +22,7 @@ use Rattle.office_tables.proofs.CallEnds.{excused_then, same_fault, tells_not}
 use Rattle.office_tables.proofs.Calls.{cut_after, cut_then, early, looks_then, office_of, on_err_then, on_ok_then, still}
 use Rattle.office_tables.proofs.Outcomes.{if_ok_by}
 use Rattle.refinement.specs.Gate.{has_row, is_named_near, is_one_of, names_some, says_so}
-use Rattle.refinement.specs.Judging.{CanBeJudged, RepresentsWhole}
+use Rattle.refinement.specs.AccessConditions.{CanBeJudged, RepresentsWhole}
 use Rattle.refinement.proofs.NearRows.{all_branch, all_last, all_path, last_with_rows, near_named}
 use Rattle.refinement.proofs.branch_gate.containers_near.Goals as goal
 

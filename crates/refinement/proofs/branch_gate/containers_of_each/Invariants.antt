@@ -3,7 +3,7 @@ use Rattle.std.specs.List.{list_any}
 use Rattle.sqlite.specs.Held.{state}
 use Rattle.sqlite.specs.State.{HasCleanDisk}
 use Rattle.catalogue_statements.specs.Rows.{HousingRow, housing_row}
-use Rattle.office_tables.specs.Numbered.{HoldsNumbered}
+use Rattle.office_tables.specs.RowNumbers.{HoldsNumbered}
 use Rattle.office_tables.specs.Schema as tables
 use Rattle.office_tables.specs.Step.{InOffice, LeavesUnchanged}
 use Rattle.refinement.specs.Gate.{is_one_of, says_so}

@@ -3,11 +3,11 @@ use Rattle.std.specs.Prelude.{⊤}
 use Rattle.sqlite.specs.Held.{state}
 use Rattle.desk_store.specs.Holdings.{issued_of}
 use Rattle.desk_store.specs.declared.holdings.Loan.{Loan}
-use Rattle.state_encoding.specs.Reading.{tables}
+use Rattle.state_encoding.specs.OfficeRows.{tables}
 use Rattle.office_tables.proofs.CallEnds.{same_fault, tells_not}
 use Rattle.office_tables.proofs.Calls.{office_of}
 use Rattle.refinement.specs.Gate.{AreAsked}
-use Rattle.refinement.specs.Judging.{CanBeJudged, RepresentsWhole}
+use Rattle.refinement.specs.AccessConditions.{CanBeJudged, RepresentsWhole}
 use Rattle.refinement.proofs.Tellings.{told_then}
 use Rattle.refinement.proofs.branch_gate.loans_near.Goals as goal
 

@@ -8,7 +8,7 @@ use Rattle.desk_store.specs.declared.holdings.Loan.{Loan}
 use Rattle.office_tables.proofs.CallEnds.{same_fault, tells_not}
 use Rattle.office_tables.proofs.Calls.{looks_nowhere, office_of}
 use Rattle.refinement.specs.Gate.{AreAsked, is_one_of}
-use Rattle.refinement.specs.Judging.{CanBeJudged, RepresentsWhole}
+use Rattle.refinement.specs.AccessConditions.{CanBeJudged, RepresentsWhole}
 use Rattle.refinement.proofs.NearRows.{all_pass}
 use Rattle.refinement.proofs.branch_gate.loans_to_ask.Goals as goal
 

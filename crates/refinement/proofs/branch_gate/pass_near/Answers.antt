@@ -2,7 +2,7 @@ use Rattle.std.proofs.Common.{◌≡◌, ◌∙◌}
 use Rattle.std.specs.Prelude.{⊤}
 use Rattle.office_tables.proofs.CallEnds.{same_fault, tells_not}
 use Rattle.refinement.specs.Gate.{AreEnough, OthersAreOpen, gated}
-use Rattle.refinement.specs.Judging.{CanBeJudged, RepresentsWhole}
+use Rattle.refinement.specs.AccessConditions.{CanBeJudged, RepresentsWhole}
 use Rattle.refinement.proofs.Gates.{enough_of}
 use Rattle.refinement.proofs.Tellings.{told_then}
 use Rattle.refinement.proofs.branch_gate.pass_near.Goals as goal

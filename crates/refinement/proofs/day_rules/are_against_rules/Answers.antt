@@ -2,11 +2,11 @@ use Rattle.std.proofs.Common.{◌≡◌, ◌∙◌}
 use Rattle.std.specs.Prelude.{⊤}
 use Rattle.sqlite.specs.Held.{state}
 use Rattle.desk_store.proofs.ToldCalls.{ends_not, ends_well, shown_on}
-use Rattle.state_encoding.specs.Reading.{tables}
+use Rattle.state_encoding.specs.OfficeRows.{tables}
 use Rattle.office_tables.proofs.CallEnds.{same_fault, tells_not}
 use Rattle.office_tables.proofs.Calls.{early, looks_nowhere, looks_then, office_of}
 use Rattle.refinement.specs.DayRules.{are_against_rules}
-use Rattle.refinement.specs.Judging.{CanBeJudged, RepresentsWhole}
+use Rattle.refinement.specs.AccessConditions.{CanBeJudged, RepresentsWhole}
 use Rattle.refinement.proofs.DayRules.{by_hands, by_openness, by_seats}
 use Rattle.refinement.proofs.day_rules.are_against_rules.Goals as goal
 

@@ -2,7 +2,7 @@ use Rattle.std.proofs.Common.{◌≡◌, ◌∙◌}
 use Rattle.std.specs.Prelude.{⊤}
 use Rattle.std.specs.List.{list_any}
 use Rattle.desk_store.proofs.ToldCalls.{ends_well}
-use Rattle.desk_store.specs.Represents.{IsLegible, RepresentsDeskAlone}
+use Rattle.desk_store.specs.Representation.{IsLegible, RepresentsDeskAlone}
 use Rattle.office_tables.proofs.CallEnds.{same_fault, tells_not}
 use Rattle.refinement.specs.DayRules.{has_no_row}
 use Rattle.refinement.proofs.DayRules.{lacks_is}

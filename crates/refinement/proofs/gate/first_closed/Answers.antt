@@ -6,7 +6,7 @@ use Rattle.desk_store.specs.declared.holdings.Loan.{Loan}
 use Rattle.office_tables.proofs.CallEnds.{same_fault}
 use Rattle.office_tables.proofs.Calls.{early, looks_then, still}
 use Rattle.refinement.specs.Gate.{first_closed, is_closed_to}
-use Rattle.refinement.specs.Judging.{CanBeJudged, RepresentsWhole}
+use Rattle.refinement.specs.AccessConditions.{CanBeJudged, RepresentsWhole}
 use Rattle.refinement.proofs.Gates.{first_here, none_more}
 use Rattle.refinement.proofs.gate.first_closed.Goals as goal
 

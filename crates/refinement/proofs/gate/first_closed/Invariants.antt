@@ -5,8 +5,8 @@ use Rattle.office_core.specs.State.{State}
 use Rattle.office_core.specs.Words.{first_that}
 use Rattle.office_tables.specs.Step.{InTransaction, LeavesUnchanged}
 use Rattle.refinement.specs.Gate.{is_closed_to}
-use Rattle.refinement.specs.Judging.{CanBeJudged}
-use Rattle.refinement.specs.Represents.{RepresentsState}
+use Rattle.refinement.specs.AccessConditions.{CanBeJudged}
+use Rattle.refinement.specs.Representation.{RepresentsState}
 use Rattle.refinement.proofs.gate.first_closed.Given as goal
 
 abbrev pub invariant-loop-loan : goal.invariant-loop-loan

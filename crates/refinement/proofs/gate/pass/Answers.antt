@@ -4,7 +4,7 @@ use Rattle.desk_core.specs.declared.refusal.Refusal.TheVariants.{WithReader}
 use Rattle.desk_store.proofs.ToldCalls.{ends_well}
 use Rattle.office_tables.proofs.CallEnds.{same_fault, tells_not}
 use Rattle.refinement.specs.Gate.{gated, unless_refused}
-use Rattle.refinement.specs.Judging.{CanBeJudged, RepresentsWhole}
+use Rattle.refinement.specs.AccessConditions.{CanBeJudged, RepresentsWhole}
 use Rattle.refinement.proofs.gate.pass.Goals as goal
 
 pub returns-in_err-container : goal.returns-in_err-container

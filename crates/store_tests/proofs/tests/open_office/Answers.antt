@@ -7,8 +7,8 @@ use Rattle.tree_core.specs.Forest.{Forest}
 use Rattle.tree_core.specs.Versions.{Version}
 use Rattle.office_tables.specs.Creation.{IsMaking}
 use Rattle.office_tables.specs.Step.{InTransaction, Continues}
-use Rattle.catalogue_core.specs.Merging.{Catalogue}
-use Rattle.catalogue_statements.specs.Represents.{Represents}
+use Rattle.catalogue_core.specs.CatalogueMerge.{Catalogue}
+use Rattle.catalogue_statements.specs.Representation.{Represents}
 use Rattle.catalogue_statements.specs.declared.office.OfficeRow.{OfficeRow}
 use Rattle.office_tables.proofs.Calls.{early}
 use Rattle.store_tests.proofs.tests.open_office.Goals as goal

@@ -1,6 +1,6 @@
 use Rattle.std.proofs.Common.{◌≡◌, ◌∙◌, ◌++◌, Some, Bool, true, false, codes, sym, ap, ap₂, refl, not, Option}
 use Rattle.atom_csv.specs.Fields.{Fields, is_named, seen}
-use Rattle.atom_csv.specs.FileOf.{has_column, has_twice, lowest, when}
+use Rattle.atom_csv.specs.FileContents.{has_column, has_twice, lowest, when}
 use Rattle.atom_csv.specs.declared.cause.Cause.{Cause}
 use Rattle.atom_csv.specs.declared.cause.Cause.TheVariants as cause
 use Rattle.atom_csv.proofs.FieldLemmas.{column_seen, twice_seen}

@@ -1,7 +1,7 @@
 use Rattle.std.proofs.Common.{Some, ap, ◌∙◌, arith}
 use Rattle.std.specs.Prelude.{option_and_then}
 use Rattle.http_messages.specs.Routes.{after}
-use Rattle.http_messages.specs.Routing.{makes, beginning}
+use Rattle.http_messages.specs.Router.{makes, beginning}
 use Rattle.http_messages.proofs.Matched.{AllBytes}
 use Rattle.http_messages.proofs.Routed.{leads_on, leads_nowhere}
 use Rattle.http_messages.proofs.routes.Routes.found.Goals as goal

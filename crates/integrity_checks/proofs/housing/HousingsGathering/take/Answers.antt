@@ -1,5 +1,5 @@
 use Rattle.std.proofs.Common.{[], ◌∷◌, ◌++◌, Option, option_map, sym, ap, subst, ◌∙◌}
-use Rattle.integrity_checks.specs.Filled.{housed, AreHoused}
+use Rattle.integrity_checks.specs.HousingPlaces.{housed, AreHoused}
 use Rattle.integrity_checks.specs.declared.housing.Housed.{Housed}
 use Rattle.integrity_checks.specs.declared.housing.Housings.{Housings}
 use Rattle.integrity_checks.proofs.JudgedHousings.{one_unread, same_unit, next_filled, next_above}

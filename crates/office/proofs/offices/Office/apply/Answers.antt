@@ -4,8 +4,8 @@ use Rattle.sqlite.specs.Held.{state}
 use Rattle.office_core.proofs.Texts.{always_sound_office}
 use Rattle.office_core.specs.declared.machine.Reply.{Reply}
 use Rattle.office_tables.proofs.Calls.{early}
-use Rattle.office.specs.Applying.{TakesStep}
-use Rattle.office.specs.Resting.{IsIn}
+use Rattle.office.specs.OfficeCall.{TakesStep}
+use Rattle.office.specs.IdleOffice.{IsIn}
 use Rattle.office.proofs.Machines.{applied_call}
 use Rattle.office.proofs.offices.Office.apply.Goals as goal
 use Rattle.office.proofs.offices.Office.apply.Goals.{in-Ok, in-Err}

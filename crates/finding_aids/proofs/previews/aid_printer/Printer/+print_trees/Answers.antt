@@ -2,7 +2,7 @@ use Rattle.std.proofs.Common.{◌≡◌, ◌≤◌, ◌<◌, ◌+◌, ◌++◌, 
 use Rattle.std.specs.Prelude.{unwrap_or}
 use Rattle.isad_core.specs.Values.{identifier}
 use Rattle.finding_aids.specs.Numbers.{number_by}
-use Rattle.finding_aids.specs.Planting.{height_of_all}
+use Rattle.finding_aids.specs.RowTrees.{height_of_all}
 use Rattle.finding_aids.specs.declared.previews.trees.Tree.{Tree}
 use Rattle.finding_aids.specs.declared.previews.trees.Tree.TheViews.{out-Tree}
 use Rattle.finding_aids.proofs.PrintLemmas.{child_fits, child_lower, popped, tree_printed}

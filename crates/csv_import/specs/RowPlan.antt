@@ -1,0 +1,50 @@
+-- What is known about a file's rows before any is entered: whether each can be placed, and how many are new.
+use Rattle.std.specs.Prelude.{◌≡◌, ℕ, suc, if◌then◌else◌, nat_lt, List, [], filter, length, Option, Some, None, Result, Ok, Err}
+use Rattle.isad_core.specs.Limits.{most_deep}
+use Rattle.isad_core.specs.Texts.{Bytes}
+use Rattle.atom_csv.specs.declared.file.Row.{Row}
+use Rattle.tree_core.specs.Forest.{Forest}
+use Rattle.catalogue_core.specs.Intake.{is_new}
+use Rattle.catalogue_core.specs.CatalogueMerge.{depth_under, faults_below, is_known, or_first}
+use Rattle.catalogue_core.specs.Units.{Unit}
+use Rattle.csv_import.specs.declared.row_plan.Placing.{Placing}
+use Rattle.csv_import.specs.declared.row_plan.Placing.TheVariants as placing
+use Rattle.csv_import.specs.declared.row_plan.Planned.{Planned}
+use Rattle.csv_import.specs.declared.row_plan.Planned.TheVariants as plan
+
+-- ---- all rows
+
+-- the rows of units that are not catalogued, in file order
+abbrev pub new_of : Forest Unit → Bytes → List Row → List Row
+new_of f source rows = filter (is_new f source) rows
+
+abbrev pub as_plan : Result ℕ (ℕ × ℕ) → Planned
+as_plan (Ok new) = plan.Fits new
+as_plan (Err (row, cause)) = plan.Faulty row cause
+
+-- how many rows are new, or the first of them that cannot be placed, and why
+abbrev pub plan_of : Forest Unit → Bytes → List Row → Planned
+plan_of f source rows = as_plan (or_first (faults_below f source [] (new_of f source rows)) (length (new_of f source rows)))
+
+-- ---- one row
+
+-- 11: its parent does not exist; 12: it would lie too deep
+abbrev pub at_depth : Option ℕ → Placing
+at_depth None = placing.Faulty 11
+at_depth (Some depth) = if nat_lt most_deep depth then placing.Faulty 12 else placing.Fits (suc depth)
+
+-- how a row is placed: `above` has the new rows above it in the file, the nearest first
+abbrev pub placing_of : Forest Unit → Bytes → List Row → Row → Placing
+placing_of f source above row =
+    if is_known f source row then placing.Known else at_depth (depth_under f source row.parent above)
+
+-- the first depth if there is one, otherwise the second
+abbrev pub or_there : Option ℕ → Option ℕ → Option ℕ
+or_there None there = there
+or_there (Some depth) there = Some depth
+
+-- `below` gives the depth of a row right below each of the new rows above, and below each catalogued unit that was
+-- looked up. Any other parent is looked up in the catalogue.
+abbrev pub KnowsDepths : Forest Unit → Bytes → List Row → (Bytes → Option ℕ) → Type 0
+KnowsDepths f source above below =
+    (parent : Bytes) → depth_under f source (Some parent) above ≡ or_there (below parent) (depth_under f source (Some parent) [])

@@ -1,0 +1,55 @@
+//! The reader who has a ticket.
+
+ghost use Rattle.std.specs.Prelude.{◌≡◌, ◌<◌, ◌^◌, nat_eq, length, IfOk, IfSome, ⊤};
+ghost use Rattle.std.specs.List.{count_by};
+ghost use Rattle.sqlite.specs.Held.{state};
+ghost use Rattle.isad_core.specs.Limits.{IsNumber};
+ghost use Rattle.office_tables.specs.Calls.{Tells};
+ghost use Rattle.office_tables.specs.Step.{InOffice};
+ghost use Rattle.desk_store.specs.Readers.{ticket_holder};
+ghost use Rattle.desk_store.specs.Representation.{RepresentsDeskAlone, IsLegible};
+
+use crate::reader_summary::{OrderLine, live_lines, seat_in};
+use crate::readers::{MOST_TICKETS, readers_with};
+use crate::taken_seats::seats_with;
+use desk_core::Reader;
+use office_tables::StoreFault;
+use sqlite::{Alter, Connection};
+use std::alloc::Global;
+
+/// How many of the orders are out.
+fn count_out(lines: &[OrderLine]) -> u32
+    ensures { length lines.now < 2 ^ 32 → result ≡ count_by (λ o. nat_eq o.state 2) lines.now }
+{
+    let out = lines.iter().filter(|line| line.state == 2).count();
+    u32::try_from(out).unwrap_or(u32::MAX)
+}
+
+/// The reader who has a ticket, with his seat and how many containers are out with him, or none where the ticket was not
+/// given.
+pub fn ticket_holder<S: Alter>(
+    alloc: Global,
+    conn: &mut Connection<S>,
+    ticket: u64,
+) -> Result<Option<Reader>, StoreFault>
+    requires inside { InOffice (state S.Store conn.old) }
+    ensures tells { Tells S.Store RepresentsDeskAlone IsLegible conn.old conn.new result (λ _. ⊤)
+        (λ _ d holder. holder ≡ ticket_holder ticket d) }
+    ensures small { IfOk result (λ holder. IfSome holder (λ _. IsNumber ticket)) }
+{
+    if ticket > u64::from(MOST_TICKETS) {
+        return Ok(None);
+    }
+    let named = readers_with(alloc, conn, ticket)?;
+    let Some(row) = named.into_iter().next() else {
+        return Ok(None);
+    };
+    let seats = seats_with(alloc, conn, ticket)?;
+    let lines = live_lines(alloc, conn, ticket)?;
+    Ok(Some(Reader {
+        ticket,
+        until: row.until,
+        seat: seat_in(&seats),
+        held: count_out(&lines),
+    }))
+}

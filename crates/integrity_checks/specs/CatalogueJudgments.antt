@@ -1,0 +1,45 @@
+-- What the checks of the tables of the catalogue return, one after the other.
+use Rattle.std.specs.Prelude.{ℕ, Bool, not, cond, ◌&&◌, List, length, Option, Some, None, nat_le, nat_lt}
+use Rattle.std.specs.List.{list_all}
+use Rattle.sqlite.specs.Tree.{Trees}
+use Rattle.isad_core.specs.Limits.{most_units, most_deep}
+use Rattle.tree_core.specs.Versions.{Version}
+use Rattle.catalogue_core.specs.CatalogueCauses.{all_stand_in, are_good_container_rows, is_good_housing}
+use Rattle.office_tables.specs.Cells.{has_unread}
+use Rattle.office_tables.specs.CatalogueCells.{read_container, read_housing}
+use Rattle.office_tables.specs.Schema as tables
+use Rattle.row_decoding.specs.TableRows.{catalogue_in, containers_in}
+use Rattle.integrity_checks.specs.CatalogueChecks.{elements_are_doubtful, containers_are_doubtful}
+use Rattle.integrity_checks.specs.declared.catalogue_doubt.CatalogueDoubt.{CatalogueDoubt}
+use Rattle.integrity_checks.specs.declared.catalogue_doubt.CatalogueDoubt.TheVariants.{Elements, Containers}
+
+-- the numbers of the units are those that have a place, below the next number, not too many, and none lies too deep
+abbrev pub are_good_numbers : ℕ → List ℕ → ℕ → List ℕ → Bool
+are_good_numbers next placed height numbers =
+    list_all (λ n. nat_lt n next) numbers
+    && (all_stand_in placed numbers && (all_stand_in numbers placed
+    && (nat_le (length numbers) most_units && nat_le height most_deep)))
+
+-- ---- containers
+
+-- each can be read, and they can be a catalogue's
+abbrev pub good_containers_in : Trees → Bool
+good_containers_in db =
+    not (has_unread read_container (db tables.container.tree)) && are_good_container_rows (containers_in db)
+
+-- how many there are, if they are good
+abbrev pub number_of_containers : Trees → Option ℕ
+number_of_containers db = cond (good_containers_in db) (Some (length (containers_in db))) None
+
+-- each row of what is in them can be read, and they can be a catalogue's
+abbrev pub good_housings_in : Version → Trees → Bool
+good_housings_in version db =
+    not (has_unread read_housing (db tables.housing.tree))
+    && list_all (is_good_housing (catalogue_in version db)) (catalogue_in version db).housings
+
+-- ---- apart from places and units
+
+-- what is doubtful if the places and the units are not
+abbrev pub doubt_of_contents : Version → Trees → Option CatalogueDoubt
+doubt_of_contents version db =
+    cond (elements_are_doubtful version db) (Some Elements) (cond (containers_are_doubtful version db) (Some Containers) None)

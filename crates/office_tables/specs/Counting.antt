@@ -1,6 +1,0 @@
--- Rows that are counted.
-use Rattle.std.specs.Prelude.{ℕ, min}
-
--- SQL counts up to what an i64 holds
-abbrev pub capped : ℕ → ℕ
-capped n = min n 9223372036854775807

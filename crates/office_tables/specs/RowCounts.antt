@@ -1,0 +1,6 @@
+-- Rows that are counted.
+use Rattle.std.specs.Prelude.{ℕ, min}
+
+-- SQL counts up to the greatest i64
+abbrev pub capped : ℕ → ℕ
+capped n = min n 9223372036854775807

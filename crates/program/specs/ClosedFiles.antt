@@ -1,0 +1,70 @@
+-- What the files of a store hold after it is closed, as long as the disk has returned what was written to them.
+use Rattle.std.specs.Prelude.{◌≡◌, ◌⊎◌, IsTrue, false, Option}
+use Rattle.sqlite.specs.Closing.{HoldsAlone}
+use Rattle.sqlite.specs.Files.{HoldsDatabase, file_state, image_of}
+use Rattle.sqlite.specs.Held.{Held}
+use Rattle.sqlite.specs.Recovery.{Image}
+use Rattle.sqlite.specs.State.{HasCleanDisk}
+use Rattle.sqlite.specs.Tree.{Trees}
+use Rattle.sqlite_disk.specs.declared.Disk.{Ghosts}
+use Rattle.sqlite_disk.specs.declared.Files.{Files}
+use Rattle.sqlite_store.specs.FileStore as store
+use Rattle.sqlite_store.specs.declared.store.FileStore.{FileStore}
+use Rattle.sqlite_wal.specs.Files.{outcomes}
+use Rattle.sqlite_wal.specs.Reads.{AreClean}
+use Rattle.nested_sets.specs.Representation.{RepresentsSpanRows}
+use Rattle.office_core.specs.State.{State}
+use Rattle.office_tables.specs.Schema.{schema}
+use Rattle.refinement.specs.Representation.{RepresentsState}
+use Rattle.tree_core.specs.Versions.{Spans}
+use Rattle.office.specs.declared.faults.OpenFault.{OpenFault}
+use Rattle.program.specs.OpenedFiles.{AreHeld, IsJudgedIn}
+
+module _ {D : Type 0} (g : Ghosts D) where
+  -- the disk has returned what was written to the file and to its log
+  abbrev pub HaveCleanDisk : Files D → Type 0
+  HaveCleanDisk files = AreClean g files.log files.db
+
+  -- the file holds these tables, with its log and alone, as it reads now and after a crash
+  pub record AreInTheFile (files : Files D) (tables : Trees) : Type 0 where
+    pub now : HoldsAlone (image_of g files) tables
+    pub later : (image : Image) → outcomes g files.log files.db image → HoldsAlone image tables
+
+  -- a crash that leaves the files as they are leaves only such tables
+  abbrev pub LeaveOnly : Files D → (Trees → Type 0) → Type 0
+  LeaveOnly files Such =
+      (last : FileStore D g) × (store.files last ≡ (files.log, files.db)) × ((found : Trees) → store.recovers last found → Such found)
+
+  -- the tables are in the file; or they could not be copied into it, and are those that a crash leaves
+  abbrev pub Hold : Files D → Trees → Type 0
+  Hold files tables = AreInTheFile files tables ⊎ LeaveOnly files (λ found. found ≡ tables)
+
+  -- the files hold the tables of an office that is in this state
+  abbrev pub HoldState : Files D → State → Type 0
+  HoldState files s =
+      (tables : Trees) × Hold files tables × RepresentsState RepresentsSpanRows Spans (record { schema = schema Spans; trees = tables }) s
+
+  -- the files hold the tables that were found in them
+  abbrev pub AreAsFound : Image → Files D → Type 0
+  AreAsFound image files = HaveCleanDisk files → (tables : Trees) × AreHeld image tables × Hold files tables
+
+-- A connection outside a transaction was closed, and these are its files. If it was open, they hold its tables. If a
+-- failure of the disk had shut it, they hold what a crash might have left.
+pub record HasLeft {D : Type 0} {g : Ghosts D} (conn : Held (FileStore D g)) (files : Files D) : Type 0 where
+  pub clean : HaveCleanDisk g files → HasCleanDisk (file_state conn)
+  pub hold : HaveCleanDisk g files → IsTrue (file_state conn).is_open → Hold g files (file_state conn).now.trees
+  pub shut : HaveCleanDisk g files → (file_state conn).is_open ≡ false → LeaveOnly g files (file_state conn).may_leave
+
+module _ {D : Type 0} (g : Ghosts D) (image : Image) where
+  -- a store was judged with this result, and closed as it was found
+  pub record WasJudgedAsFound (judged : Option OpenFault) (files : Files D) : Type 0 where
+    pub after : Held (FileStore D g)
+    pub verdict : HasCleanDisk (file_state after) → IsJudgedIn image judged
+    pub left : HasLeft after files
+    pub stays : AreAsFound g image files
+
+  -- whatever database there was before a check, the files hold it afterwards
+  abbrev pub ACheckChangesNothing : Type 0
+  ACheckChangesNothing =
+      (judged : Option OpenFault) (files : Files D) → WasJudgedAsFound judged files → HaveCleanDisk g files
+      → (tables : Trees) → HoldsDatabase image tables → Hold g files tables

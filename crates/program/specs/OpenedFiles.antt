@@ -1,0 +1,62 @@
+-- What a file held when it was opened, and the office that was found there.
+use Rattle.std.specs.Prelude.{◌≡◌, IsTrue, Option, Some, None}
+use Rattle.sqlite.specs.Effect.{Database}
+use Rattle.sqlite.specs.Files.{AreFoundIn, HoldsDatabase}
+use Rattle.sqlite.specs.Recovery.{Image}
+use Rattle.sqlite.specs.State as store
+use Rattle.sqlite.specs.Tree.{Trees}
+use Rattle.adoption.specs.Verdicts.{IsVerdict}
+use Rattle.adoption.specs.declared.verdict.Verdict.TheVariants as verdict
+use Rattle.office_core.specs.SoundOffice.{IsSoundOffice}
+use Rattle.office_core.specs.State.{State}
+use Rattle.program.specs.Rows.{StandInOrder}
+use Rattle.office_tables.specs.Schema.{schema}
+use Rattle.office.specs.Adoption.{state_in}
+use Rattle.office.specs.IdleOffice.{IsIn}
+use Rattle.office.specs.declared.faults.OpenFault.{OpenFault}
+use Rattle.office.specs.declared.faults.OpenFault.TheVariants as opening
+use Rattle.refinement.specs.Representation.{RepresentsState}
+use Rattle.nested_sets.specs.Representation.{RepresentsSpanRows}
+use Rattle.tree_core.specs.Versions.{Spans}
+
+-- the file and its log hold these tables; if they hold no database yet, there are none
+pub record AreHeld (image : Image) (tables : Trees) : Type 0 where
+  pub holds : (others : Trees) → HoldsDatabase image others → tables ≡ others
+  pub reads : AreFoundIn image tables
+
+-- the file and its log hold the tables of an office that is in this state
+abbrev pub HoldsOffice : Image → State → Type 0
+HoldsOffice image s =
+    (tables : Trees) × HoldsDatabase image tables × RepresentsState RepresentsSpanRows Spans (record { schema = schema Spans; trees = tables }) s
+
+-- The file's tables are those of a sound office, their rows have ascending whole numbers, and the connection has them
+-- while it is open. The office is in the state in which the tables were left. Whoever wrote them, it is in the state
+-- that their rows describe. While the connection is open, that state is sound.
+pub record IsFound (image : Image) (at : store.State) : Type 0 where
+  pub found : Database
+  pub held : AreHeld image found.trees
+  pub ordered : StandInOrder found
+  pub verdict : IsVerdict Spans found verdict.Sound
+  pub same : IsTrue at.is_open → at.now ≡ found
+  pub left : (s : State) → HoldsOffice image s → IsIn RepresentsSpanRows Spans s at
+  pub represents : IsIn RepresentsSpanRows Spans (state_in Spans found.trees) at
+  pub sound : IsTrue at.is_open → IsSoundOffice (state_in Spans found.trees)
+
+-- The tables found in a file are in the state that was left there: if the file holds an office in this state, and the
+-- tables found are those of a sound office, they represent this state.
+abbrev pub IsInTheStateThatWasLeft : Image → State → Database → Type 0
+IsInTheStateThatWasLeft image s found =
+    HoldsOffice image s → AreHeld image found.trees → IsVerdict Spans found verdict.Sound → RepresentsState RepresentsSpanRows Spans found s
+
+-- what the outcome of an opening means for the tables; nothing, if they were not to blame
+abbrev pub IsJudged : Option OpenFault → Database → Type 0
+IsJudged None db = IsVerdict Spans db verdict.Sound
+IsJudged (Some opening.OldVersion) db = IsVerdict Spans db verdict.OldVersion
+IsJudged (Some opening.NewVersion) db = IsVerdict Spans db verdict.NewVersion
+IsJudged (Some opening.NoOffice) db = IsVerdict Spans db verdict.NoOffice
+IsJudged (Some (opening.Unsound cause)) db = IsVerdict Spans db (verdict.Unsound cause)
+IsJudged (Some _) db = Unit {0}
+
+-- the tables that the file holds were judged with this outcome; their rows have ascending whole numbers
+abbrev pub IsJudgedIn : Image → Option OpenFault → Type 0
+IsJudgedIn image judged = (found : Database) × AreHeld image found.trees × StandInOrder found × IsJudged judged found

@@ -1,0 +1,147 @@
+#!/usr/bin/env python3
+"""Looks whether all that docs/PROMISES.md names exists: functions, clauses, laws, definitions, crates and files.
+
+    mutation/promises.py [TREE]
+
+In the column "Clause" `crate::module::function`: `clause` names a clause of that function; a function that follows without
+a path is in the same module, or of the same type; names in parentheses are definitions. Each function must be there, each
+clause must be one of the functions before it, and each of these must have one of the clauses. Everywhere else a name in code
+marks must be a file, a name that the crates have, or a word of SQL in capitals. The script prints each name that is nowhere, with its line, and
+ends with 1 if there is one.
+"""
+import collections
+import os
+import re
+import sys
+
+from clauses import Source
+
+TOP = os.path.dirname(os.path.dirname(os.path.abspath(__file__)))
+PIECE = re.compile(r"`[^`]+`|[:;()]|[^\s`:;()]+")
+
+
+class Tree:
+    """What the crates have: functions with their clauses, modules, and names of any kind."""
+
+    def __init__(self, top):
+        self.top, self.clauses, self.names, self.modules = top, collections.defaultdict(set), set(), set()
+        for line in open(f"{top}/crates.txt", encoding="utf-8"):
+            if not line.startswith("#"):
+                self.names |= set(re.findall(r"\w+", line))
+        for crate in sorted(os.listdir(f"{top}/crates")):
+            for path, text in texts(f"{top}/crates/{crate}/src", ".rt"):
+                self.read_code("::".join(it for it in (crate, *path) if it not in ("lib", "main")), text)
+            for path, text in texts(f"{top}/crates/{crate}/specs", ".antt"):
+                self.names |= set(re.findall(r"\w+", text))
+
+    def read_code(self, module, text):
+        def note(owner, name, clause):
+            holder = re.sub(r"<[^<>]*>", "", owner).split()
+            path = "::".join([module, *holder[-1:], name])
+            label = re.match(r"(?:ensures|requires) (\w+)", clause)
+            self.clauses[path] |= {label[1]} if label else set()
+
+        Source(text, note).walk(open_to_all=True)
+        self.modules |= {module, module.split("::")[0]}
+        self.names |= set(re.findall(r"\w+", text))
+
+    def has(self, name):
+        """Whether a name outside the column of clauses is of anything."""
+        if re.fullmatch(r"[\w.-]+/[\w./-]*", name):
+            return "CRATE" in name or os.path.exists(f"{self.top}/{name}")
+        if re.fullmatch(r"\w+(::\w+)+", name):
+            found = any(f"::{it}".endswith(f"::{name}") for it in self.clauses)
+            return found or name in self.modules or name.startswith("crate::")
+        return name in self.names or name.isupper() or not re.fullmatch(r"\w+", name)
+
+
+def texts(folder, ending):
+    """The files below a folder: the parts of the path, and the text."""
+    for inside, _, files in sorted(os.walk(folder)):
+        for file in sorted(it for it in files if it.endswith(ending)):
+            path = os.path.relpath(f"{inside}/{file}", folder).removesuffix(ending).split(os.sep)
+            yield path, open(f"{inside}/{file}", encoding="utf-8").read()
+
+
+class Cell:
+    """One cell of the column of clauses: goes through its pieces and notes what is nowhere."""
+
+    def __init__(self, tree, before):
+        self.tree, self.wrong = tree, []
+        self.functions, self.labels, self.base, self.all = list(before), [], "", []
+        self.in_labels, self.deep = False, 0
+
+    def read(self, text):
+        pieces = PIECE.findall(text)
+        if not text.startswith("the same"):
+            self.functions = []
+        for at, piece in enumerate(pieces):
+            if piece in "()":
+                self.deep += 1 if piece == "(" else -1
+            elif piece == ";":
+                self.close()
+            elif piece == ":":
+                self.in_labels = True
+            elif piece.startswith("`"):
+                self.name(piece.strip("`"), pieces[at + 1 : at + 2] == [":"])
+        self.close()
+
+    def name(self, name, has_labels):
+        if self.deep:
+            self.wrong += [] if self.tree.has(name) else [name]
+        elif "::" in name or not self.in_labels or has_labels:
+            if self.in_labels:
+                self.close()
+            self.function(name if "::" in name else f"{self.base}::{name}")
+        else:
+            self.labels.append(name)
+
+    def function(self, path):
+        self.base = path.rsplit("::", 1)[0]
+        if path in self.tree.clauses:
+            self.functions.append(path)
+            self.all.append(path)
+        elif path not in self.tree.modules and path.removeprefix("::") not in self.tree.modules:
+            self.wrong.append(path)
+
+    def close(self):
+        """The end of a list of functions and their clauses."""
+        there = [self.tree.clauses[it] for it in self.functions]
+        self.wrong += [f"clause {it}" for it in self.labels if not any(it in of for of in there)]
+        for path, of in zip(self.functions, there):
+            if self.labels and not of & set(self.labels):
+                self.wrong.append(f"{path}: none of these clauses")
+        self.functions, self.labels, self.in_labels = [], [], False
+
+
+def wrong_names(tree, text):
+    """Each name that is nowhere, with the number of its line."""
+    column, before = None, []
+    for number, line in enumerate(text.splitlines(), 1):
+        cells = [it.strip() for it in re.split(r"(?<!\\)\|", line)[1:-1]] if line.startswith("|") else []
+        if not cells:
+            column = None
+        elif "Clause" in cells:
+            column = cells.index("Clause")
+        elif column is not None and not set(line) <= set("|-"):
+            cell = Cell(tree, before)
+            cell.read(cells[column])
+            before = cell.all or before
+            yield from ((number, it) for it in cell.wrong)
+            line = " ".join(cells[:column] + cells[column + 1 :])
+        yield from ((number, it) for it in re.findall(r"`([^`]+)`", line) if not tree.has(it))
+
+
+def main():
+    top = sys.argv[1] if len(sys.argv) > 1 else TOP
+    tree = Tree(top)
+    text = open(f"{top}/docs/PROMISES.md", encoding="utf-8").read()
+    wrong = list(wrong_names(tree, text))
+    for number, name in wrong:
+        print(f"docs/PROMISES.md:{number}: no such thing: {name}")
+    print(f"{len(re.findall('`[^`]+`', text))} names, {len(wrong)} of nothing")
+    return 1 if wrong else 0
+
+
+if __name__ == "__main__":
+    sys.exit(main())
