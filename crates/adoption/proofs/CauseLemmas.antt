@@ -9,11 +9,11 @@ use Rattle.office_tables.specs.Cells.{has_unread}
 use Rattle.office_tables.specs.CatalogueCells.{read_unit, read_element, read_container, read_housing}
 use Rattle.office_tables.specs.Schema as tables
 use Rattle.integrity_checks.specs.DeskChecks as desk
-use Rattle.integrity_checks.specs.declared.desk_doubt.DeskDoubt.{DeskDoubt}
-use Rattle.integrity_checks.specs.CatalogueChecks.{cause_of, doubtful_catalogue, units_are_doubtful, elements_are_doubtful, containers_are_doubtful}
-use Rattle.integrity_checks.specs.declared.catalogue_doubt.CatalogueDoubt.{CatalogueDoubt}
-use Rattle.integrity_checks.specs.declared.catalogue_doubt.CatalogueDoubt.TheVariants.{Places, Units, Elements, Containers}
-use Rattle.integrity_checks.specs.PlaceChecks.{places_are_doubtful}
+use Rattle.integrity_checks.specs.declared.desk_defect.DeskDefect.{DeskDefect}
+use Rattle.integrity_checks.specs.CatalogueChecks.{cause_of, catalogue_defect, units_are_defective, elements_are_defective, containers_are_defective}
+use Rattle.integrity_checks.specs.declared.catalogue_defect.CatalogueDefect.{CatalogueDefect}
+use Rattle.integrity_checks.specs.declared.catalogue_defect.CatalogueDefect.TheVariants.{Places, Units, Elements, Containers}
+use Rattle.integrity_checks.specs.PlaceChecks.{places_are_defective}
 use Rattle.state_encoding.specs.Causes.{around, first_held, day_is_broken}
 use Rattle.row_decoding.specs.TableRows.{places_are_unread}
 use Rattle.state_encoding.specs.CellCauses.{rows_in, cell_cause}
@@ -21,7 +21,7 @@ use Rattle.state_encoding.specs.OfficeRows.{OfficeRows}
 use Rattle.adoption.specs.DeskCheck.{AreOfOffice, catalogue_cell_cause, of_desk}
 use Rattle.adoption.proofs.DeskChecked.{told_alike}
 use Rattle.adoption.specs.Causes.{CatalogueChecksTellTheCause, HasNoEarlierCause}
-use Rattle.adoption.specs.OwnRows.{office_is_doubtful, own_of, own_row_of}
+use Rattle.adoption.specs.OwnRows.{office_is_defective, own_of, own_row_of}
 use Rattle.adoption.specs.declared.own_row.OwnRow.{OwnRow}
 
 -- ---- 2 to 5
@@ -37,17 +37,17 @@ found false false false false = refl
 module _ (db : Trees) where
   -- both lists are of the same rows
   catalogue_alike : (version : Version) → catalogue_cell_cause version db
-      ≡ first_held (office_is_doubtful version db ∷ places_are_doubtful version db ∷ units_are_doubtful version (rows_in version db).office.next_unit db
-      ∷ elements_are_doubtful version db ∷ containers_are_doubtful version db ∷ [])
+      ≡ first_held (office_is_defective version db ∷ places_are_defective version db ∷ units_are_defective version (rows_in version db).office.next_unit db
+      ∷ elements_are_defective version db ∷ containers_are_defective version db ∷ [])
   catalogue_alike Links = refl
   catalogue_alike Spans = refl
 
   pub catalogue_told : (version : Version) → CatalogueChecksTellTheCause version db
   catalogue_told version fine =
-      let b2 = places_are_doubtful version db in
-      let b3 = units_are_doubtful version (rows_in version db).office.next_unit db in
-      let b4 = elements_are_doubtful version db in
-      let b5 = containers_are_doubtful version db in
+      let b2 = places_are_defective version db in
+      let b3 = units_are_defective version (rows_in version db).office.next_unit db in
+      let b4 = elements_are_defective version db in
+      let b5 = containers_are_defective version db in
       found b2 b3 b4 b5 ∙ ap (λ b. first_held (b ∷ b2 ∷ b3 ∷ b4 ∷ b5 ∷ [])) (sym fine) ∙ sym (catalogue_alike version)
 
 -- ---- all ten
@@ -102,37 +102,37 @@ module _ (version : Version) (db : Trees) where
   b5 = (has_unread read_container (db tables.container.tree) || has_unread read_housing (db tables.housing.tree)) || containers_are_bad t.catalogue
 
   abbrev b6 : Bool
-  b6 = desk.registration_is_doubtful (around t) db
+  b6 = desk.registration_is_defective (around t) db
 
   abbrev b7 : Bool
-  b7 = desk.orders_are_doubtful (around t) db
+  b7 = desk.orders_are_defective (around t) db
 
   abbrev b8 : Bool
-  b8 = desk.holdings_are_doubtful (around t) db
+  b8 = desk.holdings_are_defective (around t) db
 
   abbrev b9 : Bool
-  b9 = desk.runs_are_doubtful (around t) db
+  b9 = desk.runs_are_defective (around t) db
 
   -- the office's own row is the first
-  pub cause_of_office : office_is_doubtful version db ≡ true → cell_cause version db ≡ Some 1
+  pub cause_of_office : office_is_defective version db ≡ true → cell_cause version db ≡ Some 1
   cause_of_office bad = ap (λ b. first_held (b ∷ b2 ∷ b3 ∷ b4 ∷ b5 ∷ b6 ∷ b7 ∷ b8 ∷ b9 ∷ day_is_broken t ∷ [])) bad
 
-  pub cause_of_catalogue : (doubt : CatalogueDoubt) → office_is_doubtful version db ≡ false → doubtful_catalogue version (rows_in version db).office.next_unit db ≡ Some doubt
-      → cell_cause version db ≡ Some (cause_of doubt)
-  cause_of_catalogue doubt fine is =
-      first_of_five (office_is_doubtful version db) b2 b3 b4 b5 (b6 ∷ b7 ∷ b8 ∷ b9 ∷ day_is_broken t ∷ []) (cause_of doubt) (sym (catalogue_told db version fine) ∙ ap (option_map cause_of) is)
+  pub cause_of_catalogue : (defect : CatalogueDefect) → office_is_defective version db ≡ false → catalogue_defect version (rows_in version db).office.next_unit db ≡ Some defect
+      → cell_cause version db ≡ Some (cause_of defect)
+  cause_of_catalogue defect fine is =
+      first_of_five (office_is_defective version db) b2 b3 b4 b5 (b6 ∷ b7 ∷ b8 ∷ b9 ∷ day_is_broken t ∷ []) (cause_of defect) (sym (catalogue_told db version fine) ∙ ap (option_map cause_of) is)
 
-  pub no_cause_of_catalogue : office_is_doubtful version db ≡ false → doubtful_catalogue version (rows_in version db).office.next_unit db ≡ None → catalogue_cell_cause version db ≡ None
+  pub no_cause_of_catalogue : office_is_defective version db ≡ false → catalogue_defect version (rows_in version db).office.next_unit db ≡ None → catalogue_cell_cause version db ≡ None
   no_cause_of_catalogue fine is = sym (catalogue_told db version fine) ∙ ap (option_map cause_of) is
 
-  pub cause_of_desk : (doubt : DeskDoubt) (told : Option DeskDoubt) → told ≡ Some doubt → option_map desk.cause_of told ≡ of_desk (cell_cause version db) → cell_cause version db ≡ Some (desk.cause_of doubt)
-  cause_of_desk doubt told is alike = some_of_desk (cell_cause version db) (desk.cause_of doubt) (ap (option_map desk.cause_of) (sym is) ∙ alike)
+  pub cause_of_desk : (defect : DeskDefect) (told : Option DeskDefect) → told ≡ Some defect → option_map desk.cause_of told ≡ of_desk (cell_cause version db) → cell_cause version db ≡ Some (desk.cause_of defect)
+  cause_of_desk defect told is alike = some_of_desk (cell_cause version db) (desk.cause_of defect) (ap (option_map desk.cause_of) (sym is) ∙ alike)
 
-  pub no_cause_of_desk : (told : Option DeskDoubt) → told ≡ None → option_map desk.cause_of told ≡ of_desk (cell_cause version db) → of_desk (cell_cause version db) ≡ None
+  pub no_cause_of_desk : (told : Option DeskDefect) → told ≡ None → option_map desk.cause_of told ≡ of_desk (cell_cause version db) → of_desk (cell_cause version db) ≡ None
   no_cause_of_desk told is alike = sym alike ∙ ap (option_map desk.cause_of) is
 
   last_cause : HasNoEarlierCause version db → cell_cause version db ≡ cond (day_is_broken (rows_in version db)) (Some 10) None
-  last_cause none = tenth (office_is_doubtful version db) b2 b3 b4 b5 b6 b7 b8 b9 (day_is_broken t) none.catalogue none.desk
+  last_cause none = tenth (office_is_defective version db) b2 b3 b4 b5 b6 b7 b8 b9 (day_is_broken t) none.catalogue none.desk
 
   pub broken_day : HasNoEarlierCause version db → day_is_broken (rows_in version db) ≡ true → cell_cause version db ≡ Some 10
   broken_day none is = last_cause none ∙ ap (λ b. cond b (Some 10) None) is
@@ -143,13 +143,13 @@ module _ (version : Version) (db : Trees) where
   -- ---- by the office's own row
 
   pub no_own_row : None ≡ own_row_of version db → cell_cause version db ≡ Some 1
-  no_own_row none = elim (cases_Bool (office_is_doubtful version db)) [
+  no_own_row none = elim (cases_Bool (office_is_defective version db)) [
     | inl bad ↦ cause_of_office bad
     | inr fine ↦ absurd (let clash : None ≡ Some (own_of (rows_in version db).office) = none ∙ ap (λ b. cond b None (Some (own_of (rows_in version db).office))) fine in cc)
   ]
 
-  pub own_row_is_fine : (own : OwnRow) → Some own ≡ own_row_of version db → office_is_doubtful version db ≡ false
-  own_row_is_fine own some = elim (cases_Bool (office_is_doubtful version db)) [
+  pub own_row_is_fine : (own : OwnRow) → Some own ≡ own_row_of version db → office_is_defective version db ≡ false
+  own_row_is_fine own some = elim (cases_Bool (office_is_defective version db)) [
     | inl bad ↦ absurd (let clash : Some own ≡ None = some ∙ ap (λ b. cond b None (Some (own_of (rows_in version db).office))) bad in cc)
     | inr fine ↦ fine
   ]
@@ -174,18 +174,18 @@ module _ (version : Version) (db : Trees) where
     next_is : own.next_unit ≡ (rows_in version db).office.next_unit
     next_is = ap (λ (o : OwnRow). o.next_unit) (own_row_is own is)
 
-    pub told_catalogue : (doubt : CatalogueDoubt) → Some doubt ≡ doubtful_catalogue version own.next_unit db → cell_cause version db ≡ Some (cause_of doubt)
-    told_catalogue doubt told = cause_of_catalogue doubt (own_row_is_fine own is) (sym (told ∙ ap (λ n. doubtful_catalogue version n db) next_is))
+    pub told_catalogue : (defect : CatalogueDefect) → Some defect ≡ catalogue_defect version own.next_unit db → cell_cause version db ≡ Some (cause_of defect)
+    told_catalogue defect told = cause_of_catalogue defect (own_row_is_fine own is) (sym (told ∙ ap (λ n. catalogue_defect version n db) next_is))
 
-    pub fine_catalogue : None ≡ doubtful_catalogue version own.next_unit db → catalogue_cell_cause version db ≡ None
-    fine_catalogue told = no_cause_of_catalogue (own_row_is_fine own is) (sym (told ∙ ap (λ n. doubtful_catalogue version n db) next_is))
+    pub fine_catalogue : None ≡ catalogue_defect version own.next_unit db → catalogue_cell_cause version db ≡ None
+    fine_catalogue told = no_cause_of_catalogue (own_row_is_fine own is) (sym (told ∙ ap (λ n. catalogue_defect version n db) next_is))
 
     module _ (fine : catalogue_cell_cause version db ≡ None) where
-      alike : option_map desk.cause_of (desk.doubtful_desk own.limits own.today db) ≡ of_desk (cell_cause version db)
+      alike : option_map desk.cause_of (desk.desk_defect own.limits own.today db) ≡ of_desk (cell_cause version db)
       alike = told_alike version db own.limits own.today (own_limits own is) fine
 
-      pub told_desk : (doubt : DeskDoubt) → Some doubt ≡ desk.doubtful_desk own.limits own.today db → cell_cause version db ≡ Some (desk.cause_of doubt)
-      told_desk doubt told = cause_of_desk doubt (desk.doubtful_desk own.limits own.today db) (sym told) alike
+      pub told_desk : (defect : DeskDefect) → Some defect ≡ desk.desk_defect own.limits own.today db → cell_cause version db ≡ Some (desk.cause_of defect)
+      told_desk defect told = cause_of_desk defect (desk.desk_defect own.limits own.today db) (sym told) alike
 
-      pub fine_desk : None ≡ desk.doubtful_desk own.limits own.today db → HasNoEarlierCause version db
-      fine_desk told = record { catalogue = fine; desk = no_cause_of_desk (desk.doubtful_desk own.limits own.today db) (sym told) alike }
+      pub fine_desk : None ≡ desk.desk_defect own.limits own.today db → HasNoEarlierCause version db
+      fine_desk told = record { catalogue = fine; desk = no_cause_of_desk (desk.desk_defect own.limits own.today db) (sym told) alike }

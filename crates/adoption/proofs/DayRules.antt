@@ -20,7 +20,7 @@ use Rattle.refinement.specs.AccessConditions.{CanBeJudged, RepresentsWhole}
 use Rattle.refinement.proofs.Tellings.{looked_crash}
 use Rattle.adoption.specs.Catalogue.{said}
 use Rattle.adoption.specs.SoundTables.{AreGoodTables}
-use Rattle.adoption.specs.Tables.{GoodTablesShowTheirState}
+use Rattle.adoption.specs.Tables.{GoodTablesRepresentTheirState}
 use Rattle.adoption.specs.Causes.{HasNoEarlierCause}
 use Rattle.adoption.specs.OwnRows.{own_row_of}
 use Rattle.adoption.specs.OrderedTables.{StandInOrder}
@@ -46,7 +46,7 @@ module _ (places : Trees → Forest ℕ → Type 0) (v : Version) {S : Type 0} (
   pub day_read : TellsTheDay → Looks old new r
   day_read told = record { crash = looked_crash r old new told.looks told.cut; looks = told.looks; cut = told.cut }
 
-  module _ (law : GoodTablesShowTheirState places v old.now) (inside : InTransaction v old) (live : IsLive old) (told : TellsTheDay) (opened : IsTrue old.is_open) (ordered : StandInOrder old.now) (none : HasNoEarlierCause v old.now.trees) (clean : HasCleanDisk new) where
+  module _ (law : GoodTablesRepresentTheirState places v old.now) (inside : InTransaction v old) (live : IsLive old) (told : TellsTheDay) (opened : IsTrue old.is_open) (ordered : StandInOrder old.now) (none : HasNoEarlierCause v old.now.trees) (clean : HasCleanDisk new) where
     good : AreGoodTables v old.now
     good = record {
       schema_is = (inside (early old new _ (looked_crash r old new told.looks told.cut) clean)).0;
@@ -65,7 +65,7 @@ module _ (places : Trees → Forest ℕ → Type 0) (v : Version) {S : Type 0} (
         (λ broken tells. tells it.judged (ap (λ (o : OwnRow). o.today) is) (ap (λ (o : OwnRow). o.limits.hands) is))
         (told.answers clean tt s it.represents)
 
-  pub day_excused : (law : GoodTablesShowTheirState places v old.now) → InTransaction v old → IsLive old → TellsTheDay → IsTrue old.is_open → StandInOrder old.now → HasNoEarlierCause v old.now.trees → FaultsHaveCause old new r
+  pub day_excused : (law : GoodTablesRepresentTheirState places v old.now) → InTransaction v old → IsLive old → TellsTheDay → IsTrue old.is_open → StandInOrder old.now → HasNoEarlierCause v old.now.trees → FaultsHaveCause old new r
   day_excused law inside live told opened ordered none clean free =
       let it = law (good law inside live told opened ordered none clean) in
       told.faults tt (said v old.now) it.represents tt it.judged clean free

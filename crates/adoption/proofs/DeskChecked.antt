@@ -21,9 +21,9 @@ use Rattle.row_decoding.specs.TableRows.{by, places_are_unread}
 use Rattle.state_encoding.specs.CellCauses.{rows_in}
 use Rattle.state_encoding.specs.OfficeRows.{OfficeRows}
 use Rattle.state_encoding.proofs.Judging.{none_held}
-use Rattle.integrity_checks.specs.DeskChecks.{around_in, is_numbered, cause_of, registration_is_doubtful, orders_are_doubtful, holdings_are_doubtful, runs_are_doubtful, doubt_of_desk}
+use Rattle.integrity_checks.specs.DeskChecks.{around_in, is_numbered, cause_of, registration_is_defective, orders_are_defective, holdings_are_defective, runs_are_defective, defect_of_desk}
 use Rattle.row_decoding.specs.Readings.{read_number}
-use Rattle.integrity_checks.specs.declared.desk_doubt.DeskDoubt.TheVariants.{Readers, Orders, Holdings, Runs}
+use Rattle.integrity_checks.specs.declared.desk_defect.DeskDefect.TheVariants.{Readers, Orders, Holdings, Runs}
 use Rattle.adoption.specs.DeskCheck.{of_desk, DeskChecksTellTheCause}
 
 -- ---- which units and containers there are
@@ -125,6 +125,6 @@ module _ (version : Version) (db : Trees) where
       let is_container = λ (n : ℕ). are_met read_container (λ (row : ContainerRow). row.id) container_keyed (db tables.container.tree) boxes_read n (by (λ (row : ContainerRow). row.id)) in
       let same : around_in limits today db ≡ around t =
       λ i. record { seats = held.seats i; daily = held.daily i; run_size = held.run_size i; day = held.day i; is_unit = λ n. is_unit n i; is_container = λ n. is_container n i } in
-      ap (λ (a : Around). option_map cause_of (doubt_of_desk a db)) same
-      ∙ found_behind b1 b2 b3 b4 b5 (registration_is_doubtful (around t) db) (orders_are_doubtful (around t) db) (holdings_are_doubtful (around t) db) (runs_are_doubtful (around t) db) (day_is_broken t)
+      ap (λ (a : Around). option_map cause_of (defect_of_desk a db)) same
+      ∙ found_behind b1 b2 b3 b4 b5 (registration_is_defective (around t) db) (orders_are_defective (around t) db) (holdings_are_defective (around t) db) (runs_are_defective (around t) db) (day_is_broken t)
       one.0 two.0 three.0 four.0 five.0

@@ -146,7 +146,7 @@ module _ (v : Version) where
 abbrev office_in : List Row → OfficeRow
 office_in table = unwrap_or (first (filter_map read_office table)) no_office
 
--- what the rows of the table tell, where they are not doubtful
+-- what the rows of the table tell, where they are not defective
 abbrev own_of_table : Version → List Row → Option OwnRow
 own_of_table version table =
     cond (has_unread read_office table || not (is_good_office version (office_in table))) None (Some (own_of (office_in table)))

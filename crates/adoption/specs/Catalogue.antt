@@ -22,5 +22,5 @@ pub record RepresentsItsCatalogue (places : Trees → Forest ℕ → Type 0) (ve
   pub keys : MeetsCatalogueKeys (rows_in version db.trees).catalogue
   pub represents : Represents places version db (office_of (said version db)) (said version db).catalogue
 
-abbrev pub RowsShowTheCatalogue : (Trees → Forest ℕ → Type 0) → Version → Database → Type 0
-RowsShowTheCatalogue places version db = AreGoodTables version db → RepresentsItsCatalogue places version db
+abbrev pub RowsRepresentTheCatalogue : (Trees → Forest ℕ → Type 0) → Version → Database → Type 0
+RowsRepresentTheCatalogue places version db = AreGoodTables version db → RepresentsItsCatalogue places version db

@@ -3,16 +3,16 @@
 use Rattle.std.specs.Prelude.{◌≡◌, false, None, option_map}
 use Rattle.sqlite.specs.Tree.{Trees}
 use Rattle.tree_core.specs.Versions.{Version}
-use Rattle.integrity_checks.specs.CatalogueChecks.{cause_of, doubtful_catalogue}
+use Rattle.integrity_checks.specs.CatalogueChecks.{cause_of, catalogue_defect}
 use Rattle.state_encoding.specs.CellCauses.{rows_in, cell_cause}
 use Rattle.adoption.specs.DeskCheck.{catalogue_cell_cause, of_desk}
-use Rattle.adoption.specs.OwnRows.{office_is_doubtful}
+use Rattle.adoption.specs.OwnRows.{office_is_defective}
 
 -- If the office's own row is in order, the check of the catalogue returns the first of the causes 1 to 5.
 abbrev pub CatalogueChecksTellTheCause : Version → Trees → Type 0
 CatalogueChecksTellTheCause version db =
-    office_is_doubtful version db ≡ false
-    → option_map cause_of (doubtful_catalogue version (rows_in version db).office.next_unit db) ≡ catalogue_cell_cause version db
+    office_is_defective version db ≡ false
+    → option_map cause_of (catalogue_defect version (rows_in version db).office.next_unit db) ≡ catalogue_cell_cause version db
 
 -- none of the causes 1 to 9 holds
 pub record HasNoEarlierCause (version : Version) (db : Trees) : Type 0 where

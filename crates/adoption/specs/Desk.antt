@@ -12,5 +12,5 @@ pub record RepresentsItsDesk (version : Version) (db : Database) : Type 0 where
   pub keys : MeetsDeskKeys (rows_in version db.trees).desk
   pub represents : RepresentsDesk db.trees (rows_in version db.trees).desk
 
-abbrev pub RowsShowTheDesk : Version → Database → Type 0
-RowsShowTheDesk version db = AreGoodTables version db → RepresentsItsDesk version db
+abbrev pub RowsRepresentTheDesk : Version → Database → Type 0
+RowsRepresentTheDesk version db = AreGoodTables version db → RepresentsItsDesk version db

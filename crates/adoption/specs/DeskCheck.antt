@@ -7,7 +7,7 @@ use Rattle.desk_core.specs.declared.reader.Limits.{Limits}
 use Rattle.catalogue_core.specs.CatalogueRows.{OfficeRow}
 use Rattle.state_encoding.specs.Causes.{catalogue_tests, first_held}
 use Rattle.state_encoding.specs.CellCauses.{rows_in, unread, either_of, cell_cause}
-use Rattle.integrity_checks.specs.DeskChecks.{cause_of, doubtful_desk}
+use Rattle.integrity_checks.specs.DeskChecks.{cause_of, desk_defect}
 
 -- the limits and the day are those of the office's row
 pub record AreOfOffice (row : OfficeRow) (limits : Limits) (today : ℤ) : Type 0 where
@@ -30,4 +30,4 @@ of_desk (Some n) = cond (is_between 6 9 n) (Some n) None
 abbrev pub DeskChecksTellTheCause : Version → Trees → Limits → ℤ → Type 0
 DeskChecksTellTheCause version db limits today =
     AreOfOffice (rows_in version db).office limits today → catalogue_cell_cause version db ≡ None
-    → option_map cause_of (doubtful_desk limits today db) ≡ of_desk (cell_cause version db)
+    → option_map cause_of (desk_defect limits today db) ≡ of_desk (cell_cause version db)

@@ -20,8 +20,8 @@ use Rattle.adoption.specs.declared.own_row.Numbers.{Numbers}
 use Rattle.adoption.specs.declared.own_row.OwnRow.{OwnRow}
 
 -- some row of the office cannot be read, or no office has such a row
-abbrev pub office_is_doubtful : Version → Trees → Bool
-office_is_doubtful version db =
+abbrev pub office_is_defective : Version → Trees → Bool
+office_is_defective version db =
     has_unread read_office (db tables.office.tree) || not (is_good_office version (rows_in version db).office)
 
 -- what the checks of the other tables need from it
@@ -32,9 +32,9 @@ own_of row = record {
   next_unit = row.next_unit;
 }
 
--- the same for tables: none if the row is doubtful
+-- the same for tables: none if the row is defective
 abbrev pub own_row_of : Version → Trees → Option OwnRow
-own_row_of version db = cond (office_is_doubtful version db) None (Some (own_of (rows_in version db).office))
+own_row_of version db = cond (office_is_defective version db) None (Some (own_of (rows_in version db).office))
 
 -- ---- as it is read: its numbers, and then its texts
 

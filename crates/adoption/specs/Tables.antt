@@ -24,8 +24,8 @@ pub record RepresentsItsState (places : Trees → Forest ℕ → Type 0) (versio
   pub represents : RepresentsState places version db (said version db)
 
 -- tables for which no cause holds represent the sound state that their rows describe
-abbrev pub SoundTablesShowTheirState : (Trees → Forest ℕ → Type 0) → Version → Database → Type 0
-SoundTablesShowTheirState places version db = AreSoundTables version db → RepresentsItsState places version db
+abbrev pub SoundTablesRepresentTheirState : (Trees → Forest ℕ → Type 0) → Version → Database → Type 0
+SoundTablesRepresentTheirState places version db = AreSoundTables version db → RepresentsItsState places version db
 
 -- ---- except for the rules of the day
 
@@ -52,5 +52,5 @@ pub record RepresentsAGoodState (places : Trees → Forest ℕ → Type 0) (vers
   pub represents : RepresentsState places version db (said version db)
 
 -- tables for which none of the causes 1 to 9 holds represent the state that their rows describe
-abbrev pub GoodTablesShowTheirState : (Trees → Forest ℕ → Type 0) → Version → Database → Type 0
-GoodTablesShowTheirState places version db = AreGoodTables version db → RepresentsAGoodState places version db
+abbrev pub GoodTablesRepresentTheirState : (Trees → Forest ℕ → Type 0) → Version → Database → Type 0
+GoodTablesRepresentTheirState places version db = AreGoodTables version db → RepresentsAGoodState places version db

@@ -2,10 +2,10 @@
 
 ghost use Rattle.catalogue_statements.specs.Representation.{RepresentsLinkRows};
 ghost use Rattle.office_core.specs.State.{State};
-ghost use Rattle.adoption.specs.Catalogue.{RowsShowTheCatalogue};
-ghost use Rattle.adoption.specs.Desk.{RowsShowTheDesk};
+ghost use Rattle.adoption.specs.Catalogue.{RowsRepresentTheCatalogue};
+ghost use Rattle.adoption.specs.Desk.{RowsRepresentTheDesk};
 ghost use Rattle.adoption.specs.OwnTables.{ShownTablesStandInOrder};
-ghost use Rattle.adoption.specs.Tables.{GoodTablesShowTheirState, SoundTablesShowTheirState};
+ghost use Rattle.adoption.specs.Tables.{GoodTablesRepresentTheirState, SoundTablesRepresentTheirState};
 ghost use Rattle.nested_sets.specs.Representation.{RepresentsSpanRows};
 ghost use Rattle.sqlite.specs.Effect.{Database};
 ghost use Rattle.tree_core.specs.Versions.{Links, Spans, Version};
@@ -14,24 +14,24 @@ use integrity_checks::CheckedPlaces;
 
 /// Tables of a live connection that stand in order and have none of the causes 1 to 9 represent the catalogue that
 /// their rows describe, for each way to store the places. These rows have their keys.
-pub fn catalogue_rows_show_the_catalogue<P: CheckedPlaces>()
-    ensures { (db : Database) → RowsShowTheCatalogue P.represents P.version db }
+pub fn catalogue_rows_represent_the_catalogue<P: CheckedPlaces>()
+    ensures { (db : Database) → RowsRepresentTheCatalogue P.represents P.version db }
 {}
 
 /// Such tables also represent the desk of their rows, which have their keys.
-pub fn desk_rows_show_the_desk()
-    ensures { (version : Version) (db : Database) → RowsShowTheDesk version db }
+pub fn desk_rows_represent_the_desk()
+    ensures { (version : Version) (db : Database) → RowsRepresentTheDesk version db }
 {}
 
 /// Such tables represent the state that their rows describe, which is sound except for the rules of the day.
-pub fn good_tables_show_their_state<P: CheckedPlaces>()
-    ensures { (db : Database) → GoodTablesShowTheirState P.represents P.version db }
+pub fn good_tables_represent_their_state<P: CheckedPlaces>()
+    ensures { (db : Database) → GoodTablesRepresentTheirState P.represents P.version db }
 {}
 
 /// Tables of a live connection that stand in order and have none of the ten causes represent the state that their rows
 /// describe, which is sound, for each way to store the places.
-pub fn sound_tables_show_their_state<P: CheckedPlaces>()
-    ensures { (db : Database) → SoundTablesShowTheirState P.represents P.version db }
+pub fn sound_tables_represent_their_state<P: CheckedPlaces>()
+    ensures { (db : Database) → SoundTablesRepresentTheirState P.represents P.version db }
 {}
 
 /// The rows of the tables of an office of version 1 stand in order, as tables that are opened must.

@@ -113,7 +113,7 @@ fn is_repository(code: &str) -> bool
 }
 
 /// Whether it is a text, in UTF-8, of two capital letters.
-fn tells_country(value: ValueRef<'_>) -> bool
+fn is_country_text(value: ValueRef<'_>) -> bool
     ensures { result ≡ option_map_or is_country_code (text_in (owned value.entry)) false }
 {
     match value {
@@ -126,7 +126,7 @@ fn tells_country(value: ValueRef<'_>) -> bool
 }
 
 /// Whether it is a text, in UTF-8, of 1 to 32 visible ASCII bytes.
-fn tells_repository(value: ValueRef<'_>) -> bool
+fn is_repository_text(value: ValueRef<'_>) -> bool
     ensures { result ≡ option_map_or is_repository_code (text_in (owned value.entry)) false }
 {
     match value {
@@ -142,7 +142,7 @@ fn tells_repository(value: ValueRef<'_>) -> bool
 fn has_good_texts(row: &Row) -> bool
     ensures { result ≡ are_good_texts row.now }
 {
-    tells_country(cell(row, 8)) && tells_repository(cell(row, 9))
+    is_country_text(cell(row, 8)) && is_repository_text(cell(row, 9))
 }
 
 /// The office's own row with these numbers, which an office may have.

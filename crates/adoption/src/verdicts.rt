@@ -41,8 +41,8 @@ fn desk_cause<P: CheckedPlaces, S: Alter>(
         → catalogue_cell_cause P.version (state S.Store conn.old).now.trees ≡ None
         → FaultsHaveCause (state S.Store conn.old) (state S.Store conn.new) result }
 {
-    if let Some(doubt) = load_check_desk(alloc, conn, &own.limits, own.today)? {
-        return Ok(Some(doubt.cause()));
+    if let Some(defect) = load_check_desk(alloc, conn, &own.limits, own.today)? {
+        return Ok(Some(defect.cause()));
     }
     if breaks_day_rules::<P, S>(alloc, conn, own)? {
         return Ok(Some(10));
@@ -65,8 +65,8 @@ fn least_cause<P: CheckedPlaces, S: Alter>(
     let Some(own) = own_row::<P, S>(conn)? else {
         return Ok(Some(1));
     };
-    if let Some(doubt) = load_check::<P, S>(alloc, conn, own.next_unit)? {
-        return Ok(Some(doubt.cause()));
+    if let Some(defect) = load_check::<P, S>(alloc, conn, own.next_unit)? {
+        return Ok(Some(defect.cause()));
     }
     desk_cause::<P, S>(alloc, conn, &own)
 }

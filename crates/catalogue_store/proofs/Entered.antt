@@ -13,7 +13,7 @@ use Rattle.tree_core.specs.Versions.{Version}
 use Rattle.catalogue_core.specs.Descriptions.{KnowsItsContainers}
 use Rattle.catalogue_core.specs.CatalogueMerge.{Catalogue}
 use Rattle.catalogue_core.specs.Units.{Unit, has_id}
-use Rattle.office_tables.specs.Calls.{Makes}
+use Rattle.office_tables.specs.Calls.{StoreUpdates}
 use Rattle.office_tables.specs.Step.{OnlyTouches}
 use Rattle.office_tables.specs.declared.fault.StoreFault.{StoreFault}
 use Rattle.office_tables.proofs.Calls.{on_ok_both}
@@ -62,7 +62,7 @@ shows_entered v old new o c parent u it there knows wrote =
 pub makes_placed : {S X : Type 0} (g : store.Ghosts S) (places : Trees → Forest ℕ → Type 0) → ((old new : Trees) (f : Forest ℕ) → new tables.link.tree ≡ old tables.link.tree → places old f → places new f)
     → (version : Version) (kept may : Catalogue → Type 0) (made : Catalogue → Catalogue) (touched : List ℕ) (before after : Held S) (r : Result X StoreFault) → list_any (nat_eq tables.link.tree) touched ≡ false
     → ((c : Catalogue) → each (λ (u : Unit). u.id) (made c).forest ≡ each (λ (u : Unit). u.id) c.forest)
-    → Makes g (RepresentsCatalogue version) kept before after r may made touched → Makes g (Represents places version) kept before after r may made touched
+    → StoreUpdates g (RepresentsCatalogue version) kept before after r may made touched → StoreUpdates g (Represents places version) kept before after r may made touched
 makes_placed g places same version kept may made touched before after r apart stays it =
     let old = state g before in
     let new = state g after in

@@ -7,7 +7,7 @@ ghost use Rattle.sqlite.specs.Effect.{Database};
 ghost use Rattle.sqlite.specs.Change.{KeepsRows};
 ghost use Rattle.isad_core.specs.Limits.{IsNumber};
 ghost use Rattle.tree_core.specs.Forest.{Empty};
-ghost use Rattle.office_tables.specs.Calls.{RepresentsAlone, Tells};
+ghost use Rattle.office_tables.specs.Calls.{RepresentsAlone, StoreAnswers};
 ghost use Rattle.office_tables.specs.Creation.{IsMaking, LeavesMaking};
 ghost use Rattle.catalogue_core.specs.UnitLookup.{Finds};
 ghost use Rattle.office_tables.specs.Schema.{desk_schema, desk_tables};
@@ -55,7 +55,7 @@ pub fn known<S: Alter>(
     legacy: &Text,
 ) -> Result<Option<u64>, StoreFault>
     requires inside { InOffice (state S.Store conn.old) }
-    ensures tells { Tells S.Store (RepresentsAlone RepresentsUnits) (λ _. ⊤) conn.old conn.new result (λ _. ⊤)
+    ensures tells { StoreAnswers S.Store (RepresentsAlone RepresentsUnits) (λ _. ⊤) conn.old conn.new result (λ _. ⊤)
         (λ _ f. Finds (is_from source.now legacy.now) f) }
 {
     let found = units_from(alloc, conn, source, legacy)?;

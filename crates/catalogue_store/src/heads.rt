@@ -9,7 +9,7 @@ ghost use Rattle.tree_core.specs.Tops.{part_below, tops};
 ghost use Rattle.catalogue_core.specs.Bounds.{IsKept};
 ghost use Rattle.catalogue_core.specs.UnitLookup.{has_unit};
 ghost use Rattle.catalogue_core.specs.Units.{has_id};
-ghost use Rattle.office_tables.specs.Calls.{Tells};
+ghost use Rattle.office_tables.specs.Calls.{StoreAnswers};
 ghost use Rattle.office_tables.specs.Step.{InTransaction};
 ghost use Rattle.catalogue_statements.specs.Representation.{Represents};
 ghost use Rattle.catalogue_statements.specs.declared.row_types.Element.{Element};
@@ -62,7 +62,7 @@ pub fn find_head<P: Places, S: Alter>(
 ) -> Result<Option<Head>, StoreFault>
     requires inside { InTransaction P.version (state S.Store conn.old) }
     requires small { IsNumber unit }
-    ensures tells { Tells S.Store (Represents P.represents P.version) IsKept conn.old conn.new result (λ _. ⊤)
+    ensures tells { StoreAnswers S.Store (Represents P.represents P.version) IsKept conn.old conn.new result (λ _. ⊤)
         (λ _ c head. head ≡ option_map head_of (find (has_id unit) (nodes c.forest))) }
 {
     let mut found = standings_of(alloc, conn, unit)?;
@@ -89,7 +89,7 @@ fn heads_of<P: Places, S: Alter>(
     units: &[u64],
 ) -> Result<Vec<Head>, StoreFault>
     requires inside { InTransaction P.version (state S.Store conn.old) }
-    ensures tells { Tells S.Store (Represents P.represents P.version) IsKept conn.old conn.new result
+    ensures tells { StoreAnswers S.Store (Represents P.represents P.version) IsKept conn.old conn.new result
         (λ c. AllByRecursion (λ unit. has_unit c.forest unit ≡ true) units.now)
         (λ _ c heads. map Some heads.items ≡ map (head_at c.forest) units.now) }
 {
@@ -116,7 +116,7 @@ pub fn path_heads<P: Places, S: Alter>(
 ) -> Result<Vec<Head>, StoreFault>
     requires inside { InTransaction P.version (state S.Store conn.old) }
     requires small { IsNumber unit }
-    ensures tells { Tells S.Store (Represents P.represents P.version) IsKept conn.old conn.new result (λ _. ⊤)
+    ensures tells { StoreAnswers S.Store (Represents P.represents P.version) IsKept conn.old conn.new result (λ _. ⊤)
         (λ _ c heads. heads.items ≡ map head_of (path (has_id unit) c.forest)) }
 {
     let units = P::path(alloc, conn, unit)?;
@@ -131,7 +131,7 @@ pub fn heads_below<P: Places, S: Alter>(
 ) -> Result<Vec<Head>, StoreFault>
     requires inside { InTransaction P.version (state S.Store conn.old) }
     requires small { IfSome unit IsNumber }
-    ensures tells { Tells S.Store (Represents P.represents P.version) IsKept conn.old conn.new result (λ _. ⊤)
+    ensures tells { StoreAnswers S.Store (Represents P.represents P.version) IsKept conn.old conn.new result (λ _. ⊤)
         (λ _ c heads. heads.items ≡ map head_of (tops (part_below has_id unit c.forest))) }
 {
     let units = P::below(alloc, conn, unit)?;

@@ -7,7 +7,7 @@ ghost use Rattle.isad_core.specs.Limits.{IsNumber};
 ghost use Rattle.tree_core.specs.Versions.{Version};
 ghost use Rattle.catalogue_core.specs.Bounds.{IsKept};
 ghost use Rattle.catalogue_core.specs.Descriptions.{AreWhole, HasPlaceFor, IsNew, MayDescribe, with_values};
-ghost use Rattle.office_tables.specs.Calls.{Makes};
+ghost use Rattle.office_tables.specs.Calls.{StoreUpdates};
 ghost use Rattle.office_tables.specs.Step.{InOffice};
 ghost use Rattle.catalogue_statements.specs.NewUnit.{unit_of};
 ghost use Rattle.catalogue_statements.specs.Representation.{RepresentsCatalogue, described_trees};
@@ -31,7 +31,7 @@ pub fn enter_unit<S: Alter>(
     requires inside { InOffice (state S.Store conn.old) }
     requires small { IsNumber unit.now.id }
     ensures makes { (version : Version) (parent : Option ℕ)
-        → Makes S.Store (RepresentsCatalogue version) (λ c. IsKept c × IsNew (unit_of unit.now) c)
+        → StoreUpdates S.Store (RepresentsCatalogue version) (λ c. IsKept c × IsNew (unit_of unit.now) c)
         conn.old conn.new result (HasPlaceFor parent) (with_entered parent (unit_of unit.now)) described_trees }
 {
     insert_unit(conn, unit)?;
@@ -48,7 +48,7 @@ pub fn enter_values<S: Alter>(
     requires inside { InOffice (state S.Store conn.old) }
     requires small { IsNumber unit }
     ensures makes { (version : Version)
-        → Makes S.Store (RepresentsCatalogue version) (λ c. IsKept c × AreWhole values.now)
+        → StoreUpdates S.Store (RepresentsCatalogue version) (λ c. IsKept c × AreWhole values.now)
         conn.old conn.new result (MayDescribe unit) (with_values unit values.now) described_trees }
 {
     set_level(conn, unit, values)?;

@@ -4,7 +4,7 @@ ghost use Rattle.std.specs.Prelude.{◌≡◌, [], OnOk, ⊤};
 ghost use Rattle.sqlite.specs.Held.{state};
 ghost use Rattle.sqlite.specs.State.{HasCleanDisk};
 ghost use Rattle.isad_core.specs.Limits.{IsNumber};
-ghost use Rattle.office_tables.specs.Calls.{Tells};
+ghost use Rattle.office_tables.specs.Calls.{StoreAnswers};
 ghost use Rattle.office_tables.specs.ChangeStatement.{Leaves};
 ghost use Rattle.office_tables.specs.Faults.{FaultsHaveCause};
 ghost use Rattle.office_tables.specs.Schema as tables;
@@ -74,8 +74,8 @@ pub fn office_row<P: Places, S: Alter>(
     conn: &mut Connection<S>,
 ) -> Result<Office, StoreFault>
     requires inside { InTransaction P.version (state S.Store conn.old) }
-    ensures tells { Tells S.Store (RepresentsSettings P.represents P.version) AreLegibleSettings conn.old conn.new
-        result (λ _. ⊤) (λ c o office. office ≡ told_office c o) }
+    ensures tells { StoreAnswers S.Store (RepresentsSettings P.represents P.version) AreLegibleSettings conn.old
+        conn.new result (λ _. ⊤) (λ c o office. office ≡ told_office c o) }
 {
     let mut rows = office_rows(alloc, conn)?;
     let units = count_units(alloc, conn)?;
@@ -96,8 +96,8 @@ pub fn settings<P: Places, S: Alter>(
     conn: &mut Connection<S>,
 ) -> Result<OfficeRow, StoreFault>
     requires inside { InTransaction P.version (state S.Store conn.old) }
-    ensures tells { Tells S.Store (RepresentsSettings P.represents P.version) AreLegibleSettings conn.old conn.new
-        result (λ _. ⊤) (λ _ o row. row ≡ o) }
+    ensures tells { StoreAnswers S.Store (RepresentsSettings P.represents P.version) AreLegibleSettings conn.old
+        conn.new result (λ _. ⊤) (λ _ o row. row ≡ o) }
 {
     let mut rows = office_rows(alloc, conn)?;
     let Some(row) = rows.pop() else {

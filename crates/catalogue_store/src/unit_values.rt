@@ -14,7 +14,7 @@ ghost use Rattle.catalogue_core.specs.Bounds.{IsKept};
 ghost use Rattle.catalogue_core.specs.Descriptions.{KnowsItsContainers};
 ghost use Rattle.catalogue_core.specs.CatalogueMerge.{box_number};
 ghost use Rattle.office_tables.specs.Query.{Reads};
-ghost use Rattle.office_tables.specs.Calls.{Tells};
+ghost use Rattle.office_tables.specs.Calls.{StoreAnswers};
 ghost use Rattle.office_tables.specs.Faults.{FaultsHaveCause};
 ghost use Rattle.office_tables.specs.RowNumbers.{HoldsNumbered};
 ghost use Rattle.office_tables.specs.Schema as tables;
@@ -87,8 +87,8 @@ fn texts_of<S: Alter>(
 ) -> Result<[Option<Text>; 25], StoreFault>
     requires inside { InOffice (state S.Store conn.old) }
     requires small { IsNumber unit }
-    ensures tells { Tells S.Store (TellsTexts unit) (AllByRecursion (λ e. IsUtf8 e.value)) conn.old conn.new result
-        (λ _. ⊤) (λ values _ texts. texts ≡ values.texts) }
+    ensures tells { StoreAnswers S.Store (TellsTexts unit) (AllByRecursion (λ e. IsUtf8 e.value)) conn.old conn.new
+        result (λ _. ⊤) (λ values _ texts. texts ≡ values.texts) }
 {
     let found = elements_of(alloc, conn, unit)?;
     placed(found)
@@ -183,7 +183,7 @@ pub fn values<S: Alter>(
 ) -> Result<Option<UnitValues>, StoreFault>
     requires inside { InOffice (state S.Store conn.old) }
     requires small { IsNumber unit }
-    ensures tells { Tells S.Store RepresentsValues IsKept conn.old conn.new result KnowsItsContainers
+    ensures tells { StoreAnswers S.Store RepresentsValues IsKept conn.old conn.new result KnowsItsContainers
         (λ _ c found. found ≡ values_of unit c) }
 {
     let mut levels = levels_of(alloc, conn, unit)?;

@@ -16,7 +16,7 @@ use Rattle.desk_core.specs.DeskCauses as causes
 use Rattle.desk_core.specs.DeskRows as desk
 use Rattle.tree_core.proofs.Lists.{In, any_none, eqb_comm, list_any-map}
 use Rattle.desk_core.specs.RowRecords.{Surrounds, order_row}
-use Rattle.desk_core.specs.KeyCounts.{standing, stands_over}
+use Rattle.desk_core.specs.KeyCounts.{standing, occurs_more_than}
 use Rattle.desk_core.specs.Consistency.{is_fit_order, placing, placing_cmp, asking, asking_cmp, waits_or_is_out}
 use Rattle.desk_core.specs.declared.consistency.context.Around.{Around}
 use Rattle.desk_core.specs.declared.consistency.rows.OrderRow.{OrderRow}
@@ -43,7 +43,7 @@ then_same Greater q = refl
 
 -- ---- a key that stands too often, told from the rows
 
-rows_over : {K : Type 0} (cmp : K → K → Ordering) (key : OrderRow → K) (most : ℕ) (rows : List OrderRow) → not (stands_over cmp most (map key rows)) ≡ list_all (λ row. nat_le (count_by (λ other. is_eq (cmp (key row) (key other))) rows) most) rows
+rows_over : {K : Type 0} (cmp : K → K → Ordering) (key : OrderRow → K) (most : ℕ) (rows : List OrderRow) → not (occurs_more_than cmp most (map key rows)) ≡ list_all (λ row. nat_le (count_by (λ other. is_eq (cmp (key row) (key other))) rows) most) rows
 rows_over cmp key most rows =
     ap not (list_any-map (λ k. nat_lt most (standing cmp k (map key rows))) key rows)
     ∙ not_any (λ row. nat_lt most (standing cmp (key row) (map key rows))) rows
@@ -61,7 +61,7 @@ same_day row other =
 abbrev within_daily : ℕ → List OrderRow → OrderRow → Bool
 within_daily daily orders row = nat_le (count_by (λ (other : OrderRow). causes.is_of_the_day (order_row row) (order_row other)) orders) daily
 
-daily_told : (daily : ℕ) (orders : List OrderRow) → not (stands_over placing_cmp daily (map placing orders)) ≡ list_all (within_daily daily orders) orders
+daily_told : (daily : ℕ) (orders : List OrderRow) → not (occurs_more_than placing_cmp daily (map placing orders)) ≡ list_all (within_daily daily orders) orders
 daily_told daily orders =
     rows_over placing_cmp placing daily orders
     ∙ all_agree (λ row. nat_le (count_by (λ other. is_eq (placing_cmp (placing row) (placing other))) orders) daily) (within_daily daily orders) orders
@@ -126,7 +126,7 @@ module _ (orders : List OrderRow) (numbered : are_numbered_from (λ (row : Order
         | inr f ↦ ap (λ b. not b || nat_le (count_by asks orders) 1) f ∙ sym (idle f)
       ]
 
-asked_told : (orders : List OrderRow) → are_numbered_from (λ (row : OrderRow). row.id) 1 orders ≡ true → not (stands_over asking_cmp 1 (map asking (filter waits_or_is_out orders))) ≡ list_all (asks_once orders) orders
+asked_told : (orders : List OrderRow) → are_numbered_from (λ (row : OrderRow). row.id) 1 orders ≡ true → not (occurs_more_than asking_cmp 1 (map asking (filter waits_or_is_out orders))) ≡ list_all (asks_once orders) orders
 asked_told orders numbered =
     rows_over asking_cmp asking 1 (filter waits_or_is_out orders)
     ∙ all_filter (λ row. nat_le (count_by (λ other. is_eq (asking_cmp (asking row) (asking other))) (filter waits_or_is_out orders)) 1) waits_or_is_out orders
@@ -163,7 +163,7 @@ module _ (s : Around) (a : causes.Around) (d : desk.Desk) (orders : List OrderRo
       ∙ ap (are_numbered_from (λ (row : desk.OrderRow). row.id) 1) (sym e)
 
   each_told : are_numbered_from (λ (row : OrderRow). row.id) 1 orders ≡ true → list_all (causes.is_good_order a d) d.orders
-      ≡ (list_all (is_fit_order s) orders && (not (stands_over placing_cmp s.daily (map placing orders)) && not (stands_over asking_cmp 1 (map asking (filter waits_or_is_out orders)))))
+      ≡ (list_all (is_fit_order s) orders && (not (occurs_more_than placing_cmp s.daily (map placing orders)) && not (occurs_more_than asking_cmp 1 (map asking (filter waits_or_is_out orders)))))
   each_told numbered =
       ap (list_all (causes.is_good_order a d)) e
       ∙ list_all-map (causes.is_good_order a d) order_row orders
@@ -171,12 +171,12 @@ module _ (s : Around) (a : causes.Around) (d : desk.Desk) (orders : List OrderRo
       ∙ all_and (is_fit_order s) (λ row. within_daily s.daily orders row && asks_once orders row) orders
       ∙ ap (λ b. list_all (is_fit_order s) orders && b)
       (all_and (within_daily s.daily orders) (asks_once orders) orders
-      ∙ and_same (list_all (within_daily s.daily orders) orders) (not (stands_over placing_cmp s.daily (map placing orders))) (list_all (asks_once orders) orders) _ (sym (daily_told s.daily orders)) (sym (asked_told orders numbered)))
+      ∙ and_same (list_all (within_daily s.daily orders) orders) (not (occurs_more_than placing_cmp s.daily (map placing orders))) (list_all (asks_once orders) orders) _ (sym (daily_told s.daily orders)) (sym (asked_told orders numbered)))
 
   abbrev pub plain : Bool
   plain = are_numbered_from (λ n. n) 1 (map (λ (row : OrderRow). row.id) orders) && (nat_le (length orders) most_orders && list_all (is_fit_order s) orders)
 
-  pub orders_told : causes.are_good_orders a d ≡ (plain && (not (stands_over placing_cmp s.daily (map placing orders)) && not (stands_over asking_cmp 1 (map asking (filter waits_or_is_out orders)))))
+  pub orders_told : causes.are_good_orders a d ≡ (plain && (not (occurs_more_than placing_cmp s.daily (map placing orders)) && not (occurs_more_than asking_cmp 1 (map asking (filter waits_or_is_out orders)))))
   orders_told =
       and_then (are_numbered_from (λ (row : desk.OrderRow). row.id) 1 d.orders) (are_numbered_from (λ n. n) 1 (map (λ (row : OrderRow). row.id) orders)) _ _ (sym numbers_told)
       (λ t. and_same (nat_le (length d.orders) most_orders) (nat_le (length orders) most_orders) _ _ (ap (λ n. nat_le n most_orders) (ap length e ∙ length-map orders order_row))
@@ -191,10 +191,10 @@ module _ (s : Around) (a : causes.Around) (d : desk.Desk) (orders : List OrderRo
   -- ---- as it is judged, one after the other
 
   abbrev keeps : Bool
-  keeps = not (stands_over placing_cmp s.daily (map placing orders))
+  keeps = not (occurs_more_than placing_cmp s.daily (map placing orders))
 
   abbrev asks_well : Bool
-  asks_well = not (stands_over asking_cmp 1 (map asking (filter waits_or_is_out orders)))
+  asks_well = not (occurs_more_than asking_cmp 1 (map asking (filter waits_or_is_out orders)))
 
   abbrev IsPlainly : List ℕ → Bool → Type 0
   IsPlainly numbers b = b ≡ (are_numbered_from (λ n. n) 1 numbers && (nat_le (length orders) most_orders && list_all (is_fit_order s) orders))

@@ -11,7 +11,7 @@ use Rattle.std.proofs.lemmas.Cmp.{tied_itself, alike_right}
 use Rattle.std.proofs.lemmas.List.{drop_all}
 use Rattle.std.proofs.lemmas.List.Sorted.{ranks_by, sorted_far, list_any-IsPermutation, sum_by-IsPermutation}
 use Rattle.tree_core.proofs.Lists.{In, Contains-from_In, any_agree, any_none, none_any}
-use Rattle.desk_core.specs.KeyCounts.{standing, stands_over}
+use Rattle.desk_core.specs.KeyCounts.{standing, occurs_more_than}
 use Rattle.desk_core.proofs.Counts.{count_cons, count_agree, count_none}
 use Rattle.desk_core.proofs.Tests.{false_together}
 
@@ -138,10 +138,10 @@ module _ {K : Type 0} {R : K → K → Ordering} (o : IsTotalOrder R) where
       more false true e n m w h = absurd (false≢true e)
       more false false e n m w h = omega (arith, w, h)
 
-  none_over : (most : ℕ) (ks : List K) → ((q : K) → standing R q ks ≤ most) → stands_over R most ks ≡ false
+  none_over : (most : ℕ) (ks : List K) → ((q : K) → standing R q ks ≤ most) → occurs_more_than R most ks ≡ false
   none_over most ks h = any_none (λ k. nat_lt most (standing R k ks)) ks (λ k i. le-ltb most (standing R k ks) (h k))
 
-  all_within : (most : ℕ) (ks : List K) → stands_over R most ks ≡ false → (q : K) → standing R q ks ≤ most
+  all_within : (most : ℕ) (ks : List K) → occurs_more_than R most ks ≡ false → (q : K) → standing R q ks ≤ most
   all_within most ks h q =
       elim (cases_Bool (list_any (λ y. is_eq (R q y)) ks)) [
         | inr f ↦ let none = count_none (λ y. is_eq (R q y)) ks f in omega (arith, none)
@@ -153,13 +153,13 @@ module _ {K : Type 0} {R : K → K → Ordering} (o : IsTotalOrder R) where
       ]
 
   -- told key by key, of sorted keys
-  pub runs_told : (most : ℕ) (ks : List K) (d : K) → IsSorted R ks → run_over R most (get_or ks 0 d) 0 ks ≡ stands_over R most ks
+  pub runs_told : (most : ℕ) (ks : List K) (d : K) → IsSorted R ks → run_over R most (get_or ks 0 d) 0 ks ≡ occurs_more_than R most ks
   runs_told most [] d up = refl
   runs_told most (k ∷ ks) d up =
       let order = ranks_by o (λ (x : K). x) in
       let rise = rises (k ∷ ks) (λ i j e le lt. sorted_far (λ x y. is_lt (R x y)) order (k ∷ ks) up i j e le lt) in
       let none : (y : K) → In y (k ∷ ks) → is_lt (R y k) ≡ false = λ y i. elim i [ inl e ↦ ap is_lt (ap (λ z. R z k) e ∙ tied_itself o k) | inr j ↦ rise.0 y j ] in
-      false_together (run_over R most k 0 (k ∷ ks)) (stands_over R most (k ∷ ks))
+      false_together (run_over R most k 0 (k ∷ ks)) (occurs_more_than R most (k ∷ ks))
       (λ h. none_over most (k ∷ ks) (λ q. let w = within most k 0 (k ∷ ks) none rise (omega arith) h q in omega (arith, w)))
       (λ h. told most k 0 (k ∷ ks) (λ q. let w = all_within most (k ∷ ks) h q in zero_too (is_eq (R q k)) (standing R q (k ∷ ks)) w))
     where
@@ -168,7 +168,7 @@ module _ {K : Type 0} {R : K → K → Ordering} (o : IsTotalOrder R) where
       zero_too false n h = omega (arith, h)
 
 -- in whatever order the keys are
-pub over_permuted : {K : Type 0} (R : K → K → Ordering) (most : ℕ) (xs ys : List K) → IsPermutation xs ys → stands_over R most ys ≡ stands_over R most xs
+pub over_permuted : {K : Type 0} (R : K → K → Ordering) (most : ℕ) (xs ys : List K) → IsPermutation xs ys → occurs_more_than R most ys ≡ occurs_more_than R most xs
 over_permuted R most xs ys p =
     any_agree (λ k. nat_lt most (standing R k ys)) (λ k. nat_lt most (standing R k xs)) ys (λ k. ap (nat_lt most) (sum_by-IsPermutation (λ y. cond (is_eq (R k y)) 1 0) xs ys p))
     ∙ sym (list_any-IsPermutation (λ k. nat_lt most (standing R k xs)) xs ys p)
@@ -205,7 +205,7 @@ module _ {K : Type 0} (R : K → K → Ordering) (most : ℕ) where
 
   -- the key at i stands too often
   pub met_over : (o : IsTotalOrder R) (ks : List K) (i first next : ℕ) → i < length ks → first ≤ i → ((d : K) → next ≡ cond (is_eq (R (get_or ks first d) (get_or ks i d))) first i)
-      → ((d : K) → run_over R most (get_or ks first d) (i - first) (drop i ks) ≡ run_over R most (get_or ks 0 d) 0 ks) → most ≤ i - next → IsSorted R ks → true ≡ stands_over R most ks
+      → ((d : K) → run_over R most (get_or ks first d) (i - first) (drop i ks) ≡ run_over R most (get_or ks 0 d) 0 ks) → most ≤ i - next → IsSorted R ks → true ≡ occurs_more_than R most ks
   met_over o [] i first next lt le is so over up = absurd (omega arith)
   met_over o (k ∷ ks) i first next lt le is so over up =
       sym (ap (λ b. b || run_over R most (get_or (k ∷ ks) next k) (i + 1 - next) (drop (i + 1) (k ∷ ks))) (le-leb most (i - next) over))
@@ -222,7 +222,7 @@ module _ {K : Type 0} (R : K → K → Ordering) (most : ℕ) where
       ∙ so
 
   pub met_all : (o : IsTotalOrder R) (ks : List K) (i first : ℕ) → length ks ≤ i
-      → ((d : K) → run_over R most (get_or ks first d) (i - first) (drop i ks) ≡ run_over R most (get_or ks 0 d) 0 ks) → IsSorted R ks → false ≡ stands_over R most ks
+      → ((d : K) → run_over R most (get_or ks first d) (i - first) (drop i ks) ≡ run_over R most (get_or ks 0 d) 0 ks) → IsSorted R ks → false ≡ occurs_more_than R most ks
   met_all o [] i first le so up = refl
   met_all o (k ∷ ks) i first le so up =
       sym (ap (run_over R most (get_or (k ∷ ks) first k) (i - first)) (drop_all i (k ∷ ks) le))

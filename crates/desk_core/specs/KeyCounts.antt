@@ -9,5 +9,5 @@ abbrev pub standing : {K : Type 0} → (K → K → Ordering) → K → List K �
 standing cmp key keys = count_by (λ other. is_eq (cmp key other)) keys
 
 -- whether some key occurs more than `most` times
-abbrev pub stands_over : {K : Type 0} → (K → K → Ordering) → ℕ → List K → Bool
-stands_over cmp most keys = list_any (λ key. nat_lt most (standing cmp key keys)) keys
+abbrev pub occurs_more_than : {K : Type 0} → (K → K → Ordering) → ℕ → List K → Bool
+occurs_more_than cmp most keys = list_any (λ key. nat_lt most (standing cmp key keys)) keys

@@ -32,7 +32,7 @@ use Rattle.sqlite_value.specs.Keys.{joined}
 use Rattle.tree_core.specs.Versions.{Version, Links, Spans}
 use Rattle.desk_core.specs.DeskRows.{Desk, HoldingRow}
 use Rattle.desk_core.specs.declared.reader.Place.TheVariants.{Shelf}
-use Rattle.office_tables.specs.Calls.{Makes}
+use Rattle.office_tables.specs.Calls.{StoreUpdates}
 use Rattle.office_tables.specs.ChangeStatement.{Leaves, Ran}
 use Rattle.office_tables.specs.Faults.{FaultsHaveCause, IsUnlimited, HasCause}
 use Rattle.office_tables.specs.StatementMeaning.{Means}
@@ -166,7 +166,7 @@ module _ {S : Type 0} (g : store.Ghosts S) (before mid : Held S) (n : ℕ) where
 
   module _ (goes : Goes a b) (rows : HasCleanDisk b → (xs : List HoldingRow) → Holds holding holding_cells a xs → AreByNumber (λ (x : HoldingRow). x.container) xs → HasRows tables.holding.tree (map holding_cells (without n xs)) a.now b.now)
       (only : HasCleanDisk b → OnlyTouches (tables.holding.tree ∷ []) a.now b.now) where
-    pub shelved : Makes g RepresentsDeskAlone IsLegible before mid (Ok (tt {0})) (λ _. ⊤) (with_place n Shelf) (tables.holding.tree ∷ [])
+    pub shelved : StoreUpdates g RepresentsDeskAlone IsLegible before mid (Ok (tt {0})) (λ _. ⊤) (with_place n Shelf) (tables.holding.tree ∷ [])
     shelved = record {
       represents_updated = λ clean beside d shown may.
           let has = rows clean d.holdings shown.holdings shown.holdings_rise in
@@ -198,7 +198,7 @@ module _ {S : Type 0} (g : store.Ghosts S) (before mid : Held S) (n : ℕ) where
             ∙ ap (map holding_cells) (put_gone (λ (x : HoldingRow). x.container) here d.holdings shown.holdings_rise))
             (put_rises holding_cells (λ (x : HoldingRow). pos x.container) (λ _. refl) here d.holdings shown.holdings_rise)
 
-        pub placed : Makes g RepresentsDeskAlone IsLegible before after r (λ _. ⊤) (λ d. record d { holdings = put_down here d.holdings }) (tables.holding.tree ∷ [])
+        pub placed : StoreUpdates g RepresentsDeskAlone IsLegible before after r (λ _. ⊤) (λ d. record d { holdings = put_down here d.holdings }) (tables.holding.tree ∷ [])
         placed = record {
           represents_updated = λ clean beside d shown may. on_ok_then r _ _ (λ put. moved clean put d shown) (puts clean);
           only = λ clean. on_ok_then r _ _ (λ put. touched_again (tables.holding.tree ∷ []) a.now b.now z.now (only (back clean)) put.only) (puts clean);

@@ -6,7 +6,7 @@ use Rattle.sqlite.specs.Held.{Held, state}
 use Rattle.sqlite.specs.State.{State, HasCleanDisk}
 use Rattle.sqlite_trees.specs.declared.store.Store as store
 use Rattle.desk_core.specs.DeskRows.{Desk, SeatRow}
-use Rattle.office_tables.specs.Calls.{Makes}
+use Rattle.office_tables.specs.Calls.{StoreUpdates}
 use Rattle.office_tables.specs.ChangeStatement.{Leaves}
 use Rattle.office_tables.specs.Faults.{FaultsHaveCause}
 use Rattle.office_tables.specs.Schema.{seat, office}
@@ -57,7 +57,7 @@ module _ {S : Type 0} (g : store.Ghosts S) (before mid : Held S) (day : ℤ) whe
   b = state g mid
 
   -- the seats could not be freed
-  pub not_freed : (e : StoreFault) → Leaves {X = Unit} a b (Err e) → FaultsHaveCause {X = Unit} a b (Err e) → Makes {X = Unit} g RepresentsBoth IsLegibleHouse before mid (Err e) (λ _. ⊤) (opened day) (tables.seat.tree ∷ tables.office.tree ∷ [])
+  pub not_freed : (e : StoreFault) → Leaves {X = Unit} a b (Err e) → FaultsHaveCause {X = Unit} a b (Err e) → StoreUpdates {X = Unit} g RepresentsBoth IsLegibleHouse before mid (Err e) (λ _. ⊤) (opened day) (tables.seat.tree ∷ tables.office.tree ∷ [])
   not_freed e leaves faults = record {
     represents_updated = λ clean beside house shown may. tt;
     only = λ clean. tt;
@@ -74,7 +74,7 @@ module _ {S : Type 0} (g : store.Ghosts S) (before mid : Held S) (day : ℤ) whe
 
     pub opens : Leaves b c r → (HasCleanDisk c → (o : OfficeRow) → Holds office office_cells b (o ∷ []) → OnOk r (HasRows tables.office.tree (office_cells (record o { day = day }) ∷ []) b.now c.now))
         → (HasCleanDisk c → OnOk r (OnlyTouches (tables.office.tree ∷ []) b.now c.now)) → ((o : OfficeRow) → Holds office office_cells b (o ∷ []) → FaultsHaveCause b c r)
-        → Makes g RepresentsBoth IsLegibleHouse before after r (λ _. ⊤) (opened day) (tables.seat.tree ∷ tables.office.tree ∷ [])
+        → StoreUpdates g RepresentsBoth IsLegibleHouse before after r (λ _. ⊤) (opened day) (tables.seat.tree ∷ tables.office.tree ∷ [])
     opens leaves dated dates faults =
         let back = early b c _ leaves.crash in
         record {

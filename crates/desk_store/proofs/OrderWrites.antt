@@ -30,7 +30,7 @@ use Rattle.tree_core.proofs.Lists.{eqb_comm}
 use Rattle.tree_core.specs.Versions.{Version, Links, Spans}
 use Rattle.isad_core.specs.Limits.{most_orders}
 use Rattle.desk_core.specs.DeskRows.{OrderRow, with_state}
-use Rattle.office_tables.specs.Calls.{Makes}
+use Rattle.office_tables.specs.Calls.{StoreUpdates}
 use Rattle.office_tables.specs.ChangeStatement.{Leaves, Ran}
 use Rattle.office_tables.specs.Faults.{FaultsHaveCause, IsUnlimited, HasCause}
 use Rattle.office_tables.specs.StatementMeaning.{Means}
@@ -170,7 +170,7 @@ module _ {S : Type 0} (g : store.Ghosts S) (before after : Held S) (r : Result U
   pub appended : (ticket container : ℕ) (day : ℤ) → Leaves old new r
       → (HasCleanDisk new → OnOk r (PutsRow tables.orders.tree (order_cells (record { id = id; ticket = ticket; container = container; day = day; state = 1 })) old.now new.now))
       → ((xs : List OrderRow) → Holds orders order_cells old xs → list_any (λ (o : OrderRow). nat_eq id o.id) xs ≡ false → FaultsHaveCause old new r)
-      → Makes g RepresentsDeskAlone IsLegible before after r (IsNextOrder id) (with_order ticket container day) (tables.orders.tree ∷ [])
+      → StoreUpdates g RepresentsDeskAlone IsLegible before after r (IsNextOrder id) (with_order ticket container day) (tables.orders.tree ∷ [])
   appended ticket container day leaves puts faults = record {
     represents_updated = λ clean beside d shown may. on_ok_then r _ _ (λ put.
         let n = may.1 in
@@ -196,7 +196,7 @@ module _ {S : Type 0} (g : store.Ghosts S) (before after : Held S) (r : Result U
       → (HasCleanDisk new → (xs : List OrderRow) → Holds orders order_cells old xs → AreCounted (λ (o : OrderRow). o.id) xs → OnOk r (HasRows tables.orders.tree (map order_cells (with_state id (state_number next) xs)) old.now new.now))
       → (HasCleanDisk new → OnOk r (OnlyTouches (tables.orders.tree ∷ []) old.now new.now))
       → ((xs : List OrderRow) → Holds orders order_cells old xs → AreCounted (λ (o : OrderRow). o.id) xs → FaultsHaveCause old new r)
-      → Makes g RepresentsDeskAlone IsLegible before after r (λ _. ⊤) (with_order_state id next) (tables.orders.tree ∷ [])
+      → StoreUpdates g RepresentsDeskAlone IsLegible before after r (λ _. ⊤) (with_order_state id next) (tables.orders.tree ∷ [])
   brought next leaves rows only faults = record {
     represents_updated = λ clean beside d shown may. on_ok_then r _ _ (λ has.
         with_orders old.now new.now d shown _ has.only has.are

@@ -19,7 +19,7 @@ use Rattle.sqlite_rules.proofs.ListLemmas.{has_filtered}
 use Rattle.sqlite_trees.proofs.ListLemmas.{all-filter}
 use Rattle.sqlite_trees.specs.declared.store.Store as store
 use Rattle.desk_core.specs.DeskRows.{Desk, PermitRow}
-use Rattle.office_tables.specs.Calls.{Makes}
+use Rattle.office_tables.specs.Calls.{StoreUpdates}
 use Rattle.office_tables.specs.ChangeStatement.{Leaves}
 use Rattle.office_tables.specs.Faults.{FaultsHaveCause}
 use Rattle.office_tables.specs.Order.{IsOrdered}
@@ -101,7 +101,7 @@ module _ {S : Type 0} (g : store.Ghosts S) (before after : Held S) (r : Result U
   new = state g after
 
   pub takes_back : (t u : ℕ) → Leaves old new r → (HasCleanDisk new → (ps : List PermitRow) → HasNumbered permit_cells (old.now.trees tables.permit.tree) ps → OnOk r (HasNumbered permit_cells (new.now.trees tables.permit.tree) (without_permit t u ps)))
-      → (HasCleanDisk new → OnOk r (OnlyTouches (tables.permit.tree ∷ []) old.now new.now)) → FaultsHaveCause old new r → Makes g RepresentsDeskAlone IsLegible before after r (λ _. ⊤) (revoked t u) (tables.permit.tree ∷ [])
+      → (HasCleanDisk new → OnOk r (OnlyTouches (tables.permit.tree ∷ []) old.now new.now)) → FaultsHaveCause old new r → StoreUpdates g RepresentsDeskAlone IsLegible before after r (λ _. ⊤) (revoked t u) (tables.permit.tree ∷ [])
   takes_back t u leaves rows only faults = record {
     represents_updated = λ clean beside d shown may. on_ok_both r _ _ _ (λ touches has. with_permits old.now new.now d shown _ touches has (tickets_left t u d old.now.trees shown)) (only clean) (rows clean d.permits shown.permits);
     only = only;
@@ -127,7 +127,7 @@ module _ {S : Type 0} (g : store.Ghosts S) (before mid after : Held S) (t u : �
   row = record { ticket = t; unit = u; until = until }
 
   pub not_cleared : (e : StoreFault) → Leaves {X = Unit} a b (Err e) → FaultsHaveCause {X = Unit} a b (Err e)
-      → Makes {X = Unit} g RepresentsDeskAlone IsLegible before mid (Err e) (MayHave t u a.now.trees) (with_permit t u until) (tables.permit.tree ∷ [])
+      → StoreUpdates {X = Unit} g RepresentsDeskAlone IsLegible before mid (Err e) (MayHave t u a.now.trees) (with_permit t u until) (tables.permit.tree ∷ [])
   not_cleared e leaves faults = record {
     represents_updated = λ clean beside d shown may. tt;
     only = λ clean. tt;
@@ -157,7 +157,7 @@ module _ {S : Type 0} (g : store.Ghosts S) (before mid after : Held S) (t u : �
 
     pub grants : Leaves b c r → (HasCleanDisk c → OnOk r (PutsRow tables.permit.tree (permit_cells (next_rowid (b.now.trees tables.permit.tree), row)) b.now c.now))
         → ((ps : List PermitRow) → HasNumbered permit_cells (b.now.trees tables.permit.tree) ps → list_any (is_permit t u) ps ≡ false → HasUnitRow u b.now.trees → FaultsHaveCause b c r)
-        → Makes g RepresentsDeskAlone IsLegible before after r (MayHave t u a.now.trees) (with_permit t u until) (tables.permit.tree ∷ [])
+        → StoreUpdates g RepresentsDeskAlone IsLegible before after r (MayHave t u a.now.trees) (with_permit t u until) (tables.permit.tree ∷ [])
     grants leaves puts faults =
         let back = early b c _ leaves.crash in
         record {

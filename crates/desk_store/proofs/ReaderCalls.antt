@@ -12,7 +12,7 @@ use Rattle.sqlite.specs.Tree.{put_row}
 use Rattle.sqlite_trees.specs.declared.store.Store as store
 use Rattle.isad_core.specs.Limits.{most_tickets}
 use Rattle.desk_core.specs.DeskRows.{Desk, ReaderRow}
-use Rattle.office_tables.specs.Calls.{Makes}
+use Rattle.office_tables.specs.Calls.{StoreUpdates}
 use Rattle.office_tables.specs.Faults.{IsUnlimited, HasCause}
 use Rattle.office_tables.specs.Schema.{reader}
 use Rattle.office_tables.specs.Schema as tables
@@ -66,7 +66,7 @@ module _ {S : Type 0} (g : store.Ghosts S) (before mid after : Held S) (name : B
         (counted_more (λ (r : ReaderRow). r.ticket) 1 d.readers row shown.tickets n.0)
         (let size = length-append d.readers (row ∷ []) in omega (arith, size, few)) (let size = length-append d.readers (row ∷ []) in omega (arith, size)))
 
-    pub added : Goes b c → (HasCleanDisk c → PutsRow tables.reader.tree (reader_cells row) b.now c.now) → Makes g RepresentsDeskAlone IsLegible before after (Ok (Some ticket)) (λ _. ⊤) (λ d. with_reader (next_ticket d) name until d) (tables.reader.tree ∷ [])
+    pub added : Goes b c → (HasCleanDisk c → PutsRow tables.reader.tree (reader_cells row) b.now c.now) → StoreUpdates g RepresentsDeskAlone IsLegible before after (Ok (Some ticket)) (λ _. ⊤) (λ d. with_reader (next_ticket d) name until d) (tables.reader.tree ∷ [])
     added goes puts =
         let back = early b c _ goes.on.crash in
         record {
@@ -80,7 +80,7 @@ module _ {S : Type 0} (g : store.Ghosts S) (before mid after : Held S) (name : B
 
     pub failed : (e : StoreFault) → IsAborted b c → (HasCleanDisk c → Spares IsSame b c e)
         → ((xs : List ReaderRow) → Holds reader reader_cells b xs → list_any (λ (r : ReaderRow). nat_eq ticket r.ticket) xs ≡ false → HasCleanDisk c → IsUnlimited b → HasCause b c e)
-        → Makes {X = Option ℕ} g RepresentsDeskAlone IsLegible before after (Err e) (λ _. ⊤) (λ d. with_reader (next_ticket d) name until d) (tables.reader.tree ∷ [])
+        → StoreUpdates {X = Option ℕ} g RepresentsDeskAlone IsLegible before after (Err e) (λ _. ⊤) (λ d. with_reader (next_ticket d) name until d) (tables.reader.tree ∷ [])
     failed e cut spares why = record {
       represents_updated = λ clean beside d shown may. tt;
       only = λ clean. tt;

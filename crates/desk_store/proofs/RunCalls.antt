@@ -14,7 +14,7 @@ use Rattle.sqlite_trees.specs.declared.store.Store as store
 use Rattle.tree_core.proofs.Lists.{eqb_comm}
 use Rattle.isad_core.specs.Limits.{most_runs}
 use Rattle.desk_core.specs.DeskRows.{Desk, RunRow, RunLineRow}
-use Rattle.office_tables.specs.Calls.{Makes}
+use Rattle.office_tables.specs.Calls.{StoreUpdates}
 use Rattle.office_tables.specs.Faults.{IsUnlimited, HasCause}
 use Rattle.office_tables.specs.Step.{Goes, IsAborted, LeavesUnchanged, OnlyTouches, PutsRow, Spares}
 use Rattle.office_tables.specs.declared.fault.StoreFault.{StoreFault}
@@ -141,7 +141,7 @@ module _ {S : Type 0} (g : store.Ghosts S) (before mid after : Held S) (on : ℤ
     still_shown clean d shown = subst (λ (db : Database). RepresentsDesk db.trees d) (sym (looked.same clean)) shown
 
     pub recorded : Goes b c → (HasCleanDisk c → (d : Desk) → RepresentsDesk b.now.trees d → Some run ≡ next_run d → RepresentsDesk c.now.trees (with_run (Some run) on taken d)) → (HasCleanDisk c → OnlyTouches (tables.run.tree ∷ tables.run_line.tree ∷ []) b.now c.now)
-        → Makes g RepresentsDeskAlone (λ d. IsLegible d × TakesEachOnce taken) before after (Ok (Some run)) (λ _. ⊤) (λ d. with_run (next_run d) on taken d) (tables.run.tree ∷ tables.run_line.tree ∷ [])
+        → StoreUpdates g RepresentsDeskAlone (λ d. IsLegible d × TakesEachOnce taken) before after (Ok (Some run)) (λ _. ⊤) (λ d. with_run (next_run d) on taken d) (tables.run.tree ∷ tables.run_line.tree ∷ [])
     recorded goes represents only =
         let back = early b c _ goes.on.crash in
         record {
@@ -156,7 +156,7 @@ module _ {S : Type 0} (g : store.Ghosts S) (before mid after : Held S) (on : ℤ
         }
 
     pub not_recorded : (e : StoreFault) → IsAborted b c → (HasCleanDisk c → Spares (OnlyTouches (tables.run.tree ∷ tables.run_line.tree ∷ [])) b c e) → ((d : Desk) → RepresentsDesk b.now.trees d → Some run ≡ next_run d → TakesEachOnce taken → HasCleanDisk c → IsUnlimited b → HasCause b c e)
-        → Makes {X = Option ℕ} g RepresentsDeskAlone (λ d. IsLegible d × TakesEachOnce taken) before after (Err e) (λ _. ⊤) (λ d. with_run (next_run d) on taken d) (tables.run.tree ∷ tables.run_line.tree ∷ [])
+        → StoreUpdates {X = Option ℕ} g RepresentsDeskAlone (λ d. IsLegible d × TakesEachOnce taken) before after (Err e) (λ _. ⊤) (λ d. with_run (next_run d) on taken d) (tables.run.tree ∷ tables.run_line.tree ∷ [])
     not_recorded e cut spares why = record {
       represents_updated = λ clean beside d shown may. tt;
       only = λ clean. tt;

@@ -7,7 +7,7 @@ use Rattle.sqlite.specs.Tree.{put_row}
 use Rattle.sqlite_trees.proofs.ListLemmas.{ascending-filter}
 use Rattle.sqlite_trees.specs.declared.store.Store as store
 use Rattle.desk_core.specs.DeskRows.{SeatRow}
-use Rattle.office_tables.specs.Calls.{Makes}
+use Rattle.office_tables.specs.Calls.{StoreUpdates}
 use Rattle.office_tables.specs.ChangeStatement.{Leaves}
 use Rattle.office_tables.specs.Faults.{FaultsHaveCause}
 use Rattle.office_tables.specs.Schema.{seat}
@@ -35,7 +35,7 @@ module _ {S : Type 0} (g : store.Ghosts S) (before after : Held S) (r : Result U
 
   pub takes : (n t : ℕ) → Leaves old new r → (HasCleanDisk new → OnOk r (PutsRow tables.seat.tree (seat_cells (record { seat = n; ticket = t })) old.now new.now))
       → ((xs : List SeatRow) → Holds seat seat_cells old xs → list_any (λ (s : SeatRow). nat_eq n s.seat) xs ≡ false → list_any (λ (s : SeatRow). nat_eq t s.ticket) xs ≡ false → FaultsHaveCause old new r)
-      → Makes g RepresentsDeskAlone IsLegible before after r (MayTake n (Some t)) (with_seat n (Some t)) (tables.seat.tree ∷ [])
+      → StoreUpdates g RepresentsDeskAlone IsLegible before after r (MayTake n (Some t)) (with_seat n (Some t)) (tables.seat.tree ∷ [])
   takes n t leaves puts faults = record {
     represents_updated = λ clean beside d shown may. on_ok_then r _ _ (λ put.
         with_seats old.now new.now d shown _ put.only
@@ -49,7 +49,7 @@ module _ {S : Type 0} (g : store.Ghosts S) (before after : Held S) (r : Result U
   }
 
   pub frees : (n : ℕ) → Leaves old new r → (HasCleanDisk new → (xs : List SeatRow) → Holds seat seat_cells old xs → AreByNumber (λ (s : SeatRow). s.seat) xs → OnOk r (HasRows tables.seat.tree (map seat_cells (filter (λ (s : SeatRow). not (nat_eq n s.seat)) xs)) old.now new.now))
-      → FaultsHaveCause old new r → (HasCleanDisk new → OnOk r (OnlyTouches (tables.seat.tree ∷ []) old.now new.now)) → Makes g RepresentsDeskAlone IsLegible before after r (MayTake n None) (with_seat n None) (tables.seat.tree ∷ [])
+      → FaultsHaveCause old new r → (HasCleanDisk new → OnOk r (OnlyTouches (tables.seat.tree ∷ []) old.now new.now)) → StoreUpdates g RepresentsDeskAlone IsLegible before after r (MayTake n None) (with_seat n None) (tables.seat.tree ∷ [])
   frees n leaves rows faults only = record {
     represents_updated = λ clean beside d shown may. on_ok_then r _ _ (λ has.
         with_seats old.now new.now d shown _ has.only has.are (ascending-filter _ (λ (s : SeatRow). not (nat_eq n s.seat)) d.seats shown.seats_rise)) (rows clean d.seats shown.seats shown.seats_rise);

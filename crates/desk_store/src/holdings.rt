@@ -6,7 +6,7 @@ ghost use Rattle.sqlite.specs.Held.{state};
 ghost use Rattle.sqlite.specs.State.{HasCleanDisk};
 ghost use Rattle.isad_core.specs.Limits.{IsNumber};
 ghost use Rattle.desk_core.specs.DeskRows.{HoldingRow};
-ghost use Rattle.office_tables.specs.Calls.{Makes};
+ghost use Rattle.office_tables.specs.Calls.{StoreUpdates};
 ghost use Rattle.office_tables.specs.ChangeStatement.{Leaves};
 ghost use Rattle.office_tables.specs.Faults.{FaultsHaveCause};
 ghost use Rattle.office_tables.specs.Schema as tables;
@@ -95,7 +95,7 @@ pub fn set_place<S: Alter>(
     requires inside { InOffice (state S.Store conn.old) }
     requires number { IsNumber container }
     requires known { IfSome (by_order place) IsNumber }
-    ensures makes { Makes S.Store RepresentsDeskAlone IsLegible conn.old conn.new result (λ _. ⊤)
+    ensures makes { StoreUpdates S.Store RepresentsDeskAlone IsLegible conn.old conn.new result (λ _. ⊤)
         (with_place container place) (tables.holding.tree ∷ []) }
 {
     clear_holding(conn, container)?;

@@ -6,7 +6,7 @@ ghost use Rattle.sqlite.specs.State.{HasCleanDisk};
 ghost use Rattle.isad_core.specs.Limits.{IsNumber};
 ghost use Rattle.desk_core.specs.DeskRows.{HoldingRow, OrderRow};
 ghost use Rattle.office_tables.specs.Query.{Reads};
-ghost use Rattle.office_tables.specs.Calls.{Tells};
+ghost use Rattle.office_tables.specs.Calls.{StoreAnswers};
 ghost use Rattle.office_tables.specs.Faults.{FaultsHaveCause};
 ghost use Rattle.office_tables.specs.Schema as tables;
 ghost use Rattle.office_tables.specs.Step.{InOffice, Holds};
@@ -101,7 +101,7 @@ fn holder_of<S: Alter>(
     order: u64,
 ) -> Result<Option<u64>, StoreFault>
     requires inside { InOffice (state S.Store conn.old) }
-    ensures tells { Tells S.Store RepresentsDeskAlone IsLegible conn.old conn.new result (λ _. ⊤)
+    ensures tells { StoreAnswers S.Store RepresentsDeskAlone IsLegible conn.old conn.new result (λ _. ⊤)
         (λ _ d ticket. ticket ≡ ticket_of d.orders order) }
 {
     if order >= NO_NUMBER {
@@ -118,7 +118,7 @@ fn loan_of<S: Alter>(
     line: HoldingLine,
 ) -> Result<Option<Loan>, StoreFault>
     requires inside { InOffice (state S.Store conn.old) }
-    ensures tells { Tells S.Store RepresentsDeskAlone IsLegible conn.old conn.new result (λ _. ⊤)
+    ensures tells { StoreAnswers S.Store RepresentsDeskAlone IsLegible conn.old conn.new result (λ _. ⊤)
         (λ _ d loan. loan ≡ loan_by d.orders line.container line.held_by) }
 {
     let Some(order) = line.held_by else {
@@ -137,7 +137,7 @@ fn loan_of<S: Alter>(
 /// The containers that are with readers, by number.
 pub fn issued<S: Alter>(alloc: Global, conn: &mut Connection<S>) -> Result<Vec<Loan>, StoreFault>
     requires inside { InOffice (state S.Store conn.old) }
-    ensures tells { Tells S.Store RepresentsDeskAlone IsLegible conn.old conn.new result (λ _. ⊤)
+    ensures tells { StoreAnswers S.Store RepresentsDeskAlone IsLegible conn.old conn.new result (λ _. ⊤)
         (λ _ d all. all.items ≡ issued_of d) }
 {
     let lines = holding_lines(alloc, conn)?;

@@ -4,7 +4,7 @@ ghost use Rattle.std.specs.Prelude.{List, [], ◌∷◌, OnOk, ⊤};
 ghost use Rattle.sqlite.specs.Held.{state};
 ghost use Rattle.sqlite.specs.State.{HasCleanDisk};
 ghost use Rattle.desk_core.specs.DeskRows.{SeatRow};
-ghost use Rattle.office_tables.specs.Calls.{Makes};
+ghost use Rattle.office_tables.specs.Calls.{StoreUpdates};
 ghost use Rattle.office_tables.specs.ChangeStatement.{Leaves};
 ghost use Rattle.office_tables.specs.Faults.{FaultsHaveCause};
 ghost use Rattle.office_tables.specs.Schema as tables;
@@ -54,7 +54,7 @@ fn set_day<S: Alter>(conn: &mut Connection<S>, on: Day) -> Result<(), StoreFault
 /// Opens the desk on another day: all seats become free.
 pub fn open_day<S: Alter>(conn: &mut Connection<S>, on: Day) -> Result<(), StoreFault>
     requires inside { InOffice (state S.Store conn.old) }
-    ensures makes { Makes S.Store RepresentsBoth IsLegibleHouse conn.old conn.new result (λ _. ⊤) (opened on)
+    ensures makes { StoreUpdates S.Store RepresentsBoth IsLegibleHouse conn.old conn.new result (λ _. ⊤) (opened on)
         (tables.seat.tree ∷ tables.office.tree ∷ []) }
 {
     free_seats(conn)?;

@@ -6,7 +6,7 @@ ghost use Rattle.sqlite.specs.Held.{state};
 ghost use Rattle.sqlite.specs.State.{HasCleanDisk};
 ghost use Rattle.isad_core.specs.Limits.{IsNumber};
 ghost use Rattle.desk_core.specs.DeskRows.{OrderRow, with_state};
-ghost use Rattle.office_tables.specs.Calls.{Makes};
+ghost use Rattle.office_tables.specs.Calls.{StoreUpdates};
 ghost use Rattle.office_tables.specs.ChangeStatement.{Leaves};
 ghost use Rattle.office_tables.specs.Faults.{FaultsHaveCause};
 ghost use Rattle.office_tables.specs.Schema as tables;
@@ -63,7 +63,7 @@ pub fn append_order<S: Alter>(
     requires number { IsNumber order }
     requires small { IsNumber ticket }
     requires known { IsNumber container }
-    ensures makes { Makes S.Store RepresentsDeskAlone IsLegible conn.old conn.new result (IsNextOrder order)
+    ensures makes { StoreUpdates S.Store RepresentsDeskAlone IsLegible conn.old conn.new result (IsNextOrder order)
         (with_order ticket container on) (tables.orders.tree ∷ []) }
     ensures puts { HasCleanDisk (state S.Store conn.new)
         → OnOk result (PutsRow tables.orders.tree
@@ -117,7 +117,7 @@ pub fn end_order<S: Alter>(
 ) -> Result<(), StoreFault>
     requires inside { InOffice (state S.Store conn.old) }
     requires number { IsNumber order }
-    ensures makes { Makes S.Store RepresentsDeskAlone IsLegible conn.old conn.new result (λ _. ⊤)
+    ensures makes { StoreUpdates S.Store RepresentsDeskAlone IsLegible conn.old conn.new result (λ _. ⊤)
         (with_order_state order next) (tables.orders.tree ∷ []) }
 {
     set_state(conn, order, number_of(next))

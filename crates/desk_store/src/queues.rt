@@ -6,7 +6,7 @@ ghost use Rattle.sqlite.specs.State.{HasCleanDisk};
 ghost use Rattle.isad_core.specs.Limits.{IsNumber};
 ghost use Rattle.desk_core.specs.DeskRows.{HoldingRow};
 ghost use Rattle.office_tables.specs.Query.{Reads};
-ghost use Rattle.office_tables.specs.Calls.{Tells};
+ghost use Rattle.office_tables.specs.Calls.{StoreAnswers};
 ghost use Rattle.office_tables.specs.Faults.{FaultsHaveCause};
 ghost use Rattle.office_tables.specs.Schema as tables;
 ghost use Rattle.office_tables.specs.Step.{InOffice, Holds};
@@ -113,7 +113,7 @@ fn place_of<S: Alter>(
 ) -> Result<Place, StoreFault>
     requires inside { InOffice (state S.Store conn.old) }
     requires small { IsNumber container }
-    ensures tells { Tells S.Store RepresentsDeskAlone IsLegible conn.old conn.new result (λ _. ⊤)
+    ensures tells { StoreAnswers S.Store RepresentsDeskAlone IsLegible conn.old conn.new result (λ _. ⊤)
         (λ _ d place. IsAt (holding_of container d) place) }
 {
     let found = places_with(alloc, conn, container)?;
@@ -130,7 +130,7 @@ pub fn queue<S: Alter>(
     container: u64,
 ) -> Result<Option<ContainerQueue>, StoreFault>
     requires inside { InOffice (state S.Store conn.old) }
-    ensures tells { Tells S.Store RepresentsQueues IsLegibleStacks conn.old conn.new result (λ _. ⊤)
+    ensures tells { StoreAnswers S.Store RepresentsQueues IsLegibleStacks conn.old conn.new result (λ _. ⊤)
         (λ _ stacks found. IsQueued container stacks (box_with container stacks) found) }
     ensures small { IfOk result (λ found. IfSome found (λ _. IsNumber container)) }
 {

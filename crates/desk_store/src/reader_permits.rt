@@ -7,7 +7,7 @@ ghost use Rattle.sqlite.specs.Held.{state};
 ghost use Rattle.sqlite.specs.State.{HasCleanDisk};
 ghost use Rattle.isad_core.specs.Limits.{IsNumber};
 ghost use Rattle.desk_core.specs.DeskRows.{PermitRow};
-ghost use Rattle.office_tables.specs.Calls.{Makes, Tells};
+ghost use Rattle.office_tables.specs.Calls.{StoreUpdates, StoreAnswers};
 ghost use Rattle.office_tables.specs.ChangeStatement.{Leaves};
 ghost use Rattle.office_tables.specs.Faults.{FaultsHaveCause};
 ghost use Rattle.office_tables.specs.Order.{IsOrdered};
@@ -63,7 +63,7 @@ fn permits_with<S: Alter>(
 ) -> Result<Vec<Permit>, StoreFault>
     requires inside { InOffice (state S.Store conn.old) }
     requires small { IsNumber ticket }
-    ensures tells { Tells S.Store RepresentsDeskAlone IsLegible conn.old conn.new result (λ _. ⊤)
+    ensures tells { StoreAnswers S.Store RepresentsDeskAlone IsLegible conn.old conn.new result (λ _. ⊤)
         (λ _ d all. IsOrdered by_unit (permits_of ticket d) all.items) }
 {
     find(
@@ -81,7 +81,7 @@ pub fn permits<S: Alter>(
     ticket: u64,
 ) -> Result<Vec<Permit>, StoreFault>
     requires inside { InOffice (state S.Store conn.old) }
-    ensures tells { Tells S.Store RepresentsDeskAlone IsLegible conn.old conn.new result (λ _. ⊤)
+    ensures tells { StoreAnswers S.Store RepresentsDeskAlone IsLegible conn.old conn.new result (λ _. ⊤)
         (λ _ d all. IsOrdered by_unit (permits_of ticket d) all.items) }
 {
     if ticket > u64::from(MOST_TICKETS) {
@@ -157,7 +157,7 @@ pub fn grant<S: Alter>(
     requires inside { InOffice (state S.Store conn.old) }
     requires small { IsNumber ticket }
     requires known { IsNumber unit }
-    ensures makes { Makes S.Store RepresentsDeskAlone IsLegible conn.old conn.new result
+    ensures makes { StoreUpdates S.Store RepresentsDeskAlone IsLegible conn.old conn.new result
         (MayHave ticket unit (state S.Store conn.old).now.trees) (with_permit ticket unit until)
         (tables.permit.tree ∷ []) }
     ensures rows { HasCleanDisk (state S.Store conn.new) → (ps : List PermitRow)
@@ -174,7 +174,7 @@ pub fn revoke<S: Alter>(conn: &mut Connection<S>, ticket: u64, unit: u64) -> Res
     requires inside { InOffice (state S.Store conn.old) }
     requires small { IsNumber ticket }
     requires known { IsNumber unit }
-    ensures makes { Makes S.Store RepresentsDeskAlone IsLegible conn.old conn.new result (λ _. ⊤)
+    ensures makes { StoreUpdates S.Store RepresentsDeskAlone IsLegible conn.old conn.new result (λ _. ⊤)
         (revoked ticket unit) (tables.permit.tree ∷ []) }
 {
     clear_permit(conn, ticket, unit)

@@ -9,7 +9,7 @@ ghost use Rattle.sqlite.specs.State.{HasCleanDisk};
 ghost use Rattle.isad_core.specs.Limits.{IsNumber, most_orders};
 ghost use Rattle.desk_core.specs.DeskRows.{OrderRow};
 ghost use Rattle.office_tables.specs.Query.{Reads};
-ghost use Rattle.office_tables.specs.Calls.{Tells};
+ghost use Rattle.office_tables.specs.Calls.{StoreAnswers};
 ghost use Rattle.office_tables.specs.Faults.{FaultsHaveCause};
 ghost use Rattle.office_tables.specs.Schema as tables;
 ghost use Rattle.office_tables.specs.Step.{InOffice, Holds};
@@ -189,8 +189,8 @@ fn orders_of<S: Alter>(
 ) -> Result<TicketOrders, StoreFault>
     requires inside { InOffice (state S.Store conn.old) }
     requires small { IsNumber ticket }
-    ensures tells { Tells S.Store RepresentsDeskAlone IsLegible conn.old conn.new result (λ _. ⊤) (λ _ d told. told
-        ≡ record { live = live_orders ticket d; placed = placed_on ticket today d; orders = length d.orders }) }
+    ensures tells { StoreAnswers S.Store RepresentsDeskAlone IsLegible conn.old conn.new result (λ _. ⊤) (λ _ d told.
+        told ≡ record { live = live_orders ticket d; placed = placed_on ticket today d; orders = length d.orders }) }
 {
     let lines = live_lines(alloc, conn, ticket)?;
     let live = live_in(alloc, &lines)?;
@@ -211,7 +211,7 @@ pub fn reader<S: Alter>(
     today: Day,
 ) -> Result<Option<ReaderCard>, StoreFault>
     requires inside { InOffice (state S.Store conn.old) }
-    ensures tells { Tells S.Store RepresentsDeskAlone IsLegible conn.old conn.new result (λ _. ⊤)
+    ensures tells { StoreAnswers S.Store RepresentsDeskAlone IsLegible conn.old conn.new result (λ _. ⊤)
         (λ _ d card. card ≡ card_of ticket today d) }
     ensures small { IfOk result (λ card. IfSome card (λ _. IsNumber ticket)) }
 {

@@ -8,7 +8,7 @@ ghost use Rattle.sqlite.specs.State.{HasCleanDisk};
 ghost use Rattle.isad_core.specs.Limits.{IsNumber, most_tickets};
 ghost use Rattle.desk_core.specs.DeskRows.{Desk, ReaderRow};
 ghost use Rattle.office_tables.specs.Query.{Reads};
-ghost use Rattle.office_tables.specs.Calls.{Makes, Tells};
+ghost use Rattle.office_tables.specs.Calls.{StoreUpdates, StoreAnswers};
 ghost use Rattle.office_tables.specs.ChangeStatement.{Leaves};
 ghost use Rattle.office_tables.specs.Faults.{FaultsHaveCause};
 ghost use Rattle.office_tables.specs.Schema as tables;
@@ -154,7 +154,7 @@ fn set_last_day<S: Alter>(
 pub fn renew<S: Alter>(conn: &mut Connection<S>, ticket: u64, until: Day) -> Result<(), StoreFault>
     requires inside { InOffice (state S.Store conn.old) }
     requires small { IsNumber ticket }
-    ensures makes { Makes S.Store RepresentsDeskAlone IsLegible conn.old conn.new result (λ _. ⊤)
+    ensures makes { StoreUpdates S.Store RepresentsDeskAlone IsLegible conn.old conn.new result (λ _. ⊤)
         (with_last_day ticket until) (tables.reader.tree ∷ []) }
 {
     set_last_day(conn, ticket, until)
@@ -187,7 +187,7 @@ pub fn add_reader<S: Alter>(
     requires inside { InOffice (state S.Store conn.old) }
     ensures number { HasCleanDisk (state S.Store conn.new) → (d : Desk)
         → RepresentsDesk (state S.Store conn.old).now.trees d → IfOk result (λ ticket. ticket ≡ next_ticket d) }
-    ensures makes { Makes S.Store RepresentsDeskAlone IsLegible conn.old conn.new result (λ _. ⊤)
+    ensures makes { StoreUpdates S.Store RepresentsDeskAlone IsLegible conn.old conn.new result (λ _. ⊤)
         (λ d. with_reader (next_ticket d) name.now until d) (tables.reader.tree ∷ []) }
 {
     let Some(ticket) = next_number(conn)? else {
@@ -211,7 +211,7 @@ pub fn is_registered<S: Alter>(
     ticket: u64,
 ) -> Result<bool, StoreFault>
     requires inside { InOffice (state S.Store conn.old) }
-    ensures tells { Tells S.Store RepresentsDeskAlone IsLegible conn.old conn.new result (λ _. ⊤)
+    ensures tells { StoreAnswers S.Store RepresentsDeskAlone IsLegible conn.old conn.new result (λ _. ⊤)
         (λ _ d known. known ≡ is_some (reader_with ticket d)) }
     ensures small { IfOk result (λ known. known ≡ true → IsNumber ticket) }
 {

@@ -8,7 +8,7 @@ ghost use Rattle.isad_core.specs.Days.{is_day_number};
 ghost use Rattle.isad_core.specs.Limits.{IsNumber};
 ghost use Rattle.desk_core.specs.DeskRows.{RunRow};
 ghost use Rattle.office_tables.specs.Query.{Reads};
-ghost use Rattle.office_tables.specs.Calls.{Tells};
+ghost use Rattle.office_tables.specs.Calls.{StoreAnswers};
 ghost use Rattle.office_tables.specs.Faults.{FaultsHaveCause};
 ghost use Rattle.office_tables.specs.Schema as tables;
 ghost use Rattle.office_tables.specs.Step.{InOffice, Holds};
@@ -84,8 +84,8 @@ fn candidate<S: Alter>(
     line: &TakenLine,
 ) -> Result<Candidate, StoreFault>
     requires inside { InOffice (state S.Store conn.old) }
-    ensures tells { Tells S.Store RepresentsQueues IsLegibleStacks conn.old conn.new result (IsKnownLine line.now)
-        (λ _ stacks told. IsToldLine stacks line.now told) }
+    ensures tells { StoreAnswers S.Store RepresentsQueues IsLegibleStacks conn.old conn.new result (IsKnownLine
+        line.now) (λ _ stacks told. IsToldLine stacks line.now told) }
 {
     let Some(written) = box_of(alloc, conn, line.container)? else {
         return Err(StoreFault::Schema);
@@ -107,7 +107,7 @@ fn candidates_of<S: Alter>(
     lines: &[TakenLine],
 ) -> Result<Vec<Candidate>, StoreFault>
     requires inside { InOffice (state S.Store conn.old) }
-    ensures tells { Tells S.Store RepresentsQueues IsLegibleStacks conn.old conn.new result
+    ensures tells { StoreAnswers S.Store RepresentsQueues IsLegibleStacks conn.old conn.new result
         (λ stacks. AllByRecursion (λ l. IsKnownLine l stacks) lines.now)
         (λ _ stacks told. AllZip (IsToldLine stacks) lines.now told.items) }
 {
@@ -127,7 +127,7 @@ pub fn run<S: Alter>(
     run: u64,
 ) -> Result<Option<Brought>, StoreFault>
     requires inside { InOffice (state S.Store conn.old) }
-    ensures tells { Tells S.Store RepresentsQueues IsLegibleStacks conn.old conn.new result (AreKnown run)
+    ensures tells { StoreAnswers S.Store RepresentsQueues IsLegibleStacks conn.old conn.new result (AreKnown run)
         (λ _ stacks found. IsToldRun stacks (run_with run stacks.desk) found) }
 {
     if run > u64::from(MOST_RUNS) {

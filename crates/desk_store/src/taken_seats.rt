@@ -8,7 +8,7 @@ ghost use Rattle.sqlite.specs.State.{HasCleanDisk};
 ghost use Rattle.isad_core.specs.Limits.{IsNumber};
 ghost use Rattle.desk_core.specs.DeskRows.{SeatRow};
 ghost use Rattle.office_tables.specs.Query.{Reads};
-ghost use Rattle.office_tables.specs.Calls.{Makes, Tells};
+ghost use Rattle.office_tables.specs.Calls.{StoreUpdates, StoreAnswers};
 ghost use Rattle.office_tables.specs.ChangeStatement.{Leaves};
 ghost use Rattle.office_tables.specs.Faults.{FaultsHaveCause};
 ghost use Rattle.office_tables.specs.Schema as tables;
@@ -54,7 +54,7 @@ pub fn seats<S: Alter>(
     conn: &mut Connection<S>,
 ) -> Result<Vec<TakenSeat>, StoreFault>
     requires inside { InOffice (state S.Store conn.old) }
-    ensures tells { Tells S.Store RepresentsDeskAlone IsLegible conn.old conn.new result (λ _. ⊤)
+    ensures tells { StoreAnswers S.Store RepresentsDeskAlone IsLegible conn.old conn.new result (λ _. ⊤)
         (λ _ d all. all.items ≡ taken_seats d) }
 {
     find(
@@ -136,7 +136,7 @@ pub fn set_seat<S: Alter>(
 ) -> Result<(), StoreFault>
     requires inside { InOffice (state S.Store conn.old) }
     requires small { IfSome who IsNumber }
-    ensures makes { Makes S.Store RepresentsDeskAlone IsLegible conn.old conn.new result (MayTake seat who)
+    ensures makes { StoreUpdates S.Store RepresentsDeskAlone IsLegible conn.old conn.new result (MayTake seat who)
         (with_seat seat who) (tables.seat.tree ∷ []) }
     ensures puts { HasCleanDisk (state S.Store conn.new)
         → IfSome who (λ ticket. OnOk result (PutsRow tables.seat.tree

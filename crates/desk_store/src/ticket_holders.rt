@@ -4,7 +4,7 @@ ghost use Rattle.std.specs.Prelude.{◌≡◌, ◌<◌, ◌^◌, nat_eq, length,
 ghost use Rattle.std.specs.List.{count_by};
 ghost use Rattle.sqlite.specs.Held.{state};
 ghost use Rattle.isad_core.specs.Limits.{IsNumber};
-ghost use Rattle.office_tables.specs.Calls.{Tells};
+ghost use Rattle.office_tables.specs.Calls.{StoreAnswers};
 ghost use Rattle.office_tables.specs.Step.{InOffice};
 ghost use Rattle.desk_store.specs.Readers.{ticket_holder};
 ghost use Rattle.desk_store.specs.Representation.{RepresentsDeskAlone, IsLegible};
@@ -25,15 +25,15 @@ fn count_out(lines: &[OrderLine]) -> u32
     u32::try_from(out).unwrap_or(u32::MAX)
 }
 
-/// The reader who has a ticket, with his seat and how many containers are out with him, or none where the ticket was not
-/// given.
+/// The reader who has a ticket, with his seat and how many containers are out with him, or none if the
+/// ticket was not given.
 pub fn ticket_holder<S: Alter>(
     alloc: Global,
     conn: &mut Connection<S>,
     ticket: u64,
 ) -> Result<Option<Reader>, StoreFault>
     requires inside { InOffice (state S.Store conn.old) }
-    ensures tells { Tells S.Store RepresentsDeskAlone IsLegible conn.old conn.new result (λ _. ⊤)
+    ensures tells { StoreAnswers S.Store RepresentsDeskAlone IsLegible conn.old conn.new result (λ _. ⊤)
         (λ _ d holder. holder ≡ ticket_holder ticket d) }
     ensures small { IfOk result (λ holder. IfSome holder (λ _. IsNumber ticket)) }
 {

@@ -153,9 +153,9 @@ fn told<P: CheckedPlaces, S: Alter>(
 ) -> Result<u8, StoreFault>
     requires inside { InTransaction P.version (state S.Store conn.old) }
 {
-    let doubt = load_check::<P, S>(alloc, conn, next)?;
-    Ok(match doubt {
-        Some(doubt) => doubt.cause(),
+    let defect = load_check::<P, S>(alloc, conn, next)?;
+    Ok(match defect {
+        Some(defect) => defect.cause(),
         None => 0,
     })
 }
@@ -211,7 +211,7 @@ const LONG: ValueRef<'static> = Text(
 /// The catalogue as it is; the first and the last day of the calendar; the first and the last of the elements; a
 /// container with nothing in it, and a name that another container has elsewhere; the longest name of a source.
 #[test]
-fn sound_catalogues_are_not_doubted(rt: HostRuntime) -> Result<(), Fail> {
+fn sound_catalogues_have_no_defect(rt: HostRuntime) -> Result<(), Fail> {
     let cases: [Case; 10] = [
         (5, &[], 0),
         (100_000_001, &[], 0),
@@ -251,7 +251,7 @@ const GONE: Write = (Row::Gone, &[Int(4)]);
 /// Numbers that are not below the next; a unit without a place, and a place without a unit; neither draft nor
 /// published; days outside the calendar.
 #[test]
-fn doubtful_units_are_told(rt: HostRuntime) -> Result<(), Fail> {
+fn defective_units_are_reported(rt: HostRuntime) -> Result<(), Fail> {
     let cases: [Case; 12] = [
         (4, &[], 3),
         (0, &[], 3),
@@ -271,7 +271,7 @@ fn doubtful_units_are_told(rt: HostRuntime) -> Result<(), Fail> {
 
 /// Names that no source can have, numbers there that are blank, and texts that are not UTF-8.
 #[test]
-fn doubtful_names_are_told(rt: HostRuntime) -> Result<(), Fail> {
+fn defective_names_are_reported(rt: HostRuntime) -> Result<(), Fail> {
     let cases: [Case; 8] = [
         (
             5,
@@ -367,7 +367,7 @@ fn doubtful_names_are_told(rt: HostRuntime) -> Result<(), Fail> {
 
 /// Invalid elements, the level among them, and texts that are blank or not UTF-8.
 #[test]
-fn doubtful_elements_are_told(rt: HostRuntime) -> Result<(), Fail> {
+fn defective_elements_are_reported(rt: HostRuntime) -> Result<(), Fail> {
     let cases: [Case; 7] = [
         (5, &[(Row::Element, &[Int(2), Int(27), Text(b"x")])], 4),
         (5, &[(Row::Element, &[Int(2), Int(0), Text(b"x")])], 4),
@@ -388,7 +388,7 @@ const THIRD_BOX: Write = (
 /// A number that is skipped or invalid; a blank name, and texts that are not UTF-8; a place that is skipped or invalid,
 /// and containers that do not exist.
 #[test]
-fn doubtful_containers_are_told(rt: HostRuntime) -> Result<(), Fail> {
+fn defective_containers_are_reported(rt: HostRuntime) -> Result<(), Fail> {
     let cases: [Case; 16] = [
         (
             5,
@@ -506,7 +506,7 @@ fn told_of_crossing_spans(alloc: Global, writes: &[Write]) -> Result<u8, Fail> {
 
 /// Of several causes the first is found, whichever was written first; that of the places comes before all others.
 #[test]
-fn the_first_doubt_is_told(rt: HostRuntime) -> Result<(), Fail> {
+fn the_first_defect_is_reported(rt: HostRuntime) -> Result<(), Fail> {
     let cases: [Case; 4] = [
         (5, &[NO_PLACE, NO_ELEMENT, NO_STATUS], 3),
         (5, &[NO_STATUS, NO_ELEMENT, NO_PLACE], 3),

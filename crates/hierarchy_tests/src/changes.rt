@@ -32,7 +32,7 @@ enum Question {
     Below(Option<u32>),
     /// Whether the first is the second, or lies below it.
     IsBelow(u32, u32),
-    /// Which units have a place, in the order of their numbers, and the depth of the deepest; a dash for doubtful
+    /// Which units have a place, in the order of their numbers, and the depth of the deepest; a dash for defective
     /// places.
     Judged,
 }

@@ -29,7 +29,7 @@ pub(crate) fn put_all<S: Alter>(conn: &mut Connection<S>, rows: &[Row]) -> Resul
     Ok(())
 }
 
-/// The units and the height in a new office with these rows, or a dash if they are doubtful.
+/// The units and the height in a new office with these rows, or a dash if they are defective.
 fn told_of(alloc: Global, rows: &[Row]) -> Result<String, Fail> {
     let mut conn = Connection::open_in_memory(alloc)?;
     new_office::<LinkPlaces, _>(alloc, &mut conn)?;
@@ -81,7 +81,7 @@ fn links_of_forests(rt: HostRuntime) -> Result<(), Fail> {
 /// Invalid numbers of units and of parents; a parent without a row; places that are too large or negative, a place that
 /// occurs twice, is skipped or is too low; circles.
 #[test]
-fn doubtful_links(rt: HostRuntime) -> Result<(), Fail> {
+fn defective_links(rt: HostRuntime) -> Result<(), Fail> {
     let cases: [&'static [Row]; 14] = [
         &[[Int(0), Null, Int(1)]],
         &[[Int(-1), Null, Int(1)]],

@@ -63,7 +63,7 @@ pub(crate) fn new_office<P: Places, S: Alter>(
     open_office::<P, S>(alloc, conn)
 }
 
-/// The units and the height, or a dash if they are doubtful.
+/// The units and the height, or a dash if they are defective.
 fn shown(alloc: Global, placed: Option<Placed>) -> Result<String, Fail> {
     let mut text = String::new(alloc);
     let Some(placed) = placed else {

@@ -30,7 +30,7 @@ pub(crate) fn put_all<S: Alter>(conn: &mut Connection<S>, rows: &[Row]) -> Resul
     Ok(())
 }
 
-/// The units and the height in a new office with these rows, or a dash if they are doubtful.
+/// The units and the height in a new office with these rows, or a dash if they are defective.
 fn told_of(alloc: Global, rows: &[Row]) -> Result<String, Fail> {
     let mut conn = Connection::open_in_memory(alloc)?;
     new_office::<SpanPlaces, _>(alloc, &mut conn)?;
@@ -76,7 +76,7 @@ fn spans_of_forests(rt: HostRuntime) -> Result<(), Fail> {
 /// Invalid numbers of units and of places; two spans that begin at the same number, one that ends where it begins, a
 /// number that is skipped, two that cross.
 #[test]
-fn doubtful_spans(rt: HostRuntime) -> Result<(), Fail> {
+fn defective_spans(rt: HostRuntime) -> Result<(), Fail> {
     let cases: [&'static [Row]; 11] = [
         &[[Int(0), Int(1), Int(2)]],
         &[[Int(-1), Int(1), Int(2)]],

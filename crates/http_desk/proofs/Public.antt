@@ -14,7 +14,7 @@ use Rattle.http_messages.specs.Targets.{path_of}
 use Rattle.http_messages.specs.Routes.{Route, Asks, Does, TakesFile, TakesForm, plain, ending, or_else, after, plain_route, ending_route, route_of}
 use Rattle.http_messages.specs.Answers.{Answer, answer_text, of_told, by_route, answered}
 use Rattle.http_desk.specs.Messages.{Message}
-use Rattle.http_desk.specs.Session.{leave_if, message_text, text_after_all, state_after_all}
+use Rattle.http_desk.specs.Session.{continue_if, message_text, text_after_all, state_after_all}
 use Rattle.http_desk.specs.Laws.{IsPublicGet}
 
 -- ---- routes below /public
@@ -96,7 +96,7 @@ message_alike s t m same p =
     (subst (λ path. IsOpen (route_of path)) (sym p.path) (public_routes p.below))
 
 said : Bool → Message → Answer → Bytes
-said closing m a = leave_if m.request.waits ++ answer_text (is_head m.request.method) closing a
+said closing m a = continue_if m.request.waits ++ answer_text (is_head m.request.method) closing a
 
 pub text_alike : (s t : State) (closing : Bool) (m : Message) → AnswersAlike s t → IsPublicGet m → message_text closing s m ≡ message_text closing t m
 text_alike s t closing m same p = unfold said in ap (λ a. said closing m a) (message_alike s t m same p).answers

@@ -20,7 +20,7 @@ use Rattle.http_messages.specs.Heads.{Request, Verdict, Accepted, Judges, is_hea
 use Rattle.http_messages.specs.Answers.{Answer, error, answer_text, answered}
 use Rattle.http_desk.specs.Messages.{longest_head, HasHead, Message, Begins, Last, Nothing, HeadCut, BodyCut, Answers, Fails, Stands, MayFail, IsBlank, IsHeadCut}
 use Rattle.http_desk.specs.AcceptedMessages.{IsAccepted, LastLeavesOpen}
-use Rattle.http_desk.specs.Session.{IsFront, Stops, IsClosing, closes, leave_if, refusal, message_text, state_after, last_text, state_after_last}
+use Rattle.http_desk.specs.Session.{IsFront, Stops, IsClosing, closes, continue_if, refusal, message_text, state_after, last_text, state_after_last}
 use Rattle.http_desk.specs.AnswerOutput.{Sends}
 use Rattle.http_desk.specs.Exchanges.{Turn, Through, Exchange, AtEndIf, Refused, Replies, after_sending}
 use Rattle.http_messages.proofs.Scans.{scan_take_more}
@@ -97,11 +97,11 @@ never e = cc
 
 -- 503 may stand anywhere
 pub may_fail : (input : Bytes) → MayFail input false false
-may_fail input = record { leave_due = λ e. never e; to_head = λ e. never e }
+may_fail input = record { continue_due = λ e. never e; to_head = λ e. never e }
 
 -- and after 100 Continue, where a head that came whole waits for it
 pub may_fail_after : (input block more : Bytes) (r : Request) → HasHead input block (Accepted r) more → MayFail input r.waits false
-may_fail_after input block more r h = record { leave_due = λ e. (block, more, Accepted r, h, e); to_head = λ e. never e }
+may_fail_after input block more r h = record { continue_due = λ e. (block, more, Accepted r, h, e); to_head = λ e. never e }
 
 -- what is left in a buffer once it is given back
 pub left_back : {A E : Type 0} (made : Result A E) (lent back rest : Bytes) → OnOk made (lent ≡ rest) → back ≡ lent → OnOk made (back ≡ rest)
@@ -153,7 +153,7 @@ module _ {M : Type 0} (represents : M → State → Type 0) (is_intact is_open :
       → Sends a b (answer_text bare true told) sent
       → (is_intact new → (s : State) → represents old s → represents new (answered s request (body_at items size n)).1 × (told ≡ (answered s request (body_at items size n)).0))
       → (request.method ≡ codes "POST" → is_intact new → told.status ≡ Fine → is_open new)
-      → (written : Bytes) × Appends a b written × Through represents is_intact old new (λ s t. Turn (is_open old) (is_open new) number s items next (leave_if request.waits ++ written) t rest)
+      → (written : Bytes) × Appends a b written × Through represents is_intact old new (λ s t. Turn (is_open old) (is_open new) number s items next (continue_if request.waits ++ written) t rest)
   acted_closing number old new items size n request told bare rest a b sent next h within e r is_bare closing ends sends answers kept =
       let (written, appended, is) = written_of a b (answer_text bare true told) sent sends in
       let message : Message = record { request = request; body = body_at items size n } in
@@ -162,12 +162,12 @@ module _ {M : Type 0} (represents : M → State → Type 0) (is_intact is_open :
         appended,
         λ i s shown.
             let (shown_after, told_is) = answers i s shown in
-            let says : leave_if request.waits ++ answer_text bare true told ≡ last_text number s (Answers message) =
-            λ j. leave_if request.waits ++ answer_text (is_bare j) (sym closing j) (told_is j) in (
+            let says : continue_if request.waits ++ answer_text bare true told ≡ last_text number s (Answers message) =
+            λ j. continue_if request.waits ++ answer_text (is_bare j) (sym closing j) (told_is j) in (
               state_after s message,
               shown_after,
-              subst (λ x. Turn (is_open old) (is_open new) number s items x (leave_if request.waits ++ written) (state_after s message) rest) (sym ends)
-                  (closed_turn (is_open old) (is_open new) number s items (leave_if request.waits) (answer_text bare true told) written rest (state_after s message) (Answers message) sent
+              subst (λ x. Turn (is_open old) (is_open new) number s items x (continue_if request.waits ++ written) (state_after s message) rest) (sym ends)
+                  (closed_turn (is_open old) (is_open new) number s items (continue_if request.waits) (answer_text bare true told) written rest (state_after s message) (Answers message) sent
                   (rest, begins) closing says refl is (λ accepted. kept accepted.0 i (ap (λ (x : Answer). x.status) told_is ∙ accepted.1))),
             ),
       )
@@ -178,7 +178,7 @@ module _ {M : Type 0} (represents : M → State → Type 0) (is_intact is_open :
       → Sends a b (answer_text bare false told) sent
       → (is_intact new → (s : State) → represents old s → represents new (answered s request (body_at items size n)).1 × (told ≡ (answered s request (body_at items size n)).0))
       → (request.method ≡ codes "POST" → is_intact new → told.status ≡ Fine → is_open new)
-      → (written : Bytes) × Appends a b written × Through represents is_intact old new (λ s t. Turn (is_open old) (is_open new) number s items next (leave_if request.waits ++ written) t rest)
+      → (written : Bytes) × Appends a b written × Through represents is_intact old new (λ s t. Turn (is_open old) (is_open new) number s items next (continue_if request.waits ++ written) t rest)
   acted_open number old new items size n request told bare rest a b sent next h within e r is_bare closing ends sends answers kept =
       let (written, appended, is) = written_of a b (answer_text bare false told) sent sends in
       let message : Message = record { request = request; body = body_at items size n } in
@@ -187,12 +187,12 @@ module _ {M : Type 0} (represents : M → State → Type 0) (is_intact is_open :
         appended,
         λ i s shown.
             let (shown_after, told_is) = answers i s shown in
-            let says : leave_if request.waits ++ answer_text bare false told ≡ message_text false s message =
-            λ j. leave_if request.waits ++ answer_text (is_bare j) false (told_is j) in (
+            let says : continue_if request.waits ++ answer_text bare false told ≡ message_text false s message =
+            λ j. continue_if request.waits ++ answer_text (is_bare j) false (told_is j) in (
               state_after s message,
               shown_after,
-              subst (λ x. Turn (is_open old) (is_open new) number s items x (leave_if request.waits ++ written) (state_after s message) rest) (sym ends)
-                  (open_turn (is_open old) (is_open new) number s items (leave_if request.waits) (answer_text bare false told) written rest (state_after s message) message sent begins closing says refl is
+              subst (λ x. Turn (is_open old) (is_open new) number s items x (continue_if request.waits ++ written) (state_after s message) rest) (sym ends)
+                  (open_turn (is_open old) (is_open new) number s items (continue_if request.waits) (answer_text bare false told) written rest (state_after s message) message sent begins closing says refl is
                   (λ accepted. kept accepted.0 i (ap (λ (x : Answer). x.status) told_is ∙ accepted.1))),
             ),
       )
@@ -203,7 +203,7 @@ module _ {M : Type 0} (represents : M → State → Type 0) (is_intact is_open :
       → bare ≡ is_head request.method → (request.closes || nat_eq number 10000) ≡ closing → Replies a b closing (answer_text bare closing told) next
       → (is_intact new → (s : State) → represents old s → represents new (answered s request (body_at items size n)).1 × (told ≡ (answered s request (body_at items size n)).0))
       → (request.method ≡ codes "POST" → is_intact new → told.status ≡ Fine → is_open new)
-      → (written : Bytes) × Appends a b written × Through represents is_intact old new (λ s t. Turn (is_open old) (is_open new) number s items next (leave_if request.waits ++ written) t rest)
+      → (written : Bytes) × Appends a b written × Through represents is_intact old new (λ s t. Turn (is_open old) (is_open new) number s items next (continue_if request.waits ++ written) t rest)
   acted number old new items size n request told bare rest a b true next h within e r is_bare closes (sent, sends, ends) answers kept =
       acted_closing number old new items size n request told bare rest a b sent next h within e r is_bare closes ends sends answers kept
   acted number old new items size n request told bare rest a b false next h within e r is_bare closes (sent, sends, ends) answers kept =
@@ -217,15 +217,15 @@ module _ {M : Type 0} (represents : M → State → Type 0) (is_intact is_open :
       → IfOk made (λ x. is_intact new → (s : State) → represents old s → represents new (answered s request (body_at items size n)).1 × (answer x ≡ (answered s request (body_at items size n)).0))
       → OnErr made (is_intact new → (s : State) → represents old s → represents new s)
       → (request.method ≡ codes "POST" → IfOk made (λ x. is_intact new → (answer x).status ≡ Fine → is_open new))
-      → (written : Bytes) × Appends a b written × Through represents is_intact old new (λ s t. Turn (is_open old) (is_open new) number s items next (leave_if request.waits ++ written) t rest)
+      → (written : Bytes) × Appends a b written × Through represents is_intact old new (λ s t. Turn (is_open old) (is_open new) number s items next (continue_if request.waits ++ written) t rest)
   answered_at answer number old new items size n request (Ok x) bare rest a b closing next h within e r is_bare closes sent answers busy kept =
       acted number old new items size n request (answer x) bare rest a b closing next h within e r is_bare closes sent answers kept
   answered_at answer number old new items size n request (Err why) bare rest a b closing next h within e r is_bare closes sent answers busy kept =
-      refused number old new items (leave_if request.waits) rest (Fails request.waits false) false Busy a b next sent (may_fail_after items (take size items) (drop size items) request h) tt (λ s. (refl, refl)) busy (λ s never. absurd never)
+      refused number old new items (continue_if request.waits) rest (Fails request.waits false) false Busy a b next sent (may_fail_after items (take size items) (drop size items) request h) tt (λ s. (refl, refl)) busy (λ s never. absurd never)
 
   -- the leave to send a body was broken off
   pub leave_broken : (number : ℕ) (office : M) (items block more : Bytes) (request : Request) (a b c : Option Bytes) (sent : Sent) (next result : Next)
-      → (sent ≡ All → ⊥) → result ≡ after_sending sent next → HasHead items block (Accepted request) more → Sends b c (leave_if request.waits) sent
+      → (sent ≡ All → ⊥) → result ≡ after_sending sent next → HasHead items block (Accepted request) more → Sends b c (continue_if request.waits) sent
       → Exchange represents is_intact is_open number a a b c office items result office items × AtEndIf a result
   leave_broken number office items block more request a b c All next result n e h s = absurd (n refl)
   leave_broken number office items block more request a b c Failed next result n e h (front, (others, f), s) =
@@ -297,13 +297,13 @@ LastTurn was now number s input out end new = (stops : Stops number s input out 
 
 -- the input stops inside a body
 pub stops_in_body : (was : Type 0) (number : ℕ) (s : State) (items new got : Bytes) (size : ℕ) (r : Request) (end : Ended) → size ≤ length items → new ≡ items ++ got → length new < size + body_length r
-    → HasHead items (take size items) (Accepted r) (drop size items) → ((end ≡ Cut) ⊎ (end ≡ ReadFault)) → LastTurn was was number s (items ++ got) (leave_if r.waits) end s
+    → HasHead items (take size items) (Accepted r) (drop size items) → ((end ≡ Cut) ⊎ (end ≡ ReadFault)) → LastTurn was was number s (items ++ got) (continue_if r.waits) end s
 stops_in_body was number s items new got size r end h e l a which =
     let len : length new ≡ length items + length got = ap length e ∙ length-append items got in
     let stands : Stands (items ++ got) (BodyCut r) = (take size items, drop size items ++ got, head_more items (take size items) (Accepted r) (drop size items) got a, omega (arith, length-append (drop size items) got, length-drop size items)) in
-    elim which as (λ w. LastTurn was was number s (items ++ got) (leave_if r.waits) end s) [
-      | inl f ↦ subst (λ x. LastTurn was was number s (items ++ got) (leave_if r.waits) x s) (sym f) (record { last = BodyCut r; stands = stands; ends = tt; written = refl; leaves = refl }, λ stays. stays)
-      | inr f ↦ subst (λ x. LastTurn was was number s (items ++ got) (leave_if r.waits) x s) (sym f) (record { last = BodyCut r; stands = stands; ends = inr tt; written = refl; leaves = refl }, λ stays. stays)
+    elim which as (λ w. LastTurn was was number s (items ++ got) (continue_if r.waits) end s) [
+      | inl f ↦ subst (λ x. LastTurn was was number s (items ++ got) (continue_if r.waits) x s) (sym f) (record { last = BodyCut r; stands = stands; ends = tt; written = refl; leaves = refl }, λ stays. stays)
+      | inr f ↦ subst (λ x. LastTurn was was number s (items ++ got) (continue_if r.waits) x s) (sym f) (record { last = BodyCut r; stands = stands; ends = inr tt; written = refl; leaves = refl }, λ stays. stays)
     ]
 
 -- the input stops before a head or inside it
@@ -312,5 +312,5 @@ stops_early was number s input (inl h) = (record { last = Nothing; stands = h; e
 stops_early was number s input (inr h) = (record { last = HeadCut; stands = h; ends = inr tt; written = refl; leaves = refl }, λ stays. stays)
 
 -- a bound, where a head may have asked for leave
-pub bound_here : (was : Type 0) (number : ℕ) (s : State) (input : Bytes) (leave : Bool) → MayFail input leave false → LastTurn was was number s input (leave_if leave) Bound s
+pub bound_here : (was : Type 0) (number : ℕ) (s : State) (input : Bytes) (leave : Bool) → MayFail input leave false → LastTurn was was number s input (continue_if leave) Bound s
 bound_here was number s input leave m = (record { last = Fails leave false; stands = m; ends = tt; written = (refusal false (error Busy), refl); leaves = refl }, λ never. absurd never)

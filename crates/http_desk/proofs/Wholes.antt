@@ -29,7 +29,7 @@ stands_more number input more NoHead c x = too_long_more input more x
 stands_more number input more (Refuses status bare) c x = (x.0, x.1 ++ more, head_more input x.0 _ x.1 more x.2)
 stands_more number input more (Answers m) c x = (x.0 ++ more, begins_more input m x.0 more x.1)
 stands_more number input more (Fails leave bare) c x = record {
-  leave_due = λ e. some_head_more input more _ (x.leave_due e);
+  continue_due = λ e. some_head_more input more _ (x.continue_due e);
   to_head = λ e. some_head_more input more _ (x.to_head e);
 }
 

@@ -15,7 +15,7 @@ use Rattle.http_messages.specs.Heads.{Request, Verdict, Accepted, verdict_on}
 use Rattle.http_messages.proofs.Scans.{scan_take_more}
 use Rattle.http_desk.specs.declared.session_end.Ended.TheVariants.{End, Cut}
 use Rattle.http_desk.specs.Messages.{longest_head, IsBlank, HasHead, Message, Begins, Nothing, BodyCut, Stands}
-use Rattle.http_desk.specs.Session.{Session, StaysOpen, message_text, state_after, text_after_all, leave_if}
+use Rattle.http_desk.specs.Session.{Session, StaysOpen, message_text, state_after, text_after_all, continue_if}
 use Rattle.http_desk.specs.WorkedSessions.{list_request, register_head, draft_head, page_request}
 
 -- ---- heads
@@ -161,7 +161,7 @@ two_answered s t u input more m n a b first second stays stays2 e kept f left = 
 
 -- one message is answered, and the input ends inside the body of the next
 abbrev pub one_answered : (s t : State) (input more : Bytes) (m : Message) (next : Request) (a : Bytes) → Begins input m more → StaysOpen m
-    → message_text false s m ≡ a → state_after s m ≡ t → Stands more (BodyCut next) → leave_if next.waits ≡ []
+    → message_text false s m ≡ a → state_after s m ≡ t → Stands more (BodyCut next) → continue_if next.waits ≡ []
     → Session s input a Cut t
 one_answered s t input more m next a first stays e kept stands none = record {
   messages = m ∷ [];

@@ -77,7 +77,7 @@ SomeHead input test = (block more : Bytes) × (verdict : Verdict) × HasHead inp
 
 -- 100 Continue is written only if it is due, and the body of 503 is left out only for a HEAD
 pub record MayFail (input : Bytes) (leave bare : Bool) : Type 0 where
-  pub leave_due : leave ≡ true → SomeHead input waits
+  pub continue_due : leave ≡ true → SomeHead input waits
   pub to_head : bare ≡ true → SomeHead input is_bare
 
 abbrev pub Stands : Bytes → Last → Type 0

@@ -19,9 +19,9 @@ most_answers = 10000
 abbrev pub closes : ℕ → Message → Bool
 closes number message = message.request.closes || nat_eq number most_answers
 
-abbrev pub leave_if : Bool → Bytes
-leave_if true = continue_text
-leave_if false = []
+abbrev pub continue_if : Bool → Bytes
+continue_if true = continue_text
+continue_if false = []
 
 abbrev pub refusal : Bool → Answer → Bytes
 refusal bare a = answer_text bare true a
@@ -35,7 +35,7 @@ state_after s message = (answered s message.request message.body).1
 -- 100 Continue if it is due, and the answer
 abbrev pub message_text : Bool → State → Message → Bytes
 message_text closing s message =
-    leave_if message.request.waits ++ answer_text (is_head message.request.method) closing (message_answer s message)
+    continue_if message.request.waits ++ answer_text (is_head message.request.method) closing (message_answer s message)
 
 -- what is written for messages after whose answers the connection stays open
 abbrev pub text_after_all : State → List Message → Bytes
@@ -50,11 +50,11 @@ state_after_all s (message ∷ messages) = state_after_all (state_after s messag
 abbrev pub last_text : ℕ → State → Last → Bytes
 last_text number s Nothing = []
 last_text number s HeadCut = []
-last_text number s (BodyCut request) = leave_if request.waits
+last_text number s (BodyCut request) = continue_if request.waits
 last_text number s NoHead = refusal false (error BadRequest)
 last_text number s (Refuses status bare) = refusal bare (error status)
 last_text number s (Answers message) = message_text (closes number message) s message
-last_text number s (Fails leave bare) = leave_if leave ++ refusal bare (error Busy)
+last_text number s (Fails leave bare) = continue_if leave ++ refusal bare (error Busy)
 
 abbrev pub state_after_last : State → Last → State
 state_after_last s Nothing = s

@@ -11,7 +11,7 @@ ghost use Rattle.http_messages.specs.Replies.{answer_in};
 ghost use Rattle.http_desk.specs.Laws.{HasEnded};
 ghost use Rattle.http_desk.specs.Messages.{HasHead};
 ghost use Rattle.http_desk.specs.AnswerOutput.{Sends};
-ghost use Rattle.http_desk.specs.Session.{leave_if, most_answers};
+ghost use Rattle.http_desk.specs.Session.{continue_if, most_answers};
 ghost use Rattle.http_desk.specs.Streams.{most_reads};
 ghost use Rattle.http_desk.specs.Exchanges.{Turn, Through, Exchange, Talks, TalksWhole, AtEndIf, IsNoEnd};
 ghost use Rattle.http_desk.specs.Exchanges.{Refused, Replies, after_sending};
@@ -100,11 +100,11 @@ fn reply_or_refuse<W: Write>(
 }
 
 /// Writes 100 Continue if the head waits for it.
-fn give_leave<W: Write>(writer: &mut Sink<'_, W>, head: Head) -> Sent
+fn send_continue<W: Write>(writer: &mut Sink<'_, W>, head: Head) -> Sent
     ensures writes { writer.new.failed ≡ (send_failed result || writer.old.failed) }
     ensures turns { writer.new.interrupted ≡ false → (writer.old.interrupted ≡ false) × (result ≢ Sent.Bound) }
     ensures same { writer.new.name ≡ writer.old.name }
-    ensures sends { Sends writer.old.bytes writer.new.bytes (leave_if head.waits) result }
+    ensures sends { Sends writer.old.bytes writer.new.bytes (continue_if head.waits) result }
     ensures flushed { result ≡ Sent.All → writer.old.flushed ≡ true → writer.new.flushed ≡ true }
 {
     if head.waits {
@@ -148,7 +148,7 @@ fn act<W: Write, M: Machine>(
     ensures turn { (written : Bytes) × Appends writer.old.bytes writer.new.bytes written
         × Through M.represents M.is_intact office.old office.new (λ s t.
         Turn (M.is_open office.old) (M.is_open office.new) number s buffer.old.items result
-        (leave_if head.waits ++ written) t buffer.new.items) }
+        (continue_if head.waits ++ written) t buffer.new.items) }
     ensures intact { M.is_intact office.new → M.is_intact office.old }
     ensures was_open { M.is_intact office.new → M.is_open office.new → M.is_open office.old }
     ensures no_end { IsNoEnd result }
@@ -195,7 +195,7 @@ fn receive<R: Read, W: Write, M: Machine>(
     ensures calls { TakesTurns reader.old reader.new }
     ensures same { writer.new.name ≡ writer.old.name }
 {
-    match give_leave(writer, head) {
+    match send_continue(writer, head) {
         Sent::All => {}
         fault => return after(fault, Next::Ends(Ended::Closed)),
     }

@@ -22,7 +22,7 @@ use Rattle.http_messages.specs.declared.routes.Plain.TheVariants as plains
 use Rattle.http_messages.specs.declared.routes.Ending.{Ending}
 use Rattle.http_messages.specs.declared.routes.Ending.TheVariants as endings
 use Rattle.http_messages.specs.declared.body_form.Form.TheVariants as form
-use Rattle.http_messages.specs.Routes.{Route, plain, ending, plain_route, ending_route, route_of, or_else, after, is_number, is_name, is_segment, numbered, named}
+use Rattle.http_messages.specs.Routes.{Route, plain, ending, plain_route, ending_route, route_of, or_else, after, is_number, is_source_segment, is_segment, numbered, named}
 use Rattle.http_messages.specs.Router.{plain_in, makes, beginning, table}
 use Rattle.http_messages.proofs.Bodies.{never_true}
 use Rattle.http_messages.proofs.Matched.{is_literal, hits, picked, all_shaped, all_apart, all_apart_from, AllBytes, first_picked, picked_apart, none_picked, both_left, both_right}
@@ -200,7 +200,7 @@ slash_there (b ∷ bytes) h = by (λ g. slash_there bytes g) (b == 47) refl
     by deep true e = rw e refl
     by deep false e = rw e (deep (rw e at h))
 
-no_name : (bytes : Bytes) → has_slash bytes ≡ true → is_name bytes ≡ false
+no_name : (bytes : Bytes) → has_slash bytes ≡ true → is_source_segment bytes ≡ false
 no_name bytes h =
     let any = slash_there bytes h in
     rw any (elim (nat_le 1 (length bytes)) as (λ v. ((v && false) && is_utf8 bytes) ≡ false) [ true ↦ refl | false ↦ refl ])
@@ -322,9 +322,9 @@ numbered_text asks bytes route h = by (is_number bytes) refl
     by false e = absurd (nothing_there route (rw e at h))
 
 named_text : (bytes : Bytes) (route : Route) → named bytes ≡ Some route → IsUtf8 bytes
-named_text bytes route h = by (is_name bytes) refl
+named_text bytes route h = by (is_source_segment bytes) refl
   where
-    by : (v : Bool) → is_name bytes ≡ v → IsUtf8 bytes
+    by : (v : Bool) → is_source_segment bytes ≡ v → IsUtf8 bytes
     by true e = IsUtf8-from_is_utf8 bytes (both_right (is_segment bytes) (is_utf8 bytes) e)
     by false e = absurd (nothing_there route (rw e at h))
 

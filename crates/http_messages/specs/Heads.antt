@@ -61,8 +61,8 @@ abbrev pub asks_close : Field → Bool
 asks_close field = is_named (codes "connection") field && list_any is_close (list_items field.1)
 
 -- the field that waits for 100 Continue
-abbrev pub asks_leave : Field → Bool
-asks_leave field = is_named (codes "expect") field && str_eq_ignore_ascii_case field.1 (codes "100-continue")
+abbrev pub is_continue_expectation : Field → Bool
+is_continue_expectation field = is_named (codes "expect") field && str_eq_ignore_ascii_case field.1 (codes "100-continue")
 
 -- ---- the length of a body
 
@@ -101,7 +101,7 @@ accept method target minor fields size =
       method = method;
       target = target;
       length = size;
-      waits = minor == 1 && (is_body size && list_any asks_leave fields);
+      waits = minor == 1 && (is_body size && list_any is_continue_expectation fields);
       closes = minor == 0 || list_any asks_close fields;
     })
 

@@ -62,11 +62,11 @@ abbrev pub is_segment : Bytes → Bool
 is_segment bytes = nat_le 1 (length bytes) && not (list_any (λ b. b == 47) bytes)
 
 -- a path that is not UTF-8 has no route; the part before the name is ASCII
-abbrev pub is_name : Bytes → Bool
-is_name bytes = is_segment bytes && is_utf8 bytes
+abbrev pub is_source_segment : Bytes → Bool
+is_source_segment bytes = is_segment bytes && is_utf8 bytes
 
 abbrev pub named : Bytes → Option Route
-named source = if is_name source then Some (TakesFile source) else None
+named source = if is_source_segment source then Some (TakesFile source) else None
 
 -- paths that end in a number or a name
 abbrev pub ending : List (Bytes × (Bytes → Option Route))

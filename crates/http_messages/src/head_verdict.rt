@@ -7,7 +7,7 @@ ghost use Rattle.std.specs.Char.{is_ascii_digit};
 ghost use Rattle.std.specs.Str.Parse.{digits_value};
 ghost use Rattle.httparse.specs.Grammar.{skip_ows, is_ows};
 ghost use Rattle.httparse.specs.Spans.{IsHeaderWithin, IsWithin, header_bytes, span_bytes};
-ghost use Rattle.http_messages.specs.Heads.{is_named, is_digits, strip_zeros, same_number, agrees, asks_leave, asks_close, is_close, list_items, accept};
+ghost use Rattle.http_messages.specs.Heads.{is_named, is_digits, strip_zeros, same_number, agrees, is_continue_expectation, asks_close, is_close, list_items, accept};
 ghost use Rattle.http_messages.specs.Heads.{hosts, is_head, weigh_size, weigh_length, Judges, weigh, longest_body, is_body, Refused};
 ghost use Rattle.http_messages.specs.HeadVerdict.{verdict_in, IsFit};
 
@@ -155,9 +155,9 @@ fn capped_number(digits: &[u8]) -> u64
 }
 
 /// Whether a field waits for 100 Continue.
-fn is_asking_leave(block: &[u8], field: &HeaderSpan) -> bool
+fn is_expecting_continue(block: &[u8], field: &HeaderSpan) -> bool
     requires { IsHeaderWithin (length block.now) field.now }
-    ensures { result ≡ asks_leave (header_bytes block.now field.now) }
+    ensures { result ≡ is_continue_expectation (header_bytes block.now field.now) }
 {
     if is_field_named(block, field, b"expect") {
         same_name(field.value.of(block), b"100-continue")
@@ -233,11 +233,13 @@ fn has_close(value: &[u8]) -> bool
 }
 
 /// Whether some field waits for 100 Continue.
-fn asks_for_leave(block: &[u8], fields: &[HeaderSpan]) -> bool
+fn expects_continue(block: &[u8], fields: &[HeaderSpan]) -> bool
     requires { All (IsHeaderWithin (length block.now)) fields.now }
-    ensures { result ≡ list_any (λ h. asks_leave (header_bytes block.now h)) fields.now }
+    ensures { result ≡ list_any (λ h. is_continue_expectation (header_bytes block.now h)) fields.now }
 {
-    fields.iter().any(|field| is_asking_leave(block, field))
+    fields
+        .iter()
+        .any(|field| is_expecting_continue(block, field))
 }
 
 /// Whether some field asks to close the connection.
@@ -314,7 +316,7 @@ fn accepted(block: &[u8], fields: &[HeaderSpan], line: Line, size: Option<u64>) 
         ≡ accept (span_bytes block.now line.method) (span_bytes block.now line.target) line.minor
         (map (header_bytes block.now) fields.now) size }
 {
-    let leave = asks_for_leave(block, fields);
+    let leave = expects_continue(block, fields);
     let close = asks_to_close(block, fields);
     Judged::Accepted(Head {
         method: line.method,

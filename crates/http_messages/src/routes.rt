@@ -150,7 +150,7 @@ fn text_of(bytes: &[u8]) -> Option<&str>
 
 /// The source that a path names, or none if it is empty, has a slash or is not UTF-8.
 fn name_in(bytes: &[u8]) -> Option<&str>
-    ensures { option_map (λ t. t.now) result ≡ (if spec.is_name bytes.now then Some bytes.now else None) }
+    ensures { option_map (λ t. t.now) result ≡ (if spec.is_source_segment bytes.now then Some bytes.now else None) }
 {
     if is_segment(bytes) {
         text_of(bytes)

@@ -25,7 +25,7 @@ use Rattle.office_tables.specs.Schema as tables
 use Rattle.office_tables.proofs.Queries.{asking}
 use Rattle.row_decoding.specs.TableRows.{then_by, catalogue_in}
 use Rattle.integrity_checks.specs.ScanAnswers.{is_good_value, is_element_answer}
-use Rattle.integrity_checks.specs.CatalogueChecks.{elements_are_doubtful}
+use Rattle.integrity_checks.specs.CatalogueChecks.{elements_are_defective}
 use Rattle.row_decoding.proofs.Alike.{permuted, all_alike, ordered_alike}
 use Rattle.integrity_checks.proofs.Scans.{show}
 use Rattle.integrity_checks.proofs.Tested.{all_same, passes, judged}
@@ -74,7 +74,7 @@ module _ (v : Version) (db : Trees) (units_read : has_unread read_unit (db table
   same_tests (row ∷ rows) h = (same_test row h.0, same_tests rows h.1)
 
   pub elements_judged : AllByRecursion (HasUnit v db) table → (ys rows : List Row) → IsPermutation table ys
-      → rows ≡ map (show tables.element elements_terms [] elements_names elements_text elements_mean) ys → list_all is_element_answer rows ≡ not (elements_are_doubtful v db)
+      → rows ≡ map (show tables.element elements_terms [] elements_names elements_text elements_mean) ys → list_all is_element_answer rows ≡ not (elements_are_defective v db)
   elements_judged kept ys rows same shown =
       let fits = passes read_element is_good_value in
       let by_key = then_by (λ (row : ElementRow). row.unit) (λ (row : ElementRow). row.k) in

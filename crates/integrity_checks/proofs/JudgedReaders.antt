@@ -41,7 +41,7 @@ use Rattle.row_decoding.proofs.Alike.{all_as_any}
 use Rattle.row_decoding.proofs.TableReads.{same_rows}
 use Rattle.row_decoding.proofs.ToldCells.{is_number}
 use Rattle.row_decoding.specs.TableRows.{readers_in}
-use Rattle.integrity_checks.specs.ReaderRows.{is_reader_with, is_reader_answer, are_reader_answers, are_registered_well, readers_are_doubtful, number_registered}
+use Rattle.integrity_checks.specs.ReaderRows.{is_reader_with, is_reader_answer, are_reader_answers, are_registered_well, readers_are_defective, number_registered}
 use Rattle.integrity_checks.proofs.JudgedContainers.{mixed}
 use Rattle.office_tables.proofs.ByNumber.{by, by_key, read_by_number, any_read, any_ordered, length_read, length_ordered}
 
@@ -147,7 +147,7 @@ three true false false = refl
 three false b c = refl
 
 pub readers_judged : (db : Trees) (ys rows : List Row) (count : ℕ) (good : Bool) → IsPermutation (db 0) ys → IsSorted (by_key read_reader ticket_of keyed) ys → rows ≡ map shown_reader ys
-    → count ≡ length rows → good ≡ are_reader_answers 1 rows → not (good && nat_le count 1000000) ≡ readers_are_doubtful db
+    → count ≡ length rows → good ≡ are_reader_answers 1 rows → not (good && nat_le count 1000000) ≡ readers_are_defective db
 readers_judged db ys rows count good same sorted shown counted is = elim (cases_Bool (has_unread read_reader (db 0))) [
   | inl some ↦
       let bad : good ≡ false = all_told ∙ ap (λ b. not b && (are_numbered_from ticket_of 1 (filter_map read_reader ys) && list_all is_good_reader (filter_map read_reader ys))) (unread ∙ some) in
@@ -176,12 +176,12 @@ counted_all db ys rows count same shown counted none =
 
 module _ (db : Trees) (ys rows : List Row) (count : ℕ) (good : Bool) (same : IsPermutation (db 0) ys) (sorted : IsSorted (by_key read_reader ticket_of keyed) ys) (shown : rows ≡ map shown_reader ys)
     (counted : count ≡ length rows) (is : good ≡ are_reader_answers 1 rows) where
-  judged : not (good && nat_le count 1000000) ≡ readers_are_doubtful db
+  judged : not (good && nat_le count 1000000) ≡ readers_are_defective db
   judged = readers_judged db ys rows count good same sorted shown counted is
 
   pub registered_so_many : (good && nat_le count 1000000) ≡ true → Some count ≡ number_registered db
   registered_so_many fine =
-      let sound : readers_are_doubtful db ≡ false = sym judged ∙ ap not fine in
+      let sound : readers_are_defective db ≡ false = sym judged ∙ ap not fine in
       let none = (or_parts (has_unread read_reader (db 0)) (not (are_registered_well (readers_in db))) sound).0 in
       ap Some (counted_all db ys rows count same shown counted none) ∙ sym (ap (λ b. cond b None (Some (length (readers_in db)))) sound)
 

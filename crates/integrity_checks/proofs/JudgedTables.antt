@@ -17,7 +17,7 @@ use Rattle.office_tables.proofs.CellTexts.{from_first}
 use Rattle.desk_core.specs.declared.consistency.context.Around.{Around}
 use Rattle.desk_core.specs.RowRecords.{Surrounds}
 use Rattle.row_decoding.specs.TableRows.{by, desk_in}
-use Rattle.integrity_checks.specs.DeskChecks.{orders_are_doubtful}
+use Rattle.integrity_checks.specs.DeskChecks.{orders_are_defective}
 use Rattle.integrity_checks.specs.DeskJudgments.{good_seats_in, good_permits_in, good_holdings_in, good_runs_in, AreOrdersOf}
 use Rattle.row_decoding.specs.Readings.{AreRead, by_rowid, in_any_order}
 use Rattle.row_decoding.proofs.Alike.{Alike, keyed_alike}
@@ -112,7 +112,7 @@ module _ (s : Around) (a : causes.Around) (db : Trees) (held : Surrounds s a (de
       ap₂ ◌&&◌ it.all (is a e (beside e refl) refl ∙ permits_alike a d permits (alike_of _ it))
 
   pub orders_judged : (orders : List OrderRow) (are_read good : Bool) → AreRead by_rowid read_order (db tables.orders.tree) orders are_read
-      → ((b : causes.Around) (e : Desk) → Surrounds s b e → e.orders ≡ orders → good ≡ are_good_orders b e) → (are_read && good) ≡ not (orders_are_doubtful a db)
+      → ((b : causes.Around) (e : Desk) → Surrounds s b e → e.orders ≡ orders → good ≡ are_good_orders b e) → (are_read && good) ≡ not (orders_are_defective a db)
   orders_judged orders are_read good it is =
       let e = record d { orders = orders } in
       ap (λ b. b && good) it.all ∙ both (has_unread read_order (db tables.orders.tree)) good (are_good_orders a d)

@@ -29,7 +29,7 @@ use Rattle.row_decoding.proofs.TableReads.{same_rows}
 use Rattle.row_decoding.specs.TableRows.{by, places_in, catalogue_in}
 use Rattle.integrity_checks.specs.PlaceChecks.{AreUnitsPlaced}
 use Rattle.integrity_checks.specs.ScanAnswers.{is_described, read_described, said_described}
-use Rattle.integrity_checks.specs.CatalogueChecks.{units_are_doubtful}
+use Rattle.integrity_checks.specs.CatalogueChecks.{units_are_defective}
 use Rattle.integrity_checks.specs.CatalogueJudgments.{are_good_numbers}
 use Rattle.row_decoding.proofs.Alike.{Alike, permuted, alike_then, alike_back, any_alike, all_alike, length_alike, ordered_alike, read_alike}
 use Rattle.integrity_checks.proofs.Scans.{show}
@@ -155,7 +155,7 @@ module _ (v : Version) (next : ℕ) (db : Trees) (ys rows : List Row) (numbers :
       fits = ap₂ ◌&&◌ below (ap₂ ◌&&◌ all_placed (ap₂ ◌&&◌ all_there (ap₂ ◌&&◌ (ap (λ n. nat_le n most_units) as_many) (ap (λ n. nat_le n most_deep) depth))))
 
   pub units_judged : (places : List ℕ) (deep : ℕ) → AreUnitsPlaced (places_in v db) places → deep ≡ height (places_said (places_in v db)) → (fine : Bool) → fine ≡ are_good_numbers next places deep numbers
-      → (good && fine) ≡ not (units_are_doubtful v next db)
+      → (good && fine) ≡ not (units_are_defective v next db)
   units_judged places deep placed depth fine is =
       let rest = all_stand_in (place_numbers (places_in v db)) (unit_numbers (catalogue_in v db)) && (all_stand_in (unit_numbers (catalogue_in v db)) (place_numbers (places_in v db))
       && (nat_le (length in_catalogue) most_units && nat_le (height (places_said (places_in v db))) most_deep)) in

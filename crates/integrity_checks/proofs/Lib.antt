@@ -2,7 +2,7 @@ pub mod DesksAlike
 pub mod JudgedReaders
 pub mod JudgedTables
 pub mod Surroundings
-pub mod DeskDoubts
+pub mod DeskDefects
 pub mod Ascending
 pub mod Depths
 pub mod GoodRows
@@ -16,4 +16,4 @@ pub mod JudgedContainers
 pub mod FilledUnits
 pub mod JudgedHousings
 pub mod JudgedUnits
-pub mod CatalogueDoubts
+pub mod CatalogueDefects

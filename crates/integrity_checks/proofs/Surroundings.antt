@@ -15,7 +15,7 @@ use Rattle.desk_core.specs.declared.consistency.context.Around.{Around}
 use Rattle.desk_core.specs.RowRecords.{Surrounds}
 use Rattle.row_decoding.specs.TableRows.{desk_in, readers_in}
 use Rattle.integrity_checks.specs.DeskChecks.{around_in, is_numbered}
-use Rattle.integrity_checks.specs.ReaderRows.{are_registered_well, readers_are_doubtful, number_registered}
+use Rattle.integrity_checks.specs.ReaderRows.{are_registered_well, readers_are_defective, number_registered}
 use Rattle.row_decoding.specs.Readings.{AreRead, in_any_order, read_number}
 use Rattle.row_decoding.proofs.TableReads.{same_rows}
 
@@ -24,8 +24,8 @@ use Rattle.row_decoding.proofs.TableReads.{same_rows}
 none_is_none : (n : ℕ) → None ≡ Some n → ⊥
 none_is_none n h = absurd cc
 
-pub not_doubtful : (db : Trees) (n : ℕ) → number_registered db ≡ Some n → (readers_are_doubtful db ≡ false) × (length (readers_in db) ≡ n)
-not_doubtful db n h = elim (cases_Bool (readers_are_doubtful db)) [
+pub not_defective : (db : Trees) (n : ℕ) → number_registered db ≡ Some n → (readers_are_defective db ≡ false) × (length (readers_in db) ≡ n)
+not_defective db n h = elim (cases_Bool (readers_are_defective db)) [
   | inl bad ↦ absurd (none_is_none n (sym (ap (λ b. cond b None (Some (length (readers_in db)))) bad) ∙ h))
   | inr sound ↦ (sound, ap (λ (o : Option ℕ). option_map_or (λ k. k) o 0) (sym (ap (λ b. cond b None (Some (length (readers_in db)))) sound) ∙ h))
 ]
@@ -34,7 +34,7 @@ not_true : (b : Bool) → not b ≡ false → b ≡ true
 not_true true h = refl
 not_true false h = sym h
 
-pub all_read_well : (db : Trees) → readers_are_doubtful db ≡ false → (has_unread read_reader (db tables.reader.tree) ≡ false) × (are_registered_well (readers_in db) ≡ true)
+pub all_read_well : (db : Trees) → readers_are_defective db ≡ false → (has_unread read_reader (db tables.reader.tree) ≡ false) × (are_registered_well (readers_in db) ≡ true)
 all_read_well db h =
     let parts = or_parts (has_unread read_reader (db tables.reader.tree)) (not (are_registered_well (readers_in db))) h in
     (parts.0, not_true (are_registered_well (readers_in db)) parts.1)
@@ -50,7 +50,7 @@ pub surrounded : (s : Around) (limits : Limits) (today : ℤ) (db : Trees) → l
     → ((n : ℕ) → is_numbered (db tables.unit.tree) n ≡ list_any (nat_eq n) s.units) → ((n : ℕ) → is_numbered (db tables.container.tree) n ≡ list_any (nat_eq n) s.containers)
     → number_registered db ≡ Some s.readers → Surrounds s (around_in limits today db) (desk_in db)
 surrounded s limits today db seats daily run day units containers count =
-    let is = not_doubtful db s.readers count in
+    let is = not_defective db s.readers count in
     record {
       seats = seats;
       daily = daily;

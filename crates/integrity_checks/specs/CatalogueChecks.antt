@@ -8,12 +8,12 @@ use Rattle.office_tables.specs.Cells.{has_unread}
 use Rattle.office_tables.specs.CatalogueCells.{read_unit, read_element}
 use Rattle.office_tables.specs.Schema as tables
 use Rattle.row_decoding.specs.TableRows.{catalogue_in, containers_are_unread}
-use Rattle.integrity_checks.specs.PlaceChecks.{places_are_doubtful}
-use Rattle.integrity_checks.specs.declared.catalogue_doubt.CatalogueDoubt.{CatalogueDoubt}
-use Rattle.integrity_checks.specs.declared.catalogue_doubt.CatalogueDoubt.TheVariants.{Places, Units, Elements, Containers}
+use Rattle.integrity_checks.specs.PlaceChecks.{places_are_defective}
+use Rattle.integrity_checks.specs.declared.catalogue_defect.CatalogueDefect.{CatalogueDefect}
+use Rattle.integrity_checks.specs.declared.catalogue_defect.CatalogueDefect.TheVariants.{Places, Units, Elements, Containers}
 
 -- the number of the cause, among the ten for which an office's tables are refused
-abbrev pub cause_of : CatalogueDoubt → ℕ
+abbrev pub cause_of : CatalogueDefect → ℕ
 cause_of Places = 2
 cause_of Units = 3
 cause_of Elements = 4
@@ -21,21 +21,21 @@ cause_of Containers = 5
 
 -- ---- the causes
 
-abbrev pub units_are_doubtful : Version → ℕ → Trees → Bool
-units_are_doubtful version next db = has_unread read_unit (db tables.unit.tree) || units_are_bad next (catalogue_in version db)
+abbrev pub units_are_defective : Version → ℕ → Trees → Bool
+units_are_defective version next db = has_unread read_unit (db tables.unit.tree) || units_are_bad next (catalogue_in version db)
 
-abbrev pub elements_are_doubtful : Version → Trees → Bool
-elements_are_doubtful version db = has_unread read_element (db tables.element.tree) || elements_are_bad (catalogue_in version db)
+abbrev pub elements_are_defective : Version → Trees → Bool
+elements_are_defective version db = has_unread read_element (db tables.element.tree) || elements_are_bad (catalogue_in version db)
 
-abbrev pub containers_are_doubtful : Version → Trees → Bool
-containers_are_doubtful version db = containers_are_unread db || containers_are_bad (catalogue_in version db)
+abbrev pub containers_are_defective : Version → Trees → Bool
+containers_are_defective version db = containers_are_unread db || containers_are_bad (catalogue_in version db)
 
 -- ---- the first of them
 
 -- why the tables cannot be a catalogue's, if `next` is the number of the next unit
-abbrev pub doubtful_catalogue : Version → ℕ → Trees → Option CatalogueDoubt
-doubtful_catalogue version next db =
-    cond (places_are_doubtful version db) (Some Places)
-    (cond (units_are_doubtful version next db) (Some Units)
-    (cond (elements_are_doubtful version db) (Some Elements)
-    (cond (containers_are_doubtful version db) (Some Containers) None)))
+abbrev pub catalogue_defect : Version → ℕ → Trees → Option CatalogueDefect
+catalogue_defect version next db =
+    cond (places_are_defective version db) (Some Places)
+    (cond (units_are_defective version next db) (Some Units)
+    (cond (elements_are_defective version db) (Some Elements)
+    (cond (containers_are_defective version db) (Some Containers) None)))

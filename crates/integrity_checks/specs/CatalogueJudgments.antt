@@ -9,9 +9,9 @@ use Rattle.office_tables.specs.Cells.{has_unread}
 use Rattle.office_tables.specs.CatalogueCells.{read_container, read_housing}
 use Rattle.office_tables.specs.Schema as tables
 use Rattle.row_decoding.specs.TableRows.{catalogue_in, containers_in}
-use Rattle.integrity_checks.specs.CatalogueChecks.{elements_are_doubtful, containers_are_doubtful}
-use Rattle.integrity_checks.specs.declared.catalogue_doubt.CatalogueDoubt.{CatalogueDoubt}
-use Rattle.integrity_checks.specs.declared.catalogue_doubt.CatalogueDoubt.TheVariants.{Elements, Containers}
+use Rattle.integrity_checks.specs.CatalogueChecks.{elements_are_defective, containers_are_defective}
+use Rattle.integrity_checks.specs.declared.catalogue_defect.CatalogueDefect.{CatalogueDefect}
+use Rattle.integrity_checks.specs.declared.catalogue_defect.CatalogueDefect.TheVariants.{Elements, Containers}
 
 -- the numbers of the units are those that have a place, below the next number, not too many, and none lies too deep
 abbrev pub are_good_numbers : ℕ → List ℕ → ℕ → List ℕ → Bool
@@ -39,7 +39,7 @@ good_housings_in version db =
 
 -- ---- apart from places and units
 
--- what is doubtful if the places and the units are not
-abbrev pub doubt_of_contents : Version → Trees → Option CatalogueDoubt
-doubt_of_contents version db =
-    cond (elements_are_doubtful version db) (Some Elements) (cond (containers_are_doubtful version db) (Some Containers) None)
+-- what is defective if the places and the units are not
+abbrev pub defect_of_contents : Version → Trees → Option CatalogueDefect
+defect_of_contents version db =
+    cond (elements_are_defective version db) (Some Elements) (cond (containers_are_defective version db) (Some Containers) None)

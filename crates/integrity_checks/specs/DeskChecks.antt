@@ -11,11 +11,11 @@ use Rattle.office_tables.specs.DeskCells.{read_order, read_holding}
 use Rattle.office_tables.specs.Schema as tables
 use Rattle.row_decoding.specs.TableRows.{desk_in, registration_is_unread, runs_are_unread}
 use Rattle.row_decoding.specs.Readings.{read_number}
-use Rattle.integrity_checks.specs.declared.desk_doubt.DeskDoubt.{DeskDoubt}
-use Rattle.integrity_checks.specs.declared.desk_doubt.DeskDoubt.TheVariants.{Readers, Orders, Holdings, Runs}
+use Rattle.integrity_checks.specs.declared.desk_defect.DeskDefect.{DeskDefect}
+use Rattle.integrity_checks.specs.declared.desk_defect.DeskDefect.TheVariants.{Readers, Orders, Holdings, Runs}
 
 -- the number of the cause, among the ten for which an office's tables are refused
-abbrev pub cause_of : DeskDoubt → ℕ
+abbrev pub cause_of : DeskDefect → ℕ
 cause_of Readers = 6
 cause_of Orders = 7
 cause_of Holdings = 8
@@ -41,29 +41,29 @@ around_in limits today db =
 
 -- ---- the causes
 
-abbrev pub registration_is_doubtful : Around → Trees → Bool
-registration_is_doubtful a db = registration_is_unread db || readers_are_bad a (desk_in db)
+abbrev pub registration_is_defective : Around → Trees → Bool
+registration_is_defective a db = registration_is_unread db || readers_are_bad a (desk_in db)
 
-abbrev pub orders_are_doubtful : Around → Trees → Bool
-orders_are_doubtful a db = has_unread read_order (db tables.orders.tree) || orders_are_bad a (desk_in db)
+abbrev pub orders_are_defective : Around → Trees → Bool
+orders_are_defective a db = has_unread read_order (db tables.orders.tree) || orders_are_bad a (desk_in db)
 
-abbrev pub holdings_are_doubtful : Around → Trees → Bool
-holdings_are_doubtful a db = has_unread read_holding (db tables.holding.tree) || holdings_are_bad a (desk_in db)
+abbrev pub holdings_are_defective : Around → Trees → Bool
+holdings_are_defective a db = has_unread read_holding (db tables.holding.tree) || holdings_are_bad a (desk_in db)
 
-abbrev pub runs_are_doubtful : Around → Trees → Bool
-runs_are_doubtful a db = runs_are_unread db || runs_are_bad a (desk_in db)
+abbrev pub runs_are_defective : Around → Trees → Bool
+runs_are_defective a db = runs_are_unread db || runs_are_bad a (desk_in db)
 
 -- ---- the first of them
 
-abbrev pub doubt_of_past : Around → Trees → Option DeskDoubt
-doubt_of_past a db = cond (holdings_are_doubtful a db) (Some Holdings) (cond (runs_are_doubtful a db) (Some Runs) None)
+abbrev pub defect_of_past : Around → Trees → Option DeskDefect
+defect_of_past a db = cond (holdings_are_defective a db) (Some Holdings) (cond (runs_are_defective a db) (Some Runs) None)
 
-abbrev pub doubt_of_orders : Around → Trees → Option DeskDoubt
-doubt_of_orders a db = cond (orders_are_doubtful a db) (Some Orders) (doubt_of_past a db)
+abbrev pub defect_of_orders : Around → Trees → Option DeskDefect
+defect_of_orders a db = cond (orders_are_defective a db) (Some Orders) (defect_of_past a db)
 
-abbrev pub doubt_of_desk : Around → Trees → Option DeskDoubt
-doubt_of_desk a db = cond (registration_is_doubtful a db) (Some Readers) (doubt_of_orders a db)
+abbrev pub defect_of_desk : Around → Trees → Option DeskDefect
+defect_of_desk a db = cond (registration_is_defective a db) (Some Readers) (defect_of_orders a db)
 
 -- why the tables cannot be those of a desk, in an office with these limits on this day
-abbrev pub doubtful_desk : Limits → ℤ → Trees → Option DeskDoubt
-doubtful_desk limits today db = doubt_of_desk (around_in limits today db) db
+abbrev pub desk_defect : Limits → ℤ → Trees → Option DeskDefect
+desk_defect limits today db = defect_of_desk (around_in limits today db) db

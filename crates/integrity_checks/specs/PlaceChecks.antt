@@ -3,7 +3,7 @@ use Rattle.std.specs.Prelude.{ℕ, ◌<◌, List, [], ◌∷◌, ⊤}
 use Rattle.std.specs.List.Sorted.{IsPermutation}
 use Rattle.catalogue_core.specs.CatalogueCauses.{place_numbers}
 use Rattle.catalogue_core.specs.CatalogueRows.{PlaceRows}
-pub use Rattle.row_completeness.specs.WholePlaces.{places_are_doubtful}
+pub use Rattle.row_completeness.specs.WholePlaces.{places_are_defective}
 
 -- each number is less than the next
 abbrev pub AreAscending : List ℕ → Type 0

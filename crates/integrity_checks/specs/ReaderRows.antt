@@ -19,12 +19,12 @@ are_registered_well readers =
     are_numbered_from (λ (row : ReaderRow). row.ticket) 1 readers && (nat_le (length readers) most_tickets && list_all is_good_reader readers)
 
 -- some row of a reader cannot be read, or no desk can have the rows
-abbrev pub readers_are_doubtful : Trees → Bool
-readers_are_doubtful db = has_unread read_reader (db tables.reader.tree) || not (are_registered_well (readers_in db))
+abbrev pub readers_are_defective : Trees → Bool
+readers_are_defective db = has_unread read_reader (db tables.reader.tree) || not (are_registered_well (readers_in db))
 
--- how many there are, unless they are doubtful
+-- how many there are, unless they are defective
 abbrev pub number_registered : Trees → Option ℕ
-number_registered db = cond (readers_are_doubtful db) None (Some (length (readers_in db)))
+number_registered db = cond (readers_are_defective db) None (Some (length (readers_in db)))
 
 -- ---- as they are read: the ticket, the last day and the name
 

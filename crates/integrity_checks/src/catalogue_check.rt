@@ -10,10 +10,10 @@ ghost use Rattle.office_tables.specs.Cells.{has_unread};
 ghost use Rattle.office_tables.specs.Faults.{FaultsHaveCause};
 ghost use Rattle.office_tables.specs.Schema as tables;
 ghost use Rattle.office_tables.specs.Step.{InOffice, InTransaction};
-ghost use Rattle.integrity_checks.specs.CatalogueChecks.{containers_are_doubtful, doubtful_catalogue};
-ghost use Rattle.integrity_checks.specs.CatalogueJudgments.{doubt_of_contents};
+ghost use Rattle.integrity_checks.specs.CatalogueChecks.{containers_are_defective, catalogue_defect};
+ghost use Rattle.integrity_checks.specs.CatalogueJudgments.{defect_of_contents};
 
-use crate::catalogue_doubt::CatalogueDoubt;
+use crate::catalogue_defect::CatalogueDefect;
 use crate::containers::numbered;
 use crate::elements::elements_are_good;
 use crate::housing::housings_are_good;
@@ -29,7 +29,7 @@ fn containers_are_good<S: Alter>(conn: &mut Connection<S>) -> Result<bool, Store
     ensures reads { Reads (state S.Store conn.old) (state S.Store conn.new) result }
     ensures tells { HasCleanDisk (state S.Store conn.new) → (version : Version)
         → has_unread read_unit ((state S.Store conn.old).now.trees tables.unit.tree) ≡ false
-        → IfOk result (λ good. good ≡ not (containers_are_doubtful version (state S.Store conn.old).now.trees)) }
+        → IfOk result (λ good. good ≡ not (containers_are_defective version (state S.Store conn.old).now.trees)) }
     ensures faults { FaultsHaveCause (state S.Store conn.old) (state S.Store conn.new) result }
 {
     let Some(containers) = numbered(conn)? else {
@@ -38,44 +38,44 @@ fn containers_are_good<S: Alter>(conn: &mut Connection<S>) -> Result<bool, Store
     housings_are_good(conn, containers)
 }
 
-/// The first of the elements and the containers that is doubtful, or none. Assumes that each unit can be read.
-fn check_contents<S: Alter>(conn: &mut Connection<S>) -> Result<Option<CatalogueDoubt>, StoreFault>
+/// The first of the elements and the containers that is defective, or none. Assumes that each unit can be read.
+fn check_contents<S: Alter>(conn: &mut Connection<S>) -> Result<Option<CatalogueDefect>, StoreFault>
     requires inside { InOffice (state S.Store conn.old) }
     ensures reads { Reads (state S.Store conn.old) (state S.Store conn.new) result }
     ensures tells { HasCleanDisk (state S.Store conn.new) → (version : Version)
         → has_unread read_unit ((state S.Store conn.old).now.trees tables.unit.tree) ≡ false
-        → IfOk result (λ told. told ≡ doubt_of_contents version (state S.Store conn.old).now.trees) }
+        → IfOk result (λ told. told ≡ defect_of_contents version (state S.Store conn.old).now.trees) }
     ensures faults { FaultsHaveCause (state S.Store conn.old) (state S.Store conn.new) result }
 {
     if !elements_are_good(conn)? {
-        return Ok(Some(CatalogueDoubt::Elements));
+        return Ok(Some(CatalogueDefect::Elements));
     }
     if !containers_are_good(conn)? {
-        return Ok(Some(CatalogueDoubt::Containers));
+        return Ok(Some(CatalogueDefect::Containers));
     }
     Ok(None)
 }
 
 /// The first part of the catalogue whose rows no catalogue can have, or none. `next` is the number of the next unit.
-/// Reads all tables completely, unless a doubt is found before. Holds no more at once than the places, or the numbers
+/// Reads all tables completely, unless a defect is found before. Holds no more at once than the places, or the numbers
 /// of the units.
 pub fn load_check<P: CheckedPlaces, S: Alter>(
     alloc: Global,
     conn: &mut Connection<S>,
     next: u64,
-) -> Result<Option<CatalogueDoubt>, StoreFault>
+) -> Result<Option<CatalogueDefect>, StoreFault>
     requires inside { InTransaction P.version (state S.Store conn.old) }
     ensures reads { Reads (state S.Store conn.old) (state S.Store conn.new) result }
     ensures tells { HasCleanDisk (state S.Store conn.new)
-        → IfOk result (λ told. told ≡ doubtful_catalogue P.version next (state S.Store conn.old).now.trees) }
+        → IfOk result (λ told. told ≡ catalogue_defect P.version next (state S.Store conn.old).now.trees) }
     ensures faults { FaultsHaveCause (state S.Store conn.old) (state S.Store conn.new) result }
 {
     let Some(placed) = P::check(alloc, conn)? else {
-        return Ok(Some(CatalogueDoubt::Places));
+        return Ok(Some(CatalogueDefect::Places));
     };
     let Placed { units, height } = placed;
     if !units_are_good(alloc, conn, units, height, next)? {
-        return Ok(Some(CatalogueDoubt::Units));
+        return Ok(Some(CatalogueDefect::Units));
     }
     check_contents(conn)
 }

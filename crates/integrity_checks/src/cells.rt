@@ -35,7 +35,7 @@ pub(crate) fn is_text(value: ValueRef<'_>) -> bool
 }
 
 /// Whether it is a text that is not blank.
-pub(crate) fn tells(value: ValueRef<'_>) -> bool
+pub(crate) fn is_nonblank_text(value: ValueRef<'_>) -> bool
     ensures { result ≡ option_map_or (λ t. not (is_blank_text t)) (text_said (owned value.entry)) false }
 {
     match text_in(value) {
@@ -55,7 +55,7 @@ pub(crate) fn is_short(value: ValueRef<'_>) -> bool
 }
 
 /// Whether it is the name of a source.
-pub(crate) fn tells_source(value: ValueRef<'_>) -> bool
+pub(crate) fn is_source_text(value: ValueRef<'_>) -> bool
     ensures { result ≡ option_map_or is_source_name (text_said (owned value.entry)) false }
 {
     match text_in(value) {

@@ -9,9 +9,9 @@ ghost use Rattle.catalogue_core.specs.CatalogueRows.{places_said};
 ghost use Rattle.office_tables.specs.Query.{Reads};
 ghost use Rattle.office_tables.specs.Faults.{FaultsHaveCause};
 ghost use Rattle.office_tables.specs.Step.{InTransaction};
-ghost use Rattle.row_completeness.specs.WholePlaces.{RepresentsWhatItSays};
+ghost use Rattle.row_completeness.specs.WholePlaces.{RepresentsWhatItDescribes};
 ghost use Rattle.row_decoding.specs.TableRows.{places_in};
-ghost use Rattle.integrity_checks.specs.PlaceChecks.{AreUnitsPlaced, places_are_doubtful};
+ghost use Rattle.integrity_checks.specs.PlaceChecks.{AreUnitsPlaced, places_are_defective};
 
 use catalogue_store::Places;
 use office_tables::StoreFault;
@@ -37,7 +37,7 @@ pub trait CheckedPlaces: Places {
         requires inside { InTransaction Self.version (state S.Store conn.old) }
         ensures reads { Reads (state S.Store conn.old) (state S.Store conn.new) result }
         ensures tells { HasCleanDisk (state S.Store conn.new) → IfOk result (λ found.
-            is_none found ≡ places_are_doubtful Self.version (state S.Store conn.old).now.trees) }
+            is_none found ≡ places_are_defective Self.version (state S.Store conn.old).now.trees) }
         ensures units { HasCleanDisk (state S.Store conn.new) → IfOk result (λ found. IfSome found (λ placed.
             AreUnitsPlaced (places_in Self.version (state S.Store conn.old).now.trees) placed.units.items)) }
         ensures height { HasCleanDisk (state S.Store conn.new) → IfOk result (λ found. IfSome found (λ placed.
@@ -45,5 +45,5 @@ pub trait CheckedPlaces: Places {
         ensures faults { FaultsHaveCause (state S.Store conn.old) (state S.Store conn.new) result };
 
     /// Rows that are complete, and that an office can have, represent the forest that they describe.
-    ghost shows_said: { (db : Trees) → RepresentsWhatItSays Self.represents Self.version db };
+    ghost shows_said: { (db : Trees) → RepresentsWhatItDescribes Self.represents Self.version db };
 }

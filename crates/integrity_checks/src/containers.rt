@@ -9,7 +9,7 @@ ghost use Rattle.office_tables.specs.Step.{InOffice};
 ghost use Rattle.integrity_checks.specs.ScanAnswers.{is_container_answer};
 ghost use Rattle.integrity_checks.specs.CatalogueJudgments.{number_of_containers};
 
-use crate::cells::{is_text, tells};
+use crate::cells::{is_nonblank_text, is_text};
 use isad_core::limits::MOST_CONTAINERS;
 use office_tables::{Gathering, StoreFault, gather};
 use row_decoding::{cell, number_in};
@@ -22,7 +22,7 @@ fn is_container(row: &Row, number: u64) -> bool
     let Some(id) = number_in(cell(row, 0)) else {
         return false;
     };
-    id == number && tells(cell(row, 1)) && is_text(cell(row, 2)) && is_text(cell(row, 3))
+    id == number && is_nonblank_text(cell(row, 1)) && is_text(cell(row, 2)) && is_text(cell(row, 3))
 }
 
 /// The containers taken so far, in the order of their numbers.

@@ -8,11 +8,11 @@ ghost use Rattle.office_tables.specs.Query.{Reads};
 ghost use Rattle.office_tables.specs.Faults.{FaultsHaveCause};
 ghost use Rattle.office_tables.specs.Step.{InOffice};
 ghost use Rattle.row_decoding.specs.TableRows.{desk_in};
-ghost use Rattle.integrity_checks.specs.DeskChecks.{doubt_of_past, doubt_of_orders, doubtful_desk};
-ghost use Rattle.integrity_checks.specs.DeskJudgments.{AreOrdersOf, doubt_beside_readers};
+ghost use Rattle.integrity_checks.specs.DeskChecks.{defect_of_past, defect_of_orders, desk_defect};
+ghost use Rattle.integrity_checks.specs.DeskJudgments.{AreOrdersOf, defect_beside_readers};
 ghost use Rattle.desk_core.specs.RowRecords.{Surrounds, order_row};
 
-use crate::desk_doubt::DeskDoubt;
+use crate::desk_defect::DeskDefect;
 use crate::desk_rows::{
     holdings_are_good, permits_are_good, runs_are_good, seats_are_good, surroundings,
 };
@@ -25,91 +25,91 @@ use row_decoding::orders;
 use sqlite::{Alter, Connection};
 use std::alloc::Global;
 
-/// The first of the holdings and the runs that is doubtful with these orders, or none.
+/// The first of the holdings and the runs that is defective with these orders, or none.
 fn check_past<S: Alter>(
     alloc: Global,
     conn: &mut Connection<S>,
     around: &Around,
     orders: &[OrderRow],
-) -> Result<Option<DeskDoubt>, StoreFault>
+) -> Result<Option<DeskDefect>, StoreFault>
     requires inside { InOffice (state S.Store conn.old) }
     ensures reads { Reads (state S.Store conn.old) (state S.Store conn.new) result }
     ensures tells { HasCleanDisk (state S.Store conn.new) → (a : Held)
         → Surrounds around.now a (desk_in (state S.Store conn.old).now.trees)
         → AreOrdersOf (state S.Store conn.old).now.trees (map order_row orders.now)
         → orders_are_bad a (desk_in (state S.Store conn.old).now.trees) ≡ false
-        → IfOk result (λ told. told ≡ doubt_of_past a (state S.Store conn.old).now.trees) }
+        → IfOk result (λ told. told ≡ defect_of_past a (state S.Store conn.old).now.trees) }
     ensures faults { FaultsHaveCause (state S.Store conn.old) (state S.Store conn.new) result }
 {
     if !holdings_are_good(alloc, conn, around, orders)? {
-        return Ok(Some(DeskDoubt::Holdings));
+        return Ok(Some(DeskDefect::Holdings));
     }
     if !runs_are_good(alloc, conn, around, orders)? {
-        return Ok(Some(DeskDoubt::Runs));
+        return Ok(Some(DeskDefect::Runs));
     }
     Ok(None)
 }
 
-/// The first of the orders, the holdings and the runs that is doubtful, or none.
+/// The first of the orders, the holdings and the runs that is defective, or none.
 fn check_orders<S: Alter>(
     alloc: Global,
     conn: &mut Connection<S>,
     around: &Around,
-) -> Result<Option<DeskDoubt>, StoreFault>
+) -> Result<Option<DeskDefect>, StoreFault>
     requires inside { InOffice (state S.Store conn.old) }
     ensures reads { Reads (state S.Store conn.old) (state S.Store conn.new) result }
     ensures tells { HasCleanDisk (state S.Store conn.new) → (a : Held)
         → Surrounds around.now a (desk_in (state S.Store conn.old).now.trees)
-        → IfOk result (λ told. told ≡ doubt_of_orders a (state S.Store conn.old).now.trees) }
+        → IfOk result (λ told. told ≡ defect_of_orders a (state S.Store conn.old).now.trees) }
     ensures faults { FaultsHaveCause (state S.Store conn.old) (state S.Store conn.new) result }
 {
     let all = orders(alloc, conn)?;
     let are_good = are_good_orders(alloc, around, &all.rows)?;
     let are_sound = all.are_read && are_good;
     if !are_sound {
-        return Ok(Some(DeskDoubt::Orders));
+        return Ok(Some(DeskDefect::Orders));
     }
     check_past(alloc, conn, around, &all.rows)
 }
 
-/// The first part that is doubtful, or none: the seats and the permits, then the orders and the rest.
+/// The first part that is defective, or none: the seats and the permits, then the orders and the rest.
 fn check_cards<S: Alter>(
     alloc: Global,
     conn: &mut Connection<S>,
     around: &Around,
-) -> Result<Option<DeskDoubt>, StoreFault>
+) -> Result<Option<DeskDefect>, StoreFault>
     requires inside { InOffice (state S.Store conn.old) }
     ensures reads { Reads (state S.Store conn.old) (state S.Store conn.new) result }
     ensures tells { HasCleanDisk (state S.Store conn.new) → (a : Held)
         → Surrounds around.now a (desk_in (state S.Store conn.old).now.trees)
-        → IfOk result (λ told. told ≡ doubt_beside_readers a (state S.Store conn.old).now.trees) }
+        → IfOk result (λ told. told ≡ defect_beside_readers a (state S.Store conn.old).now.trees) }
     ensures faults { FaultsHaveCause (state S.Store conn.old) (state S.Store conn.new) result }
 {
     if !seats_are_good(alloc, conn, around)? {
-        return Ok(Some(DeskDoubt::Readers));
+        return Ok(Some(DeskDefect::Readers));
     }
     if !permits_are_good(alloc, conn, around)? {
-        return Ok(Some(DeskDoubt::Readers));
+        return Ok(Some(DeskDefect::Readers));
     }
     check_orders(alloc, conn, around)
 }
 
 /// The first part of the desk whose rows no desk of an office with these limits can have on this day, or none. Reads
-/// all tables completely, unless a doubt is found before. Rows other than the readers' are held in memory.
+/// all tables completely, unless a defect is found before. Rows other than the readers' are held in memory.
 pub fn load_check_desk<S: Alter>(
     alloc: Global,
     conn: &mut Connection<S>,
     limits: &Limits,
     today: Day,
-) -> Result<Option<DeskDoubt>, StoreFault>
+) -> Result<Option<DeskDefect>, StoreFault>
     requires inside { InOffice (state S.Store conn.old) }
     ensures reads { Reads (state S.Store conn.old) (state S.Store conn.new) result }
     ensures tells { HasCleanDisk (state S.Store conn.new)
-        → IfOk result (λ told. told ≡ doubtful_desk limits.now today (state S.Store conn.old).now.trees) }
+        → IfOk result (λ told. told ≡ desk_defect limits.now today (state S.Store conn.old).now.trees) }
     ensures faults { FaultsHaveCause (state S.Store conn.old) (state S.Store conn.new) result }
 {
     let Some(readers) = registered(conn)? else {
-        return Ok(Some(DeskDoubt::Readers));
+        return Ok(Some(DeskDefect::Readers));
     };
     let around = surroundings(alloc, conn, limits, today, readers)?;
     check_cards(alloc, conn, &around)

@@ -11,9 +11,9 @@ ghost use Rattle.office_tables.specs.Faults.{FaultsHaveCause};
 ghost use Rattle.office_tables.specs.Schema as tables;
 ghost use Rattle.office_tables.specs.Step.{InOffice};
 ghost use Rattle.integrity_checks.specs.ScanAnswers.{is_element_answer};
-ghost use Rattle.integrity_checks.specs.CatalogueChecks.{elements_are_doubtful};
+ghost use Rattle.integrity_checks.specs.CatalogueChecks.{elements_are_defective};
 
-use crate::cells::tells;
+use crate::cells::is_nonblank_text;
 use office_tables::{Gathering, StoreFault, gather};
 use row_decoding::{cell, number_in};
 use sqlite::{Alter, Connection, Row};
@@ -29,7 +29,7 @@ fn is_element(row: &Row) -> bool
     let Some(k) = number_in(cell(row, 1)) else {
         return false;
     };
-    1 <= k && k <= 26 && k != 4 && tells(cell(row, 2))
+    1 <= k && k <= 26 && k != 4 && is_nonblank_text(cell(row, 2))
 }
 
 /// The elements taken so far.
@@ -59,7 +59,7 @@ pub(crate) fn elements_are_good<S: Alter>(conn: &mut Connection<S>) -> Result<bo
     ensures reads { Reads (state S.Store conn.old) (state S.Store conn.new) result }
     ensures tells { HasCleanDisk (state S.Store conn.new) → (version : Version)
         → has_unread read_unit ((state S.Store conn.old).now.trees tables.unit.tree) ≡ false
-        → IfOk result (λ good. good ≡ not (elements_are_doubtful version (state S.Store conn.old).now.trees)) }
+        → IfOk result (λ good. good ≡ not (elements_are_defective version (state S.Store conn.old).now.trees)) }
     ensures faults { FaultsHaveCause (state S.Store conn.old) (state S.Store conn.new) result }
 {
     // The rows of an open connection keep the foreign keys of its tables: each element has its unit.

@@ -3,12 +3,12 @@
 
 mod ascending_numbers;
 mod catalogue_check;
-mod catalogue_doubt;
+mod catalogue_defect;
 mod cells;
 mod checked_places;
 mod containers;
 mod desk_check;
-mod desk_doubt;
+mod desk_defect;
 mod desk_rows;
 mod elements;
 mod heights;
@@ -19,7 +19,7 @@ mod spans;
 mod units;
 
 pub use catalogue_check::load_check;
-pub use catalogue_doubt::CatalogueDoubt;
+pub use catalogue_defect::CatalogueDefect;
 pub use checked_places::{CheckedPlaces, Placed};
 pub use desk_check::load_check_desk;
-pub use desk_doubt::DeskDoubt;
+pub use desk_defect::DeskDefect;

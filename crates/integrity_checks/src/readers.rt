@@ -31,7 +31,7 @@ fn is_day(value: ValueRef<'_>) -> bool
 }
 
 /// Whether it is a text, in UTF-8, and a name that a reader may have.
-fn tells_name(value: ValueRef<'_>) -> bool
+fn is_name_text(value: ValueRef<'_>) -> bool
     ensures { result ≡ option_map_or is_name_of (text_in (owned value.entry)) false }
 {
     match value {
@@ -50,7 +50,7 @@ fn is_reader(row: &Row, ticket: u64) -> bool
     let Some(number) = number_in(cell(row, 0)) else {
         return false;
     };
-    number == ticket && is_day(cell(row, 1)) && tells_name(cell(row, 2))
+    number == ticket && is_day(cell(row, 1)) && is_name_text(cell(row, 2))
 }
 
 /// The readers taken so far, in the order of their tickets.

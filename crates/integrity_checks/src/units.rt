@@ -13,11 +13,11 @@ ghost use Rattle.office_tables.specs.Step.{InOffice};
 ghost use Rattle.row_decoding.specs.TableRows.{places_in};
 ghost use Rattle.integrity_checks.specs.PlaceChecks.{AreUnitsPlaced};
 ghost use Rattle.integrity_checks.specs.ScanAnswers.{is_described_answer, said_described};
-ghost use Rattle.integrity_checks.specs.CatalogueChecks.{units_are_doubtful};
+ghost use Rattle.integrity_checks.specs.CatalogueChecks.{units_are_defective};
 ghost use Rattle.integrity_checks.specs.CatalogueJudgments.{are_good_numbers};
 
 use crate::ascending_numbers::Ascending;
-use crate::cells::{is_day_or_null, is_flag, is_short, tells, tells_source};
+use crate::cells::{is_day_or_null, is_flag, is_nonblank_text, is_short, is_source_text};
 use isad_core::limits::{self, MOST_DEEP};
 use office_tables::{Gathering, StoreFault, gather};
 use row_decoding::{cell, number_in};
@@ -33,8 +33,8 @@ fn is_described(row: &Row) -> bool
 {
     is_flag(cell(row, 4))
         && is_day_or_null(cell(row, 5))
-        && tells_source(cell(row, 1))
-        && tells(cell(row, 2))
+        && is_source_text(cell(row, 1))
+        && is_nonblank_text(cell(row, 2))
         && is_short(cell(row, 2))
         && is_short(cell(row, 3))
 }
@@ -116,7 +116,7 @@ pub(crate) fn units_are_good<S: Alter>(
     ensures tells { HasCleanDisk (state S.Store conn.new) → (version : Version)
         → AreUnitsPlaced (places_in version (state S.Store conn.old).now.trees) placed.items
         → height ≡ height_of (places_said (places_in version (state S.Store conn.old).now.trees))
-        → IfOk result (λ good. good ≡ not (units_are_doubtful version next (state S.Store conn.old).now.trees)) }
+        → IfOk result (λ good. good ≡ not (units_are_defective version next (state S.Store conn.old).now.trees)) }
     ensures faults { FaultsHaveCause (state S.Store conn.old) (state S.Store conn.new) result }
 {
     let all = gather(

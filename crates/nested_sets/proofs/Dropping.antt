@@ -133,8 +133,8 @@ module _ (limit : Option ℕ) where
   never_refused db refers e (inr (emptied, h, inr (now, k, inl (stop, tested, is)))) =
       let same : now ≡ db = same_value k ∙ same_value (none_goes db (Ok emptied) h) in
       tested.0 (subst (λ d. HoldWithout task d All) (sym same) (refers, refers_still db refers))
-  never_refused db refers e (inr (emptied, h, inr (now, k, inr (doubt, tested, inl (stop, leaves, is))))) = no_stop stop now leaves
-  never_refused db refers e (inr (emptied, h, inr (now, k, inr (doubt, tested, inr (after, leaves, is))))) = cc
+  never_refused db refers e (inr (emptied, h, inr (now, k, inr (defect, tested, inl (stop, leaves, is))))) = no_stop stop now leaves
+  never_refused db refers e (inr (emptied, h, inr (now, k, inr (defect, tested, inr (after, leaves, is))))) = cc
 
 module _ (old new : State) (has : old.now.schema ≡ schema Links) where
   meant : (out : Outcome (Tally × Database)) → Does old.step_limit (mode_of old) [] old.now drop_text None drop_command out → Drops (task old.step_limit) (mode old.step_limit) old.now.trees out

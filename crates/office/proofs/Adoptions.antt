@@ -11,7 +11,7 @@ use Rattle.adoption.specs.declared.verdict.Verdict.{Verdict}
 use Rattle.adoption.specs.declared.verdict.Verdict.TheVariants as verdict
 use Rattle.office_core.specs.SoundOffice.{IsSoundOffice}
 use Rattle.adoption.specs.SoundTables.{AreSoundTables}
-use Rattle.adoption.specs.Tables.{SoundTablesShowTheirState}
+use Rattle.adoption.specs.Tables.{SoundTablesRepresentTheirState}
 use Rattle.adoption.specs.OrderedTables.{StandInOrder}
 use Rattle.office.specs.Adoption.{IsAdopted, refusal_of, state_in}
 use Rattle.office.specs.IdleOffice.{IsAsBefore, IsIn}
@@ -41,7 +41,7 @@ module _ (version : Version) (old new : store.State) (told : Verdict) (none : re
     causeless = are_sound.1 ordered;
   }
 
-  module _ (places : Trees → Forest ℕ → Type 0) (law : (db : Database) → SoundTablesShowTheirState places version db) (live : IsLive old) where
+  module _ (places : Trees → Forest ℕ → Type 0) (law : (db : Database) → SoundTablesRepresentTheirState places version db) (live : IsLive old) where
     pub adopted_sound : IsTrue new.is_open → StandInOrder old.now → IsSoundOffice (state_in version old.now.trees)
     adopted_sound opened ordered = (law old.now (sound_tables live opened ordered)).sound
 

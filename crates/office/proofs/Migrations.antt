@@ -14,7 +14,7 @@ use Rattle.office_tables.specs.Schema as tables
 use Rattle.office_tables.specs.Step.{OnlyTouches}
 use Rattle.office_tables.specs.declared.fault.StoreFault.{StoreFault}
 use Rattle.office_tables.specs.declared.fault.StoreFault.TheVariants as store
-use Rattle.row_completeness.proofs.KeptPlaces.{links_show}
+use Rattle.row_completeness.proofs.KeptPlaces.{links_represent}
 use Rattle.adoption.proofs.catalogue.Shown.{catalogue_shown}
 use Rattle.adoption.proofs.tables.ShownTables.{sound_are_good, sound_state}
 use Rattle.adoption.specs.SoundTables.{AreSoundTables}
@@ -39,7 +39,7 @@ module _ (db : Database) (told : Verdict) (none : refusal_of told ≡ None) (is 
     pub shows_its_state : StandInOrder db → RepresentsItsState RepresentsLinkRows Links db
     shows_its_state ordered =
         let tables : AreSoundTables Links db = record { schema_is = judged_sound.0.schema_is; live = live; ordered = ordered; causeless = judged_sound.1 ordered } in
-        sound_state RepresentsLinkRows Links db tables (catalogue_shown Links db (sound_are_good Links db tables) RepresentsLinkRows links_show)
+        sound_state RepresentsLinkRows Links db tables (catalogue_shown Links db (sound_are_good Links db tables) RepresentsLinkRows links_represent)
 
     pub migrated : (new : Database) → ((s : office.State) → RepresentsState RepresentsLinkRows Links db s → RepresentsState RepresentsSpanRows Spans new s)
         → OnlyTouches (tables.office.tree ∷ tables.link.tree ∷ []) db new → IsMigrated db new

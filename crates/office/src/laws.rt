@@ -21,13 +21,13 @@ pub use office_core::laws_of_texts::{
     new_offices_are_sound, offices_stay_sound, sound_offices_are_kept, texts_stay_texts,
 };
 pub use state_encoding::laws::{
-    catalogue_has_no_cause, cells_have_no_cause, cells_without_a_cause, links_say_the_forest,
-    one_row_changes, rows_read_back, rows_say_the_catalogue, rows_without_a_cause,
-    spans_say_the_forest, tables_have_no_cause, tables_say_the_state, texts_are_utf8,
+    catalogue_has_no_cause, cells_have_no_cause, cells_without_a_cause, links_describe_the_forest,
+    one_row_changes, rows_describe_the_catalogue, rows_read_back, rows_without_a_cause,
+    spans_describe_the_forest, tables_describe_the_state, tables_have_no_cause, texts_are_utf8,
 };
 pub use state_encoding::laws_of_offices::{
-    sound_desks_are_legible, sound_offices_are_read, sound_offices_are_told, states_are_shown,
-    versions_differ_in_places,
+    sound_desks_are_legible, sound_offices_are_read, sound_offices_are_told,
+    states_are_represented, versions_differ_in_places,
 };
 
 /// Over any list of calls, even if some of them were busy, the office runs as the machine does: it answers as the

@@ -188,8 +188,8 @@ module _ (schema : Schema) (at : ℕ) (any : Table) (is : slice_get schema.table
       go (inl (stop, inr (rows, answer, inl (s, refused, p)), q)) = edited rows answer s refused (sym (same_error p) ∙ sym (same_error q))
       go (inl (stop, inr (rows, answer, inr (next, writes, p)), q)) = absurd (cc)
       go (inr (w, deleted, inl (stop, broken, q))) = tested w deleted broken.0
-      go (inr (w, deleted, inr (doubt, sound, inl shown))) = absurd (let k = shown.1 in cc)
-      go (inr (w, deleted, inr (doubt, sound, inr last))) = absurd (let k = last.2 in cc)
+      go (inr (w, deleted, inr (defect, sound, inl shown))) = absurd (let k = shown.1 in cc)
+      go (inr (w, deleted, inr (defect, sound, inr last))) = absurd (let k = last.2 in cc)
 
 -- a DELETE whose condition types, of a table whose foreign keys fit, where each work that it sets off is a leaf's and no row loses a parent
 module _ (sql : List ℕ) (params : Row) (old new : State) (schema : Schema) (has : old.now.schema ≡ schema) (at : ℕ) (q : Program) (is : command_of (understood schema sql) ≡ Delete at q)

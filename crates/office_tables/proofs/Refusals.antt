@@ -90,5 +90,5 @@ module _ (schema : Schema) (at : ℕ) (any : Table) (is : slice_get schema.table
           let edit = edit_of before.trees (plain any) [] Chosen 0 given.0 in
           let step = one_step schema mode.keys before.trees written.0 edit (no_works schema mode.keys 0 any.tree edit.news) written.1 in
           by_key given.0 w.trees (subst (λ p. IsSource (record { schema = schema; trees = before.trees }) p from given.0) (append-nil params) given.1) (subst (Applies schema mode.keys before.trees edit) (sym trees) step) tested.0 (let k : Some e ≡ Some (SqliteFailure (ConstraintViolation ForeignKey)) = same_error q ∙ tested.1 in cc)
-      go (inr (w, inserted, inr (doubt, tested, inl shown))) = absurd (let k = shown.1 in cc)
-      go (inr (w, inserted, inr (doubt, tested, inr last))) = absurd (let k = last.2 in cc)
+      go (inr (w, inserted, inr (defect, tested, inl shown))) = absurd (let k = shown.1 in cc)
+      go (inr (w, inserted, inr (defect, tested, inr last))) = absurd (let k = last.2 in cc)

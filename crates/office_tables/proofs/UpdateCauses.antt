@@ -93,8 +93,8 @@ module _ (schema : Schema) (at : ℕ) (any : Table) (is : slice_get schema.table
           let edit = edit_of before.trees (plain any) (ids_of given.0) Given 1 given.0 in
           let trees : written.0 ≡ w.trees = sym (ap (λ (it : Written). it.trees) (same_value written.2)) in
           by_parent given.0 given.1 w.trees (subst (Applies schema mode.keys before.trees edit) trees (one_step schema mode.keys before.trees written.0 edit (idle given.0) written.1)) tested.0
-      go (inr (w, updated, inr (doubt, tested, inl shown))) = absurd (let k = shown.1 in cc)
-      go (inr (w, updated, inr (doubt, tested, inr last))) = absurd (let k = last.2 in cc)
+      go (inr (w, updated, inr (defect, tested, inl shown))) = absurd (let k = shown.1 in cc)
+      go (inr (w, updated, inr (defect, tested, inr last))) = absurd (let k = last.2 in cc)
 
 -- ---- the cause
 

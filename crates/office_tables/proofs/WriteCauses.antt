@@ -110,8 +110,8 @@ module _ (task : Task) where
 
   concludes : (mode : Mode) (w : Written) → Blames (Concludes task mode None w)
   concludes mode w e (inl (stop, h, is)) = by e (SqliteFailure (ConstraintViolation ForeignKey)) (let same : Some e ≡ Some (SqliteFailure (ConstraintViolation ForeignKey)) = sym (at_stop is) ∙ h.1 in cc) refl
-  concludes mode w e (inr (doubt, t, inl (stop, h, is))) = absurd (cc)
-  concludes mode w e (inr (doubt, t, inr (rows, g, last))) = absurd (cc)
+  concludes mode w e (inr (defect, t, inl (stop, h, is))) = absurd (cc)
+  concludes mode w e (inr (defect, t, inr (rows, g, last))) = absurd (cc)
 
   inserts : (at : ℕ) (from : Source) (db : Trees) → Blames (WritesRows task db (Insert at from))
   inserts at from db e (inl (stop, h, is)) =

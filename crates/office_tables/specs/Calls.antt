@@ -40,7 +40,7 @@ module _ {S X Stays Model : Type 0} (g : store.Ghosts S) (represents : Database 
 
   -- The same as `Updates`, for a call of a store. If it fails and the transaction goes on, it has touched these tables
   -- only, whatever the rows are; and it blames the disk for its own failures only.
-  pub record Makes (may : Model → Type 0) (made : Model → Model) (touched : List ℕ) : Type 0 where
+  pub record StoreUpdates (may : Model → Type 0) (made : Model → Model) (touched : List ℕ) : Type 0 where
     pub represents_updated : HasCleanDisk new → (s : Stays) (m : Model) → represents old.now s m → may m → OnOk r (represents new.now s (made m))
     pub only : HasCleanDisk new → OnOk r (OnlyTouches touched old.now new.now)
     pub goes : OnOk r (Goes old new)
@@ -50,7 +50,7 @@ module _ {S X Stays Model : Type 0} (g : store.Ghosts S) (represents : Database 
 
   -- The same as `Answers`, for a call of a store. If it fails and the transaction goes on, every row is as it was,
   -- whatever the rows are; and it blames the disk for its own failures only.
-  pub record Tells (may : Model → Type 0) (answer : Stays → Model → X → Type 0) : Type 0 where
+  pub record StoreAnswers (may : Model → Type 0) (answer : Stays → Model → X → Type 0) : Type 0 where
     pub answers : HasCleanDisk new → (s : Stays) (m : Model) → represents old.now s m → IfOk r (answer s m)
     pub looks : OnOk r (LeavesUnchanged old new)
     pub cut : OnErr r (IsAborted old new)

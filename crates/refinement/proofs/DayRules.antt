@@ -18,7 +18,7 @@ use Rattle.state_encoding.specs.Causes.{holds_well, is_held_against_rules}
 use Rattle.state_encoding.specs.DeskEncoding.{holding_row, order_rows}
 use Rattle.state_encoding.specs.OfficeRows.{tables}
 use Rattle.state_encoding.proofs.DeskLookups.{flipped, is_some-map}
-use Rattle.refinement.specs.DayRules.{are_against_rules, breaks_day_rules, has_no_row, has_too_many, is_against_rules, is_without_seat, stands_over}
+use Rattle.refinement.specs.DayRules.{are_against_rules, breaks_day_rules, has_no_row, has_too_many, is_against_rules, is_without_seat, occurs_more_than}
 use Rattle.refinement.specs.Gate.{first_closed, is_closed_to}
 use Rattle.refinement.proofs.Gates.{ticket_is}
 use Rattle.refinement.proofs.HeldShown.{same_sum}
@@ -176,7 +176,7 @@ module _ (s : State) where
 
 -- ---- tickets that stand too often
 
-pub over_is : (hands : ℕ) (loans : List Loan) → stands_over hands (map (λ (loan : Loan). loan.ticket) loans) ≡ list_any (has_too_many hands loans) loans
+pub over_is : (hands : ℕ) (loans : List Loan) → occurs_more_than hands (map (λ (loan : Loan). loan.ticket) loans) ≡ list_any (has_too_many hands loans) loans
 over_is hands loans =
     let ticket : Loan → ℕ = λ loan. loan.ticket in
     list_any-map (λ k. nat_lt hands (count_by (nat_eq k) (map ticket loans))) ticket loans

@@ -12,7 +12,7 @@ use Rattle.std.proofs.lemmas.List.Sums.{sum_by-cons}
 use Rattle.std.proofs.lemmas.Option.{slice_get-get_or, slice_get_past}
 use Rattle.tree_core.proofs.Lists.{any_agree}
 use Rattle.office_core.specs.Words.{some_and}
-use Rattle.refinement.specs.DayRules.{stands_over}
+use Rattle.refinement.specs.DayRules.{occurs_more_than}
 
 -- ---- one number
 
@@ -63,7 +63,7 @@ abbrev pub stands_again : ℕ → List ℕ → Bool
 stands_again most [] = false
 stands_again most (x ∷ xs) = some_and (nat_eq x) (slice_get (x ∷ xs) most) || stands_again most xs
 
-pub again_is : (most : ℕ) (xs : List ℕ) → IsNonDecreasing xs → stands_again most xs ≡ stands_over most xs
+pub again_is : (most : ℕ) (xs : List ℕ) → IsNonDecreasing xs → stands_again most xs ≡ occurs_more_than most xs
 again_is most [] up = refl
 again_is most (x ∷ xs) up =
     let later : IsNonDecreasing xs = λ i j d le l. up (suc i) (suc j) d (omega (arith, le)) (omega (arith, l)) in
@@ -71,7 +71,7 @@ again_is most (x ∷ xs) up =
     ∙ ap (λ b. nat_lt most (times x (x ∷ xs)) || b) (again_is most xs later)
     ∙ at (nat_lt most (times x (x ∷ xs))) refl
   where
-    at : (b : Bool) → nat_lt most (times x (x ∷ xs)) ≡ b → (b || stands_over most xs) ≡ (b || list_any (λ n. nat_lt most (times n (x ∷ xs))) xs)
+    at : (b : Bool) → nat_lt most (times x (x ∷ xs)) ≡ b → (b || occurs_more_than most xs) ≡ (b || list_any (λ n. nat_lt most (times n (x ∷ xs))) xs)
     at true e = refl
     at false e = any_agree (λ n. nat_lt most (times n xs)) (λ n. nat_lt most (times n (x ∷ xs))) xs (λ n. elim (cases_eq n x) [
       | inl same ↦
@@ -108,7 +108,7 @@ left_at most i xs le lt =
     ∙ ap (λ o. some_and (nat_eq (get_or xs k 0)) o || stands_again most (drop (suc k) xs)) (ap (λ l. slice_get l most) (sym split) ∙ shifted k most xs ∙ ap (slice_get xs) there ∙ slice_get-get_or xs i 0 lt)
     ∙ ap (λ n. nat_eq (get_or xs k 0) (get_or xs i 0) || stands_again most (drop n xs)) next
 
-pub found_again : (most i : ℕ) (xs : List ℕ) → most ≤ i → i < length xs → stands_again most (drop (i - most) xs) ≡ stands_again most xs → get_or xs (i - most) 0 ≡ get_or xs i 0 → IsNonDecreasing xs → true ≡ stands_over most xs
+pub found_again : (most i : ℕ) (xs : List ℕ) → most ≤ i → i < length xs → stands_again most (drop (i - most) xs) ≡ stands_again most xs → get_or xs (i - most) 0 ≡ get_or xs i 0 → IsNonDecreasing xs → true ≡ occurs_more_than most xs
 found_again most i xs le lt so same up =
     sym (ap (λ b. b || stands_again most (drop (i + 1 - most) xs)) (eq-eqb (get_or xs (i - most) 0) (get_or xs i 0) same)) ∙ sym (left_at most i xs le lt) ∙ so ∙ again_is most xs up
 
@@ -120,12 +120,12 @@ too_short : (most : ℕ) (xs : List ℕ) → length xs ≤ most → stands_again
 too_short most [] le = refl
 too_short most (x ∷ xs) le = ap (λ o. some_and (nat_eq x) o || stands_again most xs) (slice_get_past (x ∷ xs) most le) ∙ too_short most xs (omega (arith, le))
 
-pub never_again : (most i : ℕ) (xs : List ℕ) → most ≤ i → length xs ≤ i → stands_again most (drop (i - most) xs) ≡ stands_again most xs → IsNonDecreasing xs → false ≡ stands_over most xs
+pub never_again : (most i : ℕ) (xs : List ℕ) → most ≤ i → length xs ≤ i → stands_again most (drop (i - most) xs) ≡ stands_again most xs → IsNonDecreasing xs → false ≡ occurs_more_than most xs
 never_again most i xs le end so up = sym (too_short most (drop (i - most) xs) (omega (arith, length-drop (i - most) xs, end, le))) ∙ so ∙ again_is most xs up
 
 -- ---- in whatever order they come
 
-pub over_permuted : (most : ℕ) (xs ys : List ℕ) → IsPermutation xs ys → stands_over most ys ≡ stands_over most xs
+pub over_permuted : (most : ℕ) (xs ys : List ℕ) → IsPermutation xs ys → occurs_more_than most ys ≡ occurs_more_than most xs
 over_permuted most xs ys p =
     any_agree (λ k. nat_lt most (times k ys)) (λ k. nat_lt most (times k xs)) ys (λ k. ap (nat_lt most) (sum_by-IsPermutation (λ y. cond (nat_eq k y) 1 0) xs ys p))
     ∙ sym (list_any-IsPermutation (λ k. nat_lt most (times k xs)) xs ys p)

@@ -11,7 +11,7 @@ ghost use Rattle.desk_store.specs.Representation.{RepresentsDeskAlone, IsLegible
 ghost use Rattle.office_tables.specs.Calls.{Answers};
 ghost use Rattle.office_tables.specs.Step.{InOffice, InTransaction};
 ghost use Rattle.refinement.specs.DayRules.{are_against_rules as are_against_rules_of, breaks_day_rules};
-ghost use Rattle.refinement.specs.DayRules.{has_no_row, has_too_many, stands_over};
+ghost use Rattle.refinement.specs.DayRules.{has_no_row, has_too_many, occurs_more_than};
 ghost use Rattle.refinement.specs.AccessConditions.{CanBeJudged, RepresentsWhole};
 
 use crate::gate::first_closed;
@@ -37,8 +37,8 @@ fn holders(alloc: Global, loans: &[Loan]) -> Result<Vec<u64>, AllocError>
 
 /// Whether one of these numbers occurs more than `most` times. They must be in ascending order, so that equal ones are
 /// adjacent.
-fn stands_over(numbers: &[u64], most: usize) -> bool
-    ensures { IsNonDecreasing numbers.now → result ≡ stands_over most numbers.now }
+fn occurs_more_than(numbers: &[u64], most: usize) -> bool
+    ensures { IsNonDecreasing numbers.now → result ≡ occurs_more_than most numbers.now }
 {
     for i in most..numbers.len() {
         if numbers[i - most] == numbers[i] {
@@ -53,7 +53,7 @@ fn are_too_many(alloc: Global, loans: &[Loan], hands: u32) -> Result<bool, Alloc
     ensures { IfOk result (λ yes. yes ≡ list_any (has_too_many hands loans.now) loans.now) }
 {
     let tickets = holders(alloc, loans)?;
-    Ok(stands_over(&tickets, hands as usize))
+    Ok(occurs_more_than(&tickets, hands as usize))
 }
 
 /// Whether a ticket has one of these seats. There are no more of them than seats in an office.

@@ -12,10 +12,10 @@ use Rattle.office_tables.specs.Schema as tables
 use Rattle.row_decoding.specs.TableRows.{places_in, places_are_unread}
 
 -- some row cannot be read, or no office can have those that can be read
-abbrev pub places_are_doubtful : Version → Trees → Bool
-places_are_doubtful version db = places_are_unread version db || not (are_good_places version (places_in version db))
+abbrev pub places_are_defective : Version → Trees → Bool
+places_are_defective version db = places_are_unread version db || not (are_good_places version (places_in version db))
 
--- ---- what rows that are not doubtful represent
+-- ---- what rows that are not defective represent
 
 -- The rows are sorted by their numbers, and each has its four cells, with null in the column that repeats its number.
 pub record AreWholePlaces (rows : List Row) : Type 0 where
@@ -24,6 +24,6 @@ pub record AreWholePlaces (rows : List Row) : Type 0 where
   pub keys : AllByRecursion (λ (row : Row). column row 1 ≡ Null) rows
 
 -- whole rows that an office can have represent the forest that they describe
-abbrev pub RepresentsWhatItSays : (Trees → Forest ℕ → Type 0) → Version → Trees → Type 0
-RepresentsWhatItSays represents version db =
-    AreWholePlaces (db tables.link.tree) → places_are_doubtful version db ≡ false → represents db (places_said (places_in version db))
+abbrev pub RepresentsWhatItDescribes : (Trees → Forest ℕ → Type 0) → Version → Trees → Type 0
+RepresentsWhatItDescribes represents version db =
+    AreWholePlaces (db tables.link.tree) → places_are_defective version db ≡ false → represents db (places_said (places_in version db))

@@ -4,14 +4,14 @@ ghost use Rattle.catalogue_statements.specs.Representation.{RepresentsLinkRows};
 ghost use Rattle.nested_sets.specs.Representation.{RepresentsSpanRows};
 ghost use Rattle.sqlite.specs.Tree.{Trees};
 ghost use Rattle.tree_core.specs.Versions.{Links, Spans};
-ghost use Rattle.row_completeness.specs.WholePlaces.{RepresentsWhatItSays};
+ghost use Rattle.row_completeness.specs.WholePlaces.{RepresentsWhatItDescribes};
 
 /// Whole rows of links that an office can have represent the forest that they describe.
-pub fn links_show()
-    ensures { (db : Trees) → RepresentsWhatItSays RepresentsLinkRows Links db }
+pub fn links_represent()
+    ensures { (db : Trees) → RepresentsWhatItDescribes RepresentsLinkRows Links db }
 {}
 
 /// Whole rows of spans that an office can have represent the forest that they describe.
-pub fn spans_show()
-    ensures { (db : Trees) → RepresentsWhatItSays RepresentsSpanRows Spans db }
+pub fn spans_represent()
+    ensures { (db : Trees) → RepresentsWhatItDescribes RepresentsSpanRows Spans db }
 {}

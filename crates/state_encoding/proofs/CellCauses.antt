@@ -17,7 +17,7 @@ use Rattle.office_tables.specs.DeskCells.{read_reader}
 use Rattle.office_tables.proofs.CellTexts.{from_first, is_text, all_read}
 use Rattle.state_encoding.specs.Causes.{first_held, desk_tests, catalogue_tests}
 use Rattle.state_encoding.specs.CellCauses.{rows_in, unread, either_of, no_office}
-use Rattle.state_encoding.specs.CellSoundness.{IsLegibleUnitRow, IsLegibleContainerRow, AreLegibleRows, CellsHaveNoCause, CellsSayASoundState}
+use Rattle.state_encoding.specs.CellSoundness.{IsLegibleUnitRow, IsLegibleContainerRow, AreLegibleRows, CellsHaveNoCause, CellsDescribeASoundState}
 use Rattle.state_encoding.proofs.Judging.{none_held, hold_none}
 use Rattle.state_encoding.proofs.JudgedWhole.{rows_are_said}
 use Rattle.state_encoding.proofs.DeskSound.{desk_sound}
@@ -134,7 +134,7 @@ legible_rows version db =
 
 -- ---- tables without a cause
 
-pub cells_are_said : (version : Version) (db : Trees) → CellsSayASoundState version db
+pub cells_are_said : (version : Version) (db : Trees) → CellsDescribeASoundState version db
 cells_are_said version db keys h =
     let said = rows_are_said version (rows_in version db) (desk_sound version (rows_in version db)) keys (none_by_cells version db h).rows in
     record {

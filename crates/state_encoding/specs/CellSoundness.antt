@@ -56,5 +56,5 @@ pub record AreOfASoundState (version : Version) (db : Trees) : Type 0 where
   pub legible : AreLegibleRows (rows_in version db)
 
 -- if the rows meet the keys and the tables have no cause, they describe a sound office and are its tables
-abbrev pub CellsSayASoundState : Version → Trees → Type 0
-CellsSayASoundState version db = MeetsKeys (rows_in version db) → cell_cause version db ≡ None → AreOfASoundState version db
+abbrev pub CellsDescribeASoundState : Version → Trees → Type 0
+CellsDescribeASoundState version db = MeetsKeys (rows_in version db) → cell_cause version db ≡ None → AreOfASoundState version db

@@ -11,7 +11,7 @@ ghost use Rattle.tree_core.specs.declared.rows.Link.{Link};
 ghost use Rattle.tree_core.specs.Versions.{Version};
 ghost use Rattle.isad_core.specs.Texts.{Bytes};
 ghost use Rattle.sqlite.specs.Tree.{Trees};
-ghost use Rattle.state_encoding.specs.CellSoundness.{CellsHaveNoCause, CellsSayASoundState, SaysUtf8};
+ghost use Rattle.state_encoding.specs.CellSoundness.{CellsHaveNoCause, CellsDescribeASoundState, SaysUtf8};
 ghost use Rattle.state_encoding.specs.RowSoundness.{HasNoCatalogueCause, HasNoCause, SaysASoundState, SaysTheCatalogue};
 ghost use Rattle.catalogue_core.specs.CatalogueRows.{LinkRows, SpanRows, places_said};
 ghost use Rattle.state_encoding.specs.OfficeRows.{OfficeRows, SaysAllButUnits, state_of, tables};
@@ -28,23 +28,23 @@ pub fn one_row_changes()
 {}
 
 /// The span rows of a forest of unit numbers describe that forest.
-pub fn spans_say_the_forest()
+pub fn spans_describe_the_forest()
     ensures { (f : Forest ℕ) → places_said (SpanRows (number 1 f)) ≡ f }
 {}
 
 /// The link rows of a forest of unit numbers describe that forest, in any order, if no number is repeated.
-pub fn links_say_the_forest()
+pub fn links_describe_the_forest()
     ensures { (f : Forest ℕ) (links : List Link) → HoldsLinks f links → places_said (LinkRows links) ≡ f }
 {}
 
 /// The rows of a sound state describe that state, in either version.
-pub fn tables_say_the_state()
+pub fn tables_describe_the_state()
     ensures { (version : Version) (s : State) → IsSound s → state_of (tables version s) ≡ s }
 {}
 
 /// Rows of the catalogue's tables that meet the keys and have none of the causes 1 to 5 describe a sound catalogue,
 /// and they are its rows, table by table, up to their order.
-pub fn rows_say_the_catalogue()
+pub fn rows_describe_the_catalogue()
     ensures { (version : Version) (t : OfficeRows) → SaysTheCatalogue version t }
 {}
 
@@ -78,5 +78,5 @@ pub fn cells_have_no_cause()
 /// If the rows of a file's tables meet the keys and the tables have no cause, then whatever their cells are, they
 /// describe a sound office and are its tables, and every text in them is UTF-8.
 pub fn cells_without_a_cause()
-    ensures { (version : Version) (db : Trees) → CellsSayASoundState version db }
+    ensures { (version : Version) (db : Trees) → CellsDescribeASoundState version db }
 {}

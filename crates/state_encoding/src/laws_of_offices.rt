@@ -21,7 +21,7 @@ pub fn versions_differ_in_places()
 {}
 
 /// Each state is represented by some tables, in either version.
-pub fn states_are_shown()
+pub fn states_are_represented()
     ensures { (version : Version) (s : State) → IsRepresentedByTrees version s }
 {}
 

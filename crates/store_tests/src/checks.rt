@@ -135,9 +135,9 @@ fn told<S: Alter>(
         hands: 1,
         run: 2,
     };
-    let doubt = load_check_desk(alloc, conn, &limits, day_after(0)?)?;
-    Ok(match doubt {
-        Some(doubt) => doubt.cause(),
+    let defect = load_check_desk(alloc, conn, &limits, day_after(0)?)?;
+    Ok(match defect {
+        Some(defect) => defect.cause(),
         None => 0,
     })
 }
@@ -190,7 +190,7 @@ const RUN: Write = (Row::Run, &[Int(2), TODAY]);
 const LINE: Write = (Row::Line, &[Int(2), Int(1), Int(1), ANN]);
 
 #[test]
-fn sound_desks_are_not_doubted(rt: HostRuntime) -> Result<(), Fail> {
+fn sound_desks_have_no_defect(rt: HostRuntime) -> Result<(), Fail> {
     let desks: [&'static [Write]; 7] = [
         &[],
         &[BOB, (Row::Seat, &[Int(2), Int(2)])],
@@ -212,7 +212,7 @@ fn sound_desks_are_not_doubted(rt: HostRuntime) -> Result<(), Fail> {
 /// A ticket number that is skipped or invalid; names and days that no reader can have; seats and permits of unknown
 /// tickets, and a seat too many.
 #[test]
-fn doubtful_readers_are_told(rt: HostRuntime) -> Result<(), Fail> {
+fn defective_readers_are_reported(rt: HostRuntime) -> Result<(), Fail> {
     let desks: [&'static [Write]; 15] = [
         &[(Row::Reader, &[Int(3), Text(b"Bob"), TODAY])],
         &[(Row::Reader, &[Int(0), Text(b"Bob"), TODAY])],
@@ -239,7 +239,7 @@ fn doubtful_readers_are_told(rt: HostRuntime) -> Result<(), Fail> {
 /// state or on an invalid day; the fourth order of a day, and a second order of a ticket that waits for the same
 /// container.
 #[test]
-fn doubtful_orders_are_told(rt: HostRuntime) -> Result<(), Fail> {
+fn defective_orders_are_reported(rt: HostRuntime) -> Result<(), Fail> {
     let desks: [&'static [Write]; 12] = [
         &[THIRD],
         &[(Row::Order, &[Int(0), ANN, Int(2), TODAY])],
@@ -262,7 +262,7 @@ fn doubtful_orders_are_told(rt: HostRuntime) -> Result<(), Fail> {
 /// An unknown container; an invalid place; a container at the desk with an order, or out without an order that is out;
 /// an order that is out without its container.
 #[test]
-fn doubtful_holdings_are_told(rt: HostRuntime) -> Result<(), Fail> {
+fn defective_holdings_are_reported(rt: HostRuntime) -> Result<(), Fail> {
     let desks: [&'static [Write]; 11] = [
         &[(Row::Holding, &[Int(4), Int(1), Null])],
         &[(Row::Holding, &[Int(-1), Int(1), Null])],
@@ -288,7 +288,7 @@ fn doubtful_holdings_are_told(rt: HostRuntime) -> Result<(), Fail> {
 /// A run number that is skipped or invalid; a run without lines, with too many, or on an invalid day; a line without
 /// its run, or one that does not match an order of that container and ticket.
 #[test]
-fn doubtful_runs_are_told(rt: HostRuntime) -> Result<(), Fail> {
+fn defective_runs_are_reported(rt: HostRuntime) -> Result<(), Fail> {
     let desks: [&'static [Write]; 11] = [
         &[
             (Row::Run, &[Int(3), TODAY]),
@@ -326,7 +326,7 @@ const EMPTY: Write = (Row::Seat, &[Int(2), Int(2)]);
 
 /// Of several causes the first is found, whichever was written first.
 #[test]
-fn the_first_doubt_is_told(rt: HostRuntime) -> Result<(), Fail> {
+fn the_first_defect_is_reported(rt: HostRuntime) -> Result<(), Fail> {
     let desks: [&'static [Write]; 5] = [
         &[LINE, LOST, THIRD, EMPTY],
         &[EMPTY, THIRD, LOST, LINE],
@@ -364,7 +364,7 @@ fn causes_in_files(rt: &HostRuntime, desks: &[&'static [Write]]) -> Result<Strin
 
 /// The same over files, one for each cause.
 #[test]
-fn doubtful_files_are_told(rt: HostRuntime) -> Result<(), Fail> {
+fn defective_files_are_reported(rt: HostRuntime) -> Result<(), Fail> {
     let desks: [&'static [Write]; 4] = [
         &[LINE, LOST, EMPTY],
         &[LINE, LOST, THIRD],

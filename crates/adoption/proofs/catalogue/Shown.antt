@@ -30,7 +30,7 @@ use Rattle.state_encoding.specs.OfficeRows.{OfficeRows, state_of, unit_said}
 use Rattle.state_encoding.proofs.told.ToldCatalogue.{HasNoCause, no_cause, catalogue_is_said}
 use Rattle.state_encoding.proofs.told.ToldUnits.{said_id}
 use Rattle.refinement.specs.Representation.{office_of}
-use Rattle.row_completeness.specs.WholePlaces.{RepresentsWhatItSays, places_are_doubtful}
+use Rattle.row_completeness.specs.WholePlaces.{RepresentsWhatItDescribes, places_are_defective}
 use Rattle.row_completeness.proofs.KeptRows.{rows_kept, has_numbered}
 use Rattle.adoption.specs.Catalogue.{RepresentsItsCatalogue}
 use Rattle.adoption.specs.SoundTables.{AreGoodTables}
@@ -43,9 +43,9 @@ use Rattle.adoption.proofs.catalogue.Owned.{each_has, all_owned}
 use Rattle.adoption.proofs.catalogue.Told.{element_cell, element_units, elements_told, housing_cell, housing_units, housings_told, containers_told}
 use Rattle.adoption.proofs.catalogue.Units.{units_stored}
 
-no_doubt : (v : Version) (db : Trees) → AllByRecursion (λ (b : Bool). b ≡ false) (unread v db) → are_good_places v (rows_in v db).catalogue.places ≡ true → places_are_doubtful v db ≡ false
-no_doubt Links db read good = or_from _ _ read.1.0 (ap not good)
-no_doubt Spans db read good = or_from _ _ read.1.0 (ap not good)
+no_defect : (v : Version) (db : Trees) → AllByRecursion (λ (b : Bool). b ≡ false) (unread v db) → are_good_places v (rows_in v db).catalogue.places ≡ true → places_are_defective v db ≡ false
+no_defect Links db read good = or_from _ _ read.1.0 (ap not good)
+no_defect Spans db read good = or_from _ _ read.1.0 (ap not good)
 
 -- the numbers of the units that are said
 numbers_back : (t : OfficeRows) (f : Forest ℕ) → each (λ (u : Unit). u.id) (each (unit_said t.catalogue) f) ≡ f
@@ -164,11 +164,11 @@ module _ (v : Version) (db : Database) (it : AreGoodTables v db) where
     housings = housings;
   }
 
-  pub catalogue_shown : (places : Trees → Forest ℕ → Type 0) → ((db : Trees) → RepresentsWhatItSays places v db) → RepresentsItsCatalogue places v db
+  pub catalogue_shown : (places : Trees → Forest ℕ → Type 0) → ((db : Trees) → RepresentsWhatItDescribes places v db) → RepresentsItsCatalogue places v db
   catalogue_shown places represents = record {
     keys = keys_met v db it;
     represents = record {
       catalogue = catalogue;
-      shown = subst (places db.trees) (sym (numbers_back t (places_said t.catalogue.places))) (represents db.trees (whole_places v db it) (no_doubt v db.trees read good.places));
+      shown = subst (places db.trees) (sym (numbers_back t (places_said t.catalogue.places))) (represents db.trees (whole_places v db it) (no_defect v db.trees read good.places));
     };
   }

@@ -7,7 +7,7 @@ use Rattle.sqlite.specs.Table.{Table}
 use Rattle.sqlite_schema.specs.Rules.{Obeys}
 use Rattle.tree_core.specs.Versions.{Version}
 use Rattle.office_tables.specs.Schema.{schema}
-use Rattle.adoption.specs.Desk.{RowsShowTheDesk}
+use Rattle.adoption.specs.Desk.{RowsRepresentTheDesk}
 use Rattle.adoption.specs.SoundTables.{AreGoodTables}
 use Rattle.row_completeness.proofs.FullRows.{whole_tables}
 use Rattle.row_completeness.specs.WholeRows.{IsWholeTable}
@@ -25,7 +25,7 @@ module _ (version : Version) (db : Database) (good : AreGoodTables version db) w
   whole : AllByRecursion (λ (table : Table). IsWholeTable table (db.trees table.tree)) (schema version).tables
   whole = subst (λ (s : Schema). AllByRecursion (λ (table : Table). IsWholeTable table (db.trees table.tree)) s.tables) good.schema_is (whole_tables version db good.schema_is good.live good.ordered)
 
-pub desk_shown : (version : Version) (db : Database) → RowsShowTheDesk version db
+pub desk_shown : (version : Version) (db : Database) → RowsRepresentTheDesk version db
 desk_shown version db good =
     let it = passed version db good in
     record {

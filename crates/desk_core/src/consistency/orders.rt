@@ -8,11 +8,11 @@ ghost use Rattle.desk_core.specs.DeskRows.{Desk};
 ghost use Rattle.desk_core.specs.RowRecords.{Surrounds, order_row};
 ghost use Rattle.desk_core.specs.Consistency.{is_fit_order as is_fit_order_of, placing, placing_cmp};
 ghost use Rattle.desk_core.specs.Consistency.{asking, asking_cmp};
-ghost use Rattle.desk_core.specs.KeyCounts.{stands_over as stands_over_of};
+ghost use Rattle.desk_core.specs.KeyCounts.{occurs_more_than as occurs_more_than_of};
 ghost use Rattle.desk_core.specs.Consistency.{waits_or_is_out as waits_or_is_out_of};
 
 use crate::consistency::context::{Around, is_day, is_given};
-use crate::consistency::key_counts::stands_over;
+use crate::consistency::key_counts::occurs_more_than;
 use crate::consistency::numbers::are_numbered;
 use crate::consistency::rows::OrderRow;
 use isad_core::limits;
@@ -55,19 +55,19 @@ fn are_plain(around: &Around, numbers: &[u64], orders: &[OrderRow]) -> bool
 /// Whether no ticket placed more orders on a day than it may.
 fn keep_the_limit(alloc: Global, daily: u64, orders: &[OrderRow]) -> Result<bool, AllocError>
     ensures { IfOk result (λ good. good
-        ≡ not (stands_over_of placing_cmp daily (map placing orders.now))) }
+        ≡ not (occurs_more_than_of placing_cmp daily (map placing orders.now))) }
 {
     let placings = placings_of(alloc, orders)?;
-    Ok(!stands_over(placings, daily))
+    Ok(!occurs_more_than(placings, daily))
 }
 
 /// Whether no ticket asks twice for a container, by orders that wait or are out.
 fn ask_once(alloc: Global, orders: &[OrderRow]) -> Result<bool, AllocError>
     ensures { IfOk result (λ good. good
-        ≡ not (stands_over_of asking_cmp 1 (map asking (filter waits_or_is_out_of orders.now)))) }
+        ≡ not (occurs_more_than_of asking_cmp 1 (map asking (filter waits_or_is_out_of orders.now)))) }
 {
     let askings = askings_of(alloc, orders)?;
-    Ok(!stands_over(askings, 1))
+    Ok(!occurs_more_than(askings, 1))
 }
 
 fn numbers_of(alloc: Global, orders: &[OrderRow]) -> Result<Vec<u64>, AllocError>

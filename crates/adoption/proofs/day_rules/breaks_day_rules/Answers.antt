@@ -1,5 +1,5 @@
 use Rattle.sqlite.specs.Held.{state}
-use Rattle.adoption.specs.Tables.{GoodTablesShowTheirState}
+use Rattle.adoption.specs.Tables.{GoodTablesRepresentTheirState}
 use Rattle.adoption.proofs.catalogue.Shown.{catalogue_shown}
 use Rattle.adoption.proofs.tables.ShownTables.{good_state}
 use Rattle.adoption.proofs.DayRules.{day_excused, day_read, day_told}
@@ -10,7 +10,7 @@ returns g c =
     let places = g.P.Places.represents in
     let v = g.P.Places.version in
     let old = state g.S.Store c.args.conn.now in
-    let law : GoodTablesShowTheirState places v old.now = λ good. good_state places v old.now good (catalogue_shown v old.now good places g.met.P.CheckedPlaces.shows_said) in
+    let law : GoodTablesRepresentTheirState places v old.now = λ good. good_state places v old.now good (catalogue_shown v old.now good places g.met.P.CheckedPlaces.shows_said) in
     let told = c.breaks_day_rules.ensures.tells in
     record {
       reads = day_read places v g.S.Store c.args.conn.now c.breaks_day_rules.new.conn c.breaks_day_rules.result c.args.own.now told;

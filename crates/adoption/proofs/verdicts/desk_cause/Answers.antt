@@ -23,19 +23,19 @@ pub returns-in-Some-clause-tells : goal.returns-in-Some-clause-tells
 returns-in-Some-clause-tells g c clean opened ordered own catalogue =
     let db = (state g.S.Store c.args.conn.now).now.trees in
     ap Some c.cause.ensures
-    ∙ sym (told_desk g.P.Places.version db c.args.own.now (sym own) catalogue c.in-Some.doubt (sym c.in-Some.is ∙ c.in_ok-doubt.ensures.tells clean))
+    ∙ sym (told_desk g.P.Places.version db c.args.own.now (sym own) catalogue c.in-Some.defect (sym c.in-Some.is ∙ c.in_ok-defect.ensures.tells clean))
 
 pub returns-in_err-breaks_day_rules-clause-reads : goal.returns-in_err-breaks_day_rules-clause-reads
 returns-in_err-breaks_day_rules-clause-reads g c =
     let cut = cut_then (state g.S.Store c.args.conn.now) (state g.S.Store c.load_check_desk.new.conn) (state g.S.Store c.breaks_day_rules.new.conn)
-    c.in_ok-doubt.ensures.reads.looks.goes.on c.in_err-breaks_day_rules.ensures.reads.cut in
+    c.in_ok-defect.ensures.reads.looks.goes.on c.in_err-breaks_day_rules.ensures.reads.cut in
     record { crash = cut.crash; looks = search rules; cut = search (rules, cut) }
 
 pub returns-then-branch-clause-reads : goal.returns-then-branch-clause-reads
 returns-then-branch-clause-reads g c =
     let old = state g.S.Store c.args.conn.now in
     let new = state g.S.Store c.breaks_day_rules.new.conn in
-    looked_well old new (Some 10) (looks_then old (state g.S.Store c.load_check_desk.new.conn) new c.in_ok-doubt.ensures.reads.looks c.in_ok-breaks_day_rules.ensures.reads.looks)
+    looked_well old new (Some 10) (looks_then old (state g.S.Store c.load_check_desk.new.conn) new c.in_ok-defect.ensures.reads.looks c.in_ok-breaks_day_rules.ensures.reads.looks)
 
 pub returns-then-branch-clause-tells : goal.returns-then-branch-clause-tells
 returns-then-branch-clause-tells g c clean opened ordered own catalogue =
@@ -43,16 +43,16 @@ returns-then-branch-clause-tells g c clean opened ordered own catalogue =
     let old = state g.S.Store c.args.conn.now in
     let mid = state g.S.Store c.load_check_desk.new.conn in
     let clean_mid = before mid (state g.S.Store c.breaks_day_rules.new.conn) c.in_ok-breaks_day_rules.ensures.reads.looks clean in
-    let none = fine_desk v old.now.trees c.args.own.now (sym own) catalogue (sym c.in_default.is ∙ c.in_ok-doubt.ensures.tells clean_mid) in
+    let none = fine_desk v old.now.trees c.args.own.now (sym own) catalogue (sym c.in_default.is ∙ c.in_ok-defect.ensures.tells clean_mid) in
     let told = subst (λ (db : Database). StandInOrder db → own_row_of v db.trees ≡ Some c.args.own.now → HasNoEarlierCause v db.trees → c.in_ok-breaks_day_rules.field-0 ≡ day_is_broken (rows_in v db.trees))
-    (c.in_ok-doubt.ensures.reads.looks.same clean_mid) (c.in_ok-breaks_day_rules.ensures.tells clean (opened_then old mid c.in_ok-doubt.ensures.reads.looks clean_mid opened)) ordered own none in
+    (c.in_ok-defect.ensures.reads.looks.same clean_mid) (c.in_ok-breaks_day_rules.ensures.tells clean (opened_then old mid c.in_ok-defect.ensures.reads.looks clean_mid opened)) ordered own none in
     sym (broken_day v old.now.trees none (sym told ∙ c.if-branch.true))
 
 pub returns-clause-reads : goal.returns-clause-reads
 returns-clause-reads g c =
     let old = state g.S.Store c.args.conn.now in
     let new = state g.S.Store c.breaks_day_rules.new.conn in
-    looked_well old new None (looks_then old (state g.S.Store c.load_check_desk.new.conn) new c.in_ok-doubt.ensures.reads.looks c.in_ok-breaks_day_rules.ensures.reads.looks)
+    looked_well old new None (looks_then old (state g.S.Store c.load_check_desk.new.conn) new c.in_ok-defect.ensures.reads.looks c.in_ok-breaks_day_rules.ensures.reads.looks)
 
 pub returns-clause-tells : goal.returns-clause-tells
 returns-clause-tells g c clean opened ordered own catalogue =
@@ -60,9 +60,9 @@ returns-clause-tells g c clean opened ordered own catalogue =
     let old = state g.S.Store c.args.conn.now in
     let mid = state g.S.Store c.load_check_desk.new.conn in
     let clean_mid = before mid (state g.S.Store c.breaks_day_rules.new.conn) c.in_ok-breaks_day_rules.ensures.reads.looks clean in
-    let none = fine_desk v old.now.trees c.args.own.now (sym own) catalogue (sym c.in_default.is ∙ c.in_ok-doubt.ensures.tells clean_mid) in
+    let none = fine_desk v old.now.trees c.args.own.now (sym own) catalogue (sym c.in_default.is ∙ c.in_ok-defect.ensures.tells clean_mid) in
     let told = subst (λ (db : Database). StandInOrder db → own_row_of v db.trees ≡ Some c.args.own.now → HasNoEarlierCause v db.trees → c.in_ok-breaks_day_rules.field-0 ≡ day_is_broken (rows_in v db.trees))
-    (c.in_ok-doubt.ensures.reads.looks.same clean_mid) (c.in_ok-breaks_day_rules.ensures.tells clean (opened_then old mid c.in_ok-doubt.ensures.reads.looks clean_mid opened)) ordered own none in
+    (c.in_ok-defect.ensures.reads.looks.same clean_mid) (c.in_ok-breaks_day_rules.ensures.tells clean (opened_then old mid c.in_ok-defect.ensures.reads.looks clean_mid opened)) ordered own none in
     sym (kept_day v old.now.trees none (sym told ∙ c.if-branch.false))
 
 pub returns-in_err-breaks_day_rules-clause-faults : goal.returns-in_err-breaks_day_rules-clause-faults
@@ -71,11 +71,11 @@ returns-in_err-breaks_day_rules-clause-faults g c opened ordered own catalogue c
     let old = state g.S.Store c.args.conn.now in
     let mid = state g.S.Store c.load_check_desk.new.conn in
     let new = state g.S.Store c.breaks_day_rules.new.conn in
-    let looked = c.in_ok-doubt.ensures.reads.looks in
+    let looked = c.in_ok-defect.ensures.reads.looks in
     let told = c.in_err-breaks_day_rules.ensures in
     let failed : Result Bool StoreFault = Err c.in_err-breaks_day_rules.field-0.0 in
     let why = excused_then old mid new looked.goes.on failed told.reads.cut (λ clean_mid.
-    let none = fine_desk v old.now.trees c.args.own.now (sym own) catalogue (sym c.in_default.is ∙ c.in_ok-doubt.ensures.tells clean_mid) in
+    let none = fine_desk v old.now.trees c.args.own.now (sym own) catalogue (sym c.in_default.is ∙ c.in_ok-defect.ensures.tells clean_mid) in
     subst (λ (db : Database). StandInOrder db → HasNoEarlierCause v db.trees → FaultsHaveCause mid new failed) (looked.same clean_mid) (told.faults (opened_then old mid looked clean_mid opened)) ordered none)
     clean free in
     search (rules, why)

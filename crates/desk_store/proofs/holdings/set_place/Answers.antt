@@ -1,7 +1,7 @@
 use Rattle.std.proofs.Common.{Some, None, Ok, [], ◌∷◌, sym, subst}
 use Rattle.std.specs.Prelude.{⊤}
 use Rattle.desk_core.specs.declared.reader.Place.{Place}
-use Rattle.office_tables.specs.Calls.{Makes}
+use Rattle.office_tables.specs.Calls.{StoreUpdates}
 use Rattle.office_tables.specs.Schema as tables
 use Rattle.desk_store.specs.Holdings.{with_place}
 use Rattle.desk_store.specs.Representation.{RepresentsDeskAlone, IsLegible}
@@ -12,7 +12,7 @@ pub returns-in-Shelf : goal.returns-in-Shelf
 returns-in-Shelf g c =
     let e = c.in_ok-clear_holding.ensures in
     record {
-      makes = subst (λ (place : Place). Makes g.S.Store RepresentsDeskAlone IsLegible c.args.conn.now c.clear_holding.new.conn (Ok (tt {0})) (λ _. ⊤) (with_place c.args.container place) (tables.holding.tree ∷ [])) (sym c.in-Shelf.is)
+      makes = subst (λ (place : Place). StoreUpdates g.S.Store RepresentsDeskAlone IsLegible c.args.conn.now c.clear_holding.new.conn (Ok (tt {0})) (λ _. ⊤) (with_place c.args.container place) (tables.holding.tree ∷ [])) (sym c.in-Shelf.is)
           (shelved g.S.Store c.args.conn.now c.clear_holding.new.conn c.args.container e.leaves.goes e.rows e.only);
     }
 
@@ -21,7 +21,7 @@ returns-in-Desk g c =
     let e = c.in_ok-clear_holding.ensures in
     let f = c.insert_holding.ensures in
     record {
-      makes = subst (λ (place : Place). Makes g.S.Store RepresentsDeskAlone IsLegible c.args.conn.now c.insert_holding.new.conn c.insert_holding.result (λ _. ⊤) (with_place c.args.container place) (tables.holding.tree ∷ [])) (sym c.in-Desk.is)
+      makes = subst (λ (place : Place). StoreUpdates g.S.Store RepresentsDeskAlone IsLegible c.args.conn.now c.insert_holding.new.conn c.insert_holding.result (λ _. ⊤) (with_place c.args.container place) (tables.holding.tree ∷ [])) (sym c.in-Desk.is)
           (placed g.S.Store c.args.conn.now c.clear_holding.new.conn c.args.container e.leaves.goes e.rows e.only c.insert_holding.new.conn 1 None c.insert_holding.result f.leaves f.puts f.faults);
     }
 
@@ -30,6 +30,6 @@ returns-in-Out g c =
     let e = c.in_ok-clear_holding.ensures in
     let f = c.insert_holding-in-Out.ensures in
     record {
-      makes = subst (λ (place : Place). Makes g.S.Store RepresentsDeskAlone IsLegible c.args.conn.now c.insert_holding-in-Out.new.conn c.insert_holding-in-Out.result (λ _. ⊤) (with_place c.args.container place) (tables.holding.tree ∷ [])) (sym c.in-Out.is)
+      makes = subst (λ (place : Place). StoreUpdates g.S.Store RepresentsDeskAlone IsLegible c.args.conn.now c.insert_holding-in-Out.new.conn c.insert_holding-in-Out.result (λ _. ⊤) (with_place c.args.container place) (tables.holding.tree ∷ [])) (sym c.in-Out.is)
           (placed g.S.Store c.args.conn.now c.clear_holding.new.conn c.args.container e.leaves.goes e.rows e.only c.insert_holding-in-Out.new.conn 2 (Some c.in-Out.order) c.insert_holding-in-Out.result f.leaves f.puts f.faults);
     }

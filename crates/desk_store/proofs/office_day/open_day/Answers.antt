@@ -1,6 +1,6 @@
 use Rattle.std.proofs.Common.{Result, [], ◌∷◌, sym, subst}
 use Rattle.std.specs.Prelude.{⊤}
-use Rattle.office_tables.specs.Calls.{Makes}
+use Rattle.office_tables.specs.Calls.{StoreUpdates}
 use Rattle.office_tables.specs.declared.fault.StoreFault.{StoreFault}
 use Rattle.office_tables.specs.Schema as tables
 use Rattle.office_tables.proofs.CallEnds.{same_fault}
@@ -13,7 +13,7 @@ returns-in_err-free_seats g c =
     let whole = not_freed g.S.Store c.args.conn.now c.free_seats.new.conn c.args.on c.in_err-free_seats.field-0.0 c.in_err-free_seats.ensures.leaves c.in_err-free_seats.ensures.faults in
     let e = c.from_residual.ensures in
     record {
-      makes = subst (λ (r : Result Unit StoreFault). Makes g.S.Store RepresentsBoth IsLegibleHouse c.args.conn.now c.free_seats.new.conn r (λ _. ⊤) (opened c.args.on) (tables.seat.tree ∷ tables.office.tree ∷ []))
+      makes = subst (λ (r : Result Unit StoreFault). StoreUpdates g.S.Store RepresentsBoth IsLegibleHouse c.args.conn.now c.free_seats.new.conn r (λ _. ⊤) (opened c.args.on) (tables.seat.tree ∷ tables.office.tree ∷ []))
           (sym (same_fault c.from_residual.result c.in_err-free_seats.field-0.0 e.0 e.1)) whole;
     }
 

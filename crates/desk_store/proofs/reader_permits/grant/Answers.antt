@@ -1,6 +1,6 @@
 use Rattle.std.proofs.Common.{Result, [], ◌∷◌, sym, subst}
 use Rattle.sqlite.specs.Held.{state}
-use Rattle.office_tables.specs.Calls.{Makes}
+use Rattle.office_tables.specs.Calls.{StoreUpdates}
 use Rattle.office_tables.specs.declared.fault.StoreFault.{StoreFault}
 use Rattle.office_tables.specs.Schema as tables
 use Rattle.office_tables.proofs.CallEnds.{same_fault}
@@ -14,7 +14,7 @@ returns-in_err-clear_permit-clause-makes g c =
     let old = state g.S.Store c.args.conn.now in
     let whole = not_cleared g.S.Store c.args.conn.now c.clear_permit.new.conn c.clear_permit.new.conn c.args.ticket c.args.unit c.args.until c.in_err-clear_permit.field-0.0 c.in_err-clear_permit.ensures.leaves c.in_err-clear_permit.ensures.faults in
     let e = c.from_residual.ensures in
-    subst (λ (r : Result Unit StoreFault). Makes g.S.Store RepresentsDeskAlone IsLegible c.args.conn.now c.clear_permit.new.conn r (MayHave c.args.ticket c.args.unit old.now.trees) (with_permit c.args.ticket c.args.unit c.args.until) (tables.permit.tree ∷ []))
+    subst (λ (r : Result Unit StoreFault). StoreUpdates g.S.Store RepresentsDeskAlone IsLegible c.args.conn.now c.clear_permit.new.conn r (MayHave c.args.ticket c.args.unit old.now.trees) (with_permit c.args.ticket c.args.unit c.args.until) (tables.permit.tree ∷ []))
     (sym (same_fault c.from_residual.result c.in_err-clear_permit.field-0.0 e.0 e.1)) whole
 
 pub returns : goal.returns

@@ -1,6 +1,6 @@
 use Rattle.std.proofs.Common.{ℕ, Option, Result, [], ◌∷◌, sym, subst, ◌∙◌}
 use Rattle.std.specs.Prelude.{⊤}
-use Rattle.office_tables.specs.Calls.{Makes}
+use Rattle.office_tables.specs.Calls.{StoreUpdates}
 use Rattle.office_tables.specs.declared.fault.StoreFault.{StoreFault}
 use Rattle.office_tables.specs.Schema as tables
 use Rattle.office_tables.proofs.CallEnds.{same_fault}
@@ -14,7 +14,7 @@ returns-in_err-insert_reader-clause-makes g c =
     let whole = failed g.S.Store c.args.conn.now c.next_number.new.conn c.insert_reader.new.conn c.args.name.now c.args.until c.in-Some.ticket c.in_ok-ticket.ensures.reads.looks
     (λ clean d shown. sym c.in-Some.is ∙ c.in_ok-ticket.ensures.number clean d shown) c.in_err-insert_reader.field-0.0 c.in_err-insert_reader.ensures.leaves.cut c.in_err-insert_reader.ensures.leaves.spares c.in_err-insert_reader.ensures.faults in
     let e = c.from_residual-in_err-insert_reader.ensures in
-    subst (λ (r : Result (Option ℕ) StoreFault). Makes g.S.Store RepresentsDeskAlone IsLegible c.args.conn.now c.insert_reader.new.conn r (λ _. ⊤) (λ d. with_reader (next_ticket d) c.args.name.now c.args.until d) (tables.reader.tree ∷ []))
+    subst (λ (r : Result (Option ℕ) StoreFault). StoreUpdates g.S.Store RepresentsDeskAlone IsLegible c.args.conn.now c.insert_reader.new.conn r (λ _. ⊤) (λ d. with_reader (next_ticket d) c.args.name.now c.args.until d) (tables.reader.tree ∷ []))
     (sym (same_fault c.from_residual-in_err-insert_reader.result c.in_err-insert_reader.field-0.0 e.0 e.1)) whole
 
 pub returns-clause-makes : goal.returns-clause-makes

@@ -1,6 +1,6 @@
 use Rattle.std.specs.Prelude.{⊤}
 use Rattle.std.proofs.Common.{ℕ, Option, Result, [], ◌∷◌, sym, subst, ◌∙◌}
-use Rattle.office_tables.specs.Calls.{Makes}
+use Rattle.office_tables.specs.Calls.{StoreUpdates}
 use Rattle.office_tables.specs.declared.fault.StoreFault.{StoreFault}
 use Rattle.office_tables.specs.Schema as tables
 use Rattle.office_tables.proofs.CallEnds.{same_fault}
@@ -14,7 +14,7 @@ returns-in_err-insert_all-clause-makes g c =
     let whole = not_recorded g.S.Store c.args.conn.now c.next_number.new.conn c.insert_all.new.conn c.args.on c.args.taken.now c.in-Some.run' c.in_ok-run.ensures.reads.looks
     (λ clean d shown. sym c.in-Some.is ∙ c.in_ok-run.ensures.number clean d shown) c.in_err-insert_all.field-0.0 c.in_err-insert_all.ensures.cut c.in_err-insert_all.ensures.spares c.in_err-insert_all.ensures.faults in
     let e = c.from_residual-in_err-insert_all.ensures in
-    subst (λ (r : Result (Option ℕ) StoreFault). Makes g.S.Store RepresentsDeskAlone (λ d. IsLegible d × TakesEachOnce c.args.taken.now) c.args.conn.now c.insert_all.new.conn r (λ _. ⊤) (λ d. with_run (next_run d) c.args.on c.args.taken.now d) (tables.run.tree ∷ tables.run_line.tree ∷ []))
+    subst (λ (r : Result (Option ℕ) StoreFault). StoreUpdates g.S.Store RepresentsDeskAlone (λ d. IsLegible d × TakesEachOnce c.args.taken.now) c.args.conn.now c.insert_all.new.conn r (λ _. ⊤) (λ d. with_run (next_run d) c.args.on c.args.taken.now d) (tables.run.tree ∷ tables.run_line.tree ∷ []))
     (sym (same_fault c.from_residual-in_err-insert_all.result c.in_err-insert_all.field-0.0 e.0 e.1)) whole
 
 pub returns-clause-makes : goal.returns-clause-makes

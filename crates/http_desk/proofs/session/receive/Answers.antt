@@ -4,7 +4,7 @@ use Rattle.std.proofs.KnownBytes.{Appends-trans}
 use Rattle.http_messages.specs.HeadVerdict.{request_in}
 use Rattle.http_messages.specs.Heads.{Accepted}
 use Rattle.http_desk.specs.Messages.{HasHead, Fails}
-use Rattle.http_desk.specs.Session.{leave_if}
+use Rattle.http_desk.specs.Session.{continue_if}
 use Rattle.http_desk.specs.Exchanges.{Turn, Through, after_sending}
 use Rattle.http_messages.specs.declared.status.Status.TheVariants.{Busy}
 use Rattle.http_desk.specs.declared.session_end.Ended.TheVariants.{Closed, Cut, ReadFault, Bound}
@@ -30,23 +30,23 @@ returns-in_default g c =
     let (turn, at_end) =
     leave_broken g.M.Machine.represents g.M.Machine.is_intact g.M.Machine.is_open c.args.number c.args.office.now items block
     (drop size items) (request_in block c.args.head) c.args.reader.now.bytes _ _
-    c.give_leave.result _ c.after.result c.in_default.not-All c.after.ensures c.requires.accepted
-    c.give_leave.ensures.sends in
+    c.send_continue.result _ c.after.result c.in_default.not-All c.after.ensures c.requires.accepted
+    c.send_continue.ensures.sends in
     record {
       turn = turn;
       intact = λ i. i;
       was_open = λ i stays. stays;
       at_end = at_end;
-      flushed = λ q. not_all_sent c.give_leave.new.writer c.give_leave.result _ c.after.result c.in_default.not-All c.after.ensures;
+      flushed = λ q. not_all_sent c.send_continue.new.writer c.send_continue.result _ c.after.result c.in_default.not-All c.after.ensures;
       reads =
-          let none = no_read_told c.give_leave.result (Ends Closed) c.after.result refl c.after.ensures in
+          let none = no_read_told c.send_continue.result (Ends Closed) c.after.result refl c.after.ensures in
           ap (λ b. b || c.args.reader.now.failed) (sym none);
-      writes = writes_told c.give_leave.result _ c.after.result _ _ refl c.after.ensures c.give_leave.ensures.writes;
+      writes = writes_told c.send_continue.result _ c.after.result _ _ refl c.after.ensures c.send_continue.ensures.writes;
       turns = λ p q.
-          let (before, here) = c.give_leave.ensures.turns q in
-          (p, before, no_bound c.give_leave.result _ c.after.ensures here);
+          let (before, here) = c.send_continue.ensures.turns q in
+          (p, before, no_bound c.send_continue.result _ c.after.ensures here);
       calls = (refl, omega arith);
-      same = c.give_leave.ensures.same;
+      same = c.send_continue.ensures.same;
     }
 
 pub act-requires-clause-accepted : goal.act-requires-clause-accepted
@@ -63,10 +63,10 @@ returns-in-Whole-clause-turn g c =
     let (got, consumed, e) = c.gather_body.ensures.got in
     let (written, appended, through) = c.act.ensures.turn in (
       got,
-      leave_if c.args.head.waits ++ written,
+      continue_if c.args.head.waits ++ written,
       consumed,
       Appends-trans _ _ _ _ _ c.in-All.ensures.sends appended,
-      subst (λ input. Through g.M.Machine.represents g.M.Machine.is_intact c.args.office.now c.act.new.office (λ s t. Turn (g.M.Machine.is_open c.args.office.now) (g.M.Machine.is_open c.act.new.office) c.args.number s input c.act.result (leave_if c.args.head.waits ++ written) t c.act.new.buffer.items)) e through,
+      subst (λ input. Through g.M.Machine.represents g.M.Machine.is_intact c.args.office.now c.act.new.office (λ s t. Turn (g.M.Machine.is_open c.args.office.now) (g.M.Machine.is_open c.act.new.office) c.args.number s input c.act.result (continue_if c.args.head.waits ++ written) t c.act.new.buffer.items)) e through,
     )
 
 pub returns-in-Cut-clause-turn : goal.returns-in-Cut-clause-turn
@@ -76,7 +76,7 @@ returns-in-Cut-clause-turn g c =
     let (got, consumed, e) = c.gather_body.ensures.got in
     let short : length c.gather_body.new.buffer.items < size + unwrap_or c.args.head.length 0 = omega (arith, c.in-Cut.ensures.found) in (
       got,
-      leave_if c.args.head.waits,
+      continue_if c.args.head.waits,
       consumed,
       c.in-All.ensures.sends,
       λ i s shown. (s, shown, stops_in_body (g.M.Machine.is_open c.args.office.now) c.args.number s items c.gather_body.new.buffer.items got size (request_in (take size items) c.args.head) Cut c.requires.within e short c.requires.accepted (inl refl)),
@@ -89,7 +89,7 @@ returns-in-Failed-clause-turn g c =
     let (got, consumed, e) = c.gather_body.ensures.got in
     let short : length c.gather_body.new.buffer.items < size + unwrap_or c.args.head.length 0 = omega (arith, c.in-Failed.ensures.found) in (
       got,
-      leave_if c.args.head.waits,
+      continue_if c.args.head.waits,
       consumed,
       c.in-All.ensures.sends,
       λ i s shown. (s, shown, stops_in_body (g.M.Machine.is_open c.args.office.now) c.args.number s items c.gather_body.new.buffer.items got size (request_in (take size items) c.args.head) ReadFault c.requires.within e short c.requires.accepted (inr refl)),
@@ -102,7 +102,7 @@ returns-in-Bound-clause-turn g c =
     let (got, consumed, e) = c.gather_body.ensures.got in
     let there = head_more items (take size items) (Accepted (request_in (take size items) c.args.head)) (drop size items) got c.requires.accepted in (
       got,
-      leave_if c.args.head.waits,
+      continue_if c.args.head.waits,
       consumed,
       c.in-All.ensures.sends,
       λ i s shown. (s, shown, bound_here (g.M.Machine.is_open c.args.office.now) c.args.number s (items ++ got) c.args.head.waits (may_fail_after (items ++ got) (take size items) (drop size items ++ got) (request_in (take size items) c.args.head) there)),
@@ -114,6 +114,6 @@ returns-in-NoMemory-clause-turn g c =
     let size = c.args.size in
     let (got, consumed, e) = c.gather_body.ensures.got in
     let there = head_more items (take size items) (Accepted (request_in (take size items) c.args.head)) (drop size items) got c.requires.accepted in
-    let (written, appended, through) = refused g.M.Machine.represents g.M.Machine.is_intact g.M.Machine.is_open c.args.number c.args.office.now c.args.office.now (items ++ got) (leave_if c.args.head.waits) c.gather_body.new.buffer.items (Fails c.args.head.waits false) false Busy _ _ _ c.refuse.ensures.sent
+    let (written, appended, through) = refused g.M.Machine.represents g.M.Machine.is_intact g.M.Machine.is_open c.args.number c.args.office.now c.args.office.now (items ++ got) (continue_if c.args.head.waits) c.gather_body.new.buffer.items (Fails c.args.head.waits false) false Busy _ _ _ c.refuse.ensures.sent
     (may_fail_after (items ++ got) (take size items) (drop size items ++ got) (request_in (take size items) c.args.head) there) tt (λ s. (refl, refl)) (λ i s h. h) (λ s never. absurd never) in
-    (got, leave_if c.args.head.waits ++ written, consumed, Appends-trans _ _ _ _ _ c.in-All.ensures.sends appended, through)
+    (got, continue_if c.args.head.waits ++ written, consumed, Appends-trans _ _ _ _ _ c.in-All.ensures.sends appended, through)

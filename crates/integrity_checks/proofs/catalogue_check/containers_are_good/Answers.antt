@@ -9,7 +9,7 @@ use Rattle.office_tables.proofs.Calls.{early}
 use Rattle.row_decoding.proofs.ReadCalls.{same_trees, reads_then}
 use Rattle.row_decoding.specs.TableRows.{containers_in}
 use Rattle.integrity_checks.specs.CatalogueJudgments.{good_housings_in}
-use Rattle.integrity_checks.proofs.CatalogueDoubts.{bad_containers, counted, rest_of_containers}
+use Rattle.integrity_checks.proofs.CatalogueDefects.{bad_containers, counted, rest_of_containers}
 use Rattle.integrity_checks.proofs.catalogue_check.containers_are_good.Goals as goal
 
 pub returns-in_default-clause-tells : goal.returns-in_default-clause-tells

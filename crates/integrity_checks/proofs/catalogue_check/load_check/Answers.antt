@@ -9,12 +9,12 @@ use Rattle.office_tables.specs.CatalogueCells.{read_unit}
 use Rattle.office_tables.specs.Schema as tables
 use Rattle.office_tables.proofs.Calls.{early, looks_then, cut_then}
 use Rattle.row_decoding.specs.TableRows.{places_in}
-use Rattle.integrity_checks.specs.PlaceChecks.{AreUnitsPlaced, places_are_doubtful}
+use Rattle.integrity_checks.specs.PlaceChecks.{AreUnitsPlaced, places_are_defective}
 use Rattle.integrity_checks.specs.declared.checked_places.Placed.{Placed}
 use Rattle.row_decoding.proofs.ReadCalls.{same_trees, before, reads_then}
-use Rattle.integrity_checks.specs.CatalogueChecks.{units_are_doubtful}
-use Rattle.integrity_checks.specs.CatalogueJudgments.{doubt_of_contents}
-use Rattle.integrity_checks.proofs.CatalogueDoubts.{bad_places, bad_units, good_units, units_are_read}
+use Rattle.integrity_checks.specs.CatalogueChecks.{units_are_defective}
+use Rattle.integrity_checks.specs.CatalogueJudgments.{defect_of_contents}
+use Rattle.integrity_checks.proofs.CatalogueDefects.{bad_places, bad_units, good_units, units_are_read}
 use Rattle.office_tables.proofs.Sparing.{looked_spares}
 use Rattle.sqlite.specs.State.{HasCleanDisk}
 use Rattle.integrity_checks.proofs.catalogue_check.load_check.Goals as goal
@@ -40,10 +40,10 @@ returns-then-not-branch-clause-tells g c clean =
     let db = old.now.trees in
     let placed = c.in-Some.placed in
     let clean_mid = before mid new c.in_ok-units_are_good.ensures.reads.looks clean in
-    let good_places : places_are_doubtful v db ≡ false = sym (c.in_ok-placed.ensures.tells clean_mid) ∙ ap (λ (o : Option Placed). is_none o) c.in-Some.is in
+    let good_places : places_are_defective v db ≡ false = sym (c.in_ok-placed.ensures.tells clean_mid) ∙ ap (λ (o : Option Placed). is_none o) c.in-Some.is in
     let units = subst (λ (o : Option Placed). IfSome o (λ (p : Placed). AreUnitsPlaced (places_in v db) p.units.items)) c.in-Some.is (c.in_ok-placed.ensures.units clean_mid) in
     let deep = subst (λ (o : Option Placed). IfSome o (λ (p : Placed). p.height ≡ height_of (places_said (places_in v db)))) c.in-Some.is (c.in_ok-placed.ensures.height clean_mid) in
-    let second = subst (λ (db : Trees). AreUnitsPlaced (places_in v db) placed.units.items → placed.height ≡ height_of (places_said (places_in v db)) → c.in_ok-units_are_good.field-0 ≡ not (units_are_doubtful v next db))
+    let second = subst (λ (db : Trees). AreUnitsPlaced (places_in v db) placed.units.items → placed.height ≡ height_of (places_said (places_in v db)) → c.in_ok-units_are_good.field-0 ≡ not (units_are_defective v next db))
     (same_trees old mid c.in_ok-placed.ensures.reads.looks clean_mid) (c.in_ok-units_are_good.ensures.tells clean v) units deep in
     bad_units v db next good_places (sym second ∙ c.if-not-branch.true)
 
@@ -61,13 +61,13 @@ returns-clause-tells g c clean =
     let two = c.in_ok-units_are_good.ensures.reads.looks in
     let clean_late = early late new _ c.check_contents.ensures.reads.crash clean in
     let clean_mid = before mid late two clean_late in
-    let good_places : places_are_doubtful v db ≡ false = sym (c.in_ok-placed.ensures.tells clean_mid) ∙ ap (λ (o : Option Placed). is_none o) c.in-Some.is in
+    let good_places : places_are_defective v db ≡ false = sym (c.in_ok-placed.ensures.tells clean_mid) ∙ ap (λ (o : Option Placed). is_none o) c.in-Some.is in
     let units = subst (λ (o : Option Placed). IfSome o (λ (p : Placed). AreUnitsPlaced (places_in v db) p.units.items)) c.in-Some.is (c.in_ok-placed.ensures.units clean_mid) in
     let deep = subst (λ (o : Option Placed). IfSome o (λ (p : Placed). p.height ≡ height_of (places_said (places_in v db)))) c.in-Some.is (c.in_ok-placed.ensures.height clean_mid) in
-    let second = subst (λ (db : Trees). AreUnitsPlaced (places_in v db) placed.units.items → placed.height ≡ height_of (places_said (places_in v db)) → c.in_ok-units_are_good.field-0 ≡ not (units_are_doubtful v next db))
+    let second = subst (λ (db : Trees). AreUnitsPlaced (places_in v db) placed.units.items → placed.height ≡ height_of (places_said (places_in v db)) → c.in_ok-units_are_good.field-0 ≡ not (units_are_defective v next db))
     (same_trees old mid one clean_mid) (c.in_ok-units_are_good.ensures.tells clean_late v) units deep in
-    let fine : not (units_are_doubtful v next db) ≡ true = sym second ∙ c.if-not-branch.false in
-    let rest = subst (λ (db : Trees). has_unread read_unit (db tables.unit.tree) ≡ false → IfOk c.check_contents.result (λ told. told ≡ doubt_of_contents v db))
+    let fine : not (units_are_defective v next db) ≡ true = sym second ∙ c.if-not-branch.false in
+    let rest = subst (λ (db : Trees). has_unread read_unit (db tables.unit.tree) ≡ false → IfOk c.check_contents.result (λ told. told ≡ defect_of_contents v db))
     (same_trees old late (looks_then old mid late one two) clean_late) (c.check_contents.ensures.tells clean v) (units_are_read v db next fine) in
     subst (λ d. IfOk c.check_contents.result (λ told. told ≡ d)) (good_units v db next good_places fine) rest
 

@@ -5,9 +5,9 @@ use Rattle.sqlite.specs.Tree.{Trees}
 use Rattle.office_tables.proofs.Calls.{early, looks_then}
 use Rattle.desk_core.specs.RowRecords.{Surrounds}
 use Rattle.row_decoding.specs.TableRows.{desk_in}
-use Rattle.integrity_checks.specs.DeskChecks.{doubt_of_orders}
+use Rattle.integrity_checks.specs.DeskChecks.{defect_of_orders}
 use Rattle.integrity_checks.specs.DeskJudgments.{good_permits_in}
-use Rattle.integrity_checks.proofs.DeskDoubts.{bad_seats, bad_permits, good_cards}
+use Rattle.integrity_checks.proofs.DeskDefects.{bad_seats, bad_permits, good_cards}
 use Rattle.row_decoding.proofs.ReadCalls.{same_trees, before, reads_then}
 use Rattle.integrity_checks.proofs.desk_check.check_cards.Goals as goal
 
@@ -47,6 +47,6 @@ returns-clause-tells g c clean a held =
     let first = c.in_ok-seats_are_good.ensures.tells clean_mid a held in
     let second = subst (λ (db : Trees). Surrounds c.args.around.now a (desk_in db) → c.in_ok-permits_are_good.field-0 ≡ good_permits_in a db)
     (same_trees old mid one clean_mid) (c.in_ok-permits_are_good.ensures.tells clean_late a) held in
-    let rest = subst (λ (db : Trees). Surrounds c.args.around.now a (desk_in db) → IfOk c.check_orders.result (λ told. told ≡ doubt_of_orders a db))
+    let rest = subst (λ (db : Trees). Surrounds c.args.around.now a (desk_in db) → IfOk c.check_orders.result (λ told. told ≡ defect_of_orders a db))
     (same_trees old late (looks_then old mid late one two) clean_late) (c.check_orders.ensures.tells clean a) held in
     subst (λ d. IfOk c.check_orders.result (λ told. told ≡ d)) (good_cards a old.now.trees (sym first ∙ c.if-not-branch.false) (sym second ∙ c.if-not-branch-2.false)) rest

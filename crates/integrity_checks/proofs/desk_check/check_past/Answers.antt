@@ -5,7 +5,7 @@ use Rattle.desk_core.specs.DeskCauses.{orders_are_bad}
 use Rattle.desk_core.specs.RowRecords.{Surrounds, order_row}
 use Rattle.row_decoding.specs.TableRows.{desk_in}
 use Rattle.integrity_checks.specs.DeskJudgments.{AreOrdersOf, good_runs_in}
-use Rattle.integrity_checks.proofs.DeskDoubts.{bad_holdings, bad_runs, no_doubt}
+use Rattle.integrity_checks.proofs.DeskDefects.{bad_holdings, bad_runs, no_defect}
 use Rattle.row_decoding.proofs.ReadCalls.{same_trees, before}
 use Rattle.integrity_checks.proofs.desk_check.check_past.Goals as goal
 
@@ -32,4 +32,4 @@ returns-clause-tells g c clean a held are fine =
     let clean_mid = before mid new c.in_ok-runs_are_good.ensures.reads.looks clean in
     let second = subst (λ (db : Trees). Surrounds c.args.around.now a (desk_in db) → AreOrdersOf db (map order_row c.args.orders.now) → orders_are_bad a (desk_in db) ≡ false → c.in_ok-runs_are_good.field-0 ≡ good_runs_in a db)
     (same_trees old mid c.in_ok-holdings_are_good.ensures.reads.looks clean_mid) (c.in_ok-runs_are_good.ensures.tells clean a) held are fine in
-    no_doubt a old.now.trees (sym (c.in_ok-holdings_are_good.ensures.tells clean_mid a held are fine) ∙ c.if-not-branch.false) (sym second ∙ c.if-not-branch-2.false)
+    no_defect a old.now.trees (sym (c.in_ok-holdings_are_good.ensures.tells clean_mid a held are fine) ∙ c.if-not-branch.false) (sym second ∙ c.if-not-branch-2.false)

@@ -7,9 +7,9 @@ use Rattle.office_tables.proofs.Calls.{early, looks_then}
 use Rattle.desk_core.specs.RowRecords.{Surrounds}
 use Rattle.row_decoding.specs.TableRows.{desk_in}
 use Rattle.integrity_checks.specs.DeskChecks.{around_in}
-use Rattle.integrity_checks.specs.DeskJudgments.{doubt_beside_readers}
+use Rattle.integrity_checks.specs.DeskJudgments.{defect_beside_readers}
 use Rattle.integrity_checks.specs.ReaderRows.{number_registered}
-use Rattle.integrity_checks.proofs.DeskDoubts.{doubt_of_cards}
+use Rattle.integrity_checks.proofs.DeskDefects.{defect_of_cards}
 use Rattle.row_decoding.proofs.ReadCalls.{same_trees, before, reads_then}
 use Rattle.integrity_checks.proofs.desk_check.load_check_desk.Goals as goal
 
@@ -38,9 +38,9 @@ returns-clause-tells g c clean =
     let a = around_in c.args.limits.now c.args.today db in
     let held : Surrounds around a (desk_in db) =
     subst (λ (db : Trees). number_registered db ≡ Some readers → Surrounds around (around_in c.args.limits.now c.args.today db) (desk_in db)) (same_trees old mid one clean_mid) (c.in_ok-around.ensures.tells clean_late) count in
-    let rest = subst (λ (db : Trees). Surrounds around a (desk_in db) → IfOk c.check_cards.result (λ told. told ≡ doubt_beside_readers a db))
+    let rest = subst (λ (db : Trees). Surrounds around a (desk_in db) → IfOk c.check_cards.result (λ told. told ≡ defect_beside_readers a db))
     (same_trees old late (looks_then old mid late one two) clean_late) (c.check_cards.ensures.tells clean a) held in
-    subst (λ d. IfOk c.check_cards.result (λ told. told ≡ d)) (doubt_of_cards a db readers count) rest
+    subst (λ d. IfOk c.check_cards.result (λ told. told ≡ d)) (defect_of_cards a db readers count) rest
 
 pub returns-in_err-around-clause-reads : goal.returns-in_err-around-clause-reads
 returns-in_err-around-clause-reads g c =

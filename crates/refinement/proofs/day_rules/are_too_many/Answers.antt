@@ -9,6 +9,6 @@ pub returns : goal.returns
 returns c =
     let tickets = map (λ (loan : Loan). loan.ticket) c.args.loans.now in
     let same = sym c.deref.ensures.value in
-    c.stands_over.ensures (subst IsNonDecreasing same c.in_ok-tickets.ensures.rise)
+    c.occurs_more_than.ensures (subst IsNonDecreasing same c.in_ok-tickets.ensures.rise)
     ∙ over_permuted c.args.hands tickets c.deref.result.now (subst (IsPermutation tickets) same c.in_ok-tickets.ensures.same)
     ∙ over_is c.args.hands c.args.loans.now
