@@ -100,7 +100,7 @@ fn reply_or_refuse<W: Write>(
 }
 
 /// Writes 100 Continue if the head waits for it.
-fn send_continue<W: Write>(writer: &mut Sink<'_, W>, head: Head) -> Sent
+fn allow_body<W: Write>(writer: &mut Sink<'_, W>, head: Head) -> Sent
     ensures writes { writer.new.failed ≡ (send_failed result || writer.old.failed) }
     ensures turns { writer.new.interrupted ≡ false → (writer.old.interrupted ≡ false) × (result ≢ Sent.Bound) }
     ensures same { writer.new.name ≡ writer.old.name }
@@ -195,7 +195,7 @@ fn receive<R: Read, W: Write, M: Machine>(
     ensures calls { TakesTurns reader.old reader.new }
     ensures same { writer.new.name ≡ writer.old.name }
 {
-    match send_continue(writer, head) {
+    match allow_body(writer, head) {
         Sent::All => {}
         fault => return after(fault, Next::Ends(Ended::Closed)),
     }

@@ -86,14 +86,13 @@ fn command(alloc: Global, said: Said) -> Result<Command, Fail> {
             until: day_after(30)?,
         },
         Said::Revoke(ticket, unit) => Command::Revoke { ticket, unit },
-        Said::Ask(_) => return Err(Fail::new("no command")),
-        at_desk => desk_command(at_desk),
+        at_desk => desk_command(at_desk).ok_or(Fail::new("no command"))?,
     })
 }
 
-/// What is done with seats and containers.
-fn desk_command(said: Said) -> Command {
-    match said {
+/// The command on seats, orders and containers, or none if the call is not one of these.
+fn desk_command(said: Said) -> Option<Command> {
+    let command = match said {
         Said::Sit(ticket) => Command::TakeSeat { ticket },
         Said::Leave(ticket) => Command::LeaveSeat { ticket },
         Said::Order(ticket, container) => Command::Order { ticket, container },
@@ -101,11 +100,13 @@ fn desk_command(said: Said) -> Command {
         Said::Issue(container, ticket) => Command::Issue { container, ticket },
         Said::Return(container) => Command::Return { container },
         Said::Reshelve => Command::Reshelve,
-        _ => Command::Run,
-    }
+        Said::Run => Command::Run,
+        _ => return None,
+    };
+    Some(command)
 }
 
-/// Carries out a command. Want of memory changes nothing, so it is tried again.
+/// Carries out a command. If memory runs out, nothing is changed, so the command is tried once more.
 fn applied<P: Places, S: Alter>(
     alloc: Global,
     office: &mut Office<P, S>,

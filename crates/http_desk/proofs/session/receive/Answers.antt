@@ -30,23 +30,23 @@ returns-in_default g c =
     let (turn, at_end) =
     leave_broken g.M.Machine.represents g.M.Machine.is_intact g.M.Machine.is_open c.args.number c.args.office.now items block
     (drop size items) (request_in block c.args.head) c.args.reader.now.bytes _ _
-    c.send_continue.result _ c.after.result c.in_default.not-All c.after.ensures c.requires.accepted
-    c.send_continue.ensures.sends in
+    c.allow_body.result _ c.after.result c.in_default.not-All c.after.ensures c.requires.accepted
+    c.allow_body.ensures.sends in
     record {
       turn = turn;
       intact = λ i. i;
       was_open = λ i stays. stays;
       at_end = at_end;
-      flushed = λ q. not_all_sent c.send_continue.new.writer c.send_continue.result _ c.after.result c.in_default.not-All c.after.ensures;
+      flushed = λ q. not_all_sent c.allow_body.new.writer c.allow_body.result _ c.after.result c.in_default.not-All c.after.ensures;
       reads =
-          let none = no_read_told c.send_continue.result (Ends Closed) c.after.result refl c.after.ensures in
+          let none = no_read_told c.allow_body.result (Ends Closed) c.after.result refl c.after.ensures in
           ap (λ b. b || c.args.reader.now.failed) (sym none);
-      writes = writes_told c.send_continue.result _ c.after.result _ _ refl c.after.ensures c.send_continue.ensures.writes;
+      writes = writes_told c.allow_body.result _ c.after.result _ _ refl c.after.ensures c.allow_body.ensures.writes;
       turns = λ p q.
-          let (before, here) = c.send_continue.ensures.turns q in
-          (p, before, no_bound c.send_continue.result _ c.after.ensures here);
+          let (before, here) = c.allow_body.ensures.turns q in
+          (p, before, no_bound c.allow_body.result _ c.after.ensures here);
       calls = (refl, omega arith);
-      same = c.send_continue.ensures.same;
+      same = c.allow_body.ensures.same;
     }
 
 pub act-requires-clause-accepted : goal.act-requires-clause-accepted
