@@ -4,6 +4,7 @@ pub mod Changed
 pub mod CleanMarks
 pub mod Crashes
 pub mod DeskSteps
+pub mod DiskBlames
 pub mod Doings
 pub mod EmptySeats
 pub mod StacksShown

@@ -1,11 +1,13 @@
 //! Whether a container is open to a reader.
 
-ghost use Rattle.std.specs.Prelude.{◌≡◌, ⊤, IfOk, map};
+ghost use Rattle.std.specs.Prelude.{◌≡◌, ⊤, IfErr, IfOk, map};
 ghost use Rattle.std.specs.List.{list_any};
 ghost use Rattle.sqlite.specs.Held.{state};
+ghost use Rattle.sqlite.specs.State.{HasCleanDisk};
 ghost use Rattle.catalogue_core.specs.OpenMarks.{is_opened_above, with_permit};
 ghost use Rattle.office_core.specs.State.{opens};
 ghost use Rattle.office_tables.specs.Calls.{Answers};
+ghost use Rattle.office_tables.specs.Faults.{BlamesDisk};
 ghost use Rattle.office_tables.specs.Step.{InTransaction};
 ghost use Rattle.refinement.specs.AccessConditions.{CanBeJudged, RepresentsWhole};
 ghost use Rattle.refinement.specs.Openness.{TellsAllClean, TellsClean, allows};
@@ -106,6 +108,8 @@ pub fn is_open_to<P: Places, S: Alter>(
     requires inside { InTransaction P.version (state S.Store conn.old) }
     ensures tells { Answers S.Store (RepresentsWhole P.represents P.version) CanBeJudged conn.old conn.new result
         (λ _. ⊤) (λ _ s yes. CanBeJudged s → today ≡ s.day → yes ≡ opens s ticket container) }
+    ensures disk { HasCleanDisk (state S.Store conn.new)
+        → IfErr result (BlamesDisk (state S.Store conn.old) (state S.Store conn.new)) }
 {
     if container >= NO_NUMBER {
         return Ok(false);

@@ -1,14 +1,16 @@
 //! The rules of the day about the containers that are out. A reader who has one must have a seat, must not have more
 //! containers than are allowed at once, and must be allowed to see what lies in it.
 
-ghost use Rattle.std.specs.Prelude.{◌≡◌, ⊤, IfOk, IsPermutation, map, nat_eq, not};
+ghost use Rattle.std.specs.Prelude.{◌≡◌, ⊤, IfErr, IfOk, IsPermutation, map, nat_eq, not};
 ghost use Rattle.std.specs.List.{list_any};
 ghost use Rattle.std.specs.List.Sorted.{IsNonDecreasing};
 ghost use Rattle.sqlite.specs.Held.{state};
+ghost use Rattle.sqlite.specs.State.{HasCleanDisk};
 ghost use Rattle.desk_store.specs.declared.holdings.Loan.{Loan as Lent};
 ghost use Rattle.desk_store.specs.declared.taken_seats.TakenSeat.{TakenSeat as Taken};
 ghost use Rattle.desk_store.specs.Representation.{RepresentsDeskAlone, IsLegible};
 ghost use Rattle.office_tables.specs.Calls.{Answers};
+ghost use Rattle.office_tables.specs.Faults.{BlamesDisk};
 ghost use Rattle.office_tables.specs.Step.{InOffice, InTransaction};
 ghost use Rattle.refinement.specs.DayRules.{are_against_rules as are_against_rules_of, breaks_day_rules};
 ghost use Rattle.refinement.specs.DayRules.{has_no_row, has_too_many, occurs_more_than};
@@ -80,6 +82,8 @@ fn is_one_without_seat<S: Alter>(
     requires inside { InOffice (state S.Store conn.old) }
     ensures tells { Answers S.Store RepresentsDeskAlone IsLegible conn.old conn.new result (λ _. ⊤)
         (λ _ d yes. yes ≡ list_any (has_no_row d) loans.now) }
+    ensures disk { HasCleanDisk (state S.Store conn.new)
+        → IfErr result (BlamesDisk (state S.Store conn.old) (state S.Store conn.new)) }
 {
     let taken = seats(alloc, conn)?;
     Ok(lacks_seat(loans, &taken))
@@ -97,6 +101,8 @@ fn are_against_rules<P: Places, S: Alter>(
     ensures tells { Answers S.Store (RepresentsWhole P.represents P.version) CanBeJudged conn.old conn.new result
         (λ _. ⊤) (λ _ s broken. CanBeJudged s → today ≡ s.day → hands ≡ s.settings.hands
         → broken ≡ are_against_rules_of s loans.now) }
+    ensures disk { HasCleanDisk (state S.Store conn.new)
+        → IfErr result (BlamesDisk (state S.Store conn.old) (state S.Store conn.new)) }
 {
     if are_too_many(alloc, loans, hands)? {
         return Ok(true);
@@ -119,6 +125,8 @@ pub fn breaks_day_rules<P: Places, S: Alter>(
     ensures tells { Answers S.Store (RepresentsWhole P.represents P.version) CanBeJudged conn.old conn.new result
         (λ _. ⊤)
         (λ _ s broken. CanBeJudged s → today ≡ s.day → hands ≡ s.settings.hands → broken ≡ breaks_day_rules s) }
+    ensures disk { HasCleanDisk (state S.Store conn.new)
+        → IfErr result (BlamesDisk (state S.Store conn.old) (state S.Store conn.new)) }
 {
     let loans = issued(alloc, conn)?;
     are_against_rules::<P, S>(alloc, conn, &loans, hands, today)

@@ -1,9 +1,11 @@
 //! The gate: after a change, nothing that is out may be withheld from the reader who has it.
 
-ghost use Rattle.std.specs.Prelude.{◌≡◌, ⊤};
+ghost use Rattle.std.specs.Prelude.{◌≡◌, ⊤, IfErr};
 ghost use Rattle.sqlite.specs.Held.{state};
+ghost use Rattle.sqlite.specs.State.{HasCleanDisk};
 ghost use Rattle.office_core.specs.Rules.{kept};
 ghost use Rattle.office_tables.specs.Calls.{Answers};
+ghost use Rattle.office_tables.specs.Faults.{BlamesDisk};
 ghost use Rattle.office_tables.specs.Step.{InTransaction};
 ghost use Rattle.refinement.specs.Gate.{first_closed as first_closed_of, gated};
 ghost use Rattle.refinement.specs.AccessConditions.{CanBeJudged, RepresentsWhole};
@@ -27,6 +29,8 @@ pub(crate) fn first_closed<P: Places, S: Alter>(
     requires inside { InTransaction P.version (state S.Store conn.old) }
     ensures tells { Answers S.Store (RepresentsWhole P.represents P.version) CanBeJudged conn.old conn.new result
         (λ _. ⊤) (λ _ s found. CanBeJudged s → today ≡ s.day → found ≡ first_closed_of s loans.now) }
+    ensures disk { HasCleanDisk (state S.Store conn.new)
+        → IfErr result (BlamesDisk (state S.Store conn.old) (state S.Store conn.new)) }
 {
     for loan in loans {
         let loan = *loan;

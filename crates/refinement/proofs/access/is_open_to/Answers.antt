@@ -12,6 +12,7 @@ use Rattle.office_tables.proofs.Calls.{early, looks_nowhere, looks_then, office_
 use Rattle.refinement.specs.AccessConditions.{CanBeJudged, RepresentsWhole}
 use Rattle.refinement.specs.Openness.{TellsAllClean}
 use Rattle.refinement.specs.Representation as shown
+use Rattle.refinement.proofs.DiskBlames.{blames_first, blames_later}
 use Rattle.refinement.proofs.OpenByRows.{clean_open, empty_closed, opens_none}
 use Rattle.refinement.proofs.access.is_open_to.Goals as goal
 
@@ -23,6 +24,7 @@ returns-then-container-ge-NO_NUMBER g c =
       tells = ends_well (RepresentsWhole g.P.Places.represents v) CanBeJudged (λ _. ⊤) g.S.Store c.args.conn.now c.args.conn.now c.args.conn.now (λ _ s yes. CanBeJudged s → c.args.today ≡ s.day → yes ≡ opens s c.args.ticket c.args.container)
           (looks_nowhere a (office_of v a c.requires.inside)) false
           (λ clean s it judged day. opens_none s judged c.args.ticket c.args.container c.if-container-ge-NO_NUMBER.true);
+      disk = λ clean. tt;
     }
 
 pub returns-in_err-found : goal.returns-in_err-found
@@ -30,10 +32,12 @@ returns-in_err-found g c =
     let v = g.P.Places.version in
     let e = c.from_residual.ensures in
     let told = c.in_err-found.ensures.tells in
+    let same = same_fault c.from_residual.result c.in_err-found.field-0.0 e.0 e.1 in
     record {
       tells = tells_not g.S.Store (RepresentsWhole g.P.Places.represents v) CanBeJudged (λ _. ⊤) c.args.conn.now c.contents_marks.new.conn c.from_residual.result (λ _ s yes. CanBeJudged s → c.args.today ≡ s.day → yes ≡ opens s c.args.ticket c.args.container) c.in_err-found.field-0.0
-          (same_fault c.from_residual.result c.in_err-found.field-0.0 e.0 e.1) told.cut
+          same told.cut
           (λ beside s it may judged clean free. told.faults (shown.office_of s) s.catalogue it.catalogue tt judged.catalogue clean free);
+      disk = λ clean. blames_first (state g.S.Store c.args.conn.now) (state g.S.Store c.contents_marks.new.conn) c.from_residual.result c.in_err-found.field-0.0 same (told.spares clean).disk;
     }
 
 pub returns-then-is_empty : goal.returns-then-is_empty
@@ -46,6 +50,7 @@ returns-then-is_empty g c =
       tells = ends_well (RepresentsWhole g.P.Places.represents v) CanBeJudged (λ _. ⊤) g.S.Store c.args.conn.now c.args.conn.now c.contents_marks.new.conn (λ _ s yes. CanBeJudged s → c.args.today ≡ s.day → yes ≡ opens s c.args.ticket c.args.container)
           told.looks false
           (λ clean s it judged day. empty_closed s judged c.args.ticket c.args.container c.in_ok-found.found.items (told.answers clean (shown.office_of s) s.catalogue it.catalogue) none);
+      disk = λ clean. tt;
     }
 
 pub permits-requires : goal.permits-requires
@@ -60,11 +65,16 @@ returns-in_err-permits g c =
     let v = g.P.Places.version in
     let e = c.from_residual-in_err-permits.ensures in
     let told = c.in_err-permits.ensures.tells in
+    let looked = c.in_ok-found.ensures.tells.looks in
+    let same = same_fault c.from_residual-in_err-permits.result c.in_err-permits.field-0.0 e.0 e.1 in
     record {
       tells = ends_not (RepresentsWhole g.P.Places.represents v) CanBeJudged (λ _. ⊤) g.S.Store c.args.conn.now c.contents_marks.new.conn c.permits.new.conn (λ _ s yes. CanBeJudged s → c.args.today ≡ s.day → yes ≡ opens s c.args.ticket c.args.container)
-          c.in_ok-found.ensures.tells.looks c.in_err-permits.field-0.0 told.cut
+          looked c.in_err-permits.field-0.0 told.cut
           (λ s it may judged clean free. told.faults tt (tables v s).desk it.desk tt (judged.desk v) clean free)
-          c.from_residual-in_err-permits.result (same_fault c.from_residual-in_err-permits.result c.in_err-permits.field-0.0 e.0 e.1);
+          c.from_residual-in_err-permits.result same;
+      disk = λ clean.
+          blames_later (state g.S.Store c.args.conn.now) (state g.S.Store c.contents_marks.new.conn) (state g.S.Store c.permits.new.conn) c.from_residual-in_err-permits.result c.in_err-permits.field-0.0 same looked told.cut clean
+          (told.spares clean).disk;
     }
 
 pub returns : goal.returns
@@ -91,4 +101,5 @@ returns g c =
           let at_b = shown_on (RepresentsWhole g.P.Places.represents v) a b units.looks before s it in
           clean_open s judged c.args.ticket c.args.container found (units.answers before (shown.office_of s) s.catalogue it.catalogue) (tables v s).desk refl permits (told.answers cleaner tt (tables v s).desk at_b.desk).0 some clean
           (subst (λ (k : ℤ). TellsAllClean k permits found clean) day tells));
+      disk = λ clean. tt;
     }

@@ -8,6 +8,7 @@ use Rattle.office_tables.proofs.Calls.{early, looks_nowhere, looks_then, office_
 use Rattle.refinement.specs.DayRules.{are_against_rules}
 use Rattle.refinement.specs.AccessConditions.{CanBeJudged, RepresentsWhole}
 use Rattle.refinement.proofs.DayRules.{by_hands, by_openness, by_seats}
+use Rattle.refinement.proofs.DiskBlames.{blames_first, blames_later}
 use Rattle.refinement.proofs.day_rules.are_against_rules.Goals as goal
 
 pub returns-then-branch : goal.returns-then-branch
@@ -19,6 +20,7 @@ returns-then-branch g c =
           (λ _ s broken. CanBeJudged s → c.args.today ≡ s.day → c.args.hands ≡ s.settings.hands → broken ≡ are_against_rules s c.args.loans.now)
           (looks_nowhere a (office_of v a c.requires.inside)) _
           (λ clean s it judged day hands. by_hands v s c.args.hands c.args.loans.now c.in_ok-are_too_many.field-0 hands c.in_ok-are_too_many.ensures c.if-branch.true);
+      disk = λ clean. tt;
     }
 
 pub is_one_without_seat-requires : goal.is_one_without_seat-requires
@@ -29,11 +31,15 @@ returns-in_err-is_one_without_seat g c =
     let v = g.P.Places.version in
     let told = c.in_err-is_one_without_seat.ensures.tells in
     let e = c.from_residual-in_err-is_one_without_seat.ensures in
+    let same = same_fault c.from_residual-in_err-is_one_without_seat.result c.in_err-is_one_without_seat.field-0.0 e.0 e.1 in
     record {
       tells = tells_not g.S.Store (RepresentsWhole g.P.Places.represents v) CanBeJudged (λ _. ⊤) c.args.conn.now c.is_one_without_seat.new.conn c.from_residual-in_err-is_one_without_seat.result
           (λ _ s broken. CanBeJudged s → c.args.today ≡ s.day → c.args.hands ≡ s.settings.hands → broken ≡ are_against_rules s c.args.loans.now) c.in_err-is_one_without_seat.field-0.0
-          (same_fault c.from_residual-in_err-is_one_without_seat.result c.in_err-is_one_without_seat.field-0.0 e.0 e.1) told.cut
+          same told.cut
           (λ beside s shown may judged clean free. told.faults tt (tables v s).desk shown.desk tt (judged.desk v) clean free);
+      disk = λ clean.
+          blames_first (state g.S.Store c.args.conn.now) (state g.S.Store c.is_one_without_seat.new.conn) c.from_residual-in_err-is_one_without_seat.result c.in_err-is_one_without_seat.field-0.0 same
+          (c.in_err-is_one_without_seat.ensures.disk clean);
     }
 
 pub returns-then-branch-2 : goal.returns-then-branch-2
@@ -46,18 +52,25 @@ returns-then-branch-2 g c =
           told.looks _
           (λ clean s it judged day hands. by_seats v s c.args.hands c.args.loans.now c.in_ok-are_too_many.field-0 hands c.in_ok-are_too_many.ensures c.if-branch.false
           c.in_ok-is_one_without_seat.field-0 (told.answers clean tt (tables v s).desk it.desk) c.if-branch-2.true);
+      disk = λ clean. tt;
     }
 
 pub returns-in_err-closed : goal.returns-in_err-closed
 returns-in_err-closed g c =
     let v = g.P.Places.version in
+    let e = c.from_residual-in_err-closed.ensures in
     let told = c.in_err-closed.ensures.tells in
+    let looked = c.in_ok-is_one_without_seat.ensures.tells.looks in
+    let same = same_fault c.from_residual-in_err-closed.result c.in_err-closed.field-0.0 e.0 e.1 in
     record {
       tells = ends_not (RepresentsWhole g.P.Places.represents v) CanBeJudged (λ _. ⊤) g.S.Store c.args.conn.now c.is_one_without_seat.new.conn c.first_closed.new.conn
           (λ _ s broken. CanBeJudged s → c.args.today ≡ s.day → c.args.hands ≡ s.settings.hands → broken ≡ are_against_rules s c.args.loans.now)
-          c.in_ok-is_one_without_seat.ensures.tells.looks c.in_err-closed.field-0.0 told.cut
+          looked c.in_err-closed.field-0.0 told.cut
           (λ s it may judged clean free. told.faults tt s it tt judged clean free)
-          c.from_residual-in_err-closed.result (same_fault c.from_residual-in_err-closed.result c.in_err-closed.field-0.0 c.from_residual-in_err-closed.ensures.0 c.from_residual-in_err-closed.ensures.1);
+          c.from_residual-in_err-closed.result same;
+      disk = λ clean.
+          blames_later (state g.S.Store c.args.conn.now) (state g.S.Store c.is_one_without_seat.new.conn) (state g.S.Store c.first_closed.new.conn) c.from_residual-in_err-closed.result c.in_err-closed.field-0.0 same looked told.cut clean
+          (c.in_err-closed.ensures.disk clean);
     }
 
 pub returns : goal.returns
@@ -79,4 +92,5 @@ returns g c =
           ∙ by_openness v s c.args.hands c.args.loans.now c.in_ok-are_too_many.field-0 hands c.in_ok-are_too_many.ensures c.if-branch.false
           c.in_ok-is_one_without_seat.field-0 (seats.answers before tt (tables v s).desk it.desk) c.if-branch-2.false
           c.in_ok-closed.closed (told.answers clean tt s at_b judged day));
+      disk = λ clean. tt;
     }

@@ -1,20 +1,24 @@
 use Rattle.std.proofs.Common.{◌≡◌, ◌∙◌}
 use Rattle.std.specs.Prelude.{⊤}
 use Rattle.std.specs.List.{list_any}
+use Rattle.sqlite.specs.Held.{state}
 use Rattle.desk_store.proofs.ToldCalls.{ends_well}
 use Rattle.desk_store.specs.Representation.{IsLegible, RepresentsDeskAlone}
 use Rattle.office_tables.proofs.CallEnds.{same_fault, tells_not}
 use Rattle.refinement.specs.DayRules.{has_no_row}
 use Rattle.refinement.proofs.DayRules.{lacks_is}
+use Rattle.refinement.proofs.DiskBlames.{blames_first}
 use Rattle.refinement.proofs.day_rules.is_one_without_seat.Goals as goal
 
 pub returns-in_err-taken : goal.returns-in_err-taken
 returns-in_err-taken g c =
     let e = c.from_residual.ensures in
     let told = c.in_err-taken.ensures.tells in
+    let same = same_fault c.from_residual.result c.in_err-taken.field-0.0 e.0 e.1 in
     record {
       tells = tells_not g.S.Store RepresentsDeskAlone IsLegible (λ _. ⊤) c.args.conn.now c.seats.new.conn c.from_residual.result (λ _ d yes. yes ≡ list_any (has_no_row d) c.args.loans.now) c.in_err-taken.field-0.0
-          (same_fault c.from_residual.result c.in_err-taken.field-0.0 e.0 e.1) told.cut told.faults;
+          same told.cut told.faults;
+      disk = λ clean. blames_first (state g.S.Store c.args.conn.now) (state g.S.Store c.seats.new.conn) c.from_residual.result c.in_err-taken.field-0.0 same (told.spares clean).disk;
     }
 
 pub returns : goal.returns
@@ -24,4 +28,5 @@ returns g c =
       tells = ends_well RepresentsDeskAlone IsLegible (λ _. ⊤) g.S.Store c.args.conn.now c.args.conn.now c.seats.new.conn (λ _ d yes. yes ≡ list_any (has_no_row d) c.args.loans.now)
           told.looks c.lacks_seat.result
           (λ clean d shown. c.lacks_seat.ensures ∙ lacks_is d c.args.loans.now c.deref.result.now (c.deref.ensures.value ∙ told.answers clean tt d shown));
+      disk = λ clean. tt;
     }

@@ -7,6 +7,7 @@ use Rattle.office_tables.proofs.CallEnds.{same_fault}
 use Rattle.office_tables.proofs.Calls.{early, looks_then, still}
 use Rattle.refinement.specs.Gate.{first_closed, is_closed_to}
 use Rattle.refinement.specs.AccessConditions.{CanBeJudged, RepresentsWhole}
+use Rattle.refinement.proofs.DiskBlames.{blames_later}
 use Rattle.refinement.proofs.Gates.{first_here, none_more}
 use Rattle.refinement.proofs.gate.first_closed.Goals as goal
 
@@ -15,11 +16,16 @@ returns-in_err-is_open_to g c =
     let v = g.P.Places.version in
     let e = c.from_residual.ensures in
     let told = c.in_err-is_open_to.ensures.tells in
+    let looked = c.loop-loan.invariant.looks in
+    let same = same_fault c.from_residual.result c.in_err-is_open_to.field-0.0 e.0 e.1 in
     record {
       tells = ends_not (RepresentsWhole g.P.Places.represents v) CanBeJudged (λ _. ⊤) g.S.Store c.args.conn.now c.loop-loan.conn c.is_open_to.new.conn (λ _ s found. CanBeJudged s → c.args.today ≡ s.day → found ≡ first_closed s c.args.loans.now)
-          c.loop-loan.invariant.looks c.in_err-is_open_to.field-0.0 told.cut
+          looked c.in_err-is_open_to.field-0.0 told.cut
           (λ s it may judged clean free. told.faults tt s it tt judged clean free)
-          c.from_residual.result (same_fault c.from_residual.result c.in_err-is_open_to.field-0.0 e.0 e.1);
+          c.from_residual.result same;
+      disk = λ clean.
+          blames_later (state g.S.Store c.args.conn.now) (state g.S.Store c.loop-loan.conn) (state g.S.Store c.is_open_to.new.conn) c.from_residual.result c.in_err-is_open_to.field-0.0 same looked told.cut clean
+          (c.in_err-is_open_to.ensures.disk clean);
     }
 
 pub returns-then-not-branch : goal.returns-then-not-branch
@@ -40,6 +46,7 @@ returns-then-not-branch g c =
           let at_b = shown_on (RepresentsWhole g.P.Places.represents v) a b looks before s it in
           let shut : is_closed_to s (slice_index_or c.args.loans.now i none) ≡ true = ap not (sym (told.answers clean tt s at_b judged day)) ∙ ap not c.if-not-branch.true in
           ap (option_map (λ (l : Loan). l.container)) (sym (first_here (is_closed_to s) c.args.loans.now i none (c.loop-loan.invariant.so_far before s judged it day) c.loop-loan-test.true shut)));
+      disk = λ clean. tt;
     }
 
 pub loop-loan-preserved : goal.loop-loan-preserved
