@@ -1,13 +1,14 @@
 -- Which faults are told after a sending, what was flushed, and how many calls were made.
-use Rattle.std.proofs.Common.{◌≡◌, refl, ap, ◌∙◌, ◌+◌, ◌≤◌, sym, true, false, subst, arith}
+use Rattle.std.proofs.Common.{◌≡◌, refl, ap, ◌∙◌, ℕ, ◌+◌, ◌≤◌, sym, true, false, subst, arith}
+use Rattle.std.proofs.Math.Nat.{min-le_left}
 use Rattle.std.specs.Prelude.{◌||◌, Bool}
 use Rattle.http_desk.specs.declared.session_end.Next.{Next}
 use Rattle.http_desk.specs.declared.session_end.Next.TheVariants.{Goes, Ends}
 use Rattle.http_desk.specs.declared.session_end.Ended.TheVariants as ends
 use Rattle.http_desk.specs.declared.output.Sent.{Sent}
 use Rattle.http_desk.specs.declared.output.Sent.TheVariants.{All, Failed, Bound}
-use Rattle.http_desk.specs.StreamFaults.{is_read_fault, is_write_fault, send_failed, IsFlushed, TakesTurns}
-use Rattle.http_desk.specs.Streams.{Stream}
+use Rattle.http_desk.specs.StreamFaults.{is_read_fault, is_write_fault, send_failed, IsFlushed, IsUsedUp, TakesTurns, TellsWriteBound}
+use Rattle.http_desk.specs.Streams.{Stream, counted}
 use Rattle.http_desk.specs.Exchanges.{IsNoEnd, after_answer, after_sending}
 
 no_read : (sent : Sent) (next : Next) → is_read_fault next ≡ false → is_read_fault (after_sending sent next) ≡ false
@@ -40,9 +41,14 @@ ends_by_writing Bound closing = tt
 pub no_end_after : (sent : Sent) (closing : Bool) (result : Next) → result ≡ after_sending sent (after_answer closing) → IsNoEnd result
 no_end_after sent closing result e = subst IsNoEnd (sym e) (ends_by_writing sent closing)
 
+counted_at_most : (n : ℕ) → counted n ≤ n + 1
+counted_at_most n = min-le_left (n + 1) 18446744073709551615
+
 -- one call more
-pub one_more : (a b c : Stream) → TakesTurns a b → c.name ≡ b.name → c.calls ≤ b.calls + 1 → c.turns + 1 ≡ b.turns → TakesTurns a c
-one_more a b c (same, few) again more one = (again ∙ same, omega arith)
+pub one_more : (a b c : Stream) → TakesTurns a b → c.name ≡ b.name → c.calls ≡ counted b.calls → c.turns + 1 ≡ b.turns → TakesTurns a c
+one_more a b c (same, few) again more one =
+    let most : c.calls ≤ b.calls + 1 = subst (λ n. n ≤ b.calls + 1) (sym more) (counted_at_most b.calls) in
+    (again ∙ same, omega (arith, few, most, one))
 
 -- calls, and more calls
 pub takes_on : (a b c : Stream) → TakesTurns a b → TakesTurns b c → TakesTurns a c
@@ -71,3 +77,29 @@ flushed_after writer sent next result e f = subst (IsFlushed writer) (sym e) (fl
 -- the same, where not all was sent, whatever was flushed
 pub not_all_sent : (writer : Stream) (sent : Sent) (next result : Next) → (sent ≡ All → ⊥) → result ≡ after_sending sent next → IsFlushed writer result
 not_all_sent writer sent next result n e = flushed_after writer sent next result e (λ all. absurd (n all))
+
+-- ---- bounds
+
+-- turns are used up, where they would be left without an interruption
+pub used_up : (stream : Stream) → (stream.interrupted ≡ false → ⊥) → stream.turns ≡ 0 → IsUsedUp stream
+used_up stream never none = (none, interrupted stream.interrupted refl)
+  where
+    interrupted : (b : Bool) → stream.interrupted ≡ b → stream.interrupted ≡ true
+    interrupted true e = e
+    interrupted false e = absurd (never e)
+
+bound_sent : (sent : Sent) (next : Next) → (next ≡ Ends ends.Bound → ⊥) → after_sending sent next ≡ Ends ends.Bound → sent ≡ Bound
+bound_sent All next n e = absurd (n e)
+bound_sent Failed next n e = cc
+bound_sent Bound next n e = refl
+
+-- a bound after a sending is the sending's
+pub tells_bound : (writer : Stream) (sent : Sent) (next result : Next) → (next ≡ Ends ends.Bound → ⊥) → result ≡ after_sending sent next
+    → (sent ≡ Bound → IsUsedUp writer) → TellsWriteBound writer result
+tells_bound writer sent next result n e used bound = used (bound_sent sent next n (sym e ∙ bound))
+
+pub closed_no_bound : Ends ends.Closed ≡ Ends ends.Bound → ⊥
+closed_no_bound e = cc
+
+pub goes_no_bound : Goes ≡ Ends ends.Bound → ⊥
+goes_no_bound e = cc

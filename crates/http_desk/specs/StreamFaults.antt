@@ -1,5 +1,5 @@
 -- Which calls of a reader or a writer have failed, and what holds if none was interrupted.
-use Rattle.std.specs.Prelude.{◌≡◌, ◌≢◌, ℕ, ◌+◌, ◌<◌, ◌≤◌, ◌||◌, Bool, Result, Ok, Err, true, false}
+use Rattle.std.specs.Prelude.{◌≡◌, ◌≢◌, ℕ, ◌+◌, ◌<◌, ◌≤◌, ◌⊎◌, ◌||◌, Bool, Result, Ok, Err, true, false}
 use Rattle.http_desk.specs.declared.input_buffer.Filled.{Filled}
 use Rattle.http_desk.specs.declared.input_buffer.Filled.TheVariants.{More, AtEnd, Failed, Bound, NoMemory}
 use Rattle.http_desk.specs.declared.message_input.FoundHead.{FoundHead}
@@ -117,6 +117,18 @@ NoBound reader reader_after writer writer_after next =
 -- the same for a writer alone
 abbrev pub NoWriteBound : Stream → Stream → Next → Type 0
 NoWriteBound old new next = new.interrupted ≡ false → (old.interrupted ≡ false) × (next ≢ Ends ends.Bound)
+
+-- no turn is left, and a call was interrupted
+abbrev pub IsUsedUp : Stream → Type 0
+IsUsedUp stream = (stream.turns ≡ 0) × (stream.interrupted ≡ true)
+
+-- a bound is told only if the turns of the reader or those of the writer are used up
+abbrev pub TellsBound : Stream → Stream → Next → Type 0
+TellsBound reader writer next = next ≡ Ends ends.Bound → IsUsedUp reader ⊎ IsUsedUp writer
+
+-- the same for a writer alone
+abbrev pub TellsWriteBound : Stream → Next → Type 0
+TellsWriteBound writer next = next ≡ Ends ends.Bound → IsUsedUp writer
 
 -- no call has failed, and none was interrupted
 pub record IsQuiet (stream : Stream) : Type 0 where

@@ -1,5 +1,5 @@
 -- What is known of a session's reader or writer, and of the result of each of its calls.
-use Rattle.std.specs.Prelude.{◌≡◌, ℕ, Bool, true, false, Option, Result, Ok, Err}
+use Rattle.std.specs.Prelude.{◌≡◌, ℕ, ◌+◌, min, Bool, true, false, Option, Result, Ok, Err}
 use Rattle.isad_core.specs.Texts.{Bytes}
 use Rattle.http_desk.specs.declared.streams.Undone.{Undone}
 use Rattle.http_desk.specs.declared.streams.Undone.TheVariants.{Failed, Interrupted}
@@ -20,6 +20,10 @@ pub record IsNew (stream : Stream) : Type 0 where
   pub none_interrupted : stream.interrupted ≡ false
   pub none_made : stream.calls ≡ 0
   pub none_waits : stream.flushed ≡ true
+
+-- the number of calls after one more; the count stops at 2^64 - 1
+abbrev pub counted : ℕ → ℕ
+counted calls = min (calls + 1) 18446744073709551615
 
 -- the reads of one message: one for each byte of the longest head and of the longest body, and one more
 abbrev pub most_reads : ℕ

@@ -35,6 +35,7 @@ fn read_once<R: Read>(reader: &mut Source<'_, R>, chunk: &mut [u8]) -> Result<us
     ensures failed { reader.new.failed ≡ (once_failed result || reader.old.failed) }
     ensures bound { reader.new.interrupted ≡ false
         → (reader.old.interrupted ≡ false) × QuietRead result reader.old.turns reader.new.turns }
+    ensures used_up { IfErr result (λ f. f ≡ Filled.Bound → reader.new.turns ≡ 0) }
     ensures calls { TakesTurns reader.old reader.new }
     ensures err { IfErr result (λ f. Consumes reader.old.bytes reader.new.bytes []
         × (f ≢ Filled.More) × (f ≢ Filled.AtEnd)) }
@@ -58,6 +59,7 @@ pub fn fill<R: Read>(reader: &mut Source<'_, R>, buffer: &mut Vec<u8>) -> Filled
     ensures failed { reader.new.failed ≡ (fill_failed result || reader.old.failed) }
     ensures bound { reader.new.interrupted ≡ false
         → (reader.old.interrupted ≡ false) × QuietFill result reader.old.turns reader.new.turns }
+    ensures used_up { result ≡ Filled.Bound → reader.new.turns ≡ 0 }
     ensures calls { TakesTurns reader.old reader.new }
 {
     if buffer.reserve(CHUNK).is_err() {

@@ -79,6 +79,7 @@ pub fn gather_head<R: Read>(reader: &mut Source<'_, R>, buffer: &mut Vec<u8>) ->
     ensures failed { reader.new.failed ≡ (head_failed result || reader.old.failed) }
     ensures bound { reader.new.interrupted ≡ false → (reader.old.interrupted ≡ false) × QuietHead result
         (reader.old.turns + length buffer.old.items) (reader.new.turns + length buffer.new.items) }
+    ensures used_up { result ≡ FoundHead.Bound → reader.new.turns ≡ 0 }
     ensures calls { TakesTurns reader.old reader.new }
 {
     let mut led = HeadScanState::Lead;
@@ -121,6 +122,7 @@ pub fn gather_body<R: Read>(
     ensures failed { reader.new.failed ≡ (body_failed result || reader.old.failed) }
     ensures bound { reader.new.interrupted ≡ false → (reader.old.interrupted ≡ false)
         × QuietBody end result (reader.old.turns + length buffer.old.items) }
+    ensures used_up { result ≡ FoundBody.Bound → reader.new.turns ≡ 0 }
     ensures calls { TakesTurns reader.old reader.new }
 {
     while buffer.len() < end {

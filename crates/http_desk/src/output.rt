@@ -1,7 +1,7 @@
 //! Writes whole answers, in few writes. Nothing here takes an allocator.
 ghost use Rattle.std.specs.Prelude.{◌≡◌, ◌≢◌, ◌+◌, ◌<◌, ◌≤◌, ◌||◌, ◌^◌, ℕ, List, [], ◌++◌, length};
 ghost use Rattle.std.specs.Prelude.{true, false};
-ghost use Rattle.http_desk.specs.StreamFaults.{QuietSend, TakesCalls, TakesTurns, send_failed};
+ghost use Rattle.http_desk.specs.StreamFaults.{IsUsedUp, QuietSend, TakesCalls, TakesTurns, send_failed};
 ghost use Rattle.std.specs.List.{flat_map};
 ghost use Rattle.std.specs.Io.KnownBytes.{Appends};
 ghost use Rattle.http_desk.specs.Session.{IsFront};
@@ -33,6 +33,7 @@ fn send_piece<W: Write>(writer: &mut Sink<'_, W>, piece: &[u8]) -> Sent
     ensures failed { writer.new.failed ≡ (send_failed result || writer.old.failed) }
     ensures bound { writer.new.interrupted ≡ false → (writer.old.interrupted ≡ false)
         × QuietSend result writer.old.turns writer.new.turns (length piece.now) }
+    ensures used_up { result ≡ Sent.Bound → writer.new.turns ≡ 0 }
     ensures calls { TakesTurns writer.old writer.new }
 {
     let mut rest = piece;
@@ -56,6 +57,7 @@ fn flush<W: Write>(writer: &mut Sink<'_, W>) -> Sent
     ensures failed { writer.new.failed ≡ (send_failed result || writer.old.failed) }
     ensures bound { writer.new.interrupted ≡ false
         → (writer.old.interrupted ≡ false) × (0 < writer.old.turns → result ≢ Sent.Bound) }
+    ensures used_up { result ≡ Sent.Bound → writer.new.turns ≡ 0 }
     ensures calls { TakesTurns writer.old writer.new }
 {
     while writer.has_turn() {
@@ -94,6 +96,7 @@ fn gather_or_send<W: Write>(
     ensures failed { writer.new.failed ≡ (send_failed result || writer.old.failed) }
     ensures bound { writer.new.interrupted ≡ false → (writer.old.interrupted ≡ false)
         × QuietSend result writer.old.turns writer.new.turns (length lot.old.items + length piece.now) }
+    ensures used_up { result ≡ Sent.Bound → writer.new.turns ≡ 0 }
     ensures calls { TakesTurns writer.old writer.new }
 {
     match lot.try_extend_from_slice(piece) {
@@ -117,6 +120,7 @@ pub fn send<W: Write>(writer: &mut Sink<'_, W>, pieces: &[&[u8]]) -> Sent
     ensures flushed { result ≡ Sent.All → writer.new.flushed ≡ true }
     ensures failed { writer.new.failed ≡ (send_failed result || writer.old.failed) }
     ensures bound { writer.new.interrupted ≡ false → (writer.old.interrupted ≡ false) × (result ≢ Sent.Bound) }
+    ensures used_up { result ≡ Sent.Bound → IsUsedUp writer.new }
     ensures calls { TakesCalls (length (flat_map (λ p. p.now) pieces.now) + more_writes) writer.old writer.new }
     ensures front { (written : List ℕ) × IsFront written (flat_map (λ p. p.now) pieces.now)
         × Appends writer.old.bytes writer.new.bytes written }

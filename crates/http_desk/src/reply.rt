@@ -1,15 +1,15 @@
-//! Writes answers. Nothing here takes an allocator.
+//! Writes answers, whose texts are borrowed. Nothing here takes an allocator.
 ghost use Rattle.std.specs.Prelude.{◌≡◌, ◌≢◌, ◌+◌, ◌<◌, ◌^◌, ◌||◌, length, true, false};
 ghost use Rattle.http_messages.specs.Answers.{answer_text, continue_text};
-ghost use Rattle.http_messages.specs.Replies.{answer_in};
+ghost use Rattle.http_messages.specs.Replies.{viewed};
 ghost use Rattle.http_desk.specs.AnswerOutput.{Sends};
 ghost use Rattle.http_desk.specs.Parts.{parts_text};
 ghost use Rattle.http_desk.specs.Streams.{more_writes};
-ghost use Rattle.http_desk.specs.StreamFaults.{TakesCalls, send_failed};
+ghost use Rattle.http_desk.specs.StreamFaults.{IsUsedUp, TakesCalls, send_failed};
 
 use crate::output::{Sent, send};
 use crate::streams::Sink;
-use http_messages::answers::{Answered, close_line, code_of, phrase, type_of, written_body};
+use http_messages::answers::{AnswerView, close_line, code_of, phrase, type_of};
 use itoa::Buffer;
 use std::io::Write;
 
@@ -31,6 +31,7 @@ fn send_parts<W: Write>(writer: &mut Sink<'_, W>, parts: Parts<'_>) -> Sent
     ensures flushed { result ≡ Sent.All → writer.new.flushed ≡ true }
     ensures failed { writer.new.failed ≡ (send_failed result || writer.old.failed) }
     ensures bound { writer.new.interrupted ≡ false → (writer.old.interrupted ≡ false) × (result ≢ Sent.Bound) }
+    ensures used_up { result ≡ Sent.Bound → IsUsedUp writer.new }
     ensures calls { TakesCalls (length (parts_text parts.entry) + more_writes) writer.old writer.new }
     ensures sends { Sends writer.old.bytes writer.new.bytes (parts_text parts.entry) result }
 {
@@ -59,15 +60,16 @@ pub fn send_answer<W: Write>(
     writer: &mut Sink<'_, W>,
     bare: bool,
     closing: bool,
-    answer: &Answered,
+    answer: AnswerView<'_>,
 ) -> Sent
     ensures flushed { result ≡ Sent.All → writer.new.flushed ≡ true }
     ensures failed { writer.new.failed ≡ (send_failed result || writer.old.failed) }
     ensures bound { writer.new.interrupted ≡ false → (writer.old.interrupted ≡ false) × (result ≢ Sent.Bound) }
-    ensures calls { TakesCalls (length (answer_text bare closing (answer_in answer.now)) + more_writes)
+    ensures used_up { result ≡ Sent.Bound → IsUsedUp writer.new }
+    ensures calls { TakesCalls (length (answer_text bare closing (viewed answer.entry)) + more_writes)
         writer.old writer.new }
     ensures sends { Sends writer.old.bytes writer.new.bytes
-        (answer_text bare closing (answer_in answer.now)) result }
+        (answer_text bare closing (viewed answer.entry)) result }
 {
     let status = answer.status();
     let mut digits = Buffer::new();
@@ -81,7 +83,7 @@ pub fn send_answer<W: Write>(
         size: length,
         allow: answer.allow_line(),
         close: close_line(closing),
-        body: written_body(bare, answer),
+        body: answer.written_body(bare),
     };
     send_parts(writer, parts)
 }
@@ -91,6 +93,7 @@ pub fn send_continue<W: Write>(writer: &mut Sink<'_, W>) -> Sent
     ensures flushed { result ≡ Sent.All → writer.new.flushed ≡ true }
     ensures failed { writer.new.failed ≡ (send_failed result || writer.old.failed) }
     ensures bound { writer.new.interrupted ≡ false → (writer.old.interrupted ≡ false) × (result ≢ Sent.Bound) }
+    ensures used_up { result ≡ Sent.Bound → IsUsedUp writer.new }
     ensures calls { TakesCalls (length continue_text + more_writes) writer.old writer.new }
     ensures sends { Sends writer.old.bytes writer.new.bytes continue_text result }
 {

@@ -11,12 +11,13 @@ ghost use Rattle.http_messages.specs.Routes as routes;
 ghost use Rattle.http_messages.specs.HeadVerdict.{request_in};
 ghost use Rattle.http_messages.specs.Replies.{answer_in};
 ghost use Rattle.http_messages.specs.Router.{route_in};
+ghost use Rattle.http_desk.specs.AnswerOutput.{IsViewOf};
 ghost use Rattle.http_messages.specs.declared.status.Status.TheVariants.{Fine};
 ghost use Rattle.office_core.specs.declared.command.Command.TheVariants as commands;
 
 use crate::input_buffer::take_message;
 use crate::message_input::body_len;
-use http_messages::answers::Answered;
+use http_messages::answers::{AnswerView, Answered};
 use http_messages::head_verdict::Head;
 use http_messages::members::command_in;
 use http_messages::routes::{Route, Routes, is_method, is_post};
@@ -269,11 +270,14 @@ pub struct Prepared<'b> {
 }
 
 impl<'b> Prepared<'b> {
-    /// The answer, or why the office is busy.
-    pub fn answered(&self) -> &Result<Answered, Busy>
-        ensures { result.now ≡ self.now.answered }
+    /// The answer as it is written, or why the office is busy.
+    pub fn view(&self) -> Result<AnswerView<'_>, Busy>
+        ensures { IsViewOf result self.now.answered }
     {
-        &self.answered
+        match &self.answered {
+            Ok(answer) => Ok(answer.view()),
+            Err(busy) => Err(*busy),
+        }
     }
 
     /// Returns the buffer, and drops the answer.

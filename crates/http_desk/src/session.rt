@@ -7,7 +7,7 @@ ghost use Rattle.isad_core.specs.Texts.{Bytes};
 ghost use Rattle.http_messages.specs.Answers.{answer_text};
 ghost use Rattle.http_messages.specs.Heads.{Accepted, is_head};
 ghost use Rattle.http_messages.specs.HeadVerdict.{request_in};
-ghost use Rattle.http_messages.specs.Replies.{answer_in};
+ghost use Rattle.http_messages.specs.Replies.{viewed};
 ghost use Rattle.http_desk.specs.Laws.{HasEnded};
 ghost use Rattle.http_desk.specs.Messages.{HasHead};
 ghost use Rattle.http_desk.specs.AnswerOutput.{Sends};
@@ -16,8 +16,8 @@ ghost use Rattle.http_desk.specs.Streams.{most_reads};
 ghost use Rattle.http_desk.specs.Exchanges.{Turn, Through, Exchange, Talks, TalksWhole, AtEndIf, IsNoEnd};
 ghost use Rattle.http_desk.specs.Exchanges.{Refused, Replies, after_sending};
 ghost use Rattle.http_desk.specs.StreamFaults.{FlushesAll, IsFlushed, IsQuiet, NoBound, NoWriteBound};
-ghost use Rattle.http_desk.specs.StreamFaults.{TellsReadFault, TellsWriteFault};
-ghost use Rattle.http_desk.specs.StreamFaults.{TakesCalls, TakesTurns, send_failed};
+ghost use Rattle.http_desk.specs.StreamFaults.{TellsBound, TellsReadFault, TellsWriteBound, TellsWriteFault};
+ghost use Rattle.http_desk.specs.StreamFaults.{IsUsedUp, TakesCalls, TakesTurns, send_failed};
 
 use crate::message_input::{FoundBody, FoundHead, body_len, gather_body, gather_head};
 use crate::output::Sent;
@@ -25,7 +25,7 @@ use crate::reply::{send_answer, send_continue};
 use crate::responses::{Means, prepare};
 use crate::session_end::{Ended, Next};
 use crate::streams::{Sink, Source};
-use http_messages::answers::Answered;
+use http_messages::answers::AnswerView;
 use http_messages::head_verdict::{Head, Judged, is_bare_method, judge};
 use http_messages::status::Status;
 use office_core::{Busy, Machine};
@@ -52,20 +52,26 @@ fn refuse<W: Write>(writer: &mut Sink<'_, W>, bare: bool, status: Status) -> Nex
     ensures flushed { IsFlushed writer.new result }
     ensures writes { TellsWriteFault writer.old writer.new result }
     ensures turns { NoWriteBound writer.old writer.new result }
+    ensures used_up { TellsWriteBound writer.new result }
     ensures same { writer.new.name ≡ writer.old.name }
 {
-    let sent = send_answer(writer, bare, true, &Answered::Error(status));
+    let sent = send_answer(writer, bare, true, AnswerView::fixed(status));
     after(sent, Next::Ends(Ended::Closed))
 }
 
-/// Writes the whole answer of the office, and returns what comes next. It gets no allocator, and nothing that has one
-/// except the answer.
-fn reply<W: Write>(writer: &mut Sink<'_, W>, bare: bool, closing: bool, answer: &Answered) -> Next
+/// Writes the whole answer of the office, and returns what comes next. It gets no allocator, and nothing that has one.
+fn reply<W: Write>(
+    writer: &mut Sink<'_, W>,
+    bare: bool,
+    closing: bool,
+    answer: AnswerView<'_>,
+) -> Next
     ensures sent { Replies writer.old.bytes writer.new.bytes closing
-        (answer_text bare closing (answer_in answer.now)) result }
+        (answer_text bare closing (viewed answer.entry)) result }
     ensures flushed { IsFlushed writer.new result }
     ensures writes { TellsWriteFault writer.old writer.new result }
     ensures turns { NoWriteBound writer.old writer.new result }
+    ensures used_up { TellsWriteBound writer.new result }
     ensures same { writer.new.name ≡ writer.old.name }
 {
     let sent = send_answer(writer, bare, closing, answer);
@@ -77,20 +83,21 @@ fn reply<W: Write>(writer: &mut Sink<'_, W>, bare: bool, closing: bool, answer: 
 }
 
 /// Writes the whole answer, or that the office is busy, and returns what comes next. It gets no allocator, and nothing
-/// that has one except the answer.
+/// that has one.
 fn reply_or_refuse<W: Write>(
     writer: &mut Sink<'_, W>,
     bare: bool,
     closing: bool,
-    answered: &Result<Answered, Busy>,
+    answered: Result<AnswerView<'_>, Busy>,
 ) -> Next
-    ensures sent { MatchResult answered.now
-        (λ a. Replies writer.old.bytes writer.new.bytes closing (answer_text bare closing (answer_in a)) result)
+    ensures sent { MatchResult answered.entry
+        (λ view. Replies writer.old.bytes writer.new.bytes closing (answer_text bare closing (viewed view)) result)
         (λ _. Refused writer.old.bytes writer.new.bytes false Status.Busy result) }
     ensures no_end { IsNoEnd result }
     ensures flushed { IsFlushed writer.new result }
     ensures writes { TellsWriteFault writer.old writer.new result }
     ensures turns { NoWriteBound writer.old writer.new result }
+    ensures used_up { TellsWriteBound writer.new result }
     ensures same { writer.new.name ≡ writer.old.name }
 {
     match answered {
@@ -103,6 +110,7 @@ fn reply_or_refuse<W: Write>(
 fn allow_body<W: Write>(writer: &mut Sink<'_, W>, head: Head) -> Sent
     ensures writes { writer.new.failed ≡ (send_failed result || writer.old.failed) }
     ensures turns { writer.new.interrupted ≡ false → (writer.old.interrupted ≡ false) × (result ≢ Sent.Bound) }
+    ensures used_up { result ≡ Sent.Bound → IsUsedUp writer.new }
     ensures same { writer.new.name ≡ writer.old.name }
     ensures sends { Sends writer.old.bytes writer.new.bytes (continue_if head.waits) result }
     ensures flushed { result ≡ Sent.All → writer.old.flushed ≡ true → writer.new.flushed ≡ true }
@@ -155,12 +163,13 @@ fn act<W: Write, M: Machine>(
     ensures flushed { IsFlushed writer.new result }
     ensures writes { TellsWriteFault writer.old writer.new result }
     ensures turns { NoWriteBound writer.old writer.new result }
+    ensures used_up { TellsWriteBound writer.new result }
     ensures same { writer.new.name ≡ writer.old.name }
 {
     let closing = is_closing(head, number);
     let bare = is_bare(&buffer[..size], head);
     let prepared = prepare(means, office, buffer, size, head);
-    let next = reply_or_refuse(writer, bare, closing, prepared.answered());
+    let next = reply_or_refuse(writer, bare, closing, prepared.view());
     let _buffer = prepared.into_buffer();
     next
 }
@@ -192,6 +201,7 @@ fn receive<R: Read, W: Write, M: Machine>(
     ensures reads { TellsReadFault reader.old reader.new result }
     ensures writes { TellsWriteFault writer.old writer.new result }
     ensures turns { NoBound reader.old reader.new writer.old writer.new result }
+    ensures used_up { TellsBound reader.new writer.new result }
     ensures calls { TakesTurns reader.old reader.new }
     ensures same { writer.new.name ≡ writer.old.name }
 {
@@ -227,6 +237,7 @@ fn exchange<R: Read, W: Write, M: Machine>(
     ensures reads { TellsReadFault reader.old reader.new result }
     ensures writes { TellsWriteFault writer.old writer.new result }
     ensures turns { NoBound reader.old reader.new writer.old writer.new result }
+    ensures used_up { TellsBound reader.new writer.new result }
     ensures calls { TakesCalls most_reads reader.old reader.new }
     ensures same { writer.new.name ≡ writer.old.name }
 {
@@ -263,6 +274,7 @@ fn talk_with<R: Read, W: Write, M: Machine>(
     ensures read_fault { TellsReadFault reader.old reader.new (Next.Ends result) }
     ensures write_fault { TellsWriteFault writer.old writer.new (Next.Ends result) }
     ensures bound { reader.new.interrupted ≡ false → writer.new.interrupted ≡ false → result ≢ Ended.Bound }
+    ensures used_up { TellsBound reader.new writer.new (Next.Ends result) }
     ensures calls { TakesCalls (most_answers * most_reads) reader.old reader.new }
     ensures same { writer.new.name ≡ writer.old.name }
 {
@@ -295,10 +307,11 @@ pub fn talk<R: Read, W: Write, M: Machine>(
     // All that was written was flushed, unless a fault of the writer or a bound ends the session.
     ensures flushed { FlushesAll writer.old writer.new (Next.Ends result) }
     // If no such call had failed before, a read or write fault is returned exactly if one failed now. A bound is
-    // returned only if a call was interrupted.
+    // returned only if a call was interrupted, and the turns of a message or of an answer are used up.
     ensures read_fault { TellsReadFault reader.old reader.new (Next.Ends result) }
     ensures write_fault { TellsWriteFault writer.old writer.new (Next.Ends result) }
     ensures bound { reader.new.interrupted ≡ false → writer.new.interrupted ≡ false → result ≢ Ended.Bound }
+    ensures used_up { TellsBound reader.new writer.new (Next.Ends result) }
     ensures quiet { IsQuiet reader.new → IsQuiet writer.new → HasEnded result }
     ensures calls { TakesCalls (most_answers * most_reads) reader.old reader.new }
     ensures same { writer.new.name ≡ writer.old.name }

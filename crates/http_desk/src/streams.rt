@@ -3,7 +3,7 @@ ghost use Rattle.std.specs.Prelude.{◌≡◌, ◌≢◌, ◌+◌, ◌<◌, ◌�
 ghost use Rattle.std.specs.Io.KnownBytes.{Appends, ReadConsumes};
 ghost use Rattle.std.specs.Io.{ReadsAtMost};
 ghost use Rattle.http_desk.specs.Streams.{IsNew, after_flush, after_write, has_failed, most_reads, more_writes};
-ghost use Rattle.http_desk.specs.Streams.{was_interrupted};
+ghost use Rattle.http_desk.specs.Streams.{counted, was_interrupted};
 
 use std::io::{ErrorKind, Read, Write};
 use std::marker::Model;
@@ -118,7 +118,7 @@ impl<'a, R: Read> Source<'a, R> {
         ensures same { self.new.name ≡ self.old.name }
         ensures failed { self.new.failed ≡ (has_failed result || self.old.failed) }
         ensures interrupted { self.new.interrupted ≡ (was_interrupted result || self.old.interrupted) }
-        ensures calls { self.new.calls ≤ self.old.calls + 1 }
+        ensures calls { self.new.calls ≡ counted self.old.calls }
         ensures turns { self.new.turns + 1 ≡ self.old.turns }
     {
         self.turns -= 1;
@@ -244,7 +244,7 @@ impl<'a, W: Write> Sink<'a, W> {
         ensures flushed { self.new.flushed ≡ after_write self.old.flushed result }
         ensures failed { self.new.failed ≡ (has_failed result || self.old.failed) }
         ensures interrupted { self.new.interrupted ≡ (was_interrupted result || self.old.interrupted) }
-        ensures calls { self.new.calls ≤ self.old.calls + 1 }
+        ensures calls { self.new.calls ≡ counted self.old.calls }
         ensures turns { self.new.turns + 1 ≡ self.old.turns }
     {
         self.turns -= 1;
@@ -278,7 +278,7 @@ impl<'a, W: Write> Sink<'a, W> {
         ensures flushed { self.new.flushed ≡ after_flush self.old.flushed result }
         ensures failed { self.new.failed ≡ (has_failed result || self.old.failed) }
         ensures interrupted { self.new.interrupted ≡ (was_interrupted result || self.old.interrupted) }
-        ensures calls { self.new.calls ≤ self.old.calls + 1 }
+        ensures calls { self.new.calls ≡ counted self.old.calls }
         ensures turns { self.new.turns + 1 ≡ self.old.turns }
     {
         self.turns -= 1;

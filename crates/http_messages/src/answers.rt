@@ -1,8 +1,8 @@
 //! Answers, and the parts of their bytes. Nothing here takes an allocator.
 ghost use Rattle.std.specs.Prelude.{◌≡◌, ◌≤◌, length};
-ghost use Rattle.http_messages.specs.Answers.{body_text, number_of, phrase_of, error_text};
+ghost use Rattle.http_messages.specs.Answers.{body_text, error, number_of, phrase_of, error_text};
 ghost use Rattle.http_messages.specs.Answers.{type_name, allow_field, close_field};
-ghost use Rattle.http_messages.specs.Replies.{answer_in};
+ghost use Rattle.http_messages.specs.Replies.{answer_in, viewed};
 
 use crate::status::Status;
 use http::StatusCode;
@@ -24,55 +24,99 @@ pub enum Answered {
 }
 
 impl Answered {
-    pub fn status(&self) -> Status
-        ensures { result ≡ (answer_in self.now).status }
+    /// The answer as it is written.
+    pub fn view(&self) -> AnswerView<'_>
+        ensures { viewed result ≡ answer_in self.now }
     {
         match self {
-            Answered::Text(_) => Status::Fine,
-            Answered::Json(_) => Status::Fine,
-            Answered::Refused(_) => Status::Conflict,
-            Answered::NotAllowed(_) => Status::MethodNotAllowed,
-            Answered::Error(status) => *status,
+            Answered::Text(body) => AnswerView {
+                status: Status::Fine,
+                is_text: true,
+                allow: None,
+                body: body.as_slice(),
+            },
+            Answered::Json(body) => AnswerView {
+                status: Status::Fine,
+                is_text: false,
+                allow: None,
+                body: body.as_slice(),
+            },
+            Answered::Refused(body) => AnswerView {
+                status: Status::Conflict,
+                is_text: false,
+                allow: None,
+                body: body.as_slice(),
+            },
+            Answered::NotAllowed(post) => AnswerView {
+                status: Status::MethodNotAllowed,
+                is_text: false,
+                allow: Some(*post),
+                body: error_body(Status::MethodNotAllowed),
+            },
+            Answered::Error(status) => AnswerView::fixed(*status),
+        }
+    }
+}
+
+/// An answer as it is written. It borrows its body, and owns no memory.
+#[derive(Clone, Copy, Debug)]
+pub struct AnswerView<'a> {
+    status: Status,
+    /// A text, or else JSON.
+    is_text: bool,
+    /// The method that is allowed, where another was used: POST if true, and otherwise GET.
+    allow: Option<bool>,
+    body: &'a [u8],
+}
+
+impl<'a> AnswerView<'a> {
+    /// A fixed answer.
+    pub fn fixed(status: Status) -> AnswerView<'a>
+        ensures { viewed result ≡ error status }
+    {
+        AnswerView {
+            status,
+            is_text: false,
+            allow: None,
+            body: error_body(status),
         }
     }
 
-    pub fn is_text(&self) -> bool
-        ensures { result ≡ (answer_in self.now).is_text }
+    pub fn status(self) -> Status
+        ensures { result ≡ (viewed self.entry).status }
     {
-        match self {
-            Answered::Text(_) => true,
-            Answered::Json(_) => false,
-            Answered::Refused(_) => false,
-            Answered::NotAllowed(_) => false,
-            Answered::Error(_) => false,
-        }
+        self.status
+    }
+
+    pub fn is_text(self) -> bool
+        ensures { result ≡ (viewed self.entry).is_text }
+    {
+        self.is_text
     }
 
     /// The line of the field that names the allowed method; empty if the answer has none.
-    pub fn allow_line(&self) -> &'static [u8]
-        ensures line { result.now ≡ allow_field (answer_in self.now).allow }
+    pub fn allow_line(self) -> &'static [u8]
+        ensures line { result.now ≡ allow_field (viewed self.entry).allow }
         ensures short { length result.now ≤ 40 }
     {
-        match self {
-            Answered::Text(_) => b"",
-            Answered::Json(_) => b"",
-            Answered::Refused(_) => b"",
-            Answered::NotAllowed(true) => b"Allow: POST\r\n",
-            Answered::NotAllowed(false) => b"Allow: GET\r\n",
-            Answered::Error(_) => b"",
+        match self.allow {
+            None => b"",
+            Some(true) => b"Allow: POST\r\n",
+            Some(false) => b"Allow: GET\r\n",
         }
     }
 
-    pub fn body(&self) -> &[u8]
-        ensures { result.now ≡ (answer_in self.now).body }
+    pub fn body(self) -> &'a [u8]
+        ensures { result.now ≡ (viewed self.entry).body }
     {
-        match self {
-            Answered::Text(body) => body.as_slice(),
-            Answered::Json(body) => body.as_slice(),
-            Answered::Refused(body) => body.as_slice(),
-            Answered::NotAllowed(_) => error_body(Status::MethodNotAllowed),
-            Answered::Error(status) => error_body(*status),
-        }
+        self.body
+    }
+
+    /// The body that is written; none if `bare` is true.
+    pub fn written_body(self, bare: bool) -> &'a [u8]
+        ensures { result.now ≡ body_text bare (viewed self.entry) }
+    {
+        if bare { b"" } else { self.body }
     }
 }
 
@@ -147,11 +191,4 @@ pub fn close_line(closing: bool) -> &'static [u8]
     } else {
         b""
     }
-}
-
-/// The body that is written; none if `bare` is true.
-pub fn written_body<'a>(bare: bool, answer: &'a Answered) -> &'a [u8]
-    ensures { result.now ≡ body_text bare (answer_in answer.now) }
-{
-    if bare { b"" } else { answer.body() }
 }

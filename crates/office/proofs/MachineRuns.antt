@@ -1,8 +1,8 @@
 -- Calls on an office, one after another, are a run of the machine.
-use Rattle.std.proofs.Common.{◌≡◌, List, [], ◌∷◌, Option, Some, None, refl, sym, ap, subst, ◌∙◌}
-use Rattle.office_core.specs.MixedRuns.{Told, next_state, told_of, state_after_all, all_told}
+use Rattle.std.proofs.Common.{◌≡◌, List, [], ◌∷◌, map, Option, Some, None, refl, sym, ap, subst, ◌∙◌}
+use Rattle.office_core.specs.MixedRuns.{next_state, told_of, state_after_all, all_told}
 use Rattle.office_core.specs.State.{State}
-use Rattle.office.specs.Runs.{Call, heard, with_heard, all_heard, with_told, Follows, AreCalls, IsAcceptance, IsMachinesRun, LeaveOpen}
+use Rattle.office.specs.Runs.{Call, Returned, as_returned, heard, with_heard, all_heard, with_told, Follows, AreCalls, IsAcceptance, IsMachinesRun, LeaveOpen}
 
 module _ {M : Type 0} (represents : M → State → Type 0) (is_intact is_open : M → Type 0) where
   intact_before : (calls : List Call) (old new : M) → AreCalls represents is_intact is_open old new calls → is_intact new → is_intact old
@@ -20,17 +20,17 @@ module _ {M : Type 0} (represents : M → State → Type 0) (is_intact is_open :
       left_open later it.0 new it.2 intact (still_open (IsAcceptance call.told) (is_open it.0) later (it.1.kept (intact_before later it.0 new it.2 intact)) h)
 
   runs : (calls : List Call) (old new : M) → AreCalls represents is_intact is_open old new calls → is_intact new → (s : State) → represents old s
-      → represents new (state_after_all s (heard calls)) × (all_heard calls ≡ all_told s (heard calls))
+      → represents new (state_after_all s (heard calls)) × (all_heard calls ≡ map as_returned (all_told s (heard calls)))
   runs [] old new same intact s is = (subst (λ (m : M). represents m s) same is, refl)
   runs (call ∷ later) old new it intact s is =
       at call.told (it.1.follows (intact_before later it.0 new it.2 intact) s is) (λ t shown. runs later it.0 new it.2 intact t shown)
     where
-      at : (told : Option Told) → Follows represents is_intact is_open s call.asked told it.0
-          → ((t : State) → represents it.0 t → represents new (state_after_all t (heard later)) × (all_heard later ≡ all_told t (heard later)))
-          → represents new (state_after_all s (with_heard call.asked told (heard later))) × (with_told told (all_heard later) ≡ all_told s (with_heard call.asked told (heard later)))
+      at : (told : Option Returned) → Follows represents is_intact is_open s call.asked told it.0
+          → ((t : State) → represents it.0 t → represents new (state_after_all t (heard later)) × (all_heard later ≡ map as_returned (all_told t (heard later))))
+          → represents new (state_after_all s (with_heard call.asked told (heard later))) × (with_told told (all_heard later) ≡ map as_returned (all_told s (with_heard call.asked told (heard later))))
       at (Some told) follows on =
           let rest = on (next_state s call.asked) follows.0 in
-          (rest.0, ap (λ (t : Told). t ∷ all_heard later) follows.1 ∙ ap (λ (ts : List Told). told_of s call.asked ∷ ts) rest.1)
+          (rest.0, ap (λ (t : Returned). t ∷ all_heard later) follows.1 ∙ ap (λ (ts : List Returned). as_returned (told_of s call.asked) ∷ ts) rest.1)
       at None follows on = on s follows
 
   pub machines_run : (calls : List Call) (old new : M) → AreCalls represents is_intact is_open old new calls → IsMachinesRun represents is_intact is_open old new calls

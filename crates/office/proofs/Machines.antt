@@ -9,7 +9,6 @@ use Rattle.sqlite.specs.Tree.{Trees}
 use Rattle.tree_core.specs.Forest.{Forest}
 use Rattle.tree_core.specs.Versions.{Version}
 use Rattle.office_core.specs.Json.{reply_text}
-use Rattle.office_core.specs.MixedRuns.{Replied, Answered}
 use Rattle.office_core.specs.Queries.{answer}
 use Rattle.office_core.specs.Rules.{step}
 use Rattle.office_core.specs.Rules as rules
@@ -21,7 +20,7 @@ use Rattle.office_core.specs.declared.query.Answer.{Answer}
 use Rattle.office_core.specs.declared.query.Query.{Query}
 use Rattle.office.specs.OfficeCall.{TakesStep}
 use Rattle.office.specs.IdleOffice.{IsAsBefore, IsIn, is_clean, is_shown, is_still_open}
-use Rattle.office.specs.Runs.{IsCall, answered, applied}
+use Rattle.office.specs.Runs.{IsCall, Replied, Answered, answered, applied}
 use Rattle.refinement.specs.Representation.{RepresentsState}
 
 -- while nothing is changed, it is in the state that it was in
@@ -40,14 +39,14 @@ module _ {S : Type 0} (g : store.Ghosts S) (places : Trees → Forest ℕ → Ty
       → (clean new → is_still_open g new → is_still_open g old) → (clean new → IfOk r (λ reply. IsOk reply.done → is_still_open g new))
       → (clean new → (s : State) → IsSoundOffice s → IsIn places version s (state g old) → IfOk r (λ reply. TakesStep places version s asked reply.done (state g new)))
       → ((s : State) → IsSoundOffice s → IsSoundOffice (step s asked).0) → (clean new → OnErr r (IsAsBefore (state g old) (state g new)))
-      → IsCall shown clean (is_still_open g) old new (applied asked r)
-  applied_call asked (Ok reply) before was kept steps sound busy = record {
+      → IfOk r (λ reply. reply.json ≡ reply_text reply.done) → IsCall shown clean (is_still_open g) old new (applied asked r)
+  applied_call asked (Ok reply) before was kept steps sound busy bytes = record {
     intact = before;
     was_open = was;
     kept = kept;
-    follows = λ at s is. let it = steps at s is.0 is.1 in ((sound s is.0, it.1), ap Replied it.0);
+    follows = λ at s is. let it = steps at s is.0 is.1 in ((sound s is.0, it.1), ap (λ json. Replied reply.done json) bytes ∙ ap (λ (r : rules.Reply). Replied r (reply_text r)) it.0);
   }
-  applied_call asked (Err e) before was kept steps sound busy = record {
+  applied_call asked (Err e) before was kept steps sound busy bytes = record {
     intact = before;
     was_open = was;
     kept = λ at never. absurd never;

@@ -1,19 +1,33 @@
 -- Calls on an office, one after another, and the run of the machine.
-use Rattle.std.specs.Prelude.{◌≡◌, IsOk, List, [], ◌∷◌, Option, Some, None, Result, Ok, Err}
-use Rattle.office_core.specs.MixedRuns.{Asked, ToDo, ToTell, Told, Replied, Answered, next_state, told_of, state_after_all, all_told}
+use Rattle.std.specs.Prelude.{◌≡◌, IsOk, List, [], ◌∷◌, Option, Some, None, Result, Ok, Err, map}
+use Rattle.isad_core.specs.Texts.{Bytes}
+use Rattle.office_core.specs.Json.{reply_text}
+use Rattle.office_core.specs.MixedRuns.{Asked, ToDo, ToTell, Told, next_state, told_of, state_after_all, all_told}
+use Rattle.office_core.specs.MixedRuns as mixed
+use Rattle.office_core.specs.Rules as machine
 use Rattle.office_core.specs.State.{State}
 use Rattle.office_core.specs.declared.command.Command.{Command}
 use Rattle.office_core.specs.declared.machine.Reply.{Reply}
 use Rattle.office_core.specs.declared.query.Answer.{Answer}
 use Rattle.office_core.specs.declared.query.Query.{Query}
 
--- what the office is asked, and its reply or answer: none if it is busy
+-- what a call returns
+pub data Returned : Type 0 where
+  Replied : (reply : machine.Reply) → (json : Bytes) → Returned  -- the reply to a command, and its JSON
+  Answered : (answer : Answer) → Returned  -- the answer to a question
+
+-- what the machine tells, as a call returns it
+abbrev pub as_returned : Told → Returned
+as_returned (mixed.Replied reply) = Replied reply (reply_text reply)
+as_returned (mixed.Answered answer) = Answered answer
+
+-- what the office is asked, and what the call returns: none if the office is busy
 pub record Call : Type 0 where
   pub asked : Asked
-  pub told : Option Told
+  pub told : Option Returned
 
 abbrev pub applied : {E : Type 0} → Command → Result Reply E → Call
-applied asked (Ok reply) = record { asked = ToDo asked; told = Some (Replied reply.done) }
+applied asked (Ok reply) = record { asked = ToDo asked; told = Some (Replied reply.done reply.json) }
 applied asked (Err busy) = record { asked = ToDo asked; told = None }
 
 abbrev pub answered : {E : Type 0} → Query → Result Answer E → Call
@@ -21,7 +35,7 @@ answered asked (Ok told) = record { asked = ToTell asked; told = Some (Answered 
 answered asked (Err busy) = record { asked = ToTell asked; told = None }
 
 -- what was asked while the office was not busy
-abbrev pub with_heard : Asked → Option Told → List Asked → List Asked
+abbrev pub with_heard : Asked → Option Returned → List Asked → List Asked
 with_heard asked (Some told) later = asked ∷ later
 with_heard asked None later = later
 
@@ -29,18 +43,18 @@ abbrev pub heard : List Call → List Asked
 heard [] = []
 heard (call ∷ later) = with_heard call.asked call.told (heard later)
 
--- the replies and the answers
-abbrev pub with_told : Option Told → List Told → List Told
+-- the replies with their JSON, and the answers
+abbrev pub with_told : Option Returned → List Returned → List Returned
 with_told (Some told) later = told ∷ later
 with_told None later = later
 
-abbrev pub all_heard : List Call → List Told
+abbrev pub all_heard : List Call → List Returned
 all_heard [] = []
 all_heard (call ∷ later) = with_told call.told (all_heard later)
 
 -- a command was accepted
-abbrev pub IsAcceptance : Option Told → Type 0
-IsAcceptance (Some (Replied reply)) = IsOk reply
+abbrev pub IsAcceptance : Option Returned → Type 0
+IsAcceptance (Some (Replied reply json)) = IsOk reply
 IsAcceptance (Some (Answered answer)) = ⊥
 IsAcceptance None = ⊥
 
@@ -51,9 +65,9 @@ LeaveOpen was_open (call ∷ later) = LeaveOpen (IsAcceptance call.told) later
 
 -- When an office represents a state, when its store has returned what was written to it, and when it is open.
 module _ {M : Type 0} (represents : M → State → Type 0) (is_intact is_open : M → Type 0) where
-  -- the result and the next state are the machine's; an office that is busy keeps its state
-  abbrev pub Follows : State → Asked → Option Told → M → Type 0
-  Follows s asked (Some told) new = represents new (next_state s asked) × (told ≡ told_of s asked)
+  -- the result with its bytes and the next state are the machine's; an office that is busy keeps its state
+  abbrev pub Follows : State → Asked → Option Returned → M → Type 0
+  Follows s asked (Some told) new = represents new (next_state s asked) × (told ≡ as_returned (told_of s asked))
   Follows s asked None new = represents new s
 
   -- one call
@@ -68,10 +82,11 @@ module _ {M : Type 0} (represents : M → State → Type 0) (is_intact is_open :
   AreCalls old new [] = old ≡ new
   AreCalls old new (call ∷ later) = (mid : M) × IsCall old mid call × AreCalls mid new later
 
-  -- The results are those of the machine for the calls that were not busy, and the office is then in the machine's
-  -- state. If the last call was a command that was accepted, the office is open.
+  -- The results are those of the machine for the calls that were not busy, also the JSON of each reply, and the office
+  -- is then in the machine's state. If the last call was a command that was accepted, the office is open.
   abbrev pub IsMachinesRun : M → M → List Call → Type 0
   IsMachinesRun old new calls =
       is_intact new → (s : State) → represents old s
-      → represents new (state_after_all s (heard calls)) × (all_heard calls ≡ all_told s (heard calls))
+      → represents new (state_after_all s (heard calls))
+      × (all_heard calls ≡ map as_returned (all_told s (heard calls)))
       × (LeaveOpen (is_open old) calls → is_open new)

@@ -7,7 +7,6 @@ use Rattle.std.proofs.KnownBytes.{Appends-nil}
 use Rattle.office.specs.declared.faults.OpenFault.{OpenFault}
 use Rattle.office.specs.declared.faults.OpenFault.TheVariants as opening
 use Rattle.program.specs.CommandEffects.{JudgmentFails, Known, ServerFails, line_feed}
-use Rattle.program.specs.Faults.{IsUnopened, fault_of_opening}
 use Rattle.program.specs.declared.faults.Fault.{Fault}
 use Rattle.program.specs.declared.faults.Fault.TheVariants.{Memory, NotSound}
 
@@ -32,11 +31,3 @@ told_unsound judged why cause line held held_after some unsound is told =
 pub no_memory : {X : Type 0} (port : ℕ) (held : Known) (r : Result X Fault) → IsErrAnd r (λ f. f ≡ Memory) → IfErr r (ServerFails port held held)
 no_memory port held (Ok x) is = tt
 no_memory port held (Err f) is = subst (ServerFails port held held) (sym is) (Appends-nil held)
-
--- no office was opened
-pub unopened : (why : OpenFault) (fault : Fault) → fault ≡ fault_of_opening why → IsUnopened fault
-unopened why fault is = subst IsUnopened (sym is) (go why)
-  where
-    go : (why : OpenFault) → IsUnopened (fault_of_opening why)
-    go opening.Memory = tt
-    go _ = tt

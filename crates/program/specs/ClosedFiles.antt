@@ -1,10 +1,10 @@
 -- What the files of a store hold after it is closed, as long as the disk has returned what was written to them.
-use Rattle.std.specs.Prelude.{◌≡◌, ◌⊎◌, IsTrue, false, Option}
+use Rattle.std.specs.Prelude.{◌≡◌, ◌⊎◌, IfNone, IfSome, IsTrue, false, Option}
 use Rattle.sqlite.specs.Closing.{HoldsAlone}
 use Rattle.sqlite.specs.Files.{HoldsDatabase, file_state, image_of}
 use Rattle.sqlite.specs.Held.{Held}
 use Rattle.sqlite.specs.Recovery.{Image}
-use Rattle.sqlite.specs.State.{HasCleanDisk}
+use Rattle.sqlite.specs.State.{HasCleanDisk, Survives}
 use Rattle.sqlite.specs.Tree.{Trees}
 use Rattle.sqlite_disk.specs.declared.Disk.{Ghosts}
 use Rattle.sqlite_disk.specs.declared.Files.{Files}
@@ -12,13 +12,16 @@ use Rattle.sqlite_store.specs.FileStore as store
 use Rattle.sqlite_store.specs.declared.store.FileStore.{FileStore}
 use Rattle.sqlite_wal.specs.Files.{outcomes}
 use Rattle.sqlite_wal.specs.Reads.{AreClean}
+use Rattle.adoption.specs.Verdicts.{IsVerdict}
+use Rattle.adoption.specs.declared.verdict.Verdict.TheVariants as verdict
 use Rattle.nested_sets.specs.Representation.{RepresentsSpanRows}
 use Rattle.office_core.specs.State.{State}
 use Rattle.office_tables.specs.Schema.{schema}
 use Rattle.refinement.specs.Representation.{RepresentsState}
 use Rattle.tree_core.specs.Versions.{Spans}
+use Rattle.office.specs.Adoption.{HasAdoptCause}
 use Rattle.office.specs.declared.faults.OpenFault.{OpenFault}
-use Rattle.program.specs.OpenedFiles.{AreHeld, IsJudgedIn}
+use Rattle.program.specs.OpenedFiles.{AreHeld, IsStore}
 
 module _ {D : Type 0} (g : Ghosts D) where
   -- the disk has returned what was written to the file and to its log
@@ -56,10 +59,16 @@ pub record HasLeft {D : Type 0} {g : Ghosts D} (conn : Held (FileStore D g)) (fi
   pub shut : HaveCleanDisk g files → (file_state conn).is_open ≡ false → LeaveOnly g files (file_state conn).may_leave
 
 module _ {D : Type 0} (g : Ghosts D) (image : Image) where
-  -- a store was judged with this result, and closed as it was found
+  -- A store was judged with this result, and closed as it was found. A fault has its cause: the tables are as it says,
+  -- or the disk failed or had failed before, or there was not enough memory.
   pub record WasJudgedAsFound (judged : Option OpenFault) (files : Files D) : Type 0 where
+    pub found : Held (FileStore D g)
     pub after : Held (FileStore D g)
-    pub verdict : HasCleanDisk (file_state after) → IsJudgedIn image judged
+    pub is_store : IsStore g image found
+    pub crash : Survives (file_state found) (file_state after) (λ _. ⊥)
+    pub sound : HasCleanDisk (file_state after) → IfNone judged (IsVerdict Spans (file_state found).now verdict.Sound)
+    pub cause : HasCleanDisk (file_state after)
+        → IfSome judged (HasAdoptCause Spans (file_state found) (file_state after))
     pub left : HasLeft after files
     pub stays : AreAsFound g image files
 

@@ -1,8 +1,6 @@
 -- What a command did with its streams and its files: left and left_after are the bytes that standard input has before
--- and after it, held and held_after those that standard output holds, and closed are the files that were opened as a
--- store, once they are closed.
+-- and after it, held and held_after those that standard output holds, and outcome is what became of the store.
 use Rattle.std.specs.Prelude.{◌≡◌, ◌⊎◌, ◌++◌, [], List, Option, Some, None, Result, Ok, Err, ℕ, codes, true, false}
-use Rattle.std.specs.Prelude.{IfSome, IsSomeAnd}
 use Rattle.std.specs.Fmt.{decimal}
 use Rattle.std.specs.Io.KnownBytes.{Appends, Consumes, IsAtEnd}
 use Rattle.sqlite_disk.specs.declared.Disk.{Ghosts}
@@ -25,9 +23,11 @@ use Rattle.desk_core.specs.declared.refusal.Refusal.TheVariants.{BadFile}
 use Rattle.command_line.specs.CommandLine.{program}
 use Rattle.office.specs.declared.faults.OpenFault.{OpenFault}
 use Rattle.office.specs.declared.faults.OpenFault.TheVariants as opening
-use Rattle.program.specs.Faults.{IsUnopened, Refuses, fault_of_opening, line_of, message_of, status_of}
-use Rattle.program.specs.ClosedFiles.{AreAsFound, WasJudgedAsFound}
-use Rattle.program.specs.Stores.{HasServed, HasTakenIn, IsBroughtOver, IsMade, IsNotBroughtOver, IsTalkedWith, WasBusy}
+use Rattle.program.specs.Faults.{Refuses, fault_of_opening, fault_of_reading, line_of, message_of, status_of}
+use Rattle.program.specs.ClosedFiles.{WasJudgedAsFound}
+use Rattle.program.specs.Outcomes.{IsClosedAnd, IsUnopened, IsUntouched}
+use Rattle.program.specs.Stores.{HasNoOffice, HasServed, HasTakenIn, IsBroughtOver, IsMade, IsNotBroughtOver}
+use Rattle.program.specs.Stores.{IsTalkedWith, MakesNone, WasBusy}
 use Rattle.program.specs.Streams.{IsFront}
 use Rattle.program.specs.Tasks.{IsRefusedIn, IsTaskOf}
 use Rattle.program.specs.declared.faults.Break.{Break}
@@ -35,6 +35,8 @@ use Rattle.program.specs.declared.faults.Break.TheVariants as break
 use Rattle.program.specs.declared.faults.Fault.{Fault}
 use Rattle.program.specs.declared.faults.Fault.TheVariants.{Refused, NotSound, Words, Date, Settings, File, Store}
 use Rattle.program.specs.declared.faults.Fault.TheVariants.{Net, Session, Memory}
+use Rattle.program.specs.declared.files.StoreOutcome.{StoreOutcome}
+use Rattle.program.specs.declared.streams.ReadFault.{ReadFault}
 use Rattle.program.specs.declared.tasks.Task.{Task}
 use Rattle.program.specs.declared.tasks.Task.TheVariants.{Preview, Init, Trial, Import, Talk, Serve, Check, Migrate}
 use Rattle.program.specs.declared.tasks.TaskFault.TheVariants as tasks
@@ -191,144 +193,163 @@ Unread left left_after = Consumes left left_after []
 
 -- ---- offices in files, in which a store with this image was found
 
-module _ {D : Type 0} (g : Ghosts D) (image : Image) where
-  -- no office was opened, and nothing was printed; files that were opened are closed as they were found
-  abbrev pub NotOpened : Known → Known → Option (Files D) → Fault → Type 0
-  NotOpened held held_after closed fault =
-      IsUnopened fault × IsSilent held held_after × IfSome closed (AreAsFound g image)
+module _ {S D : Type 0} (g : Ghosts D) (image : Image) where
+  -- the store was not touched, and nothing was read or printed
+  abbrev pub NothingDone : Known → Known → Known → Known → StoreOutcome S (Files D) → Type 0
+  NothingDone left left_after held held_after outcome =
+      IsUntouched outcome × DoesNothing left left_after held held_after
+
+  -- the store could not be opened, and nothing was printed
+  abbrev pub NoStore : Known → Known → StoreOutcome S (Files D) → Fault → Type 0
+  NoStore held held_after outcome fault = IsUnopened outcome fault × IsSilent held held_after
+
+  -- no office was opened, and nothing was printed; a store that was opened is closed as it was found
+  abbrev pub NotOpened : Known → Known → StoreOutcome S (Files D) → Fault → Type 0
+  NotOpened held held_after outcome fault = HasNoOffice g image outcome fault × IsSilent held held_after
 
   -- a new office was made
-  abbrev pub InitDone : Founding → Known → Known → Known → Known → Option (Files D) → Type 0
-  InitDone founding left left_after held held_after closed =
-      IsSomeAnd closed (IsMade g image founding) × DoesNothing left left_after held held_after
+  abbrev pub InitDone : Founding → Known → Known → Known → Known → StoreOutcome S (Files D) → Type 0
+  InitDone founding left left_after held held_after outcome =
+      IsClosedAnd outcome (IsMade g image founding) × DoesNothing left left_after held held_after
+
+  -- no office was made
+  abbrev pub InitFails : StoreOutcome S (Files D) → Fault → Type 0
+  InitFails outcome fault = MakesNone g image outcome fault
+
+  -- the file of an import could not be read, and nothing was printed
+  abbrev pub NotRead : Known → Known → StoreOutcome S (Files D) → Fault → Type 0
+  NotRead held held_after outcome fault =
+      ((why : ReadFault) × (fault ≡ fault_of_reading why)) × IsUntouched outcome × IsSilent held held_after
 
   -- an import that is done: it was one step, whose reply was printed
-  abbrev pub ImportDone : Text → Known → Known → Option (Files D) → Type 0
-  ImportDone source held held_after closed =
-      (reply : Reply) × IsSomeAnd closed (HasTakenIn g image source reply) × ReplyPrinted reply held held_after
+  abbrev pub ImportDone : Text → Known → Known → StoreOutcome S (Files D) → Type 0
+  ImportDone source held held_after outcome =
+      (reply : Reply) × IsClosedAnd outcome (HasTakenIn g image source reply) × ReplyPrinted reply held held_after
 
   -- an office was busy, and nothing was printed
-  abbrev pub BusyFor : Text → Known → Known → Option (Files D) → Fault → Type 0
-  BusyFor source held held_after closed fault =
-      IsBusy fault × IsSilent held held_after × IsSomeAnd closed (WasBusy g image source)
+  abbrev pub BusyFor : Text → Known → Known → StoreOutcome S (Files D) → Fault → Type 0
+  BusyFor source held held_after outcome fault =
+      IsBusy fault × IsSilent held held_after × IsClosedAnd outcome (WasBusy g image source)
 
-  -- an import that ended with a fault: the office was not opened or was busy; or the import was refused; or the reply
-  -- was not printed whole
-  pub record ImportFails (source : Text) (held held_after : Known) (closed : Option (Files D)) (fault : Fault)
+  -- an import that ended with a fault: its file was not read; or the office was not opened or was busy; or the import
+  -- was refused; or the reply was not printed whole
+  pub record ImportFails (source : Text) (held held_after : Known) (outcome : StoreOutcome S (Files D)) (fault : Fault)
       : Type 0 where
-    pub why : NotOpened held held_after closed fault
-        ⊎ (BusyFor source held held_after closed fault
-        ⊎ ((reply : Reply) × IsSomeAnd closed (HasTakenIn g image source reply)
-        × ReplyFails reply held held_after fault))
+    pub why : NotRead held held_after outcome fault
+        ⊎ (NotOpened held held_after outcome fault
+        ⊎ (BusyFor source held held_after outcome fault
+        ⊎ ((reply : Reply) × IsClosedAnd outcome (HasTakenIn g image source reply)
+        × ReplyFails reply held held_after fault)))
 
   -- a talk that is done: a session that did not break off
-  abbrev pub TalkDone : Known → Known → Known → Known → Option (Files D) → Type 0
-  TalkDone left left_after held held_after closed =
-      (end : Ended) × EndsWell end × IsSomeAnd closed (IsTalkedWith g image left left_after held held_after end)
+  abbrev pub TalkDone : Known → Known → Known → Known → StoreOutcome S (Files D) → Type 0
+  TalkDone left left_after held held_after outcome =
+      (end : Ended) × EndsWell end × IsClosedAnd outcome (IsTalkedWith g image left left_after held held_after end)
 
   -- a talk that ended with a fault: its session broke off, or the office was not opened
-  abbrev pub TalkFails : Known → Known → Known → Known → Option (Files D) → Fault → Type 0
-  TalkFails left left_after held held_after closed fault =
-      (Unread left left_after × NotOpened held held_after closed fault)
+  abbrev pub TalkFails : Known → Known → Known → Known → StoreOutcome S (Files D) → Fault → Type 0
+  TalkFails left left_after held held_after outcome fault =
+      (Unread left left_after × NotOpened held held_after outcome fault)
       ⊎ ((broken : Break) × (fault ≡ Session broken)
-      × IsSomeAnd closed (IsTalkedWith g image left left_after held held_after (ended_by broken)))
+      × IsClosedAnd outcome (IsTalkedWith g image left left_after held held_after (ended_by broken)))
 
   -- a server that is done: it has printed that it listens, and has served all connections
-  abbrev pub ServeDone : ℕ → ℕ → Known → Known → Option (Files D) → Type 0
-  ServeDone port connections held held_after closed =
-      IsSomeAnd closed (HasServed g image connections true) × Listens port held held_after
+  abbrev pub ServeDone : ℕ → ℕ → Known → Known → StoreOutcome S (Files D) → Type 0
+  ServeDone port connections held held_after outcome =
+      IsClosedAnd outcome (HasServed g image connections true) × Listens port held held_after
 
   -- a server that ended with a fault: the office was not opened, or the server did not print that it listens, or did
   -- not take all connections
-  abbrev pub ServeFails : ℕ → ℕ → Known → Known → Option (Files D) → Fault → Type 0
-  ServeFails port connections held held_after closed fault =
-      NotOpened held held_after closed fault
-      ⊎ (IsSomeAnd closed (HasServed g image connections false) × ServerFails port held held_after fault)
+  abbrev pub ServeFails : ℕ → ℕ → Known → Known → StoreOutcome S (Files D) → Fault → Type 0
+  ServeFails port connections held held_after outcome fault =
+      NotOpened held held_after outcome fault
+      ⊎ (IsClosedAnd outcome (HasServed g image connections false) × ServerFails port held held_after fault)
 
   -- a check that is done: the tables are those of a sound office, and that was printed
-  abbrev pub CheckDone : Known → Known → Option (Files D) → Type 0
-  CheckDone held held_after closed =
-      IsSomeAnd closed (WasJudgedAsFound g image None) × JudgmentPrinted None held held_after
+  abbrev pub CheckDone : Known → Known → StoreOutcome S (Files D) → Type 0
+  CheckDone held held_after outcome =
+      IsClosedAnd outcome (WasJudgedAsFound g image None) × JudgmentPrinted None held held_after
 
-  -- a check that ended with a fault: no store was opened; or its tables are not those of a sound office; or they are,
+  -- a check that ended with a fault: the store could not be opened; or its tables are not those of a sound office; or they are,
   -- but that was not printed whole
-  abbrev pub CheckFails : Known → Known → Option (Files D) → Fault → Type 0
-  CheckFails held held_after closed fault =
-      NotOpened held held_after closed fault
-      ⊎ ((judged : Option OpenFault) × IsSomeAnd closed (WasJudgedAsFound g image judged)
+  abbrev pub CheckFails : Known → Known → StoreOutcome S (Files D) → Fault → Type 0
+  CheckFails held held_after outcome fault =
+      NoStore held held_after outcome fault
+      ⊎ ((judged : Option OpenFault) × IsClosedAnd outcome (WasJudgedAsFound g image judged)
       × JudgmentFails judged held held_after fault)
 
   -- a migration that is done, and that was printed
-  abbrev pub MigrateDone : Known → Known → Option (Files D) → Type 0
-  MigrateDone held held_after closed = IsSomeAnd closed (IsBroughtOver g image) × Appends held held_after migrated
+  abbrev pub MigrateDone : Known → Known → StoreOutcome S (Files D) → Type 0
+  MigrateDone held held_after outcome = IsClosedAnd outcome (IsBroughtOver g image) × Appends held held_after migrated
 
-  -- a migration that ended with a fault: no store was opened; or its tables stay as they are; or the migration was
+  -- a migration that ended with a fault: the store could not be opened; or its tables stay as they are; or the migration was
   -- done, but that was not printed whole
-  pub record MigrateFails (held held_after : Known) (closed : Option (Files D)) (fault : Fault) : Type 0 where
-    pub why : NotOpened held held_after closed fault
-        ⊎ ((IsSomeAnd closed (IsNotBroughtOver g image fault) × IsSilent held held_after)
-        ⊎ (IsSomeAnd closed (IsBroughtOver g image) × LineFails migrated held held_after fault))
+  pub record MigrateFails (held held_after : Known) (outcome : StoreOutcome S (Files D)) (fault : Fault) : Type 0 where
+    pub why : NoStore held held_after outcome fault
+        ⊎ ((IsClosedAnd outcome (IsNotBroughtOver g image fault) × IsSilent held held_after)
+        ⊎ (IsClosedAnd outcome (IsBroughtOver g image) × LineFails migrated held held_after fault))
 
   -- a task that is done
-  abbrev pub Does : Task → Known → Known → Known → Known → Option (Files D) → Type 0
-  Does (Preview country repo path) left left_after held held_after closed =
-      PreviewDone country repo path left left_after held held_after
-  Does (Init path founding) left left_after held held_after closed =
-      InitDone founding left left_after held held_after closed
-  Does (Trial founding) left left_after held held_after closed = TrialDone founding left left_after held held_after
-  Does (Import path source file) left left_after held held_after closed =
-      Unread left left_after × ImportDone source held held_after closed
-  Does (Talk path) left left_after held held_after closed = TalkDone left left_after held held_after closed
-  Does (Serve path port connections) left left_after held held_after closed =
-      Unread left left_after × ServeDone port connections held held_after closed
-  Does (Check path) left left_after held held_after closed = Unread left left_after × CheckDone held held_after closed
-  Does (Migrate path) left left_after held held_after closed =
-      Unread left left_after × MigrateDone held held_after closed
+  abbrev pub Does : Task → Known → Known → Known → Known → StoreOutcome S (Files D) → Type 0
+  Does (Preview country repo path) left left_after held held_after outcome =
+      IsUntouched outcome × PreviewDone country repo path left left_after held held_after
+  Does (Init path founding) left left_after held held_after outcome =
+      InitDone founding left left_after held held_after outcome
+  Does (Trial founding) left left_after held held_after outcome =
+      IsUntouched outcome × TrialDone founding left left_after held held_after
+  Does (Import path source file) left left_after held held_after outcome =
+      Unread left left_after × ImportDone source held held_after outcome
+  Does (Talk path) left left_after held held_after outcome = TalkDone left left_after held held_after outcome
+  Does (Serve path port connections) left left_after held held_after outcome =
+      Unread left left_after × ServeDone port connections held held_after outcome
+  Does (Check path) left left_after held held_after outcome = Unread left left_after × CheckDone held held_after outcome
+  Does (Migrate path) left left_after held held_after outcome =
+      Unread left left_after × MigrateDone held held_after outcome
 
   -- a task that ended with a fault
-  abbrev pub FailsWith : Task → Known → Known → Known → Known → Option (Files D) → Fault → Type 0
-  FailsWith (Preview country repo path) left left_after held held_after closed fault =
-      PreviewFails country repo path left left_after held held_after fault
-  FailsWith (Init path founding) left left_after held held_after closed fault =
-      IsUnopened fault × DoesNothing left left_after held held_after
-  FailsWith (Trial founding) left left_after held held_after closed fault =
-      TrialFails founding left left_after held held_after fault
-  FailsWith (Import path source file) left left_after held held_after closed fault =
-      Unread left left_after × ImportFails source held held_after closed fault
-  FailsWith (Talk path) left left_after held held_after closed fault =
-      TalkFails left left_after held held_after closed fault
-  FailsWith (Serve path port connections) left left_after held held_after closed fault =
-      Unread left left_after × ServeFails port connections held held_after closed fault
-  FailsWith (Check path) left left_after held held_after closed fault =
-      Unread left left_after × CheckFails held held_after closed fault
-  FailsWith (Migrate path) left left_after held held_after closed fault =
-      Unread left left_after × MigrateFails held held_after closed fault
+  abbrev pub FailsWith : Task → Known → Known → Known → Known → StoreOutcome S (Files D) → Fault → Type 0
+  FailsWith (Preview country repo path) left left_after held held_after outcome fault =
+      IsUntouched outcome × PreviewFails country repo path left left_after held held_after fault
+  FailsWith (Init path founding) left left_after held held_after outcome fault =
+      InitFails outcome fault × DoesNothing left left_after held held_after
+  FailsWith (Trial founding) left left_after held held_after outcome fault =
+      IsUntouched outcome × TrialFails founding left left_after held held_after fault
+  FailsWith (Import path source file) left left_after held held_after outcome fault =
+      Unread left left_after × ImportFails source held held_after outcome fault
+  FailsWith (Talk path) left left_after held held_after outcome fault =
+      TalkFails left left_after held held_after outcome fault
+  FailsWith (Serve path port connections) left left_after held held_after outcome fault =
+      Unread left left_after × ServeFails port connections held held_after outcome fault
+  FailsWith (Check path) left left_after held held_after outcome fault =
+      Unread left left_after × CheckFails held held_after outcome fault
+  FailsWith (Migrate path) left left_after held held_after outcome fault =
+      Unread left left_after × MigrateFails held held_after outcome fault
 
   -- words whose task is done
-  abbrev pub IsDone : List Text → Known → Known → Known → Known → Option (Files D) → Type 0
-  IsDone words left left_after held held_after closed =
+  abbrev pub IsDone : List Text → Known → Known → Known → Known → StoreOutcome S (Files D) → Type 0
+  IsDone words left left_after held held_after outcome =
       (task : Task) × IsTaskOf (subcommand_of program words) task
-      × Does task left left_after held held_after closed
+      × Does task left left_after held held_after outcome
 
   -- words whose task ended with that fault
-  abbrev pub TaskFails : List Text → Known → Known → Known → Known → Option (Files D) → Fault → Type 0
-  TaskFails words left left_after held held_after closed fault =
+  abbrev pub TaskFails : List Text → Known → Known → Known → Known → StoreOutcome S (Files D) → Fault → Type 0
+  TaskFails words left left_after held held_after outcome fault =
       (task : Task) × IsTaskOf (subcommand_of program words) task
-      × FailsWith task left left_after held held_after closed fault
+      × FailsWith task left left_after held held_after outcome fault
 
   -- words that led to a fault: they name no task, or its values are refused, or there was no memory to read them, and
   -- nothing was read or printed; or their task ended with the fault
-  abbrev pub Fails : List Text → Known → Known → Known → Known → Option (Files D) → Fault → Type 0
-  Fails words left left_after held held_after closed (Words text) =
-      (takes program words ≡ false) × DoesNothing left left_after held held_after
-  Fails words left left_after held held_after closed Date =
-      IsRefusedIn (subcommand_of program words) tasks.Date × DoesNothing left left_after held held_after
-  Fails words left left_after held held_after closed Settings =
-      IsRefusedIn (subcommand_of program words) tasks.Settings × DoesNothing left left_after held held_after
-  Fails words left left_after held held_after closed Memory =
-      DoesNothing left left_after held held_after ⊎ TaskFails words left left_after held held_after closed Memory
-  Fails words left left_after held held_after closed fault =
-      TaskFails words left left_after held held_after closed fault
+  abbrev pub Fails : List Text → Known → Known → Known → Known → StoreOutcome S (Files D) → Fault → Type 0
+  Fails words left left_after held held_after outcome (Words text) =
+      (takes program words ≡ false) × NothingDone left left_after held held_after outcome
+  Fails words left left_after held held_after outcome Date =
+      IsRefusedIn (subcommand_of program words) tasks.Date × NothingDone left left_after held held_after outcome
+  Fails words left left_after held held_after outcome Settings =
+      IsRefusedIn (subcommand_of program words) tasks.Settings × NothingDone left left_after held held_after outcome
+  Fails words left left_after held held_after outcome Memory =
+      NothingDone left left_after held held_after outcome ⊎ TaskFails words left left_after held held_after outcome Memory
+  Fails words left left_after held held_after outcome fault =
+      TaskFails words left left_after held held_after outcome fault
 
 -- ---- with standard error
 
@@ -339,9 +360,9 @@ Tells told told_after text = (front : List ℕ) × IsFront front text × Appends
 
 -- the task was done, and nothing was written on standard error; or there was a fault, and its message was written
 -- there, or a front of it; this is the exit status
-abbrev pub Performs : {D : Type 0} → Ghosts D → Image → List Text → Known → Known → Known → Known → Known → Known
-    → Option (Files D) → ℕ → Type 0
-Performs g image words left left_after held held_after told told_after closed status =
-    ((status ≡ 0) × IsDone g image words left left_after held held_after closed × Appends told told_after [])
-    ⊎ ((fault : Fault) × (status ≡ status_of fault) × Fails g image words left left_after held held_after closed fault
+abbrev pub Performs : {S D : Type 0} → Ghosts D → Image → List Text → Known → Known → Known → Known → Known → Known
+    → StoreOutcome S (Files D) → ℕ → Type 0
+Performs g image words left left_after held held_after told told_after outcome status =
+    ((status ≡ 0) × IsDone g image words left left_after held held_after outcome × Appends told told_after [])
+    ⊎ ((fault : Fault) × (status ≡ status_of fault) × Fails g image words left left_after held held_after outcome fault
     × Tells told told_after (message_of fault))

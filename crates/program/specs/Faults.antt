@@ -102,10 +102,3 @@ Refuses why _ = ⊥
 abbrev pub RefusesFile : csv.FileFault → Fault → Type 0
 RefusesFile (files.Bad row cause) fault = Refuses (BadFile row cause) fault
 RefusesFile files.Memory fault = fault ≡ Memory
-
--- no office was opened on the file
-abbrev pub IsUnopened : Fault → Type 0
-IsUnopened File = Unit {0}
-IsUnopened Store = Unit {0}
-IsUnopened Memory = Unit {0}
-IsUnopened _ = ⊥

@@ -1,10 +1,14 @@
 -- What a file held when it was opened, and the office that was found there.
-use Rattle.std.specs.Prelude.{◌≡◌, IsTrue, Option, Some, None}
+use Rattle.std.specs.Prelude.{◌≡◌, IsTrue}
 use Rattle.sqlite.specs.Effect.{Database}
-use Rattle.sqlite.specs.Files.{AreFoundIn, HoldsDatabase}
+use Rattle.sqlite.specs.Files.{AreFoundIn, HoldsDatabase, file_state}
+use Rattle.sqlite.specs.Held.{Held}
 use Rattle.sqlite.specs.Recovery.{Image}
 use Rattle.sqlite.specs.State as store
+use Rattle.sqlite.specs.State.{HasCleanDisk}
 use Rattle.sqlite.specs.Tree.{Trees}
+use Rattle.sqlite_disk.specs.declared.Disk.{Ghosts}
+use Rattle.sqlite_store.specs.declared.store.FileStore.{FileStore}
 use Rattle.adoption.specs.Verdicts.{IsVerdict}
 use Rattle.adoption.specs.declared.verdict.Verdict.TheVariants as verdict
 use Rattle.office_core.specs.SoundOffice.{IsSoundOffice}
@@ -13,8 +17,6 @@ use Rattle.program.specs.Rows.{StandInOrder}
 use Rattle.office_tables.specs.Schema.{schema}
 use Rattle.office.specs.Adoption.{state_in}
 use Rattle.office.specs.IdleOffice.{IsIn}
-use Rattle.office.specs.declared.faults.OpenFault.{OpenFault}
-use Rattle.office.specs.declared.faults.OpenFault.TheVariants as opening
 use Rattle.refinement.specs.Representation.{RepresentsState}
 use Rattle.nested_sets.specs.Representation.{RepresentsSpanRows}
 use Rattle.tree_core.specs.Versions.{Spans}
@@ -48,15 +50,8 @@ abbrev pub IsInTheStateThatWasLeft : Image → State → Database → Type 0
 IsInTheStateThatWasLeft image s found =
     HoldsOffice image s → AreHeld image found.trees → IsVerdict Spans found verdict.Sound → RepresentsState RepresentsSpanRows Spans found s
 
--- what the outcome of an opening means for the tables; nothing, if they were not to blame
-abbrev pub IsJudged : Option OpenFault → Database → Type 0
-IsJudged None db = IsVerdict Spans db verdict.Sound
-IsJudged (Some opening.OldVersion) db = IsVerdict Spans db verdict.OldVersion
-IsJudged (Some opening.NewVersion) db = IsVerdict Spans db verdict.NewVersion
-IsJudged (Some opening.NoOffice) db = IsVerdict Spans db verdict.NoOffice
-IsJudged (Some (opening.Unsound cause)) db = IsVerdict Spans db (verdict.Unsound cause)
-IsJudged (Some _) db = Unit {0}
-
--- the tables that the file holds were judged with this outcome; their rows have ascending whole numbers
-abbrev pub IsJudgedIn : Image → Option OpenFault → Type 0
-IsJudgedIn image judged = (found : Database) × AreHeld image found.trees × StandInOrder found × IsJudged judged found
+module _ {D : Type 0} (g : Ghosts D) (image : Image) where
+  -- the tables of a store, as it was found: the image holds them, and their rows have ascending whole numbers
+  abbrev pub IsStore : Held (FileStore D g) → Type 0
+  IsStore found = HasCleanDisk (file_state found)
+      → AreHeld image (file_state found).now.trees × StandInOrder (file_state found).now

@@ -3,7 +3,7 @@
 -- name. What is stated of an office has the premise that its disk has returned what was written. A disk that did so to
 -- the end also did so before (`intact`, and the first field of `crash`). `crash` describes what the files may hold if a
 -- failure of the disk had shut the office.
-use Rattle.std.specs.Prelude.{◌≡◌, ◌⊎◌, ℕ, Bool, IsOk, IsTrue, Ok, Option, None}
+use Rattle.std.specs.Prelude.{◌≡◌, ◌⊎◌, ℕ, Bool, IsOk, IsTrue, Ok, Option, None, Some}
 use Rattle.std.specs.Io.KnownBytes.{Appends, Consumes}
 use Rattle.sqlite.specs.Files.{file_state, over_files}
 use Rattle.sqlite.specs.Held.{Held}
@@ -21,8 +21,8 @@ use Rattle.office_core.specs.State.{State}
 use Rattle.office_core.specs.declared.command.Command.TheVariants.{Import}
 use Rattle.office_core.specs.declared.done.Done.{Done}
 use Rattle.office.specs.InitialSettings.{Founding, founded}
-use Rattle.program.specs.Rows.{StandInOrder}
 use Rattle.office.specs.Adoption.{HasAdoptCause, state_in}
+use Rattle.office.specs.NewOffice.{HasOpenCause}
 use Rattle.office.specs.OfficeCall.{MayFind, TakesStep}
 use Rattle.office.specs.Migration.{IsMigrated, MayFindMigrated}
 use Rattle.office.specs.IdleOffice.{IsAsBefore, IsIn, is_clean, is_shown, is_still_open}
@@ -32,21 +32,19 @@ use Rattle.http_desk.specs.Session.{Session}
 use Rattle.http_desk.specs.Exchanges.{AtEndIf, Keeps}
 use Rattle.http_desk.specs.declared.session_end.Ended.{Ended}
 use Rattle.http_desk.specs.declared.session_end.Next.TheVariants.{Ends}
-use Rattle.program.specs.ClosedFiles.{HasLeft, HaveCleanDisk, HoldState}
+use Rattle.office_tables.specs.Schema.{no_schema}
+use Rattle.program.specs.ClosedFiles.{HasLeft, HaveCleanDisk, HoldState, WasJudgedAsFound}
 use Rattle.program.specs.Faults.{fault_of_opening}
-use Rattle.program.specs.OpenedFiles.{AreHeld, HoldsOffice, IsFound}
+use Rattle.program.specs.OpenedFiles.{HoldsOffice, IsFound, IsStore}
+use Rattle.program.specs.Outcomes.{IsClosedAnd, IsUnopened}
 use Rattle.program.specs.Connections.{AreSessions, Serves, SessionsLeaveOpen}
 use Rattle.program.specs.declared.faults.Fault.{Fault}
+use Rattle.program.specs.declared.files.StoreOutcome.{StoreOutcome}
 
 module _ {D : Type 0} (g : Ghosts D) (image : Image) where
   -- an office was opened: the one that was found in the image
   abbrev pub IsOpened : Held (FileStore D g) → Type 0
   IsOpened office = HasCleanDisk (file_state office) → IsFound image (file_state office)
-
-  -- the tables of a store, as it was found: the image holds them, and their rows have ascending whole numbers
-  abbrev pub IsStore : Held (FileStore D g) → Type 0
-  IsStore found = HasCleanDisk (file_state found)
-      → AreHeld image (file_state found).now.trees × StandInOrder (file_state found).now
 
   abbrev is_kept : Held (FileStore D g) → State → Type 0
   is_kept = is_shown (over_files {g = g}) RepresentsSpanRows Spans
@@ -58,6 +56,28 @@ module _ {D : Type 0} (g : Ghosts D) (image : Image) where
         → IsIn RepresentsSpanRows Spans (founded founding) (file_state office)
     pub kept : HasCleanDisk (file_state office) → IsTrue (file_state office).is_open
     pub left : HasLeft office files
+
+  -- No office was made in a store, for this reason. These are the files of the store, which are deleted afterwards.
+  pub record IsNotMade (fault : Fault) (files : Files D) : Type 0 where
+    pub found : Held (FileStore D g)
+    pub after : Held (FileStore D g)
+    pub is_store : IsStore g image found
+    pub why : OpenFault
+    pub told : fault ≡ fault_of_opening why
+    pub cause : (file_state found).now.schema ≡ no_schema → HasCleanDisk (file_state after)
+        → HasOpenCause (file_state found) (file_state after) why
+    pub back : HasCleanDisk (file_state after) → IsAsBefore (file_state found) (file_state after)
+    pub closed : HasLeft after files
+
+  -- no office was made: the store could not be opened, or no office could be made in it
+  abbrev pub MakesNone : {S : Type 0} → StoreOutcome S (Files D) → Fault → Type 0
+  MakesNone outcome fault = IsUnopened outcome fault ⊎ IsClosedAnd outcome (IsNotMade fault)
+
+  -- no office was opened: the store could not be opened; or an office could not be opened on its tables, and it was
+  -- closed as it was found
+  abbrev pub HasNoOffice : {S : Type 0} → StoreOutcome S (Files D) → Fault → Type 0
+  HasNoOffice outcome fault = IsUnopened outcome fault
+      ⊎ ((why : OpenFault) × (fault ≡ fault_of_opening why) × IsClosedAnd outcome (WasJudgedAsFound g image (Some why)))
 
   -- A session with an office that was opened. What was read is its input, and what was written is its output. If it
   -- ended with its input, all of the input was read. These are the office's files.
@@ -119,7 +139,7 @@ module _ {D : Type 0} (g : Ghosts D) (image : Image) where
   pub record IsBroughtOver (files : Files D) : Type 0 where
     pub found : Held (FileStore D g)
     pub after : Held (FileStore D g)
-    pub is_store : IsStore found
+    pub is_store : IsStore g image found
     pub same : HasCleanDisk (file_state after) → IsMigrated (file_state found).now (file_state after).now
     pub kept : HasCleanDisk (file_state after) → IsTrue (file_state after).is_open
     pub crash : Survives (file_state found) (file_state after) (MayFindMigrated (file_state found))
@@ -129,7 +149,7 @@ module _ {D : Type 0} (g : Ghosts D) (image : Image) where
   pub record IsNotBroughtOver (fault : Fault) (files : Files D) : Type 0 where
     pub found : Held (FileStore D g)
     pub after : Held (FileStore D g)
-    pub is_store : IsStore found
+    pub is_store : IsStore g image found
     pub why : OpenFault
     pub told : fault ≡ fault_of_opening why
     pub back : HasCleanDisk (file_state after) → IsAsBefore (file_state found) (file_state after)

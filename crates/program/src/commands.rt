@@ -1,16 +1,17 @@
 //! Performs the task that the words name.
-ghost use Rattle.std.specs.Prelude.{◌≡◌, None, true, false, IfErr, IsSomeAnd, OnOk, map};
+ghost use Rattle.std.specs.Prelude.{true, false, IfErr, OnOk, map};
+ghost use Rattle.std.specs.Io.KnownBytes.{Appends};
 ghost use Rattle.std.specs.String.{string_bytes};
 ghost use Rattle.sqlite.specs.WalFiles.{image_at};
-ghost use Rattle.program.specs.Faults.{IsUnopened};
 ghost use Rattle.program.specs.CommandEffects.{CheckDone, CheckFails, Does, Fails, FailsWith, ImportDone, ImportFails};
-ghost use Rattle.program.specs.CommandEffects.{IsDone, Listens, MigrateDone, MigrateFails};
-ghost use Rattle.program.specs.CommandEffects.{ServeDone, ServeFails, ServerFails, TalkDone, TalkFails};
+ghost use Rattle.program.specs.CommandEffects.{InitFails, IsDone, LineFails, Listens, MigrateDone, MigrateFails};
+ghost use Rattle.program.specs.CommandEffects.{ServeDone, ServeFails, ServerFails, TalkDone, TalkFails, migrated};
 ghost use Rattle.program.specs.Connections.{Serves};
+ghost use Rattle.program.specs.Outcomes.{IsClosedAnd};
 ghost use Rattle.program.specs.Stores.{IsMade};
 
 use crate::faults::Fault;
-use crate::files::{ClosedFiles, close, find};
+use crate::files::{Outcome, StoreOutcome, close, find};
 use crate::imports::{take_in, tell_reply};
 use crate::integrity::{judge_file, tell_judgment};
 use crate::ports::LocalPort;
@@ -34,15 +35,15 @@ fn init<S: Start>(
     store: &Text,
     settings: Settings,
     start: S,
-    closed: &mut Option<ClosedFiles<S>>,
-) -> Result<(), Fault>
-    ensures done { OnOk result (IsSomeAnd closed.new
+) -> (Result<(), Fault>, Outcome<S>)
+    ensures done { OnOk result.0 (IsClosedAnd result.1
         (IsMade ⟦<FileFrom<S> as Disk>⟧ (image_at S.Start) settings)) }
-    ensures fault { IfErr result IsUnopened }
+    ensures fault { IfErr result.0 (InitFails ⟦<FileFrom<S> as Disk>⟧ (image_at S.Start) result.1) }
 {
-    let office = make_office(rt, store, settings, start)?;
-    *closed = Some(close_office(office));
-    Ok(())
+    match make_office(rt, store, settings, start) {
+        Ok(office) => (Ok(()), StoreOutcome::Closed(close_office(office))),
+        Err((fault, outcome)) => (Err(fault), outcome),
+    }
 }
 
 // Imports a file of descriptions into the office in a file. The descriptions are read before the office is opened.
@@ -54,19 +55,26 @@ fn import<S: Start, W: Write>(
     file: &Text,
     out: &mut W,
     start: S,
-    closed: &mut Option<ClosedFiles<S>>,
-) -> Result<(), Fault>
-    requires { closed.old ≡ None }
-    ensures done { OnOk result (ImportDone ⟦<FileFrom<S> as Disk>⟧ (image_at S.Start) source
-        (W.contents out.old) (W.contents out.new) closed.new) }
-    ensures fault { IfErr result (ImportFails ⟦<FileFrom<S> as Disk>⟧ (image_at S.Start) source
-        (W.contents out.old) (W.contents out.new) closed.new) }
+) -> (Result<(), Fault>, Outcome<S>)
+    ensures done { OnOk result.0 (ImportDone ⟦<FileFrom<S> as Disk>⟧ (image_at S.Start) source
+        (W.contents out.old) (W.contents out.new) result.1) }
+    ensures fault { IfErr result.0 (ImportFails ⟦<FileFrom<S> as Disk>⟧ (image_at S.Start) source
+        (W.contents out.old) (W.contents out.new) result.1) }
 {
-    let bytes = file_bytes(rt, alloc, file)?;
-    let mut office = open_office(rt, alloc, store, start, closed)?;
+    let bytes = match file_bytes(rt, alloc, file) {
+        Ok(bytes) => bytes,
+        Err(fault) => return (Err(Fault::from(fault)), StoreOutcome::Untouched(start)),
+    };
+    let mut office = match open_office(rt, alloc, store, start) {
+        Ok(office) => office,
+        Err((fault, outcome)) => return (Err(fault), outcome),
+    };
     let taken = take_in(alloc, &mut office, source, bytes);
-    *closed = Some(close_office(office));
-    tell_reply(alloc, taken?, out)
+    let files = close_office(office);
+    match taken {
+        Ok(reply) => (tell_reply(alloc, reply, out), StoreOutcome::Closed(files)),
+        Err(busy) => (Err(busy), StoreOutcome::Closed(files)),
+    }
 }
 
 // Answers requests on the office in a file.
@@ -77,18 +85,18 @@ fn talk<S: Start, R: Read, W: Write>(
     reader: &mut R,
     out: &mut W,
     start: S,
-    closed: &mut Option<ClosedFiles<S>>,
-) -> Result<(), Fault>
-    requires { closed.old ≡ None }
-    ensures done { OnOk result (TalkDone ⟦<FileFrom<S> as Disk>⟧ (image_at S.Start)
-        (R.remaining reader.old) (R.remaining reader.new) (W.contents out.old) (W.contents out.new) closed.new) }
-    ensures fault { IfErr result (TalkFails ⟦<FileFrom<S> as Disk>⟧ (image_at S.Start)
-        (R.remaining reader.old) (R.remaining reader.new) (W.contents out.old) (W.contents out.new) closed.new) }
+) -> (Result<(), Fault>, Outcome<S>)
+    ensures done { OnOk result.0 (TalkDone ⟦<FileFrom<S> as Disk>⟧ (image_at S.Start)
+        (R.remaining reader.old) (R.remaining reader.new) (W.contents out.old) (W.contents out.new) result.1) }
+    ensures fault { IfErr result.0 (TalkFails ⟦<FileFrom<S> as Disk>⟧ (image_at S.Start)
+        (R.remaining reader.old) (R.remaining reader.new) (W.contents out.old) (W.contents out.new) result.1) }
 {
-    let mut office = open_office(rt, alloc, store, start, closed)?;
+    let mut office = match open_office(rt, alloc, store, start) {
+        Ok(office) => office,
+        Err((fault, outcome)) => return (Err(fault), outcome),
+    };
     let talked = talk_with(alloc, &mut office, reader, out);
-    *closed = Some(close_office(office));
-    talked
+    (talked, StoreOutcome::Closed(close_office(office)))
 }
 
 // Listens on a port of this machine, and prints that it does.
@@ -141,18 +149,18 @@ fn serve_store<S: Start, W: Write>(
     connections: u32,
     out: &mut W,
     start: S,
-    closed: &mut Option<ClosedFiles<S>>,
-) -> Result<(), Fault>
-    requires { closed.old ≡ None }
-    ensures done { OnOk result (ServeDone ⟦<FileFrom<S> as Disk>⟧ (image_at S.Start) port connections
-        (W.contents out.old) (W.contents out.new) closed.new) }
-    ensures fault { IfErr result (ServeFails ⟦<FileFrom<S> as Disk>⟧ (image_at S.Start) port connections
-        (W.contents out.old) (W.contents out.new) closed.new) }
+) -> (Result<(), Fault>, Outcome<S>)
+    ensures done { OnOk result.0 (ServeDone ⟦<FileFrom<S> as Disk>⟧ (image_at S.Start) port connections
+        (W.contents out.old) (W.contents out.new) result.1) }
+    ensures fault { IfErr result.0 (ServeFails ⟦<FileFrom<S> as Disk>⟧ (image_at S.Start) port connections
+        (W.contents out.old) (W.contents out.new) result.1) }
 {
-    let mut office = open_office(rt, alloc, store, start, closed)?;
+    let mut office = match open_office(rt, alloc, store, start) {
+        Ok(office) => office,
+        Err((fault, outcome)) => return (Err(fault), outcome),
+    };
     let served = serve_on_port(rt, alloc, port, connections, &mut office, out);
-    *closed = Some(close_office(office));
-    served
+    (served, StoreOutcome::Closed(close_office(office)))
 }
 
 // Checks whether the office in a file is sound, and prints the verdict.
@@ -162,17 +170,28 @@ fn check<S: Start, W: Write>(
     store: &Text,
     out: &mut W,
     start: S,
-    closed: &mut Option<ClosedFiles<S>>,
-) -> Result<(), Fault>
-    requires { closed.old ≡ None }
-    ensures done { OnOk result (CheckDone ⟦<FileFrom<S> as Disk>⟧ (image_at S.Start)
-        (W.contents out.old) (W.contents out.new) closed.new) }
-    ensures fault { IfErr result (CheckFails ⟦<FileFrom<S> as Disk>⟧ (image_at S.Start)
-        (W.contents out.old) (W.contents out.new) closed.new) }
+) -> (Result<(), Fault>, Outcome<S>)
+    ensures done { OnOk result.0 (CheckDone ⟦<FileFrom<S> as Disk>⟧ (image_at S.Start)
+        (W.contents out.old) (W.contents out.new) result.1) }
+    ensures fault { IfErr result.0 (CheckFails ⟦<FileFrom<S> as Disk>⟧ (image_at S.Start)
+        (W.contents out.old) (W.contents out.new) result.1) }
 {
-    let (judged, files) = judge_file(rt, alloc, store, start)?;
-    *closed = Some(files);
-    tell_judgment(alloc, judged, out)
+    match judge_file(rt, alloc, store, start) {
+        Ok((judged, files)) => (
+            tell_judgment(alloc, judged, out),
+            StoreOutcome::Closed(files),
+        ),
+        Err(failed) => (Err(Fault::from(failed)), StoreOutcome::Unopened(failed)),
+    }
+}
+
+// Prints that an office was migrated.
+fn tell_migration<W: Write>(out: &mut W) -> Result<(), Fault>
+    ensures done { OnOk result (Appends (W.contents out.old) (W.contents out.new) migrated) }
+    ensures fault { IfErr result (LineFails migrated (W.contents out.old) (W.contents out.new)) }
+{
+    write_whole(out, b"migrated\n")?;
+    Ok(())
 }
 
 // Migrates the office in a file from version 1 to version 2.
@@ -182,20 +201,22 @@ fn migrate<S: Start, W: Write>(
     store: &Text,
     out: &mut W,
     start: S,
-    closed: &mut Option<ClosedFiles<S>>,
-) -> Result<(), Fault>
-    requires { closed.old ≡ None }
-    ensures done { OnOk result (MigrateDone ⟦<FileFrom<S> as Disk>⟧ (image_at S.Start)
-        (W.contents out.old) (W.contents out.new) closed.new) }
-    ensures fault { IfErr result (MigrateFails ⟦<FileFrom<S> as Disk>⟧ (image_at S.Start)
-        (W.contents out.old) (W.contents out.new) closed.new) }
+) -> (Result<(), Fault>, Outcome<S>)
+    ensures done { OnOk result.0 (MigrateDone ⟦<FileFrom<S> as Disk>⟧ (image_at S.Start)
+        (W.contents out.old) (W.contents out.new) result.1) }
+    ensures fault { IfErr result.0 (MigrateFails ⟦<FileFrom<S> as Disk>⟧ (image_at S.Start)
+        (W.contents out.old) (W.contents out.new) result.1) }
 {
-    let mut conn = find(rt, store.as_str(), start)?;
+    let mut conn = match find(rt, store.as_str(), start) {
+        Ok(conn) => conn,
+        Err(failed) => return (Err(Fault::from(failed)), StoreOutcome::Unopened(failed)),
+    };
     let brought = office::migrate(alloc, &mut conn);
-    *closed = Some(close(conn));
-    brought?;
-    write_whole(out, b"migrated\n")?;
-    Ok(())
+    let files = close(conn);
+    match brought {
+        Ok(()) => (tell_migration(out), StoreOutcome::Closed(files)),
+        Err(fault) => (Err(Fault::from(fault)), StoreOutcome::Closed(files)),
+    }
 }
 
 // Performs a task.
@@ -206,40 +227,44 @@ fn do_task<S: Start, R: Read, W: Write>(
     reader: &mut R,
     out: &mut W,
     start: S,
-    closed: &mut Option<ClosedFiles<S>>,
-) -> Result<(), Fault>
-    requires { closed.old ≡ None }
-    ensures done { OnOk result (Does ⟦<FileFrom<S> as Disk>⟧ (image_at S.Start) task
-        (R.remaining reader.old) (R.remaining reader.new) (W.contents out.old) (W.contents out.new) closed.new) }
-    ensures fault { IfErr result (FailsWith ⟦<FileFrom<S> as Disk>⟧ (image_at S.Start) task
-        (R.remaining reader.old) (R.remaining reader.new) (W.contents out.old) (W.contents out.new) closed.new) }
+) -> (Result<(), Fault>, Outcome<S>)
+    ensures done { OnOk result.0 (Does ⟦<FileFrom<S> as Disk>⟧ (image_at S.Start) task
+        (R.remaining reader.old) (R.remaining reader.new) (W.contents out.old) (W.contents out.new) result.1) }
+    ensures fault { IfErr result.0 (FailsWith ⟦<FileFrom<S> as Disk>⟧ (image_at S.Start) task
+        (R.remaining reader.old) (R.remaining reader.new) (W.contents out.old) (W.contents out.new) result.1) }
 {
     match task {
         Task::Preview {
             country,
             repo,
             file,
-        } => print_preview(rt, alloc, &country, &repo, file.as_ref(), reader, out),
-        Task::Init { store, settings } => init(rt, &store, settings, start, closed),
-        Task::Trial { settings } => try_office(alloc, settings, reader, out),
+        } => (
+            print_preview(rt, alloc, &country, &repo, file.as_ref(), reader, out),
+            StoreOutcome::Untouched(start),
+        ),
+        Task::Init { store, settings } => init(rt, &store, settings, start),
+        Task::Trial { settings } => (
+            try_office(alloc, settings, reader, out),
+            StoreOutcome::Untouched(start),
+        ),
         Task::Import {
             store,
             source,
             file,
-        } => import(rt, alloc, &store, source, &file, out, start, closed),
-        Task::Talk { store } => talk(rt, alloc, &store, reader, out, start, closed),
+        } => import(rt, alloc, &store, source, &file, out, start),
+        Task::Talk { store } => talk(rt, alloc, &store, reader, out, start),
         Task::Serve {
             store,
             port,
             connections,
-        } => serve_store(rt, alloc, &store, port, connections, out, start, closed),
-        Task::Check { store } => check(rt, alloc, &store, out, start, closed),
-        Task::Migrate { store } => migrate(rt, alloc, &store, out, start, closed),
+        } => serve_store(rt, alloc, &store, port, connections, out, start),
+        Task::Check { store } => check(rt, alloc, &store, out, start),
+        Task::Migrate { store } => migrate(rt, alloc, &store, out, start),
     }
 }
 
 /// Performs the task that the words name, with these streams as standard input and output. `S` gives what the files
-/// held before. The files that it opened as a store are closed and handed back in `closed`.
+/// held before. Returns what became of the store: a store that was opened is closed.
 pub fn run<S: Start, R: Read, W: Write>(
     rt: &HostRuntime,
     alloc: Global,
@@ -247,14 +272,14 @@ pub fn run<S: Start, R: Read, W: Write>(
     reader: &mut R,
     out: &mut W,
     start: S,
-    closed: &mut Option<ClosedFiles<S>>,
-) -> Result<(), Fault>
-    requires { closed.old ≡ None }
-    ensures done { OnOk result (IsDone ⟦<FileFrom<S> as Disk>⟧ (image_at S.Start) (map string_bytes words.now)
-        (R.remaining reader.old) (R.remaining reader.new) (W.contents out.old) (W.contents out.new) closed.new) }
-    ensures fault { IfErr result (Fails ⟦<FileFrom<S> as Disk>⟧ (image_at S.Start) (map string_bytes words.now)
-        (R.remaining reader.old) (R.remaining reader.new) (W.contents out.old) (W.contents out.new) closed.new) }
+) -> (Result<(), Fault>, Outcome<S>)
+    ensures done { OnOk result.0 (IsDone ⟦<FileFrom<S> as Disk>⟧ (image_at S.Start) (map string_bytes words.now)
+        (R.remaining reader.old) (R.remaining reader.new) (W.contents out.old) (W.contents out.new) result.1) }
+    ensures fault { IfErr result.0 (Fails ⟦<FileFrom<S> as Disk>⟧ (image_at S.Start) (map string_bytes words.now)
+        (R.remaining reader.old) (R.remaining reader.new) (W.contents out.old) (W.contents out.new) result.1) }
 {
-    let task = task(alloc, words)?;
-    do_task(rt, alloc, task, reader, out, start, closed)
+    match task(alloc, words) {
+        Ok(task) => do_task(rt, alloc, task, reader, out, start),
+        Err(fault) => (Err(Fault::from(fault)), StoreOutcome::Untouched(start)),
+    }
 }

@@ -12,8 +12,9 @@ use sqlite::{Connection, Error, ErrorCode, FileFrom, FileStore, Files, Start};
 use std::alloc::AllocError;
 use std::fs;
 use std::fs::File;
+use std::marker::Model;
 
-/// Why no file was opened.
+/// Why no store was opened.
 #[derive(Clone, Copy, Debug, PartialEq, Eq, Drop)]
 pub enum FileFault {
     /// There is no memory.
@@ -24,10 +25,38 @@ pub enum FileFault {
     Unopened,
 }
 
-impl From<AllocError> for FileFault {
-    fn from(_: AllocError) -> FileFault {
-        FileFault::Memory
+/// A store that could not be opened, and why. Only the functions here that open a store make one.
+#[derive(Clone, Copy, Debug, Drop)]
+pub struct FailedOpening {
+    why: FileFault,
+}
+
+impl Model for FailedOpening {
+    ghost use Rattle.program.specs.declared.files.FileFault.{FileFault};
+
+    ghost Value = { FileFault };
+
+    ghost view = { λ failed. failed.why };
+}
+
+impl FailedOpening {
+    /// Why the store could not be opened.
+    pub fn why(&self) -> FileFault
+        ensures { result ≡ self.now }
+    {
+        self.why
     }
+}
+
+/// What became of the store of a command. `S` is what opens it, and `F` are its files.
+#[derive(Drop)]
+pub enum StoreOutcome<S: Drop, F: Drop> {
+    /// Nothing tried to open it: here is what opens it.
+    Untouched(S),
+    /// It could not be opened.
+    Unopened(FailedOpening),
+    /// It was opened, and is closed: these are its files.
+    Closed(F),
 }
 
 /// A store in a file. `S` gives what the file held before.
@@ -38,7 +67,7 @@ fn open<S: Start>(
     rt: &HostRuntime,
     path: &str,
     start: S,
-) -> Result<Connection<FileStoreFrom<S>>, FileFault>
+) -> Result<Connection<FileStoreFrom<S>>, FailedOpening>
     ensures opened { IfOk result (λ conn. HasCleanDisk (file_state conn) → IsOpened conn) }
     ensures found { IfOk result (λ conn. HasCleanDisk (file_state conn)
         → FindsIn (image_at S.Start) (file_state conn)) }
@@ -47,8 +76,12 @@ fn open<S: Start>(
 {
     match Connection::open_from(rt, path, false, start) {
         Ok(conn) => Ok(conn),
-        Err((Error::SqliteFailure(ErrorCode::OutOfMemory), _)) => Err(FileFault::Memory),
-        Err(_) => Err(FileFault::Unopened),
+        Err((Error::SqliteFailure(ErrorCode::OutOfMemory), _)) => Err(FailedOpening {
+            why: FileFault::Memory,
+        }),
+        Err(_) => Err(FailedOpening {
+            why: FileFault::Unopened,
+        }),
     }
 }
 
@@ -63,7 +96,7 @@ pub fn make<S: Start>(
     rt: &HostRuntime,
     path: &str,
     start: S,
-) -> Result<Connection<FileStoreFrom<S>>, FileFault>
+) -> Result<Connection<FileStoreFrom<S>>, FailedOpening>
     ensures opened { IfOk result (λ conn. HasCleanDisk (file_state conn) → IsOpened conn) }
     ensures found { IfOk result (λ conn. HasCleanDisk (file_state conn)
         → FindsIn (image_at S.Start) (file_state conn)) }
@@ -71,9 +104,15 @@ pub fn make<S: Start>(
     ensures fresh { IfOk result IsNew }
 {
     // A log without its file may contain the last changes of another office.
-    let log = log_of(rt, path)?;
+    let Ok(log) = log_of(rt, path) else {
+        return Err(FailedOpening {
+            why: FileFault::Memory,
+        });
+    };
     if !matches!(fs::exists(rt, log.as_str()), Ok(false)) || File::create_new(rt, path).is_err() {
-        return Err(FileFault::Absent);
+        return Err(FailedOpening {
+            why: FileFault::Absent,
+        });
     }
     let opened = open(rt, path, start);
     if opened.is_err() {
@@ -95,7 +134,7 @@ pub fn find<S: Start>(
     rt: &HostRuntime,
     path: &str,
     start: S,
-) -> Result<Connection<FileStoreFrom<S>>, FileFault>
+) -> Result<Connection<FileStoreFrom<S>>, FailedOpening>
     ensures opened { IfOk result (λ conn. HasCleanDisk (file_state conn) → IsOpened conn) }
     ensures found { IfOk result (λ conn. HasCleanDisk (file_state conn)
         → FindsIn (image_at S.Start) (file_state conn)) }
@@ -104,12 +143,17 @@ pub fn find<S: Start>(
 {
     match fs::exists(rt, path) {
         Ok(true) => open(rt, path, start),
-        _ => Err(FileFault::Absent),
+        _ => Err(FailedOpening {
+            why: FileFault::Absent,
+        }),
     }
 }
 
 /// A file and its log, once the store in them is closed.
 pub type ClosedFiles<S> = Files<FileFrom<S>>;
+
+/// What became of the store of a command that was given `S`.
+pub type Outcome<S> = StoreOutcome<S, ClosedFiles<S>>;
 
 /// Closes the file. What was committed is in the file, or in its log if it could not be copied: nothing is lost.
 pub fn close<S: Start>(conn: Connection<FileStoreFrom<S>>) -> ClosedFiles<S>

@@ -12,7 +12,7 @@ ghost use Rattle.program.specs.ClosedFiles.{WasJudgedAsFound};
 ghost use Rattle.program.specs.CommandEffects.{JudgmentFails, JudgmentPrinted};
 
 use crate::faults::Fault;
-use crate::files::{ClosedFiles, FileFault, close, find};
+use crate::files::{ClosedFiles, FailedOpening, close, find};
 use crate::streams::write_whole;
 use isad_core::Text;
 use nested_sets::SpanPlaces;
@@ -47,7 +47,7 @@ pub fn judge_file<S: Start>(
     alloc: Global,
     store: &Text,
     start: S,
-) -> Result<(Option<OpenFault>, ClosedFiles<S>), FileFault>
+) -> Result<(Option<OpenFault>, ClosedFiles<S>), FailedOpening>
     ensures { IfOk result (λ r. WasJudgedAsFound ⟦<FileFrom<S> as Disk>⟧ (image_at S.Start) r.0 r.1) }
 {
     let conn = find(rt, store.as_str(), start)?;

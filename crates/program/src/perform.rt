@@ -7,15 +7,15 @@ ghost use Rattle.program.specs.CommandEffects.{Performs, Tells};
 
 use crate::commands::run;
 use crate::faults::Fault;
-use crate::files::ClosedFiles;
+use crate::files::Outcome;
 use crate::streams::write_whole;
 use sqlite::{FileFrom, Start};
 use sqlite_disk::Disk;
 use std::alloc::Global;
 use std::io::{Read, Write};
 
-/// Performs one command with these streams as standard input, output and error. Returns the exit status, and the file
-/// that it opened as a store, with its log, closed. The two may have held anything before: `S` gives their content.
+/// Performs one command with these streams as standard input, output and error. Returns the exit status, and what became
+/// of the store: its file and its log are closed. The two may have held anything before: `S` gives their content.
 pub fn perform<S: Start, R: Read, W: Write, E: Write>(
     rt: &HostRuntime,
     alloc: Global,
@@ -24,18 +24,18 @@ pub fn perform<S: Start, R: Read, W: Write, E: Write>(
     out: &mut W,
     err: &mut E,
     start: S,
-) -> (u8, Option<ClosedFiles<S>>)
+) -> (u8, Outcome<S>)
     ensures performs { Performs ⟦<FileFrom<S> as Disk>⟧ (image_at S.Start) (map string_bytes words.now)
         (R.remaining reader.old) (R.remaining reader.new) (W.contents out.old) (W.contents out.new)
         (E.contents err.old) (E.contents err.new) result.1 result.0 }
     ensures status { result.0 ≤ 3 }
 {
-    let mut closed = None;
-    let status = match run(rt, alloc, words, reader, out, start, &mut closed) {
+    let (done, outcome) = run(rt, alloc, words, reader, out, start);
+    let status = match done {
         Ok(()) => 0,
         Err(fault) => tell(&fault, err),
     };
-    (status, closed)
+    (status, outcome)
 }
 
 /// Prints on standard error why a command was not done, and returns the exit status. The status is the same whether

@@ -9,6 +9,7 @@ use Rattle.http_desk.proofs.Fills.{reads_trans}
 use Rattle.http_desk.proofs.Faults.{takes_on}
 use Rattle.http_messages.specs.declared.head_scan.HeadScanState.TheVariants.{Lead}
 use Rattle.http_desk.specs.declared.input_buffer.Filled.TheVariants.{More, AtEnd, Failed}
+use Rattle.http_desk.specs.declared.message_input.FoundHead.TheVariants.{Cut, Bound}
 use Rattle.http_messages.proofs.Scans.{scan_take_within, scan_take_limit, scan_take_open}
 use Rattle.http_desk.proofs.Places.{blank_or_cut, led_on}
 use Rattle.http_desk.proofs.message_input.gather_head.Goals as goal
@@ -21,6 +22,9 @@ fill_told f known old new e h = h ∙ ap (λ x. fill_failed x || old) e
 
 more_not_failed : Failed ≡ More → ⊥
 more_not_failed e = cc
+
+cut_not_bound : Cut ≡ Bound → ⊥
+cut_not_bound e = cc
 
 few_on : (n : ℕ) (items new got : List ℕ) → n ≡ length items → new ≡ items ++ got → n ≤ length new
 few_on n items new got e f =
@@ -95,6 +99,7 @@ returns-in_default g c =
       at_end = c.fill.ensures.at_end c.in-AtEnd.is;
       failed = fill_told c.fill.result AtEnd _ _ c.in-AtEnd.is c.fill.ensures.failed ∙ c.loop-size.invariant.failed;
       bound = λ q. let (before, one) = c.fill.ensures.bound q in ((c.loop-size.invariant.bound before).0, tt);
+      used_up = λ e. absurd (cut_not_bound e);
       calls = takes_on c.args.reader.now c.loop-size.reader c.fill.new.reader c.loop-size.invariant.calls c.fill.ensures.calls;
     }
 

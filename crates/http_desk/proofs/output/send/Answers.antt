@@ -1,10 +1,12 @@
-use Rattle.std.proofs.Common.{◌<◌, ◌≤◌, ◌+◌, ◌++◌, arith, ap, sym, ◌∙◌, subst, refl, append-nil, length-append, [], length}
+use Rattle.std.proofs.Common.{◌≡◌, ◌<◌, ◌≤◌, ◌+◌, ◌++◌, arith, ap, sym, ◌∙◌, subst, refl, append-nil, length-append, [], length, false}
 use Rattle.std.specs.Prelude.{◌||◌}
 use Rattle.std.specs.List.{flat_map}
 use Rattle.std.specs.Io.KnownBytes.{Appends}
 use Rattle.std.proofs.KnownBytes.{Appends-trans}
 use Rattle.http_desk.specs.Session.{IsFront}
 use Rattle.http_desk.specs.StreamFaults.{send_failed}
+use Rattle.http_desk.specs.declared.output.Sent.TheVariants.{Bound}
+use Rattle.http_desk.proofs.Faults.{used_up}
 use Rattle.http_desk.proofs.Sends.{one_more, all_pieces, gathers, front_of_all, front_at_end, within, turns_left}
 use Rattle.http_desk.proofs.output.send.Goals as goal
 
@@ -34,16 +36,16 @@ returns-in_default g c =
     let (written, split, appended, quiet) = rw c.begin_text.ensures at c.loop-piece.invariant.came in
     let (front, is_front, added) = c.gather_or_send.ensures.front in
     let h : c.loop-piece.piece-index < length c.args.pieces.now = omega arith in
+    let never : c.gather_or_send.new.writer.interrupted ≡ false → c.gather_or_send.result ≡ Bound → ⊥ = λ q.
+    let (before, here) = c.gather_or_send.ensures.bound q in
+    turns_left c.gather_or_send.result _ _ _ _ (length written) here (quiet before)
+    (within (λ p. p.now) c.args.pieces.now c.loop-piece.piece-index _ written c.loop-piece.lot.items h split) in
     record {
       all = λ e. absurd (c.in_default.not-All e);
       flushed = λ e. absurd (c.in_default.not-All e);
       failed = c.gather_or_send.ensures.failed ∙ ap (λ b. send_failed c.gather_or_send.result || b) (rw c.begin_text.ensures at c.loop-piece.invariant.failed);
-      bound = λ q.
-          let (before, here) = c.gather_or_send.ensures.bound q in (
-            (rw c.begin_text.ensures at c.loop-piece.invariant.bound) before,
-            turns_left c.gather_or_send.result _ _ _ _ (length written) here (quiet before)
-                (within (λ p. p.now) c.args.pieces.now c.loop-piece.piece-index _ written c.loop-piece.lot.items h split),
-          );
+      bound = λ q. ((rw c.begin_text.ensures at c.loop-piece.invariant.bound) (c.gather_or_send.ensures.bound q).0, never q);
+      used_up = λ e. used_up c.gather_or_send.new.writer (λ q. never q e) (c.gather_or_send.ensures.used_up e);
       calls =
           let (same, few) = rw c.begin_text.ensures at c.loop-piece.invariant.calls in
           let (again, more) = c.gather_or_send.ensures.calls in
@@ -65,6 +67,19 @@ returns-in-All-send_piece-clause-front g c =
           (Appends-trans _ _ _ _ _ (Appends-trans _ _ _ _ _ appended (c.in-All-send_piece.ensures.all refl)) c.flush.ensures.nothing),
     )
 
+-- a flush has turns left where no call was interrupted
+pub returns-in-All-send_piece-clause-used_up : goal.returns-in-All-send_piece-clause-used_up
+returns-in-All-send_piece-clause-used_up g c =
+    let (written, split, appended, quiet) = rw c.begin_text.ensures at c.loop-piece.invariant.came in
+    let e = sym (all_pieces (λ p. p.now) c.args.pieces.now c.loop-piece.piece-index c.loop-piece-test.false) ∙ split in
+    let l = ap length e ∙ length-append written c.loop-piece.lot.items in
+    let k = ap length c.as_slice.ensures.value in
+    λ bound. used_up c.flush.new.writer (λ q.
+    let (before, here) = c.flush.ensures.bound q in
+    let (first, took) = c.in-All-send_piece.ensures.bound before in
+    let kept = quiet first in
+    here (omega arith) bound) (c.flush.ensures.used_up bound)
+
 pub returns-in_default-send_piece : goal.returns-in_default-send_piece
 returns-in_default-send_piece g c =
     let (written, split, appended, quiet) = rw c.begin_text.ensures at c.loop-piece.invariant.came in
@@ -72,16 +87,18 @@ returns-in_default-send_piece g c =
     let lot = c.loop-piece.lot.items in
     let e = sym (all_pieces (λ p. p.now) c.args.pieces.now c.loop-piece.piece-index c.loop-piece-test.false) ∙ split in
     let here_front = subst (λ l. IsFront front l) c.as_slice.ensures.value is_front in
+    let never : c.send_piece.new.writer.interrupted ≡ false → c.send_piece.result ≡ Bound → ⊥ = λ q.
+    let (before, here) = c.send_piece.ensures.bound q in
+    let l = ap length e ∙ length-append written lot in
+    let k = ap length c.as_slice.ensures.value in
+    let most : length written + length c.as_slice.result.now ≤ length (flat_map (λ p. p.now) c.args.pieces.now) = omega arith in
+    turns_left c.send_piece.result _ _ _ _ (length written) here (quiet before) most in
     record {
       all = λ e. absurd (c.in_default-send_piece.not-All e);
       flushed = λ e. absurd (c.in_default-send_piece.not-All e);
       failed = c.send_piece.ensures.failed ∙ ap (λ b. send_failed c.send_piece.result || b) (rw c.begin_text.ensures at c.loop-piece.invariant.failed);
-      bound = λ q.
-          let (before, here) = c.send_piece.ensures.bound q in
-          let l = ap length e ∙ length-append written lot in
-          let k = ap length c.as_slice.ensures.value in
-          let most : length written + length c.as_slice.result.now ≤ length (flat_map (λ p. p.now) c.args.pieces.now) = omega arith in
-          ((rw c.begin_text.ensures at c.loop-piece.invariant.bound) before, turns_left c.send_piece.result _ _ _ _ (length written) here (quiet before) most);
+      bound = λ q. ((rw c.begin_text.ensures at c.loop-piece.invariant.bound) (c.send_piece.ensures.bound q).0, never q);
+      used_up = λ e. used_up c.send_piece.new.writer (λ q. never q e) (c.send_piece.ensures.used_up e);
       calls =
           let (same, few) = rw c.begin_text.ensures at c.loop-piece.invariant.calls in
           let (again, more) = c.send_piece.ensures.calls in

@@ -1,7 +1,7 @@
 use Rattle.std.proofs.Common.{ap, ◌∙◌, ◌+◌, length}
 use Rattle.std.specs.Prelude.{decimal}
 use Rattle.http_messages.specs.Answers.{number_of, phrase_of, type_name, body_text}
-use Rattle.http_messages.specs.Replies.{answer_in}
+use Rattle.http_messages.specs.Replies.{viewed}
 use Rattle.http_desk.specs.StreamFaults.{TakesCalls}
 use Rattle.http_desk.specs.AnswerOutput.{Sends}
 use Rattle.http_desk.proofs.Printed.{of_pieces}
@@ -9,7 +9,7 @@ use Rattle.http_desk.proofs.reply.send_answer.Goals as goal
 
 pub returns-clause-sends : goal.returns-clause-sends
 returns-clause-sends g c =
-    let a = answer_in c.args.answer.now in
+    let a = viewed c.args.answer in
     of_pieces (λ x. Sends c.args.writer.now.bytes c.send_parts.new.writer.bytes x c.send_parts.result) c.args.closing a (body_text c.args.bare a) _ _ _ _ _ _ _
     (c.as_bytes-number.ensures.value ∙ c.format.ensures.text ∙ ap decimal (c.as_u16.ensures.value ∙ c.code_of.ensures ∙ ap number_of c.status-status.ensures))
     (c.phrase.ensures.phrase ∙ ap phrase_of c.status-status.ensures)
@@ -22,7 +22,7 @@ returns-clause-sends g c =
 
 pub returns-clause-calls : goal.returns-clause-calls
 returns-clause-calls g c =
-    let a = answer_in c.args.answer.now in
+    let a = viewed c.args.answer in
     of_pieces (λ x. TakesCalls (length x + 16) c.args.writer.now c.send_parts.new.writer) c.args.closing a (body_text c.args.bare a) _ _ _ _ _ _ _
     (c.as_bytes-number.ensures.value ∙ c.format.ensures.text ∙ ap decimal (c.as_u16.ensures.value ∙ c.code_of.ensures ∙ ap number_of c.status-status.ensures))
     (c.phrase.ensures.phrase ∙ ap phrase_of c.status-status.ensures)

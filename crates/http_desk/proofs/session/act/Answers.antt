@@ -1,14 +1,24 @@
-use Rattle.std.proofs.Common.{take, refl, sym, arith}
+use Rattle.std.proofs.Common.{take, refl, sym, arith, false}
 use Rattle.std.specs.Prelude.{unwrap_or}
 use Rattle.http_messages.specs.HeadVerdict.{request_in}
+use Rattle.http_messages.specs.Answers.{answer_text}
 use Rattle.http_messages.specs.Replies.{answer_in}
+use Rattle.http_messages.specs.declared.status.Status.TheVariants.{Busy}
+use Rattle.http_desk.specs.Exchanges.{Replies, Refused}
 use Rattle.http_desk.proofs.Turns.{answered_at, left_back}
+use Rattle.http_desk.proofs.Views.{of_view}
 use Rattle.http_desk.proofs.session.act.Goals as goal
 
 pub returns-clause-turn : goal.returns-clause-turn
 returns-clause-turn g c =
     let items = c.args.buffer.now.items in
     let size = c.args.size in
+    let closing = c.is_closing-closing.result in
+    let before = c.args.writer.now.bytes in
+    let after = c.reply_or_refuse-next.new.writer.bytes in
+    let next = c.reply_or_refuse-next.result in
+    let sent = of_view (λ a. Replies before after closing (answer_text c.is_bare-bare.result closing a) next) (λ why. Refused before after false Busy next)
+    c.view.result c.prepare-prepared.result.answered c.view.ensures c.reply_or_refuse-next.ensures.sent in
     answered_at g.M.Machine.represents g.M.Machine.is_intact g.M.Machine.is_open answer_in c.args.number _ _ items size (unwrap_or c.args.head.length 0) (request_in (take size items) c.args.head) c.prepare-prepared.result.answered c.is_bare-bare.result _ _ _ c.is_closing-closing.result _
     c.requires.accepted c.requires.whole refl (left_back c.prepare-prepared.result.answered _ _ _ c.prepare-prepared.ensures.left (grind arith))
-    (rw c.deref.ensures.value at c.is_bare-bare.ensures) (sym c.is_closing-closing.ensures) (rw c.answered.ensures at c.reply_or_refuse-next.ensures.sent) c.prepare-prepared.ensures.answers c.prepare-prepared.ensures.busy c.prepare-prepared.ensures.kept
+    (rw c.deref.ensures.value at c.is_bare-bare.ensures) (sym c.is_closing-closing.ensures) sent c.prepare-prepared.ensures.answers c.prepare-prepared.ensures.busy c.prepare-prepared.ensures.kept

@@ -1,4 +1,4 @@
-use Rattle.std.proofs.Common.{◌⊎◌, ℕ, List, [], ◌++◌, append_assoc, take, drop, refl, ap, ◌∙◌, subst, false}
+use Rattle.std.proofs.Common.{◌⊎◌, inl, inr, arith, ℕ, List, [], ◌++◌, append_assoc, take, drop, refl, ap, ◌∙◌, subst, false}
 use Rattle.std.proofs.KnownBytes.{Consumes-trans, Appends-nil}
 use Rattle.http_messages.specs.declared.status.Status.TheVariants.{Busy, BadRequest}
 use Rattle.http_messages.specs.Heads.{Judges}
@@ -7,6 +7,7 @@ use Rattle.http_messages.specs.HeadVerdict.{request_in, verdict_in}
 use Rattle.http_desk.specs.Messages.{IsBlank, IsHeadCut, IsTooLong, NoHead, Refuses, Fails, HasHead, HeadCut, Nothing}
 use Rattle.http_desk.specs.Exchanges.{Turn, Through}
 use Rattle.http_desk.proofs.Turns.{refused, head_found, may_fail, bound_here, stops_early}
+use Rattle.http_desk.proofs.Faults.{used_up}
 use Rattle.http_desk.proofs.session.exchange.Goals as goal
 
 pub receive-requires-clause-accepted : goal.receive-requires-clause-accepted
@@ -74,3 +75,19 @@ returns-in-NoMemory-clause-turn g c =
     let (written, appended, through) = refused g.M.Machine.represents g.M.Machine.is_intact g.M.Machine.is_open c.args.number c.args.office.now c.args.office.now (c.args.buffer.now.items ++ got) [] c.gather_head.new.buffer.items (Fails false false) false Busy _ _ _ c.refuse-in-NoMemory.ensures.sent
     (may_fail (c.args.buffer.now.items ++ got)) tt (λ s. (refl, refl)) (λ i s h. h) (λ s never. absurd never) in
     (got, written, consumed, appended, through)
+
+pub returns-in-Refused-clause-used_up : goal.returns-in-Refused-clause-used_up
+returns-in-Refused-clause-used_up g c = λ e. inr (c.refuse.ensures.used_up e)
+
+pub returns-in-TooLong-clause-used_up : goal.returns-in-TooLong-clause-used_up
+returns-in-TooLong-clause-used_up g c = λ e. inr (c.refuse-in-TooLong.ensures.used_up e)
+
+-- without an interruption the turns would have been enough
+pub returns-in-Bound-clause-used_up : goal.returns-in-Bound-clause-used_up
+returns-in-Bound-clause-used_up g c = λ e.
+    inl (used_up c.gather_head.new.reader (λ q.
+    let (before, few) = (rw c.begin_message.ensures at c.in-Bound.ensures.bound) q in
+    omega arith) (c.in-Bound.ensures.used_up refl))
+
+pub returns-in-NoMemory-clause-used_up : goal.returns-in-NoMemory-clause-used_up
+returns-in-NoMemory-clause-used_up g c = λ e. inr (c.refuse-in-NoMemory.ensures.used_up e)

@@ -13,7 +13,7 @@ use Rattle.http_desk.specs.declared.session_end.Next.{Next}
 use Rattle.http_desk.specs.declared.session_end.Next.TheVariants.{Ends}
 use Rattle.http_desk.specs.declared.output.Sent.{Sent}
 use Rattle.http_desk.specs.declared.output.Sent.TheVariants.{All as SendAll, Failed as SendFailed, Bound as SendBound}
-use Rattle.http_desk.proofs.Faults.{no_read_told, not_all_sent, writes_told}
+use Rattle.http_desk.proofs.Faults.{closed_no_bound, no_read_told, not_all_sent, tells_bound, used_up, writes_told}
 use Rattle.http_desk.proofs.session.receive.Goals as goal
 
 no_bound : (sent : Sent) (next : Next) → next ≡ after_sending sent (Ends Closed) → (sent ≢ SendBound)
@@ -45,6 +45,7 @@ returns-in_default g c =
       turns = λ p q.
           let (before, here) = c.allow_body.ensures.turns q in
           (p, before, no_bound c.allow_body.result _ c.after.ensures here);
+      used_up = λ e. inr (tells_bound c.allow_body.new.writer c.allow_body.result (Ends Closed) c.after.result closed_no_bound c.after.ensures c.allow_body.ensures.used_up e);
       calls = (refl, omega arith);
       same = c.allow_body.ensures.same;
     }
@@ -117,3 +118,17 @@ returns-in-NoMemory-clause-turn g c =
     let (written, appended, through) = refused g.M.Machine.represents g.M.Machine.is_intact g.M.Machine.is_open c.args.number c.args.office.now c.args.office.now (items ++ got) (continue_if c.args.head.waits) c.gather_body.new.buffer.items (Fails c.args.head.waits false) false Busy _ _ _ c.refuse.ensures.sent
     (may_fail_after (items ++ got) (take size items) (drop size items ++ got) (request_in (take size items) c.args.head) there) tt (λ s. (refl, refl)) (λ i s h. h) (λ s never. absurd never) in
     (got, continue_if c.args.head.waits ++ written, consumed, Appends-trans _ _ _ _ _ c.in-All.ensures.sends appended, through)
+
+pub returns-in-Whole-clause-used_up : goal.returns-in-Whole-clause-used_up
+returns-in-Whole-clause-used_up g c = λ e. inr (c.act.ensures.used_up e)
+
+-- without an interruption the turns would have been enough
+pub returns-in-Bound-clause-used_up : goal.returns-in-Bound-clause-used_up
+returns-in-Bound-clause-used_up g c = λ e.
+    inl (used_up c.gather_body.new.reader (λ q.
+    let (before, few) = c.in-Bound.ensures.bound q in
+    let enough = c.requires.turns before in
+    omega arith) (c.in-Bound.ensures.used_up refl))
+
+pub returns-in-NoMemory-clause-used_up : goal.returns-in-NoMemory-clause-used_up
+returns-in-NoMemory-clause-used_up g c = λ e. inr (c.refuse.ensures.used_up e)

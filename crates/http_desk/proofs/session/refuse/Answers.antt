@@ -1,5 +1,7 @@
-use Rattle.std.proofs.Common.{refl}
-use Rattle.http_desk.proofs.Faults.{flushed_after, writes_told}
+use Rattle.std.proofs.Common.{refl, subst, true}
+use Rattle.http_messages.specs.Answers.{answer_text}
+use Rattle.http_desk.specs.AnswerOutput.{Sends}
+use Rattle.http_desk.proofs.Faults.{closed_no_bound, flushed_after, tells_bound, writes_told}
 use Rattle.http_desk.proofs.session.refuse.Goals as goal
 
 pub returns-clause-writes : goal.returns-clause-writes
@@ -7,3 +9,14 @@ returns-clause-writes g c = writes_told c.send_answer-sent.result _ c.after.resu
 
 pub returns-clause-flushed : goal.returns-clause-flushed
 returns-clause-flushed g c = flushed_after c.send_answer-sent.new.writer c.send_answer-sent.result _ c.after.result c.after.ensures c.send_answer-sent.ensures.flushed
+
+pub returns-clause-sent : goal.returns-clause-sent
+returns-clause-sent g c =
+    let sent = c.send_answer-sent.result in (
+      sent,
+      subst (λ a. Sends c.args.writer.now.bytes c.send_answer-sent.new.writer.bytes (answer_text c.args.bare true a) sent) c.fixed.ensures c.send_answer-sent.ensures.sends,
+      c.after.ensures,
+    )
+
+pub returns-clause-used_up : goal.returns-clause-used_up
+returns-clause-used_up g c = tells_bound c.send_answer-sent.new.writer c.send_answer-sent.result _ c.after.result closed_no_bound c.after.ensures c.send_answer-sent.ensures.used_up

@@ -59,3 +59,6 @@ returns-clause-session g c =
     let last : c.loop-number.number ≡ 10001 = omega arith in
     carried_over g.M.Machine.represents g.M.Machine.is_intact g.M.Machine.is_open _ _ _ _ c.args.office.now c.loop-number.office c.loop-number.buffer.items Closed
     (subst (λ n. Carried g.M.Machine.represents g.M.Machine.is_intact g.M.Machine.is_open c.args.reader.now.bytes c.loop-number.reader.bytes c.args.writer.now.bytes c.loop-number.writer.bytes c.args.office.now c.loop-number.office n c.loop-number.buffer.items) last c.loop-number.invariant.carried)
+
+pub returns-in-Ends-clause-used_up : goal.returns-in-Ends-clause-used_up
+returns-in-Ends-clause-used_up g c = λ e. c.exchange.ensures.used_up (c.in-Ends.is ∙ e)

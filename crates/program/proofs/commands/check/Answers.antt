@@ -1,16 +1,15 @@
-use Rattle.std.proofs.Common.{inl, refl}
+use Rattle.std.proofs.Common.{inl}
 use Rattle.std.proofs.KnownBytes.{Appends-nil}
-use Rattle.program.proofs.StoreLemmas.{check_done, check_failed, failed_as, no_file, none_left}
+use Rattle.program.proofs.StoreLemmas.{check_done, check_failed}
 use Rattle.program.proofs.commands.check.Goals as goal
 
-pub returns-in_err-judged-clause-fault : goal.returns-in_err-judged-clause-fault
-returns-in_err-judged-clause-fault g c =
-    failed_as c.from_residual.result _ _ c.from_residual.ensures.1 (inl (no_file _, Appends-nil _, none_left _ _ c.requires))
+pub returns-in-Err-clause-fault : goal.returns-in-Err-clause-fault
+returns-in-Err-clause-fault g c = inl (c.from.ensures, Appends-nil _)
 
-pub returns-clause-done : goal.returns-clause-done
-returns-clause-done g c =
-    check_done _ _ _ c.in_ok-judged.files refl _ _ c.in_ok-judged.judged c.tell_judgment.result c.in_ok-judged.ensures c.tell_judgment.ensures.done
+pub returns-in-Ok-clause-done : goal.returns-in-Ok-clause-done
+returns-in-Ok-clause-done g c =
+    check_done _ _ c.in-Ok.files _ _ c.in-Ok.judged c.tell_judgment.result c.in-Ok.ensures c.tell_judgment.ensures.done
 
-pub returns-clause-fault : goal.returns-clause-fault
-returns-clause-fault g c =
-    check_failed _ _ _ c.in_ok-judged.files refl _ _ c.in_ok-judged.judged c.tell_judgment.result c.in_ok-judged.ensures c.tell_judgment.ensures.fault
+pub returns-in-Ok-clause-fault : goal.returns-in-Ok-clause-fault
+returns-in-Ok-clause-fault g c =
+    check_failed _ _ c.in-Ok.files _ _ c.in-Ok.judged c.tell_judgment.result c.in-Ok.ensures c.tell_judgment.ensures.fault

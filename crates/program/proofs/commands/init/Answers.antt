@@ -1,9 +1,12 @@
 use Rattle.program.proofs.commands.init.Goals as goal
 
-pub returns-clause-done : goal.returns-clause-done
-returns-clause-done g c = record {
-  office = c.in_ok-office.office;
-  represents = c.in_ok-office.ensures.founded;
-  kept = c.in_ok-office.ensures.kept;
+pub returns-in-Ok-clause-done : goal.returns-in-Ok-clause-done
+returns-in-Ok-clause-done g c = record {
+  office = c.in-Ok.office;
+  represents = c.in-Ok.ensures.founded;
+  kept = c.in-Ok.ensures.kept;
   left = c.close_office.ensures;
 }
+
+pub returns-in-Err-clause-fault : goal.returns-in-Err-clause-fault
+returns-in-Err-clause-fault g c = c.in-Err.ensures.fault

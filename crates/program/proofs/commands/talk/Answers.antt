@@ -1,19 +1,17 @@
-use Rattle.std.proofs.Common.{inl, refl}
+use Rattle.std.proofs.Common.{inl}
 use Rattle.std.proofs.KnownBytes.{Appends-nil, Consumes-nil}
-use Rattle.program.proofs.StoreLemmas.{failed_as, talk_broken, talk_done}
+use Rattle.program.proofs.StoreLemmas.{talk_broken, talk_done}
 use Rattle.program.proofs.commands.talk.Goals as goal
 
-pub returns-in_err-office-clause-fault : goal.returns-in_err-office-clause-fault
-returns-in_err-office-clause-fault g c =
-    failed_as c.from_residual.result _ _ c.from_residual.ensures.1
-    (inl (Consumes-nil _, (c.in_err-office.ensures.fault, Appends-nil _, c.in_err-office.ensures.as_found)))
+pub returns-in-Err-clause-fault : goal.returns-in-Err-clause-fault
+returns-in-Err-clause-fault g c = inl (Consumes-nil _, (c.in-Err.ensures.fault, Appends-nil _))
 
-pub returns-clause-done : goal.returns-clause-done
-returns-clause-done g c =
-    talk_done _ _ _ c.close_office.result refl _ _ _ _ c.in_ok-office.office c.talk_with-talked.new.office c.in_ok-office.ensures.found
-    c.talk_with-talked.ensures.intact c.close_office.ensures c.talk_with-talked.result c.talk_with-talked.ensures.done
+pub returns-in-Ok-clause-done : goal.returns-in-Ok-clause-done
+returns-in-Ok-clause-done g c =
+    talk_done _ _ c.close_office.result _ _ _ _ c.in-Ok.office c.talk_with-talked.new.office c.in-Ok.ensures.found c.talk_with-talked.ensures.intact
+    c.close_office.ensures c.talk_with-talked.result c.talk_with-talked.ensures.done
 
-pub returns-clause-fault : goal.returns-clause-fault
-returns-clause-fault g c =
-    talk_broken _ _ _ c.close_office.result refl _ _ _ _ c.in_ok-office.office c.talk_with-talked.new.office c.in_ok-office.ensures.found
-    c.talk_with-talked.ensures.intact c.close_office.ensures c.talk_with-talked.result c.talk_with-talked.ensures.broken
+pub returns-in-Ok-clause-fault : goal.returns-in-Ok-clause-fault
+returns-in-Ok-clause-fault g c =
+    talk_broken _ _ c.close_office.result _ _ _ _ c.in-Ok.office c.talk_with-talked.new.office c.in-Ok.ensures.found c.talk_with-talked.ensures.intact
+    c.close_office.ensures c.talk_with-talked.result c.talk_with-talked.ensures.broken

@@ -31,5 +31,5 @@ returns-clause-call g c =
     let does = c.apply_to.ensures in
     let call = applied_call g.S.Store g.P.Places.represents g.P.Places.version c.self.inside.conn c.apply_to.new.conn c.args.command.now c.apply_to.result
     (early (state g.S.Store c.self.inside.conn) (state g.S.Store c.apply_to.new.conn) _ does.crash) does.was_open does.kept does.steps
-    (λ s sound. always_sound_office s (c.args.command.now ∷ []) (named.days, tt) (named.texts, tt) sound) does.busy in
+    (λ s sound. always_sound_office s (c.args.command.now ∷ []) (named.days, tt) (named.texts, tt) sound) does.busy does.bytes in
     search (rules, call)
