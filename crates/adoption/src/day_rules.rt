@@ -1,12 +1,12 @@
 //! The rules of the day, for tables that are otherwise a sound office's.
 
-ghost use Rattle.std.specs.Prelude.{◌≡◌, IfOk, IsTrue, Some};
+ghost use Rattle.std.specs.Prelude.{◌≡◌, IfErr, IfOk, IsTrue, Some};
 ghost use Rattle.sqlite.specs.Held.{state};
 ghost use Rattle.sqlite.specs.State.{HasCleanDisk};
 ghost use Rattle.state_encoding.specs.Causes.{day_is_broken};
 ghost use Rattle.state_encoding.specs.CellCauses.{rows_in};
 ghost use Rattle.adoption.specs.ReadOnlyCalls.{Looks};
-ghost use Rattle.office_tables.specs.Faults.{FaultsHaveCause};
+ghost use Rattle.office_tables.specs.Faults.{BlamesDisk, FaultsHaveCause};
 ghost use Rattle.office_tables.specs.Step.{InTransaction};
 ghost use Rattle.adoption.specs.Causes.{HasNoEarlierCause};
 ghost use Rattle.adoption.specs.OwnRows.{own_row_of};
@@ -32,6 +32,8 @@ pub(crate) fn breaks_day_rules<P: CheckedPlaces, S: Alter>(
         → own_row_of P.version (state S.Store conn.old).now.trees ≡ Some own.now
         → HasNoEarlierCause P.version (state S.Store conn.old).now.trees
         → IfOk result (λ broken. broken ≡ day_is_broken (rows_in P.version (state S.Store conn.old).now.trees)) }
+    ensures disk { HasCleanDisk (state S.Store conn.new)
+        → IfErr result (BlamesDisk (state S.Store conn.old) (state S.Store conn.new)) }
     ensures faults { IsTrue (state S.Store conn.old).is_open → StandInOrder (state S.Store conn.old).now
         → HasNoEarlierCause P.version (state S.Store conn.old).now.trees
         → FaultsHaveCause (state S.Store conn.old) (state S.Store conn.new) result }

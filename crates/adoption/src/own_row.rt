@@ -1,6 +1,6 @@
 //! The office's own row.
 
-ghost use Rattle.std.specs.Prelude.{◌≡◌, false, true, Some, IfOk, IsTrue};
+ghost use Rattle.std.specs.Prelude.{◌≡◌, false, true, Some, IfErr, IfOk, IsTrue};
 ghost use Rattle.std.specs.List.{list_all};
 ghost use Rattle.std.specs.Option.{option_map_or};
 ghost use Rattle.sqlite.specs.Held.{state};
@@ -11,7 +11,7 @@ ghost use Rattle.isad_core.specs.Words.{is_between};
 ghost use Rattle.office_core.specs.Soundness.{is_country as is_country_code, is_repository as is_repository_code};
 ghost use Rattle.office_tables.specs.Cells.{text_in};
 ghost use Rattle.adoption.specs.ReadOnlyCalls.{Looks};
-ghost use Rattle.office_tables.specs.Faults.{FaultsHaveCause};
+ghost use Rattle.office_tables.specs.Faults.{BlamesDisk, FaultsHaveCause};
 ghost use Rattle.office_tables.specs.Step.{InTransaction};
 ghost use Rattle.adoption.specs.OwnRows.{are_good_numbers, are_good_texts, numbers_said, numbers_told};
 ghost use Rattle.adoption.specs.OwnRows.{own_from as own_of_numbers, own_judged, own_row_of};
@@ -206,6 +206,8 @@ pub(crate) fn own_row<P: Places, S: Alter>(
         → IfOk result (λ found. found ≡ own_row_of P.version (state S.Store conn.old).now.trees) }
     ensures opened { HasCleanDisk (state S.Store conn.new)
         → IfOk result (λ _. IsTrue (state S.Store conn.old).is_open) }
+    ensures disk { HasCleanDisk (state S.Store conn.new)
+        → IfErr result (BlamesDisk (state S.Store conn.old) (state S.Store conn.new)) }
     ensures faults { FaultsHaveCause (state S.Store conn.old) (state S.Store conn.new) result }
 {
     let all = gather(

@@ -1,11 +1,11 @@
 //! Judging tables of any origin.
 
-ghost use Rattle.std.specs.Prelude.{◌≡◌, IfOk, IsTrue, None, Some};
+ghost use Rattle.std.specs.Prelude.{◌≡◌, IfErr, IfOk, IsTrue, None, Some};
 ghost use Rattle.sqlite.specs.Held.{state};
 ghost use Rattle.sqlite.specs.State.{HasCleanDisk};
 ghost use Rattle.state_encoding.specs.CellCauses.{cell_cause};
 ghost use Rattle.adoption.specs.ReadOnlyCalls.{Looks};
-ghost use Rattle.office_tables.specs.Faults.{FaultsHaveCause, IsUnlimited};
+ghost use Rattle.office_tables.specs.Faults.{BlamesDisk, FaultsHaveCause, IsUnlimited};
 ghost use Rattle.office_tables.specs.Step.{InTransaction};
 ghost use Rattle.adoption.specs.DeskCheck.{catalogue_cell_cause};
 ghost use Rattle.adoption.specs.OwnRows.{own_row_of};
@@ -36,6 +36,8 @@ fn desk_cause<P: CheckedPlaces, S: Alter>(
         → own_row_of P.version (state S.Store conn.old).now.trees ≡ Some own.now
         → catalogue_cell_cause P.version (state S.Store conn.old).now.trees ≡ None
         → IfOk result (λ cause. cause ≡ cell_cause P.version (state S.Store conn.old).now.trees) }
+    ensures disk { HasCleanDisk (state S.Store conn.new)
+        → IfErr result (BlamesDisk (state S.Store conn.old) (state S.Store conn.new)) }
     ensures faults { IsTrue (state S.Store conn.old).is_open → StandInOrder (state S.Store conn.old).now
         → own_row_of P.version (state S.Store conn.old).now.trees ≡ Some own.now
         → catalogue_cell_cause P.version (state S.Store conn.old).now.trees ≡ None
@@ -59,6 +61,8 @@ fn least_cause<P: CheckedPlaces, S: Alter>(
     ensures reads { Looks (state S.Store conn.old) (state S.Store conn.new) result }
     ensures tells { HasCleanDisk (state S.Store conn.new) → StandInOrder (state S.Store conn.old).now
         → IfOk result (λ cause. cause ≡ cell_cause P.version (state S.Store conn.old).now.trees) }
+    ensures disk { HasCleanDisk (state S.Store conn.new)
+        → IfErr result (BlamesDisk (state S.Store conn.old) (state S.Store conn.new)) }
     ensures faults { StandInOrder (state S.Store conn.old).now
         → FaultsHaveCause (state S.Store conn.old) (state S.Store conn.new) result }
 {
@@ -82,6 +86,8 @@ pub fn judge<P: CheckedPlaces, S: Alter>(
     ensures reads { Looks (state S.Store conn.old) (state S.Store conn.new) result }
     ensures tells { HasCleanDisk (state S.Store conn.new)
         → IfOk result (IsVerdict P.version (state S.Store conn.old).now) }
+    ensures disk { HasCleanDisk (state S.Store conn.new)
+        → IfErr result (BlamesDisk (state S.Store conn.old) (state S.Store conn.new)) }
     ensures faults { StandInOrder (state S.Store conn.old).now
         → FaultsHaveCause (state S.Store conn.old) (state S.Store conn.new) result }
 {

@@ -16,6 +16,7 @@ returns g c =
       reads = day_read places v g.S.Store c.args.conn.now c.breaks_day_rules.new.conn c.breaks_day_rules.result c.args.own.now told;
       tells = λ clean opened ordered mine none.
           day_told places v g.S.Store c.args.conn.now c.breaks_day_rules.new.conn c.breaks_day_rules.result c.args.own.now law c.requires.inside c.schema.ensures.live told opened ordered none clean mine;
+      disk = c.breaks_day_rules.ensures.disk;
       faults = λ opened ordered none.
           day_excused places v g.S.Store c.args.conn.now c.breaks_day_rules.new.conn c.breaks_day_rules.result c.args.own.now law c.requires.inside c.schema.ensures.live told opened ordered none;
     }

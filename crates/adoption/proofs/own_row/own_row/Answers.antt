@@ -12,6 +12,11 @@ gather-requires-clause-ours g c =
     let v = g.P.Places.version in
     asks_in v own_text 0 own_command (state g.S.Store c.args.conn.now) (own_means v) c.requires.inside
 
+pub returns-in_err-all-clause-disk : goal.returns-in_err-all-clause-disk
+returns-in_err-all-clause-disk g c clean =
+    let why = (c.in_err-all.ensures.reads.spares clean).disk in
+    search (rules, why)
+
 pub returns-in_err-all-clause-faults : goal.returns-in_err-all-clause-faults
 returns-in_err-all-clause-faults g c clean free =
     let old = state g.S.Store c.args.conn.now in

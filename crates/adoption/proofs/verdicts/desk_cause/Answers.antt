@@ -6,7 +6,8 @@ use Rattle.state_encoding.specs.CellCauses.{rows_in}
 use Rattle.office_tables.specs.Faults.{FaultsHaveCause}
 use Rattle.office_tables.specs.declared.fault.StoreFault.{StoreFault}
 use Rattle.office_tables.proofs.CallEnds.{excused_then}
-use Rattle.office_tables.proofs.Calls.{office_of, looks_then, cut_then}
+use Rattle.office_tables.proofs.Calls.{early, office_of, looks_then, cut_then}
+use Rattle.office_tables.proofs.WriteCauses.{disk_then}
 use Rattle.row_decoding.proofs.ReadCalls.{before}
 use Rattle.adoption.specs.Causes.{HasNoEarlierCause}
 use Rattle.adoption.specs.OwnRows.{own_row_of}
@@ -64,6 +65,19 @@ returns-clause-tells g c clean opened ordered own catalogue =
     let told = subst (λ (db : Database). StandInOrder db → own_row_of v db.trees ≡ Some c.args.own.now → HasNoEarlierCause v db.trees → c.in_ok-breaks_day_rules.field-0 ≡ day_is_broken (rows_in v db.trees))
     (c.in_ok-defect.ensures.reads.looks.same clean_mid) (c.in_ok-breaks_day_rules.ensures.tells clean (opened_then old mid c.in_ok-defect.ensures.reads.looks clean_mid opened)) ordered own none in
     sym (kept_day v old.now.trees none (sym told ∙ c.if-branch.false))
+
+pub returns-in_err-defect-clause-disk : goal.returns-in_err-defect-clause-disk
+returns-in_err-defect-clause-disk g c clean =
+    let why = (c.in_err-defect.ensures.reads.spares clean).disk in
+    search (rules, why)
+
+pub returns-in_err-breaks_day_rules-clause-disk : goal.returns-in_err-breaks_day_rules-clause-disk
+returns-in_err-breaks_day_rules-clause-disk g c clean =
+    let mid = state g.S.Store c.load_check_desk.new.conn in
+    let new = state g.S.Store c.breaks_day_rules.new.conn in
+    let told = c.in_err-breaks_day_rules.ensures in
+    let why = disk_then (state g.S.Store c.args.conn.now) mid new c.in_ok-defect.ensures.reads.looks.goes.on (early mid new _ told.reads.crash clean) c.in_err-breaks_day_rules.field-0.0 (told.disk clean) in
+    search (rules, why)
 
 pub returns-in_err-breaks_day_rules-clause-faults : goal.returns-in_err-breaks_day_rules-clause-faults
 returns-in_err-breaks_day_rules-clause-faults g c opened ordered own catalogue clean free =

@@ -2,13 +2,29 @@ use Rattle.std.proofs.Common.{◌≡◌, rules, sym, ap, subst, ◌∙◌}
 use Rattle.sqlite.specs.Effect.{Database}
 use Rattle.sqlite.specs.Held.{state}
 use Rattle.state_encoding.specs.CellCauses.{cell_cause}
-use Rattle.office_tables.proofs.Calls.{looks_then, cut_then}
+use Rattle.office_tables.proofs.Calls.{early, looks_then, cut_then}
+use Rattle.office_tables.proofs.WriteCauses.{disk_then}
 use Rattle.row_decoding.proofs.ReadCalls.{before}
+use Rattle.refinement.proofs.DiskBlames.{blames_caused}
 use Rattle.adoption.specs.Verdicts.{IsVersionVerdict}
 use Rattle.adoption.specs.OrderedTables.{StandInOrder}
 use Rattle.adoption.specs.declared.verdict.Verdict.TheVariants.{Sound, Unsound}
 use Rattle.adoption.proofs.Lookings.{looked_well}
 use Rattle.adoption.proofs.verdicts.judge.Goals as goal
+
+pub returns-in_err-verdict-clause-disk : goal.returns-in_err-verdict-clause-disk
+returns-in_err-verdict-clause-disk g c clean =
+    let told = c.in_err-verdict.ensures in
+    let why = blames_caused (state g.S.Store c.args.conn.now) (state g.S.Store c.judge_version.new.conn) c.in_err-verdict.field-0.0 (told.faults clean c.requires.unlimited) in
+    search (rules, why)
+
+pub returns-in_err-cause-clause-disk : goal.returns-in_err-cause-clause-disk
+returns-in_err-cause-clause-disk g c clean =
+    let mid = state g.S.Store c.judge_version.new.conn in
+    let new = state g.S.Store c.least_cause.new.conn in
+    let told = c.in_err-cause.ensures in
+    let why = disk_then (state g.S.Store c.args.conn.now) mid new c.in_ok-verdict.ensures.reads.looks.goes.on (early mid new _ told.reads.crash clean) c.in_err-cause.field-0.0 (told.disk clean) in
+    search (rules, why)
 
 pub returns-in_err-cause-clause-reads : goal.returns-in_err-cause-clause-reads
 returns-in_err-cause-clause-reads g c =

@@ -8,6 +8,7 @@ use Rattle.state_encoding.specs.CellCauses.{cell_cause}
 use Rattle.office_tables.specs.Faults.{FaultsHaveCause}
 use Rattle.office_tables.proofs.CallEnds.{excused_then}
 use Rattle.office_tables.proofs.Calls.{early, looks_then, cut_then}
+use Rattle.office_tables.proofs.WriteCauses.{disk_then, last_disk}
 use Rattle.row_decoding.proofs.ReadCalls.{before, same_trees}
 use Rattle.adoption.specs.DeskCheck.{catalogue_cell_cause}
 use Rattle.adoption.specs.OwnRows.{own_row_of}
@@ -67,6 +68,21 @@ returns-clause-tells g c clean ordered =
     let fine = fine_catalogue v old.now.trees own is (sym c.in_default-2.is ∙ told) in
     subst (λ (db : Database). StandInOrder db → own_row_of v db.trees ≡ Some own → catalogue_cell_cause v db.trees ≡ None → IfOk c.desk_cause.result (λ cause. cause ≡ cell_cause v db.trees))
     ((looks_then old mid late one two).same clean_late) (c.desk_cause.ensures.tells clean (opened_then old late (looks_then old mid late one two) clean_late (c.in_ok-own.ensures.opened clean_mid))) ordered (sym is) fine
+
+pub returns-in_err-defect-clause-disk : goal.returns-in_err-defect-clause-disk
+returns-in_err-defect-clause-disk g c clean =
+    let mid = state g.S.Store c.own_row.new.conn in
+    let late = state g.S.Store c.load_check.new.conn in
+    let reads = c.in_err-defect.ensures.reads in
+    let why = disk_then (state g.S.Store c.args.conn.now) mid late c.in_ok-own.ensures.reads.looks.goes.on (early mid late _ reads.crash clean) c.in_err-defect.field-0.0 (reads.spares clean).disk in
+    search (rules, why)
+
+pub returns-clause-disk : goal.returns-clause-disk
+returns-clause-disk g c clean =
+    let old = state g.S.Store c.args.conn.now in
+    let late = state g.S.Store c.load_check.new.conn in
+    let both = looks_then old (state g.S.Store c.own_row.new.conn) late c.in_ok-own.ensures.reads.looks c.in_ok-defect.ensures.reads.looks in
+    last_disk old late (state g.S.Store c.desk_cause.new.conn) both.goes.on c.desk_cause.result c.desk_cause.ensures.reads.cut clean (c.desk_cause.ensures.disk clean)
 
 pub returns-clause-faults : goal.returns-clause-faults
 returns-clause-faults g c ordered =
