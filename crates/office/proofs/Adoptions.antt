@@ -1,5 +1,5 @@
 -- An office over tables of any origin, against which there is no cause.
-use Rattle.std.proofs.Common.{◌≡◌, ℕ, None, IsTrue, refl, sym, subst}
+use Rattle.std.proofs.Common.{◌≡◌, ◌≤◌, ℕ, None, IsTrue, inl, inr, arith, refl, sym, subst}
 use Rattle.sqlite.specs.Effect.{Database}
 use Rattle.sqlite.specs.State as store
 use Rattle.sqlite.specs.State.{IsLive}
@@ -13,8 +13,12 @@ use Rattle.office_core.specs.SoundOffice.{IsSoundOffice}
 use Rattle.adoption.specs.SoundTables.{AreSoundTables}
 use Rattle.adoption.specs.Tables.{SoundTablesRepresentTheirState}
 use Rattle.adoption.specs.OrderedTables.{StandInOrder}
-use Rattle.office.specs.Adoption.{IsAdopted, refusal_of, state_in}
+use Rattle.office_tables.specs.Faults.{BlamesDisk, HasCause}
+use Rattle.office_tables.specs.declared.fault.StoreFault.{StoreFault}
+use Rattle.office_tables.specs.declared.fault.StoreFault.TheVariants as cause
+use Rattle.office.specs.Adoption.{HasAdoptCause, IsAdopted, refusal_of, state_in}
 use Rattle.office.specs.IdleOffice.{IsAsBefore, IsIn}
+use Rattle.office.specs.NewOffice.{open_fault_of}
 use Rattle.refinement.specs.Representation.{RepresentsState}
 
 -- no fault is told of a sound office's tables alone
@@ -48,3 +52,18 @@ module _ (version : Version) (old new : store.State) (told : Verdict) (none : re
     pub adopted_shown : StandInOrder old.now → IsIn places version (state_in version old.now.trees) new
     adopted_shown ordered opened =
         subst (λ (db : Database). RepresentsState places version db (state_in version old.now.trees)) (sym (back.now opened)) (law old.now (sound_tables live opened ordered)).represents
+
+-- a fault of the store: the disk is blamed for its own failures only, and the tables are not to blame if they are ordered
+pub store_cause : (version : Version) (old new : store.State) (f : StoreFault) → BlamesDisk old new f → (StandInOrder old.now → HasCause old new f) → HasAdoptCause version old new (open_fault_of f)
+store_cause version old new cause.Memory blames why = tt
+store_cause version old new cause.Disk blames why = blames
+store_cause version old new cause.Schema blames why = λ ordered. absurd (why ordered)
+
+-- what was blamed inside the transaction is blamed of the whole call
+pub blames_outside : (before old new after : store.State) → before.faults ≤ old.faults → new.faults ≤ after.faults → IsTrue old.is_open → (f : StoreFault) → BlamesDisk old new f → BlamesDisk before after f
+blames_outside before old new after counts counts_after opened cause.Memory blames = tt
+blames_outside before old new after counts counts_after opened cause.Disk blames = elim blames [
+  | inl more ↦ inl (omega arith)
+  | inr shut ↦ absurd cc
+]
+blames_outside before old new after counts counts_after opened cause.Schema blames = tt

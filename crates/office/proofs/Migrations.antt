@@ -9,7 +9,7 @@ use Rattle.adoption.specs.Verdicts.{IsVerdict}
 use Rattle.adoption.specs.declared.verdict.Verdict.{Verdict}
 use Rattle.adoption.specs.declared.verdict.Verdict.TheVariants as verdict
 use Rattle.office_core.specs.State as office
-use Rattle.office_tables.specs.Faults.{HasCause}
+use Rattle.office_tables.specs.Faults.{BlamesDisk, HasCause}
 use Rattle.office_tables.specs.Schema as tables
 use Rattle.office_tables.specs.Step.{OnlyTouches}
 use Rattle.office_tables.specs.declared.fault.StoreFault.{StoreFault}
@@ -52,21 +52,21 @@ module _ (db : Database) (told : Verdict) (none : refusal_of told ≡ None) (is 
 
 -- ---- why not
 
--- a call that follows the judging fails only for want of memory or by the disk, where the tables are ordered
-pub cause_of_call : (old mid new : State) (f : StoreFault) → (StandInOrder old.now → HasCause mid new f) → old.faults ≤ mid.faults → mid.is_open ≡ old.is_open
+-- a call that follows the judging blames the disk for its own failures only, and not the tables if they are ordered
+pub cause_of_call : (old mid new : State) (f : StoreFault) → BlamesDisk mid new f → (StandInOrder old.now → HasCause mid new f) → old.faults ≤ mid.faults → mid.is_open ≡ old.is_open
     → HasAdoptCause Links old new (open_fault_of f)
-cause_of_call old mid new store.Memory why counts opened = tt
-cause_of_call old mid new store.Disk why counts opened = λ ordered. elim (why ordered) [
+cause_of_call old mid new store.Memory blames why counts opened = tt
+cause_of_call old mid new store.Disk blames why counts opened = elim blames [
   | inl more ↦ inl (omega arith)
   | inr shut ↦ inr (sym opened ∙ shut)
 ]
-cause_of_call old mid new store.Schema why counts opened = λ ordered. absurd (why ordered)
+cause_of_call old mid new store.Schema blames why counts opened = λ ordered. absurd (why ordered)
 
 -- what was the cause inside the transaction is one of the whole call
 module _ (before old new after : State) (counts : before.faults ≤ old.faults) (counts_after : new.faults ≤ after.faults) (same : old.now ≡ before.now) (opened : IsTrue old.is_open) where
   pub cause_outside : (f : OpenFault) → HasAdoptCause Links old new f → HasAdoptCause Links before after f
   cause_outside fault.Memory why = tt
-  cause_outside fault.Disk why = λ ordered. elim (why (subst StandInOrder (sym same) ordered)) [
+  cause_outside fault.Disk why = elim why [
     | inl more ↦ inl (omega arith)
     | inr shut ↦ absurd cc
   ]

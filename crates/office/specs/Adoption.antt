@@ -25,10 +25,10 @@ refusal_of verdict.OtherTables = Some fault.Schema
 refusal_of (verdict.Unsound n) = Some (fault.Unsound n)
 
 -- The tables are as the fault says; or there was not enough memory, which may happen at any time; or the disk failed,
--- or was shut before. If the rows of the tables do not stand in order, the causes of `Disk` and `Schema` are left open.
+-- or was shut before. If the rows of the tables do not stand in order, the cause of `Schema` is left open.
 abbrev pub HasAdoptCause : Version → store.State → store.State → OpenFault → Type 0
 HasAdoptCause version old new fault.Memory = HasCause old new cause.Memory
-HasAdoptCause version old new fault.Disk = StandInOrder old.now → HasCause old new cause.Disk
+HasAdoptCause version old new fault.Disk = HasCause old new cause.Disk
 HasAdoptCause version old new fault.Schema = StandInOrder old.now → IsVerdict version old.now verdict.OtherTables
 HasAdoptCause version old new fault.NoOffice = IsVerdict version old.now verdict.NoOffice
 HasAdoptCause version old new fault.OldVersion = IsVerdict version old.now verdict.OldVersion

@@ -5,7 +5,7 @@ ghost use Rattle.sqlite.specs.Held.{state};
 ghost use Rattle.sqlite.specs.State.{HasCleanDisk, Survives};
 ghost use Rattle.adoption.specs.OrderedTables.{StandInOrder};
 ghost use Rattle.adoption.specs.Verdicts.{IsVerdict};
-ghost use Rattle.office_tables.specs.Faults.{HasCause, IsUnlimited};
+ghost use Rattle.office_tables.specs.Faults.{BlamesDisk, HasCause, IsUnlimited};
 ghost use Rattle.office.specs.IdleOffice.{IsAsBefore};
 
 use crate::transactions::take_back;
@@ -26,6 +26,8 @@ pub(crate) fn look_over<P: CheckedPlaces, S: Alter>(
         → IfOk result (IsVerdict P.version (state S.Store conn.old).now) }
     ensures back { HasCleanDisk (state S.Store conn.new)
         → IsAsBefore (state S.Store conn.old) (state S.Store conn.new) }
+    ensures disk { HasCleanDisk (state S.Store conn.new)
+        → IfErr result (BlamesDisk (state S.Store conn.old) (state S.Store conn.new)) }
     ensures faults { HasCleanDisk (state S.Store conn.new) → StandInOrder (state S.Store conn.old).now
         → IfErr result (HasCause (state S.Store conn.old) (state S.Store conn.new)) }
     ensures crash { Survives (state S.Store conn.old) (state S.Store conn.new) (λ _. ⊥) }

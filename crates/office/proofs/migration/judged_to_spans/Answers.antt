@@ -8,8 +8,17 @@ use Rattle.office_tables.specs.Step.{OnlyTouches}
 use Rattle.office_tables.proofs.Calls.{early}
 use Rattle.refinement.specs.Representation.{RepresentsState}
 use Rattle.office.specs.Adoption.{HasAdoptCause, state_in}
+use Rattle.office.proofs.Adoptions.{store_cause}
 use Rattle.office.proofs.Migrations.{cause_of_call, migrated, shows_its_state, told_as}
 use Rattle.office.proofs.migration.judged_to_spans.Goals as goal
+
+pub returns-in_err-verdict-clause-cause : goal.returns-in_err-verdict-clause-cause
+returns-in_err-verdict-clause-cause g c clean opened =
+    let old = state g.S.Store c.args.conn.now in
+    let new = state g.S.Store c.judge.new.conn in
+    let told = c.in_err-verdict.ensures in
+    told_as c.from_residual.result _ (HasAdoptCause Links old new) c.from_residual.ensures.1
+    (store_cause Links old new c.in_err-verdict.field-0.0 (told.disk clean) (λ ordered. told.faults ordered clean c.requires.unlimited))
 
 pub returns-in_err-to_spans-clause-cause : goal.returns-in_err-to_spans-clause-cause
 returns-in_err-to_spans-clause-cause g c clean opened =
@@ -20,7 +29,7 @@ returns-in_err-to_spans-clause-cause g c clean opened =
     let clean_mid = early mid new _ c.in_err-to_spans.ensures.cut.crash clean in
     let its_state = shows_its_state old.now c.in_ok-verdict.verdict (sym c.refusal.ensures ∙ c.in_default.is) (c.in_ok-verdict.ensures.tells clean_mid) (c.schema.ensures.live opened).0 in
     told_as c.from_residual-in_err-to_spans.result _ (HasAdoptCause Links old new) c.from_residual-in_err-to_spans.ensures.1
-    (cause_of_call old mid new _
+    (cause_of_call old mid new _ (c.in_err-to_spans.ensures.disk clean)
     (λ ordered.
     let shown = subst (λ (db : Database). RepresentsState RepresentsLinkRows Links db (state_in Links old.now.trees)) (sym (reads.looks.same clean_mid)) (its_state ordered).represents in
     c.in_err-to_spans.ensures.faults (state_in Links old.now.trees) (its_state ordered).sound shown clean (reads.crash.limit ∙ c.requires.unlimited))
