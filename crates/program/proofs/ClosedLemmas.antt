@@ -14,7 +14,7 @@ use Rattle.sqlite_pool.proofs.StateLemmas.{clean_is}
 use Rattle.sqlite_store.specs.FileStore as store
 use Rattle.sqlite_store.specs.Laws.{settled_at}
 use Rattle.sqlite_store.specs.declared.store.FileStore.{FileStore}
-use Rattle.sqlite_trees.proofs.Doubt.{no_defect}
+use Rattle.sqlite_trees.proofs.Doubt.{no_doubt}
 use Rattle.sqlite_trees.specs.View.{IsClean}
 use Rattle.sqlite_wal.proofs.LogLemmas.{SeenMayStay}
 use Rattle.sqlite_wal.specs.Reads.{AreClean}
@@ -38,7 +38,7 @@ module _ {D : Type 0} {g : Ghosts D} (conn : Held (FileStore D g)) (files : File
   pub left_over : SeenMayStay g → (last : FileStore D g) → (files.log, files.db) ≡ store.files last → IsClosed conn last → HasLeft conn files
   left_over stays last same closed =
       let sure : (HaveCleanDisk g files → IsClean (store.view last)) =
-      λ honest. no_defect _ (clean_is last.pool ∙ subst (λ (p : D × D). AreClean g p.0 p.1) same honest) in
+      λ honest. no_doubt _ (clean_is last.pool ∙ subst (λ (p : D × D). AreClean g p.0 p.1) same honest) in
       let was : (HaveCleanDisk g files → HasCleanDisk (file_state conn)) = λ honest. let is = sure honest in omega (arith, closed.quiet.clean, is) in
       record {
         clean = was;

@@ -122,6 +122,12 @@ trial_no founding left left_after held held_after Date of why = why
 trial_no founding left left_after held held_after Settings of why = why
 trial_no founding left left_after held held_after _ of why = of
 
+busy_no : (f : Fault) → OfWords f → IsBusy f → ⊥
+busy_no (Words text) of why = why
+busy_no Date of why = why
+busy_no Settings of why = why
+busy_no _ of why = of
+
 -- ---- with an office in a file
 
 module _ {S D : Type 0} (g : Ghosts D) (image : Image) where
@@ -149,12 +155,6 @@ module _ {S D : Type 0} (g : Ghosts D) (image : Image) where
   talk_no : (left left_after held held_after : Known) (outcome : StoreOutcome S (Files D)) (f : Fault) → OfWords f → TalkFails g image left left_after held held_after outcome f → ⊥
   talk_no left left_after held held_after outcome f of (inl why) = not_opened_no held held_after outcome f of why.1
   talk_no left left_after held held_after outcome f of (inr (broken, is, why)) = subst OfWords is of
-
-  busy_no : (f : Fault) → OfWords f → IsBusy f → ⊥
-  busy_no (Words text) of why = why
-  busy_no Date of why = why
-  busy_no Settings of why = why
-  busy_no _ of why = of
 
   not_brought_no : (outcome : StoreOutcome S (Files D)) (f : Fault) → OfWords f → IsClosedAnd outcome (IsNotBroughtOver g image f) → ⊥
   not_brought_no (Untouched start) f of why = why

@@ -25,7 +25,7 @@ use Rattle.http_desk.specs.declared.session_end.Next.TheVariants.{Ends}
 use Rattle.program.specs.ClosedFiles.{HasLeft, WasJudgedAsFound}
 use Rattle.program.specs.OpenedFiles.{AreHeld}
 use Rattle.program.specs.Outcomes.{IsClosedAnd}
-use Rattle.program.specs.CommandEffects.{CheckDone, CheckFails, Does, EndsWell, FailsWith, ImportDone, ImportFails, JudgmentFails, JudgmentPrinted, Known, Listens, MigrateFails, ReplyFails, ReplyPrinted, ServeDone, ServeFails, ServerFails, TalkDone, TalkFails, ended_by}
+use Rattle.program.specs.CommandEffects.{CheckDone, CheckFails, Does, EndsWell, FailsWith, ImportDone, ImportFails, InitFails, JudgmentFails, JudgmentPrinted, Known, Listens, MigrateFails, ReplyFails, ReplyPrinted, ServeDone, ServeFails, ServerFails, TalkDone, TalkFails, ended_by}
 use Rattle.program.specs.Connections.{Serves}
 use Rattle.program.specs.Stores.{HasServed, HasTakenIn, IsMade, IsOpened, IsTalkedWith}
 use Rattle.program.specs.declared.faults.Break.{Break}
@@ -46,18 +46,19 @@ failed_as (Ok x) f P is why = tt
 failed_as (Err e) f P is why = subst P (sym is) why
 
 -- what holds before a call holds where it succeeds, and where it fails
-pub on_ok_with : {X E P Q : Type 0} (r : Result X E) → P → OnOk r Q → OnOk r (P × Q)
-on_ok_with (Ok x) it done = (it, done)
-on_ok_with (Err e) it done = tt
+pub on_ok_with : {X E : Type 0} (r : Result X E) (P Q : Type 0) → P → OnOk r Q → OnOk r (P × Q)
+on_ok_with (Ok x) P Q it done = (it, done)
+on_ok_with (Err e) P Q it done = tt
 
 pub failed_with : {X E : Type 0} (r : Result X E) (P Q : E → Type 0) → IfErr r P → ((e : E) → P e → Q e) → IfErr r Q
 failed_with (Ok x) P Q why so = tt
 failed_with (Err e) P Q why so = so e why
 
 module _ {S D : Type 0} (g : Ghosts D) (image : Image) where
-  module _ (files : Files D) where
-    abbrev outcome : StoreOutcome S (Files D)
-    outcome = Closed files
+  -- a store that was opened with this value, and closed
+  module _ (start : S) (files : Files D) where
+    abbrev closed : StoreOutcome S (Files D)
+    closed = Closed files
 
     module _ (left left_after held held_after : Known) (office after : Held (FileStore D g)) (opened : IsOpened g image office)
         (intact : HasCleanDisk (file_state after) → HasCleanDisk (file_state office)) (left_so : HasLeft after files) where
@@ -82,22 +83,22 @@ module _ {S D : Type 0} (g : Ghosts D) (image : Image) where
 
       pub talk_done : (r : Result (Unit {0}) Fault)
           → OnOk r ((end : Ended) × EndsWell end × AtEndIf left_after (Ends end) × Talks (is_shown (over_files {g = g}) RepresentsSpanRows Spans) (is_clean (over_files {g = g})) (is_still_open (over_files {g = g})) left left_after held held_after office end after)
-          → OnOk r (TalkDone g image left left_after held held_after outcome)
+          → OnOk r (TalkDone g image left left_after held held_after closed)
       talk_done (Ok u) (end, well, at_end, talks) = (end, well, talked_with end at_end talks)
       talk_done (Err f) done = tt
 
       pub talk_broken : (r : Result (Unit {0}) Fault)
           → IfErr r (λ f. (broken : Break) × (f ≡ Session broken) × AtEndIf left_after (Ends (ended_by broken)) × Talks (is_shown (over_files {g = g}) RepresentsSpanRows Spans) (is_clean (over_files {g = g})) (is_still_open (over_files {g = g})) left left_after held held_after office (ended_by broken) after)
-          → IfErr r (TalkFails g image left left_after held held_after outcome)
+          → IfErr r (TalkFails g image left left_after held held_after closed)
       talk_broken (Ok u) why = tt
       talk_broken (Err f) (broken, is_so, at_end, talks) = inr (broken, is_so, talked_with (ended_by broken) at_end talks)
 
     module _ (held held_after : Known) (source : Bytes) (reply : Reply) (taken : HasTakenIn g image source reply files) where
-      pub import_done : (r : Result (Unit {0}) Fault) → OnOk r (ReplyPrinted reply held held_after) → OnOk r (ImportDone g image source held held_after outcome)
+      pub import_done : (r : Result (Unit {0}) Fault) → OnOk r (ReplyPrinted reply held held_after) → OnOk r (ImportDone g image source held held_after closed)
       import_done (Ok u) printed = (reply, taken, printed)
       import_done (Err f) printed = tt
 
-      pub import_failed : (r : Result (Unit {0}) Fault) → IfErr r (ReplyFails reply held held_after) → IfErr r (ImportFails g image source held held_after outcome)
+      pub import_failed : (r : Result (Unit {0}) Fault) → IfErr r (ReplyFails reply held held_after) → IfErr r (ImportFails g image source held held_after closed)
       import_failed (Ok u) why = tt
       import_failed (Err f) why = record { why = inr (inr (inr (reply, taken, why))) }
 
@@ -111,25 +112,25 @@ module _ {S D : Type 0} (g : Ghosts D) (image : Image) where
 
       pub serve_done : (r : Result (Unit {0}) Fault)
           → OnOk r (Listens port held held_after × Serves (is_shown (over_files {g = g}) RepresentsSpanRows Spans) (is_clean (over_files {g = g})) (is_still_open (over_files {g = g})) connections None None office after true)
-          → OnOk r (ServeDone g image port connections held held_after outcome)
+          → OnOk r (ServeDone g image port connections held held_after closed)
       serve_done (Ok u) (listens, sessions) = (served true sessions, listens)
       serve_done (Err f) done = tt
 
       pub serve_failed : (r : Result (Unit {0}) Fault)
           → IfErr r (λ f. ServerFails port held held_after f × Serves (is_shown (over_files {g = g}) RepresentsSpanRows Spans) (is_clean (over_files {g = g})) (is_still_open (over_files {g = g})) connections None None office after false)
-          → IfErr r (ServeFails g image port connections held held_after outcome)
+          → IfErr r (ServeFails g image port connections held held_after closed)
       serve_failed (Ok u) why = tt
       serve_failed (Err f) (why, sessions) = inr (served false sessions, why)
 
     -- a check that is done has found nothing
     pub check_done : (held held_after : Known) (judged : Option OpenFault) (r : Result (Unit {0}) Fault) → WasJudgedAsFound g image judged files → OnOk r (JudgmentPrinted judged held held_after)
-        → OnOk r (CheckDone g image held held_after outcome)
+        → OnOk r (CheckDone g image held held_after closed)
     check_done held held_after None (Ok u) was printed = (was, printed)
     check_done held held_after (Some why) (Ok u) was printed = absurd printed
     check_done held held_after judged (Err f) was printed = tt
 
     pub check_failed : (held held_after : Known) (judged : Option OpenFault) (r : Result (Unit {0}) Fault) → WasJudgedAsFound g image judged files → IfErr r (JudgmentFails judged held held_after)
-        → IfErr r (CheckFails g image held held_after outcome)
+        → IfErr r (CheckFails g image held held_after closed)
     check_failed held held_after judged (Ok u) was why = tt
     check_failed held held_after judged (Err f) was why = inr (judged, was, why)
 
@@ -139,7 +140,12 @@ module _ {S D : Type 0} (g : Ghosts D) (image : Image) where
   init_done outcome task path founding left held (Ok u) is made = subst (λ t. Does g image t left left held held outcome) (sym is) (made, (Consumes-nil left, Appends-nil held))
   init_done outcome task path founding left held (Err f) is made = tt
 
-  -- an import and a migration that fail are tasks that fail
+  -- an `init`, an import and a migration that fail are tasks that fail
+  pub init_as_task : (outcome : StoreOutcome S (Files D)) (task : Task) (path : Bytes) (founding : Founding) (left held : Known) (r : Result (Unit {0}) Fault) → task ≡ Init path founding → IfErr r (InitFails g image outcome)
+      → IfErr r (FailsWith g image task left left held held outcome)
+  init_as_task outcome task path founding left held (Ok u) is why = tt
+  init_as_task outcome task path founding left held (Err f) is why = subst (λ t. FailsWith g image t left left held held outcome f) (sym is) (why, (Consumes-nil left, Appends-nil held))
+
   pub import_as_task : (outcome : StoreOutcome S (Files D)) (task : Task) (path source file : Bytes) (left held held_after : Known) (r : Result (Unit {0}) Fault) → task ≡ Import path source file → IfErr r (ImportFails g image source held held_after outcome)
       → IfErr r (FailsWith g image task left left held held_after outcome)
   import_as_task outcome task path source file left held held_after (Ok u) is why = tt

@@ -3,6 +3,7 @@ pub mod ClosedFiles
 pub mod Faults
 pub mod Headline
 pub mod OpenedFiles
+pub mod Outcomes
 pub mod CommandEffects
 pub mod Connections
 pub mod Stores

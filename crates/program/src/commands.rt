@@ -181,7 +181,10 @@ fn check<S: Start, W: Write>(
             tell_judgment(alloc, judged, out),
             StoreOutcome::Closed(files),
         ),
-        Err(failed) => (Err(Fault::from(failed)), StoreOutcome::Unopened(failed)),
+        Err(failed) => (
+            Err(Fault::from(failed.why())),
+            StoreOutcome::Unopened(failed),
+        ),
     }
 }
 
@@ -209,7 +212,10 @@ fn migrate<S: Start, W: Write>(
 {
     let mut conn = match find(rt, store.as_str(), start) {
         Ok(conn) => conn,
-        Err(failed) => return (Err(Fault::from(failed)), StoreOutcome::Unopened(failed)),
+        Err(failed) => return (
+            Err(Fault::from(failed.why())),
+            StoreOutcome::Unopened(failed),
+        ),
     };
     let brought = office::migrate(alloc, &mut conn);
     let files = close(conn);

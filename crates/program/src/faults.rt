@@ -2,7 +2,7 @@
 ghost use Rattle.std.specs.Prelude.{◌≡◌, IfOk};
 ghost use Rattle.program.specs.Faults.{Refuses, line_of, message_of, status_of};
 
-use crate::files::{FailedOpening, FileFault};
+use crate::files::FileFault;
 use crate::streams::{ReadFault, WriteFault};
 use crate::tasks::TaskFault;
 use isad_core::Text;
@@ -146,13 +146,13 @@ impl From<OpenFault> for Fault {
     }
 }
 
-impl From<FailedOpening> for Fault {
+impl From<FileFault> for Fault {
     ghost use Rattle.program.specs.Faults.{fault_of_file};
 
     ghost from_gives = { λ f e. e ≡ fault_of_file f };
 
-    fn from(failed: FailedOpening) -> Fault {
-        match failed.why() {
+    fn from(fault: FileFault) -> Fault {
+        match fault {
             FileFault::Memory => Fault::Memory,
             FileFault::Absent => Fault::File,
             FileFault::Unopened => Fault::Store,

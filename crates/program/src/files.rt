@@ -26,7 +26,7 @@ pub enum FileFault {
 }
 
 /// A store that could not be opened, and why. Only the functions here that open a store make one.
-#[derive(Clone, Copy, Debug, Drop)]
+#[derive(Debug, Drop)]
 pub struct FailedOpening {
     why: FileFault,
 }

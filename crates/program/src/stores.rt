@@ -32,7 +32,7 @@ pub type KeptOffice<S> = Office<SpanPlaces, FileStoreFrom<S>>;
 fn unopened<S: Start>(failed: FailedOpening) -> (Fault, Outcome<S>)
     ensures { IsUnopened result.1 result.0 }
 {
-    (Fault::from(failed), StoreOutcome::Unopened(failed))
+    (Fault::from(failed.why()), StoreOutcome::Unopened(failed))
 }
 
 /// Makes a new office in a file that does not exist yet. If that fails, a file that was made is deleted again.

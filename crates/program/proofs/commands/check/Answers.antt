@@ -1,15 +1,10 @@
-use Rattle.std.proofs.Common.{inl}
-use Rattle.std.proofs.KnownBytes.{Appends-nil}
 use Rattle.program.proofs.StoreLemmas.{check_done, check_failed}
 use Rattle.program.proofs.commands.check.Goals as goal
 
-pub returns-in-Err-clause-fault : goal.returns-in-Err-clause-fault
-returns-in-Err-clause-fault g c = inl (c.from.ensures, Appends-nil _)
-
 pub returns-in-Ok-clause-done : goal.returns-in-Ok-clause-done
 returns-in-Ok-clause-done g c =
-    check_done _ _ c.in-Ok.files _ _ c.in-Ok.judged c.tell_judgment.result c.in-Ok.ensures c.tell_judgment.ensures.done
+    check_done _ _ c.args.start c.in-Ok.files _ _ c.in-Ok.judged c.tell_judgment.result c.in-Ok.ensures c.tell_judgment.ensures.done
 
 pub returns-in-Ok-clause-fault : goal.returns-in-Ok-clause-fault
 returns-in-Ok-clause-fault g c =
-    check_failed _ _ c.in-Ok.files _ _ c.in-Ok.judged c.tell_judgment.result c.in-Ok.ensures c.tell_judgment.ensures.fault
+    check_failed _ _ c.args.start c.in-Ok.files _ _ c.in-Ok.judged c.tell_judgment.result c.in-Ok.ensures c.tell_judgment.ensures.fault

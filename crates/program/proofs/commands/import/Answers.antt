@@ -4,49 +4,46 @@ use Rattle.program.specs.Stores.{HasTakenIn, WasBusy}
 use Rattle.program.proofs.StoreLemmas.{import_done, import_failed}
 use Rattle.program.proofs.commands.import.Goals as goal
 
-pub returns-in-Err-clause-fault : goal.returns-in-Err-clause-fault
-returns-in-Err-clause-fault g c = record { why = inl ((c.in-Err.fault, c.from.ensures), (tt, Appends-nil _)) }
+pub returns-in-Err-open_office-clause-fault : goal.returns-in-Err-open_office-clause-fault
+returns-in-Err-open_office-clause-fault g c = record { why = inr (inl (c.in-Err-open_office.ensures.fault, Appends-nil _)) }
 
-pub returns-in-Err-2-clause-fault : goal.returns-in-Err-2-clause-fault
-returns-in-Err-2-clause-fault g c = record { why = inr (inl (c.in-Err-2.ensures.fault, Appends-nil _)) }
-
-pub returns-in-Err-3-clause-fault : goal.returns-in-Err-3-clause-fault
-returns-in-Err-3-clause-fault g c =
-    let busy : WasBusy _ _ c.args.source c.close_office.result = record {
-      office = c.in-Ok-2.office;
+pub returns-in-Err-taken-clause-fault : goal.returns-in-Err-taken-clause-fault
+returns-in-Err-taken-clause-fault g c =
+    let busy : WasBusy _ _ c.args.source c.close_office-files.result = record {
+      office = c.in-Ok-open_office.office;
       after = c.take_in-taken.new.office;
-      opened = c.in-Ok-2.ensures.found;
+      opened = c.in-Ok-open_office.ensures.found;
       file = c.in-Ok.bytes.items;
-      same = c.in-Err-3.ensures.back;
+      same = c.in-Err-taken.ensures.back;
       crash = c.take_in-taken.ensures.crash;
-      closed = c.close_office.ensures;
+      closed = c.close_office-files.ensures;
     } in
-    record { why = inr (inr (inl (c.in-Err-3.ensures.busy, (Appends-nil _, busy)))) }
+    record { why = inr (inr (inl (c.in-Err-taken.ensures.busy, Appends-nil _, busy))) }
 
-pub returns-in-Ok-3-clause-done : goal.returns-in-Ok-3-clause-done
-returns-in-Ok-3-clause-done g c =
-    let taken : HasTakenIn _ _ c.args.source _ c.close_office.result = record {
-      office = c.in-Ok-2.office;
+pub returns-in-Ok-taken-clause-done : goal.returns-in-Ok-taken-clause-done
+returns-in-Ok-taken-clause-done g c =
+    let taken : HasTakenIn _ _ c.args.source _ c.close_office-files.result = record {
+      office = c.in-Ok-open_office.office;
       after = c.take_in-taken.new.office;
-      opened = c.in-Ok-2.ensures.found;
+      opened = c.in-Ok-open_office.ensures.found;
       file = c.in-Ok.bytes.items;
-      step = c.in-Ok-3.ensures.steps;
-      kept = c.in-Ok-3.ensures.kept;
+      step = c.in-Ok-taken.ensures.steps;
+      kept = c.in-Ok-taken.ensures.kept;
       crash = c.take_in-taken.ensures.crash;
-      closed = c.close_office.ensures;
+      closed = c.close_office-files.ensures;
     } in
-    import_done _ _ c.close_office.result _ _ c.args.source _ taken c.tell_reply.result c.tell_reply.ensures.done
+    import_done _ _ c.args.start c.close_office-files.result _ _ c.args.source _ taken c.tell_reply.result c.tell_reply.ensures.done
 
-pub returns-in-Ok-3-clause-fault : goal.returns-in-Ok-3-clause-fault
-returns-in-Ok-3-clause-fault g c =
-    let taken : HasTakenIn _ _ c.args.source _ c.close_office.result = record {
-      office = c.in-Ok-2.office;
+pub returns-in-Ok-taken-clause-fault : goal.returns-in-Ok-taken-clause-fault
+returns-in-Ok-taken-clause-fault g c =
+    let taken : HasTakenIn _ _ c.args.source _ c.close_office-files.result = record {
+      office = c.in-Ok-open_office.office;
       after = c.take_in-taken.new.office;
-      opened = c.in-Ok-2.ensures.found;
+      opened = c.in-Ok-open_office.ensures.found;
       file = c.in-Ok.bytes.items;
-      step = c.in-Ok-3.ensures.steps;
-      kept = c.in-Ok-3.ensures.kept;
+      step = c.in-Ok-taken.ensures.steps;
+      kept = c.in-Ok-taken.ensures.kept;
       crash = c.take_in-taken.ensures.crash;
-      closed = c.close_office.ensures;
+      closed = c.close_office-files.ensures;
     } in
-    import_failed _ _ c.close_office.result _ _ c.args.source _ taken c.tell_reply.result c.tell_reply.ensures.fault
+    import_failed _ _ c.args.start c.close_office-files.result _ _ c.args.source _ taken c.tell_reply.result c.tell_reply.ensures.fault
