@@ -86,7 +86,10 @@ fn command(alloc: Global, said: Said) -> Result<Command, Fail> {
             until: day_after(30)?,
         },
         Said::Revoke(ticket, unit) => Command::Revoke { ticket, unit },
-        at_desk => desk_command(at_desk).ok_or(Fail::new("no command"))?,
+        at_desk => match desk_command(at_desk) {
+            Some(command) => command,
+            None => return Err(Fail::new("no command")),
+        },
     })
 }
 
