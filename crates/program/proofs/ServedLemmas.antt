@@ -1,9 +1,9 @@
 -- Connections that were served, one after the other.
-use Rattle.std.proofs.Common.{◌≡◌, ◌∙◌, ◌||◌, ◌+◌, ◌≤◌, ℕ, Bool, true, false, [], ◌∷◌, Option, ap, refl, sym, subst, arith}
+use Rattle.std.proofs.Common.{◌≡◌, ◌∙◌, ◌||◌, ◌+◌, ◌≤◌, ℕ, Bool, true, false, [], ◌∷◌, Option, None, ap, refl, sym, subst, arith}
 use Rattle.office_core.specs.State.{State}
 use Rattle.http_desk.specs.Exchanges.{Keeps, Through}
 use Rattle.http_desk.proofs.Openings.{session_open}
-use Rattle.program.specs.Connections.{AreSessions, Connection, History, IsHeard, Serves, SessionsLeaveOpen, after_one}
+use Rattle.program.specs.Connections.{AreSessions, Connection, History, IsHeard, Serves, SessionsLeaveOpen, after_failing, after_one}
 
 -- what has not failed before has failed where this call did
 pub failed_so : (new fault old : Bool) → new ≡ (fault || old) → old ≡ false → new ≡ fault
@@ -29,23 +29,23 @@ and_one represents is_intact is_open n told told_mid told_after first mid last s
 
 -- after so many connections, none could be taken
 pub and_none : {M : Type 0} (represents : M → State → Type 0) (is_intact is_open : M → Type 0) (n most : ℕ) (told told_mid told_after : Option History) (first mid last : M)
-    → Serves represents is_intact is_open n told told_mid first mid true → n ≤ most → told_after ≡ told_mid → last ≡ mid
+    → Serves represents is_intact is_open n told told_mid first mid true → n ≤ most → told_after ≡ after_failing told_mid → last ≡ mid
     → Serves represents is_intact is_open most told told_after first last false
 and_none {M} represents is_intact is_open n most told told_mid told_after first mid last so_far within tells same =
     let few = so_far.few in
     record {
       connections = so_far.connections;
       heard = so_far.heard;
-      tells = tells ∙ so_far.tells;
+      tells = tells ∙ ap after_failing so_far.tells;
       few = omega (arith, few, within);
       whole = λ all. absurd cc;
       sessions = subst (λ (m : M). Through represents is_intact first m (λ s t. (are : AreSessions so_far.connections s t) × (SessionsLeaveOpen (is_open first) so_far.connections s t are → is_open m))) (sym same) so_far.sessions;
     }
 
--- nobody was served
-pub unserved : {M : Type 0} (represents : M → State → Type 0) (is_intact is_open : M → Type 0) (most : ℕ) (told : Option History) (office : M)
-    → Serves represents is_intact is_open most told told office office false
-unserved represents is_intact is_open most told office = record {
+-- nobody was served on a port of which nothing is known
+pub unserved : {M : Type 0} (represents : M → State → Type 0) (is_intact is_open : M → Type 0) (most : ℕ) (office : M)
+    → Serves represents is_intact is_open most None None office office false
+unserved represents is_intact is_open most office = record {
   connections = [];
   heard = tt;
   tells = refl;

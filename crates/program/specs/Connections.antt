@@ -1,5 +1,5 @@
 -- Connections that were served, one after the other.
-use Rattle.std.specs.Prelude.{◌≡◌, ◌≢◌, ◌≤◌, ℕ, Bool, true, false, List, [], ◌∷◌, length, Option, Some, None}
+use Rattle.std.specs.Prelude.{◌≡◌, ◌≢◌, ◌≤◌, ◌+◌, ℕ, Bool, true, false, List, [], ◌∷◌, length, Option, Some, None}
 use Rattle.std.specs.List.{AllByRecursion}
 use Rattle.std.specs.Io.KnownBytes.{Appends, Consumes}
 use Rattle.std.specs.Net.Addr.{ipv4_octets}
@@ -8,7 +8,7 @@ use Rattle.std.specs.declared.net.socket_addr.SocketAddr.{SocketAddr}
 use Rattle.std.specs.declared.net.socket_addr.SocketAddr.TheVariants.{V4, V6}
 use Rattle.isad_core.specs.Texts.{Bytes}
 use Rattle.office_core.specs.State.{State}
-use Rattle.http_desk.specs.StreamFaults.{is_read_fault, is_write_fault}
+use Rattle.http_desk.specs.StreamFaults.{TellsBound, is_read_fault, is_write_fault}
 use Rattle.http_desk.specs.AcceptedMessages.{LeavesOpen}
 use Rattle.http_desk.specs.Session.{Session}
 use Rattle.http_desk.specs.Streams.{Stream}
@@ -24,14 +24,19 @@ IsHere port (V6 address) = ⊥
 
 -- What is known of a port's connections, the last first. For each one that was taken: the bytes that its reader still
 -- had, and those that its writer held. For each one that was left: its reader and writer as they were then, and how its
--- session ended.
+-- session ended. And how often none could be taken.
 pub record History : Type 0 where
   pub taken : List (Option Bytes × Option Bytes)
   pub left : List (Stream × (Stream × Ended))
+  pub failures : ℕ
 
 abbrev pub after_taking : Option History → Option Bytes → Option Bytes → Option History
 after_taking None left held = None
 after_taking (Some before) left held = Some (record before { taken = (left, held) ∷ before.taken })
+
+abbrev pub after_failing : Option History → Option History
+after_failing None = None
+after_failing (Some before) = Some (record before { failures = before.failures + 1 })
 
 abbrev pub after_leaving : Option History → Stream → Stream → Ended → Option History
 after_leaving None reader writer end = None
@@ -57,6 +62,7 @@ pub record IsHeard (it : Connection) : Type 0 where
   pub read_fault : it.reader.failed ≡ is_read_fault (Ends it.end)
   pub write_fault : it.writer.failed ≡ is_write_fault (Ends it.end)
   pub bound : it.reader.interrupted ≡ false → it.writer.interrupted ≡ false → it.end ≢ Bound
+  pub used_up : TellsBound it.reader it.writer (Ends it.end)
 
 -- what is known of a port after one more connection, and after a list of connections, the last first
 abbrev pub after_one : Option History → Connection → Option History
@@ -65,6 +71,11 @@ after_one before it = after_leaving (after_taking before it.left it.held) it.rea
 abbrev pub after_all : Option History → List Connection → Option History
 after_all before [] = before
 after_all before (it ∷ earlier) = after_one (after_all before earlier) it
+
+-- the same where all were served, or where the next one could not be taken
+abbrev pub after_last : Bool → Option History → Option History
+after_last true told = told
+after_last false told = after_failing told
 
 -- their sessions lead from one state to another
 abbrev pub AreSessions : List Connection → State → State → Type 0
@@ -92,16 +103,17 @@ abbrev pub ServesOne : {M : Type 0} → (M → State → Type 0) → (M → Type
 ServesOne represents is_intact is_open told told_after old new true =
     (it : Connection) × IsHeard it × (told_after ≡ after_one told it)
     × Through represents is_intact old new (λ s t. Keeps (is_open old) (is_open new) s it.input it.output it.end t)
-ServesOne represents is_intact is_open told told_after old new false = (told_after ≡ told) × (new ≡ old)
+ServesOne represents is_intact is_open told told_after old new false =
+    (told_after ≡ after_failing told) × (new ≡ old)
 
--- Connections were taken, heard and left: `most` at most, and exactly `most` if `all` is true. Their sessions lead the
--- office from one state to another, as long as its store has returned what was written. An office that they leave open
--- is then open.
+-- Connections were taken, heard and left: exactly `most` if `all` is true, and otherwise `most` at most, until one could
+-- not be taken. Their sessions lead the office from one state to another, as long as its store has returned what was
+-- written. An office that they leave open is then open.
 pub record Serves {M : Type 0} (represents : M → State → Type 0) (is_intact is_open : M → Type 0) (most : ℕ)
     (told told_after : Option History) (old new : M) (all : Bool) : Type 0 where
   pub connections : List Connection
   pub heard : AllByRecursion IsHeard connections
-  pub tells : told_after ≡ after_all told connections
+  pub tells : told_after ≡ after_last all (after_all told connections)
   pub few : length connections ≤ most
   pub whole : all ≡ true → length connections ≡ most
   pub sessions : Through represents is_intact old new

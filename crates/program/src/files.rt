@@ -12,7 +12,7 @@ use sqlite::{Connection, Error, ErrorCode, FileFrom, FileStore, Files, Start};
 use std::alloc::AllocError;
 use std::fs;
 use std::fs::File;
-use std::marker::Model;
+use std::marker::{Model, PhantomData};
 
 /// Why no store was opened.
 #[derive(Clone, Copy, Debug, PartialEq, Eq, Drop)]
@@ -25,13 +25,15 @@ pub enum FileFault {
     Unopened,
 }
 
-/// A store that could not be opened, and why. Only the functions here that open a store make one.
-#[derive(Debug, Drop)]
-pub struct FailedOpening {
+/// A store that `S` was to open and that could not be opened, and why. Only the functions here that open a store make
+/// one.
+#[derive(Drop)]
+pub struct FailedOpening<S: Drop> {
     why: FileFault,
+    start: PhantomData<S>,
 }
 
-impl Model for FailedOpening {
+impl<S: Drop> Model for FailedOpening<S> {
     ghost use Rattle.program.specs.declared.files.FileFault.{FileFault};
 
     ghost Value = { FileFault };
@@ -39,7 +41,17 @@ impl Model for FailedOpening {
     ghost view = { λ failed. failed.why };
 }
 
-impl FailedOpening {
+impl<S: Drop> FailedOpening<S> {
+    // A store that could not be opened for this reason.
+    fn new(why: FileFault) -> FailedOpening<S>
+        ensures { result ≡ why }
+    {
+        FailedOpening {
+            why,
+            start: PhantomData,
+        }
+    }
+
     /// Why the store could not be opened.
     pub fn why(&self) -> FileFault
         ensures { result ≡ self.now }
@@ -54,7 +66,7 @@ pub enum StoreOutcome<S: Drop, F: Drop> {
     /// Nothing tried to open it: here is what opens it.
     Untouched(S),
     /// It could not be opened.
-    Unopened(FailedOpening),
+    Unopened(FailedOpening<S>),
     /// It was opened, and is closed: these are its files.
     Closed(F),
 }
@@ -67,7 +79,7 @@ fn open<S: Start>(
     rt: &HostRuntime,
     path: &str,
     start: S,
-) -> Result<Connection<FileStoreFrom<S>>, FailedOpening>
+) -> Result<Connection<FileStoreFrom<S>>, FailedOpening<S>>
     ensures opened { IfOk result (λ conn. HasCleanDisk (file_state conn) → IsOpened conn) }
     ensures found { IfOk result (λ conn. HasCleanDisk (file_state conn)
         → FindsIn (image_at S.Start) (file_state conn)) }
@@ -76,12 +88,10 @@ fn open<S: Start>(
 {
     match Connection::open_from(rt, path, false, start) {
         Ok(conn) => Ok(conn),
-        Err((Error::SqliteFailure(ErrorCode::OutOfMemory), _)) => Err(FailedOpening {
-            why: FileFault::Memory,
-        }),
-        Err(_) => Err(FailedOpening {
-            why: FileFault::Unopened,
-        }),
+        Err((Error::SqliteFailure(ErrorCode::OutOfMemory), _)) => Err(FailedOpening::new(
+            FileFault::Memory,
+        )),
+        Err(_) => Err(FailedOpening::new(FileFault::Unopened)),
     }
 }
 
@@ -96,7 +106,7 @@ pub fn make<S: Start>(
     rt: &HostRuntime,
     path: &str,
     start: S,
-) -> Result<Connection<FileStoreFrom<S>>, FailedOpening>
+) -> Result<Connection<FileStoreFrom<S>>, FailedOpening<S>>
     ensures opened { IfOk result (λ conn. HasCleanDisk (file_state conn) → IsOpened conn) }
     ensures found { IfOk result (λ conn. HasCleanDisk (file_state conn)
         → FindsIn (image_at S.Start) (file_state conn)) }
@@ -105,14 +115,10 @@ pub fn make<S: Start>(
 {
     // A log without its file may contain the last changes of another office.
     let Ok(log) = log_of(rt, path) else {
-        return Err(FailedOpening {
-            why: FileFault::Memory,
-        });
+        return Err(FailedOpening::new(FileFault::Memory));
     };
     if !matches!(fs::exists(rt, log.as_str()), Ok(false)) || File::create_new(rt, path).is_err() {
-        return Err(FailedOpening {
-            why: FileFault::Absent,
-        });
+        return Err(FailedOpening::new(FileFault::Absent));
     }
     let opened = open(rt, path, start);
     if opened.is_err() {
@@ -134,7 +140,7 @@ pub fn find<S: Start>(
     rt: &HostRuntime,
     path: &str,
     start: S,
-) -> Result<Connection<FileStoreFrom<S>>, FailedOpening>
+) -> Result<Connection<FileStoreFrom<S>>, FailedOpening<S>>
     ensures opened { IfOk result (λ conn. HasCleanDisk (file_state conn) → IsOpened conn) }
     ensures found { IfOk result (λ conn. HasCleanDisk (file_state conn)
         → FindsIn (image_at S.Start) (file_state conn)) }
@@ -143,9 +149,7 @@ pub fn find<S: Start>(
 {
     match fs::exists(rt, path) {
         Ok(true) => open(rt, path, start),
-        _ => Err(FailedOpening {
-            why: FileFault::Absent,
-        }),
+        _ => Err(FailedOpening::new(FileFault::Absent)),
     }
 }
 

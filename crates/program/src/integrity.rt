@@ -47,7 +47,7 @@ pub fn judge_file<S: Start>(
     alloc: Global,
     store: &Text,
     start: S,
-) -> Result<(Option<OpenFault>, ClosedFiles<S>), FailedOpening>
+) -> Result<(Option<OpenFault>, ClosedFiles<S>), FailedOpening<S>>
     ensures { IfOk result (λ r. WasJudgedAsFound ⟦<FileFrom<S> as Disk>⟧ (image_at S.Start) r.0 r.1) }
 {
     let conn = find(rt, store.as_str(), start)?;

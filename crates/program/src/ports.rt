@@ -1,6 +1,6 @@
 //! Ports that clients connect to.
 ghost use Rattle.std.specs.Prelude.{◌≡◌, IfNone, IfSome, None, Option};
-ghost use Rattle.program.specs.Connections.{History, IsHere, after_leaving, after_taking};
+ghost use Rattle.program.specs.Connections.{History, IsHere, after_failing, after_leaving, after_taking};
 
 use http_desk::session_end::Ended;
 use http_desk::streams::{Sink, Source};
@@ -21,7 +21,7 @@ pub trait Port {
 
     /// Takes the next connection. Returns none if that fails.
     fn take(&mut self) -> Option<(Self::Reader, Self::Writer)>
-        ensures none { IfNone result (history self.new ≡ history self.old) }
+        ensures none { IfNone result (history self.new ≡ after_failing (history self.old)) }
         ensures taken { IfSome result (λ it. history self.new
             ≡ after_taking (history self.old) (Self.Reader.remaining it.0) (Self.Writer.contents it.1)) };
 

@@ -29,7 +29,7 @@ use std::alloc::Global;
 pub type KeptOffice<S> = Office<SpanPlaces, FileStoreFrom<S>>;
 
 // The fault of a store that could not be opened.
-fn unopened<S: Start>(failed: FailedOpening) -> (Fault, Outcome<S>)
+fn unopened<S: Start>(failed: FailedOpening<S>) -> (Fault, Outcome<S>)
     ensures { IsUnopened result.1 result.0 }
 {
     (Fault::from(failed.why()), StoreOutcome::Unopened(failed))

@@ -23,5 +23,6 @@ returns-clause-answered g c =
       read_fault = failed_so _ _ _ c.talk-ended.ensures.read_fault c.new-source.ensures.uncalled.none_failed;
       write_fault = failed_so _ _ _ c.talk-ended.ensures.write_fault c.new-sink.ensures.uncalled.none_failed;
       bound = c.talk-ended.ensures.bound;
+      used_up = c.talk-ended.ensures.used_up;
     } in
     (it, refl, refl, heard, c.leave.ensures, through)
