@@ -33,6 +33,10 @@ most_reads = 8404993
 abbrev pub more_writes : ℕ
 more_writes = 16
 
+-- the reads of a stream that is read to its end, and the writes of a text that is no answer; flushes are counted apart
+abbrev pub most_calls : ℕ
+most_calls = 4294967295
+
 -- ---- what a call answered
 
 abbrev pub has_failed : {A : Type 0} → Result A Undone → Bool

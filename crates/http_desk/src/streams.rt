@@ -2,7 +2,7 @@
 ghost use Rattle.std.specs.Prelude.{◌≡◌, ◌≢◌, ◌+◌, ◌<◌, ◌≤◌, ◌||◌, ◌^◌, [], length, take, nat_lt, IfOk, OnErr};
 ghost use Rattle.std.specs.Io.KnownBytes.{Appends, ReadConsumes};
 ghost use Rattle.std.specs.Io.{ReadsAtMost};
-ghost use Rattle.http_desk.specs.Streams.{IsNew, after_flush, after_write, has_failed, most_reads, more_writes};
+ghost use Rattle.http_desk.specs.Streams.{IsNew, after_flush, after_write, has_failed, most_calls, most_reads, more_writes};
 ghost use Rattle.http_desk.specs.Streams.{counted, was_interrupted};
 
 use std::io::{ErrorKind, Read, Write};
@@ -22,6 +22,9 @@ const READS: u32 = 8_404_993;
 
 /// How many writes and flushes a text may take in addition to one for each byte.
 const MORE_WRITES: u64 = 16;
+
+/// How many reads a stream may take that is read to its end, and how many writes a text that is no answer.
+const CALLS: u32 = u32::MAX;
 
 /// A reader, with a record of its calls. While it is borrowed here, nothing else can call it.
 #[derive(Drop)]
@@ -80,6 +83,13 @@ impl<'a, R: Read> Source<'a, R> {
         ensures { self.new ≡ record self.old { turns = most_reads } }
     {
         self.turns = READS;
+    }
+
+    /// Allows the turns of a stream that is read to its end.
+    pub fn begin_stream(&mut self)
+        ensures { self.new ≡ record self.old { turns = most_calls } }
+    {
+        self.turns = CALLS;
     }
 
     /// Whether the message may take one more read.
@@ -197,6 +207,13 @@ impl<'a, W: Write> Sink<'a, W> {
         ensures { self.new ≡ record self.old { turns = len + more_writes } }
     {
         self.turns = len + MORE_WRITES;
+    }
+
+    /// Allows the turns of a text that is no answer, or those of its flush.
+    pub fn begin_stream(&mut self)
+        ensures { self.new ≡ record self.old { turns = most_calls } }
+    {
+        self.turns = CALLS as u64;
     }
 
     /// Whether the text may take one more write or flush.

@@ -23,7 +23,7 @@ module _ {D : Type 0} (g : Ghosts D) (image : Image) where
       held_so g image it.after files _ it.closed honest (after opened) opened
 
   pub said : WhatWasSaidIsHeld g image
-  said left left_after held held_after end files it honest s holds sound =
+  said reader reader_after out out_after end files it honest s holds sound =
       let clean = it.closed.clean honest in
       let (t, shown, talked) = it.session clean s (sound, (it.opened (it.intact clean)).left s holds) in
       let held : IsTrue (file_state it.after).is_open → HoldState g files t = λ opened. held_so g image it.after files t it.closed honest (shown.1 opened) opened in

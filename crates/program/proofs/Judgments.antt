@@ -1,33 +1,53 @@
--- What a check prints.
-use Rattle.std.proofs.Common.{◌≡◌, ◌∙◌, ◌++◌, ℕ, List, Option, Some, Result, Ok, Err, IfErr, ap, codes, subst, sym}
+-- What a check prints, and what is left of a line that is not printed whole.
+use Rattle.std.proofs.Common.{◌≡◌, ◌∙◌, ◌++◌, ℕ, List, Option, Some, Result, Ok, Err, IfErr, ap, codes, refl, subst, sym}
 use Rattle.std.specs.Prelude.{IsErrAnd}
 use Rattle.std.specs.Fmt.{decimal}
-use Rattle.std.specs.Io.KnownBytes.{Appends}
-use Rattle.std.proofs.KnownBytes.{Appends-nil}
+use Rattle.http_desk.specs.Streams.{Stream}
 use Rattle.office.specs.declared.faults.OpenFault.{OpenFault}
 use Rattle.office.specs.declared.faults.OpenFault.TheVariants as opening
-use Rattle.program.specs.CommandEffects.{JudgmentFails, Known, ServerFails, line_feed}
+use Rattle.office_core.specs.Json.{reply_text}
+use Rattle.office_core.specs.Rules.{Reply}
+use Rattle.office_core.specs.declared.done.Done.{Done}
+use Rattle.program.specs.CommandEffects.{JudgmentFails, ReplyFails, ServerFails, line_feed}
+use Rattle.program.specs.Streams.{Prints, PrintsPart}
 use Rattle.program.specs.declared.faults.Fault.{Fault}
-use Rattle.program.specs.declared.faults.Fault.TheVariants.{Memory, NotSound}
+use Rattle.program.specs.declared.faults.Fault.TheVariants.{File, Memory, NotSound}
 
 -- there was no memory for the line
-pub no_line : {X : Type 0} (judged : Option OpenFault) (why : OpenFault) (cause : ℕ) (held : Known) (r : Result X Fault)
-    → judged ≡ Some why → why ≡ opening.Unsound cause → IsErrAnd r (λ f. f ≡ Memory) → IfErr r (JudgmentFails judged held held)
-no_line judged why cause held (Ok x) some unsound is = tt
-no_line judged why cause held (Err f) some unsound is =
-    subst (λ j. JudgmentFails j held held f) (sym (some ∙ ap Some unsound))
-    (subst (JudgmentFails (Some (opening.Unsound cause)) held held) (sym is) (Appends-nil held))
+pub no_line : {X : Type 0} (judged : Option OpenFault) (why : OpenFault) (cause : ℕ) (out : Stream) (r : Result X Fault)
+    → judged ≡ Some why → why ≡ opening.Unsound cause → IsErrAnd r (λ f. f ≡ Memory) → IfErr r (JudgmentFails judged out out)
+no_line judged why cause out (Ok x) some unsound is = tt
+no_line judged why cause out (Err f) some unsound is =
+    subst (λ j. JudgmentFails j out out f) (sym (some ∙ ap Some unsound))
+    (subst (JudgmentFails (Some (opening.Unsound cause)) out out) (sym is) refl)
 
-pub told_old : (judged : Option OpenFault) (why : OpenFault) (held held_after : Known) → judged ≡ Some why → why ≡ opening.OldVersion
-    → Appends held held_after (codes "old version\n") → JudgmentFails judged held held_after NotSound
-told_old judged why held held_after some old told = subst (λ j. JudgmentFails j held held_after NotSound) (sym (some ∙ ap Some old)) told
+-- standard output failed before the line was written whole
+pub part_of_line : {X : Type 0} (judged : Option OpenFault) (why : OpenFault) (cause : ℕ) (line : List ℕ) (out out_after : Stream) (r : Result X Fault)
+    → judged ≡ Some why → why ≡ opening.Unsound cause → line ≡ codes "not sound " ++ decimal cause ++ line_feed → PrintsPart line out out_after → IsErrAnd r (λ f. f ≡ File)
+    → IfErr r (JudgmentFails judged out out_after)
+part_of_line judged why cause line out out_after (Ok x) some unsound is part fault = tt
+part_of_line judged why cause line out out_after (Err f) some unsound is part fault =
+    subst (λ j. JudgmentFails j out out_after f) (sym (some ∙ ap Some unsound))
+    (subst (JudgmentFails (Some (opening.Unsound cause)) out out_after) (sym fault) (subst (λ l. PrintsPart l out out_after) is part))
 
-pub told_unsound : (judged : Option OpenFault) (why : OpenFault) (cause : ℕ) (line : List ℕ) (held held_after : Known) → judged ≡ Some why → why ≡ opening.Unsound cause
-    → line ≡ codes "not sound " ++ decimal cause ++ line_feed → Appends held held_after line → JudgmentFails judged held held_after NotSound
-told_unsound judged why cause line held held_after some unsound is told =
-    subst (λ j. JudgmentFails j held held_after NotSound) (sym (some ∙ ap Some unsound)) (subst (Appends held held_after) is told)
+-- standard output failed before the reply was written whole
+pub part_of_reply : {X : Type 0} (reply : Reply) (done : Done) (json : List ℕ) (out out_after : Stream) (r : Result X Fault)
+    → reply ≡ Ok done → json ≡ reply_text reply → PrintsPart (json ++ line_feed) out out_after → IsErrAnd r (λ f. f ≡ File) → IfErr r (ReplyFails reply out out_after)
+part_of_reply reply done json out out_after (Ok x) is text part fault = tt
+part_of_reply reply done json out out_after (Err f) is text part fault =
+    subst (λ it. ReplyFails it out out_after f) (sym is)
+    (subst (ReplyFails (Ok done) out out_after) (sym fault) (subst (λ l. PrintsPart (l ++ line_feed) out out_after) (text ∙ ap reply_text is) part))
+
+pub told_old : (judged : Option OpenFault) (why : OpenFault) (out out_after : Stream) → judged ≡ Some why → why ≡ opening.OldVersion
+    → Prints (codes "old version\n") out out_after → JudgmentFails judged out out_after NotSound
+told_old judged why out out_after some old told = subst (λ j. JudgmentFails j out out_after NotSound) (sym (some ∙ ap Some old)) told
+
+pub told_unsound : (judged : Option OpenFault) (why : OpenFault) (cause : ℕ) (line : List ℕ) (out out_after : Stream) → judged ≡ Some why → why ≡ opening.Unsound cause
+    → line ≡ codes "not sound " ++ decimal cause ++ line_feed → Prints line out out_after → JudgmentFails judged out out_after NotSound
+told_unsound judged why cause line out out_after some unsound is told =
+    subst (λ j. JudgmentFails j out out_after NotSound) (sym (some ∙ ap Some unsound)) (subst (λ l. Prints l out out_after) is told)
 
 -- a server had no memory for its line
-pub no_memory : {X : Type 0} (port : ℕ) (held : Known) (r : Result X Fault) → IsErrAnd r (λ f. f ≡ Memory) → IfErr r (ServerFails port held held)
-no_memory port held (Ok x) is = tt
-no_memory port held (Err f) is = subst (ServerFails port held held) (sym is) (Appends-nil held)
+pub no_memory : {X : Type 0} (port : ℕ) (out : Stream) (r : Result X Fault) → IsErrAnd r (λ f. f ≡ Memory) → IfErr r (ServerFails port out out)
+no_memory port out (Ok x) is = tt
+no_memory port out (Err f) is = subst (ServerFails port out out) (sym is) refl

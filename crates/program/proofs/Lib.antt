@@ -1,3 +1,5 @@
+pub mod Agreements
+pub mod Calls
 pub mod ClosedLemmas
 pub mod DoneLemmas
 pub mod HeadlineLemmas

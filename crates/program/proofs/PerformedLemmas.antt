@@ -1,8 +1,6 @@
 -- Lemmas on what a command did with its streams.
-use Rattle.std.proofs.Common.{◌≡◌, List, Result, Ok, Err, Option, Some, None, false, inl, inr, ℕ, IfErr, subst, sym}
+use Rattle.std.proofs.Common.{◌≡◌, ◌∙◌, List, Result, Ok, Err, Option, Some, None, false, inl, inr, ℕ, IfErr, OnOk, refl, subst, sym}
 use Rattle.std.specs.Prelude.{IsErrAnd}
-use Rattle.std.specs.Io.KnownBytes.{Appends, Consumes}
-use Rattle.std.proofs.KnownBytes.{Appends-nil, Consumes-nil}
 use Rattle.sqlite_disk.specs.declared.Disk.{Ghosts}
 use Rattle.sqlite_disk.specs.declared.Files.{Files}
 use Rattle.sqlite.specs.Recovery.{Image}
@@ -12,16 +10,17 @@ use Rattle.clap.specs.Walk.{Text}
 use Rattle.atom_csv.specs.declared.file.FileFault as csv
 use Rattle.atom_csv.specs.declared.file.FileFault.TheVariants as files
 use Rattle.atom_csv.specs.ReadProgress.{IsBad}
+use Rattle.http_desk.specs.Streams.{Stream}
 use Rattle.office_core.specs.Rules.{Reply}
 use Rattle.office.specs.InitialSettings.{Founding}
 use Rattle.command_line.specs.CommandLine.{program}
 use Rattle.office.specs.declared.faults.OpenFault.{OpenFault}
 use Rattle.office.specs.declared.faults.OpenFault.TheVariants as opening
-use Rattle.program.specs.Faults.{RefusesFile, fault_of_file, fault_of_opening, fault_of_reading, fault_of_words}
-use Rattle.program.specs.CommandEffects.{ComplaintFails, Fails, FailsWith, ImportFails, InitFails, IsBusy, JudgmentFails, Known, LineFails, MigrateFails, NotOpened, PreviewFails, Reads, ReplyFails, ServerFails, TalkFails, TrialFails, complaint_of, previewed}
+use Rattle.program.specs.Faults.{RefusesFile, fault_of_file, fault_of_opening, fault_of_reading, fault_of_words, message_of, status_of}
+use Rattle.program.specs.CommandEffects.{ComplaintFails, Fails, FailsWith, ImportFails, InitFails, IsBusy, IsDone, JudgmentFails, LineFails, MigrateFails, NotOpened, Performs, PreviewFails, ReadingFails, Reads, ReadsPart, ReplyFails, ServerFails, TalkFails, Tells, TrialFails, complaint_of, previewed}
 use Rattle.program.specs.Outcomes.{IsClosedAnd, IsUnopened}
 use Rattle.program.specs.Stores.{HasNoOffice, IsNotBroughtOver, IsNotMade}
-use Rattle.program.specs.Streams.{IsFront}
+use Rattle.program.specs.Streams.{PrintsPart}
 use Rattle.program.specs.Tasks.{AreRefusedFor, IsTaskOf, IsWords}
 use Rattle.program.specs.declared.faults.Fault.{Fault}
 use Rattle.program.specs.declared.faults.Fault.TheVariants.{Refused, Words, Date, Settings, File, Memory}
@@ -37,24 +36,34 @@ use Rattle.program.specs.declared.tasks.TaskFault.TheVariants as tasks
 use Rattle.program.specs.declared.tasks.Task.TheVariants.{Preview, Init, Trial, Import, Talk, Serve, Check, Migrate}
 
 -- a preview that was broken off while it printed
-pub broken_off : {X : Type 0} (country repo : Text) (path : Option Text) (left left_after held held_after : Known) (r : Result X Fault)
+pub broken_off : {X : Type 0} (country repo : Text) (path : Option Text) (reader reader_after out out_after : Stream) (r : Result X Fault)
     → IsErrAnd r (λ fault. fault ≡ File)
-    → ((file aids front : List ℕ) × Reads path left left_after file × (previewed country repo file ≡ Ok aids) × IsFront front aids × Appends held held_after front)
-    → IfErr r (PreviewFails country repo path left left_after held held_after)
-broken_off country repo path left left_after held held_after (Ok x) is why = tt
-broken_off country repo path left left_after held held_after (Err fault) is why =
-    subst (PreviewFails country repo path left left_after held held_after) (sym is) (inr why)
+    → ((file aids : List ℕ) × Reads path reader reader_after file × (previewed country repo file ≡ Ok aids) × PrintsPart aids out out_after)
+    → IfErr r (PreviewFails country repo path reader reader_after out out_after)
+broken_off country repo path reader reader_after out out_after (Ok x) is why = tt
+broken_off country repo path reader reader_after out out_after (Err fault) is why =
+    subst (PreviewFails country repo path reader reader_after out out_after) (sym is) (inr why)
+
+-- a preview whose input could not be read
+pub unread_fails : {X : Type 0} (country repo : Text) (path : Option Text) (reader reader_after out : Stream) (why : ReadFault) (r : Result X Fault)
+    → IsErrAnd r (λ fault. fault ≡ fault_of_reading why) → ReadsPart path reader reader_after → (why ≡ reads.Failed → ReadingFails path reader reader_after)
+    → IfErr r (PreviewFails country repo path reader reader_after out out)
+unread_fails country repo path reader reader_after out why (Ok x) is part fails = tt
+unread_fails country repo path reader reader_after out reads.Memory (Err fault) is part fails =
+    subst (PreviewFails country repo path reader reader_after out out) (sym is) (part, refl)
+unread_fails country repo path reader reader_after out reads.Failed (Err fault) is part fails =
+    subst (PreviewFails country repo path reader reader_after out out) (sym is) (inl (part, fails refl, refl))
 
 -- a file that gives no finding aids ends a preview, and nothing was printed
-pub refused_fails : (country repo : Text) (path : Option Text) (left left_after held : Known) (file gone : List ℕ) (why : csv.FileFault) (fault : Fault)
-    → RefusesFile why fault → Reads path left left_after file → IsBad why (λ row cause. previewed country repo file ≡ Err (row, cause)) → Consumes left left_after gone
-    → PreviewFails country repo path left left_after held held fault
-refused_fails country repo path left left_after held file gone (files.Bad row cause) (Refused line) told reads refused front =
-    (file, row, cause, reads, refused, told, Appends-nil held)
-refused_fails country repo path left left_after held file gone (files.Bad row cause) Memory told reads refused front = (gone, front, Appends-nil held)
-refused_fails country repo path left left_after held file gone (files.Bad row cause) _ told reads refused front = absurd told
-refused_fails country repo path left left_after held file gone files.Memory fault told reads refused front =
-    subst (PreviewFails country repo path left left_after held held) (sym told) (gone, front, Appends-nil held)
+pub refused_fails : (country repo : Text) (path : Option Text) (reader reader_after out : Stream) (file : List ℕ) (why : csv.FileFault) (fault : Fault)
+    → RefusesFile why fault → Reads path reader reader_after file → IsBad why (λ row cause. previewed country repo file ≡ Err (row, cause)) → ReadsPart path reader reader_after
+    → PreviewFails country repo path reader reader_after out out fault
+refused_fails country repo path reader reader_after out file (files.Bad row cause) (Refused line) told read refused part =
+    (file, row, cause, read, refused, told, refl)
+refused_fails country repo path reader reader_after out file (files.Bad row cause) Memory told read refused part = (part, refl)
+refused_fails country repo path reader reader_after out file (files.Bad row cause) _ told read refused part = absurd told
+refused_fails country repo path reader reader_after out file files.Memory fault told read refused part =
+    subst (PreviewFails country repo path reader reader_after out out) (sym told) (part, refl)
 
 -- ---- no task fails by its words
 
@@ -73,54 +82,54 @@ reading_no : (why_not : ReadFault) (f : Fault) → OfWords f → f ≡ fault_of_
 reading_no reads.Memory f of is = subst OfWords is of
 reading_no reads.Failed f of is = subst OfWords is of
 
-reply_no : (reply : Reply) (held held_after : Known) (f : Fault) → OfWords f → ReplyFails reply held held_after f → ⊥
-reply_no (Ok done) held held_after (Words text) of why = why
-reply_no (Ok done) held held_after Date of why = why
-reply_no (Ok done) held held_after Settings of why = why
-reply_no (Ok done) held held_after _ of why = of
-reply_no (Err refusal) held held_after (Words text) of why = why.0
-reply_no (Err refusal) held held_after Date of why = why.0
-reply_no (Err refusal) held held_after Settings of why = why.0
-reply_no (Err refusal) held held_after _ of why = of
+reply_no : (reply : Reply) (out out_after : Stream) (f : Fault) → OfWords f → ReplyFails reply out out_after f → ⊥
+reply_no (Ok done) out out_after (Words text) of why = why
+reply_no (Ok done) out out_after Date of why = why
+reply_no (Ok done) out out_after Settings of why = why
+reply_no (Ok done) out out_after _ of why = of
+reply_no (Err refusal) out out_after (Words text) of why = why.0
+reply_no (Err refusal) out out_after Date of why = why.0
+reply_no (Err refusal) out out_after Settings of why = why.0
+reply_no (Err refusal) out out_after _ of why = of
 
-line_no : (line : List ℕ) (held held_after : Known) (f : Fault) → OfWords f → LineFails line held held_after f → ⊥
-line_no line held held_after (Words text) of why = why
-line_no line held held_after Date of why = why
-line_no line held held_after Settings of why = why
-line_no line held held_after _ of why = of
+line_no : (line : List ℕ) (out out_after : Stream) (f : Fault) → OfWords f → LineFails line out out_after f → ⊥
+line_no line out out_after (Words text) of why = why
+line_no line out out_after Date of why = why
+line_no line out out_after Settings of why = why
+line_no line out out_after _ of why = of
 
-server_no : (port : ℕ) (held held_after : Known) (f : Fault) → OfWords f → ServerFails port held held_after f → ⊥
-server_no port held held_after (Words text) of why = why
-server_no port held held_after Date of why = why
-server_no port held held_after Settings of why = why
-server_no port held held_after _ of why = of
+server_no : (port : ℕ) (out out_after : Stream) (f : Fault) → OfWords f → ServerFails port out out_after f → ⊥
+server_no port out out_after (Words text) of why = why
+server_no port out out_after Date of why = why
+server_no port out out_after Settings of why = why
+server_no port out out_after _ of why = of
 
 opening_no : (why_not : OpenFault) (f : Fault) → OfWords f → f ≡ fault_of_opening why_not → ⊥
 opening_no opening.Memory f of is = subst OfWords is of
 opening_no _ f of is = subst OfWords is of
 
-complaint_no : (why_not : OpenFault) (line : Option (List ℕ)) (held held_after : Known) (f : Fault) → OfWords f → ComplaintFails why_not line held held_after f → ⊥
-complaint_no why_not (Some line) held held_after (Words text) of why = why
-complaint_no why_not (Some line) held held_after Date of why = why
-complaint_no why_not (Some line) held held_after Settings of why = why
-complaint_no why_not (Some line) held held_after _ of why = of
-complaint_no why_not None held held_after f of why = opening_no why_not f of why.0
+complaint_no : (why_not : OpenFault) (line : Option (List ℕ)) (out out_after : Stream) (f : Fault) → OfWords f → ComplaintFails why_not line out out_after f → ⊥
+complaint_no why_not (Some line) out out_after (Words text) of why = why
+complaint_no why_not (Some line) out out_after Date of why = why
+complaint_no why_not (Some line) out out_after Settings of why = why
+complaint_no why_not (Some line) out out_after _ of why = of
+complaint_no why_not None out out_after f of why = opening_no why_not f of why.0
 
-judgment_no : (judged : Option OpenFault) (held held_after : Known) (f : Fault) → OfWords f → JudgmentFails judged held held_after f → ⊥
-judgment_no None held held_after f of why = line_no _ held held_after f of why
-judgment_no (Some why_not) held held_after f of why = complaint_no why_not (complaint_of why_not) held held_after f of why
+judgment_no : (judged : Option OpenFault) (out out_after : Stream) (f : Fault) → OfWords f → JudgmentFails judged out out_after f → ⊥
+judgment_no None out out_after f of why = line_no _ out out_after f of why
+judgment_no (Some why_not) out out_after f of why = complaint_no why_not (complaint_of why_not) out out_after f of why
 
-preview_no : (country repo : Text) (path : Option Text) (left left_after held held_after : Known) (f : Fault) → OfWords f → PreviewFails country repo path left left_after held held_after f → ⊥
-preview_no country repo path left left_after held held_after (Words text) of why = why
-preview_no country repo path left left_after held held_after Date of why = why
-preview_no country repo path left left_after held held_after Settings of why = why
-preview_no country repo path left left_after held held_after _ of why = of
+preview_no : (country repo : Text) (path : Option Text) (reader reader_after out out_after : Stream) (f : Fault) → OfWords f → PreviewFails country repo path reader reader_after out out_after f → ⊥
+preview_no country repo path reader reader_after out out_after (Words text) of why = why
+preview_no country repo path reader reader_after out out_after Date of why = why
+preview_no country repo path reader reader_after out out_after Settings of why = why
+preview_no country repo path reader reader_after out out_after _ of why = of
 
-trial_no : (founding : Founding) (left left_after held held_after : Known) (f : Fault) → OfWords f → TrialFails founding left left_after held held_after f → ⊥
-trial_no founding left left_after held held_after (Words text) of why = why
-trial_no founding left left_after held held_after Date of why = why
-trial_no founding left left_after held held_after Settings of why = why
-trial_no founding left left_after held held_after _ of why = of
+trial_no : (founding : Founding) (reader reader_after out out_after : Stream) (f : Fault) → OfWords f → TrialFails founding reader reader_after out out_after f → ⊥
+trial_no founding reader reader_after out out_after (Words text) of why = why
+trial_no founding reader reader_after out out_after Date of why = why
+trial_no founding reader reader_after out out_after Settings of why = why
+trial_no founding reader reader_after out out_after _ of why = of
 
 busy_no : (f : Fault) → OfWords f → IsBusy f → ⊥
 busy_no (Words text) of why = why
@@ -140,8 +149,8 @@ module _ {S D : Type 0} (g : Ghosts D) (image : Image) where
   no_office_no outcome f of (inl why) = unopened_no outcome f of why
   no_office_no outcome f of (inr (why, is, judged)) = opening_no why f of is
 
-  not_opened_no : (held held_after : Known) (outcome : StoreOutcome S (Files D)) (f : Fault) → OfWords f → NotOpened g image held held_after outcome f → ⊥
-  not_opened_no held held_after outcome f of why = no_office_no outcome f of why.0
+  not_opened_no : (out out_after : Stream) (outcome : StoreOutcome S (Files D)) (f : Fault) → OfWords f → NotOpened g image out out_after outcome f → ⊥
+  not_opened_no out out_after outcome f of why = no_office_no outcome f of why.0
 
   not_made_no : (outcome : StoreOutcome S (Files D)) (f : Fault) → OfWords f → IsClosedAnd outcome (IsNotMade g image f) → ⊥
   not_made_no (Untouched start) f of why = why
@@ -152,64 +161,83 @@ module _ {S D : Type 0} (g : Ghosts D) (image : Image) where
   init_no outcome f of (inl why) = unopened_no outcome f of why
   init_no outcome f of (inr why) = not_made_no outcome f of why
 
-  talk_no : (left left_after held held_after : Known) (outcome : StoreOutcome S (Files D)) (f : Fault) → OfWords f → TalkFails g image left left_after held held_after outcome f → ⊥
-  talk_no left left_after held held_after outcome f of (inl why) = not_opened_no held held_after outcome f of why.1
-  talk_no left left_after held held_after outcome f of (inr (broken, is, why)) = subst OfWords is of
+  talk_no : (reader reader_after out out_after : Stream) (outcome : StoreOutcome S (Files D)) (f : Fault) → OfWords f → TalkFails g image reader reader_after out out_after outcome f → ⊥
+  talk_no reader reader_after out out_after outcome f of (inl why) = not_opened_no out out_after outcome f of why.1
+  talk_no reader reader_after out out_after outcome f of (inr (broken, is, why)) = subst OfWords is of
 
   not_brought_no : (outcome : StoreOutcome S (Files D)) (f : Fault) → OfWords f → IsClosedAnd outcome (IsNotBroughtOver g image f) → ⊥
   not_brought_no (Untouched start) f of why = why
   not_brought_no (Unopened failed) f of why = why
   not_brought_no (Closed files) f of why = opening_no why.why f of why.told
 
-  import_no : (source : Text) (held held_after : Known) (outcome : StoreOutcome S (Files D)) (f : Fault) → OfWords f → ImportFails g image source held held_after outcome f → ⊥
-  import_no source held held_after outcome f of fails = elim fails.why [
+  import_no : (source : Text) (out out_after : Stream) (outcome : StoreOutcome S (Files D)) (f : Fault) → OfWords f → ImportFails g image source out out_after outcome f → ⊥
+  import_no source out out_after outcome f of fails = elim fails.why [
     | inl why ↦ reading_no why.0.0 f of why.0.1
-    | inr (inl why) ↦ not_opened_no held held_after outcome f of why
+    | inr (inl why) ↦ not_opened_no out out_after outcome f of why
     | inr (inr (inl why)) ↦ busy_no f of why.0
-    | inr (inr (inr (reply, taken, why))) ↦ reply_no reply held held_after f of why
+    | inr (inr (inr (reply, taken, why))) ↦ reply_no reply out out_after f of why
   ]
 
-  migrate_no : (held held_after : Known) (outcome : StoreOutcome S (Files D)) (f : Fault) → OfWords f → MigrateFails g image held held_after outcome f → ⊥
-  migrate_no held held_after outcome f of fails = elim fails.why [
+  migrate_no : (out out_after : Stream) (outcome : StoreOutcome S (Files D)) (f : Fault) → OfWords f → MigrateFails g image out out_after outcome f → ⊥
+  migrate_no out out_after outcome f of fails = elim fails.why [
     | inl why ↦ unopened_no outcome f of why.0
     | inr (inl (stays, quiet)) ↦ not_brought_no outcome f of stays
-    | inr (inr (brought, why)) ↦ line_no _ held held_after f of why
+    | inr (inr (brought, why)) ↦ line_no _ out out_after f of why
   ]
 
-  none_of_words : (task : Task) (left left_after held held_after : Known) (outcome : StoreOutcome S (Files D)) (f : Fault) → OfWords f → FailsWith g image task left left_after held held_after outcome f → ⊥
-  none_of_words (Preview country repo path) left left_after held held_after outcome f of why = preview_no country repo path left left_after held held_after f of why.1
-  none_of_words (Init path founding) left left_after held held_after outcome f of why = init_no outcome f of why.0
-  none_of_words (Trial founding) left left_after held held_after outcome f of why = trial_no founding left left_after held held_after f of why.1
-  none_of_words (Import path source file) left left_after held held_after outcome f of why = import_no source held held_after outcome f of why.1
-  none_of_words (Talk path) left left_after held held_after outcome f of why = talk_no left left_after held held_after outcome f of why
-  none_of_words (Serve path port connections) left left_after held held_after outcome f of (unread, inl why) = not_opened_no held held_after outcome f of why
-  none_of_words (Serve path port connections) left left_after held held_after outcome f of (unread, inr (served, why)) = server_no port held held_after f of why
-  none_of_words (Check path) left left_after held held_after outcome f of (unread, inl why) = unopened_no outcome f of why.0
-  none_of_words (Check path) left left_after held held_after outcome f of (unread, inr (judged, was, why)) = judgment_no judged held held_after f of why
-  none_of_words (Migrate path) left left_after held held_after outcome f of why = migrate_no held held_after outcome f of why.1
+  none_of_words : (task : Task) (reader reader_after out out_after : Stream) (outcome : StoreOutcome S (Files D)) (f : Fault) → OfWords f → FailsWith g image task reader reader_after out out_after outcome f → ⊥
+  none_of_words (Preview country repo path) reader reader_after out out_after outcome f of why = preview_no country repo path reader reader_after out out_after f of why.1
+  none_of_words (Init path founding) reader reader_after out out_after outcome f of why = init_no outcome f of why.0
+  none_of_words (Trial founding) reader reader_after out out_after outcome f of why = trial_no founding reader reader_after out out_after f of why.1
+  none_of_words (Import path source file) reader reader_after out out_after outcome f of why = import_no source out out_after outcome f of why.1
+  none_of_words (Talk path) reader reader_after out out_after outcome f of why = talk_no reader reader_after out out_after outcome f of why
+  none_of_words (Serve path port connections) reader reader_after out out_after outcome f of (unread, inl why) = not_opened_no out out_after outcome f of why
+  none_of_words (Serve path port connections) reader reader_after out out_after outcome f of (unread, inr (served, why)) = server_no port out out_after f of why
+  none_of_words (Check path) reader reader_after out out_after outcome f of (unread, inl why) = unopened_no outcome f of why.0
+  none_of_words (Check path) reader reader_after out out_after outcome f of (unread, inr (judged, was, why)) = judgment_no judged out out_after f of why
+  none_of_words (Migrate path) reader reader_after out out_after outcome f of why = migrate_no out out_after outcome f of why.1
 
   -- words that name no task
-  words_fail : (words : List Text) (left held : Known) (start : S) (f : TaskFault) → (IsWords f → takes program words ≡ false) → AreRefusedFor (subcommand_of program words) f
-      → Fails g image words left left held held (Untouched start) (fault_of_words f)
-  words_fail words left held start tasks.Memory refused values = inl (tt, (Consumes-nil left, Appends-nil held))
-  words_fail words left held start (tasks.Words text) refused values = (refused tt, (tt, (Consumes-nil left, Appends-nil held)))
-  words_fail words left held start tasks.Date refused values = (values, (tt, (Consumes-nil left, Appends-nil held)))
-  words_fail words left held start tasks.Settings refused values = (values, (tt, (Consumes-nil left, Appends-nil held)))
+  words_fail : (words : List Text) (reader out : Stream) (start : S) (f : TaskFault) → (IsWords f → takes program words ≡ false) → AreRefusedFor (subcommand_of program words) f
+      → Fails g image words reader reader out out (Untouched start) (fault_of_words f)
+  words_fail words reader out start tasks.Memory refused values = inl (tt, (refl, refl))
+  words_fail words reader out start (tasks.Words text) refused values = (refused tt, (tt, (refl, refl)))
+  words_fail words reader out start tasks.Date refused values = (values, (tt, (refl, refl)))
+  words_fail words reader out start tasks.Settings refused values = (values, (tt, (refl, refl)))
 
-  pub words_failed : (words : List Text) (left held : Known) (start : S) (f : TaskFault) (fault : Fault) → fault ≡ fault_of_words f
-      → (IsWords f → takes program words ≡ false) → AreRefusedFor (subcommand_of program words) f → Fails g image words left left held held (Untouched start) fault
-  words_failed words left held start f fault is refused values = subst (Fails g image words left left held held (Untouched start)) (sym is) (words_fail words left held start f refused values)
+  pub words_failed : (words : List Text) (reader out : Stream) (start : S) (f : TaskFault) (fault : Fault) → fault ≡ fault_of_words f
+      → (IsWords f → takes program words ≡ false) → AreRefusedFor (subcommand_of program words) f → Fails g image words reader reader out out (Untouched start) fault
+  words_failed words reader out start f fault is refused values = subst (Fails g image words reader reader out out (Untouched start)) (sym is) (words_fail words reader out start f refused values)
 
   -- so a task's fault is one of the task
-  fails : (words : List Text) (task : Task) (left left_after held held_after : Known) (outcome : StoreOutcome S (Files D)) (f : Fault) → IsTaskOf (subcommand_of program words) task
-      → FailsWith g image task left left_after held held_after outcome f → Fails g image words left left_after held held_after outcome f
-  fails words task left left_after held held_after outcome (Words text) is why = absurd (none_of_words task left left_after held held_after outcome (Words text) tt why)
-  fails words task left left_after held held_after outcome Date is why = absurd (none_of_words task left left_after held held_after outcome Date tt why)
-  fails words task left left_after held held_after outcome Settings is why = absurd (none_of_words task left left_after held held_after outcome Settings tt why)
-  fails words task left left_after held held_after outcome Memory is why = inr (task, is, why)
-  fails words task left left_after held held_after outcome _ is why = (task, is, why)
+  fails : (words : List Text) (task : Task) (reader reader_after out out_after : Stream) (outcome : StoreOutcome S (Files D)) (f : Fault) → IsTaskOf (subcommand_of program words) task
+      → FailsWith g image task reader reader_after out out_after outcome f → Fails g image words reader reader_after out out_after outcome f
+  fails words task reader reader_after out out_after outcome (Words text) is why = absurd (none_of_words task reader reader_after out out_after outcome (Words text) tt why)
+  fails words task reader reader_after out out_after outcome Date is why = absurd (none_of_words task reader reader_after out out_after outcome Date tt why)
+  fails words task reader reader_after out out_after outcome Settings is why = absurd (none_of_words task reader reader_after out out_after outcome Settings tt why)
+  fails words task reader reader_after out out_after outcome Memory is why = inr (task, is, why)
+  fails words task reader reader_after out out_after outcome _ is why = (task, is, why)
 
-  pub task_failed : {X : Type 0} (words : List Text) (task : Task) (left left_after held held_after : Known) (outcome : StoreOutcome S (Files D)) (r : Result X Fault) → IsTaskOf (subcommand_of program words) task
-      → IfErr r (FailsWith g image task left left_after held held_after outcome) → IfErr r (Fails g image words left left_after held held_after outcome)
-  task_failed words task left left_after held held_after outcome (Ok x) is why = tt
-  task_failed words task left left_after held held_after outcome (Err f) is why = fails words task left left_after held held_after outcome f is why
+  pub task_failed : {X : Type 0} (words : List Text) (task : Task) (reader reader_after out out_after : Stream) (outcome : StoreOutcome S (Files D)) (r : Result X Fault) → IsTaskOf (subcommand_of program words) task
+      → IfErr r (FailsWith g image task reader reader_after out out_after outcome) → IfErr r (Fails g image words reader reader_after out out_after outcome)
+  task_failed words task reader reader_after out out_after outcome (Ok x) is why = tt
+  task_failed words task reader reader_after out out_after outcome (Err f) is why = fails words task reader reader_after out out_after outcome f is why
+
+  -- a command whose task is done
+  pub performs_done : (words : List Text) (reader reader_after out out_after err err_after : Stream) (outcome : StoreOutcome S (Files D)) (status : ℕ) (r : Result (Unit {0}) Fault) (u : Unit {0})
+      → r ≡ Ok u → OnOk r (IsDone g image words reader reader_after out out_after outcome) → status ≡ 0 → err_after ≡ err
+      → Performs g image words reader reader_after out out_after err err_after outcome status
+  performs_done words reader reader_after out out_after err err_after outcome status r u is done zero same =
+      inl (zero, subst (λ it. OnOk it (IsDone g image words reader reader_after out out_after outcome)) is done, same)
+
+  -- a command that ended with a fault, whose message was told
+  pub performs_fault : (words : List Text) (reader reader_after out out_after err err_told err_after : Stream) (outcome : StoreOutcome S (Files D)) (status code : ℕ) (r : Result (Unit {0}) Fault) (fault : Fault)
+      → r ≡ Err fault → IfErr r (Fails g image words reader reader_after out out_after outcome) → status ≡ code → code ≡ status_of fault → Tells err err_told (message_of fault) → err_after ≡ err_told
+      → Performs g image words reader reader_after out out_after err err_after outcome status
+  performs_fault words reader reader_after out out_after err err_told err_after outcome status code r fault is why same_status is_code told same =
+      inr (
+        fault,
+        same_status ∙ is_code,
+        subst (λ it. IfErr it (Fails g image words reader reader_after out out_after outcome)) is why,
+        subst (λ it. Tells err it (message_of fault)) (sym same) told,
+      )

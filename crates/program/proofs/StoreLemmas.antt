@@ -1,7 +1,6 @@
 -- What a command did with an office in a store, from what the calls on the office tell.
-use Rattle.std.proofs.Common.{◌≡◌, ℕ, Bool, true, false, Option, Some, None, Result, Ok, Err, IfErr, OnOk, inr, subst, sym}
+use Rattle.std.proofs.Common.{◌≡◌, ℕ, Bool, true, false, Option, Some, None, Result, Ok, Err, IfErr, OnOk, inr, refl, subst, sym}
 use Rattle.std.specs.Prelude.{IsErrAnd}
-use Rattle.std.proofs.KnownBytes.{Appends-nil, Consumes-nil}
 use Rattle.sqlite.specs.Effect.{Database}
 use Rattle.sqlite.specs.Files.{file_state, over_files}
 use Rattle.sqlite.specs.Held.{Held}
@@ -19,15 +18,16 @@ use Rattle.office_core.specs.Rules.{Reply}
 use Rattle.office.specs.InitialSettings.{Founding}
 use Rattle.office.specs.IdleOffice.{is_clean, is_shown, is_still_open}
 use Rattle.office.specs.declared.faults.OpenFault.{OpenFault}
-use Rattle.http_desk.specs.Exchanges.{AtEndIf, Talks}
+use Rattle.http_desk.specs.Exchanges.{Talks}
+use Rattle.http_desk.specs.Streams.{Stream}
 use Rattle.http_desk.specs.declared.session_end.Ended.{Ended}
-use Rattle.http_desk.specs.declared.session_end.Next.TheVariants.{Ends}
 use Rattle.program.specs.ClosedFiles.{HasLeft, WasJudgedAsFound}
 use Rattle.program.specs.OpenedFiles.{AreHeld}
 use Rattle.program.specs.Outcomes.{IsClosedAnd}
-use Rattle.program.specs.CommandEffects.{CheckDone, CheckFails, Does, EndsWell, FailsWith, ImportDone, ImportFails, InitFails, JudgmentFails, JudgmentPrinted, Known, Listens, MigrateFails, ReplyFails, ReplyPrinted, ServeDone, ServeFails, ServerFails, TalkDone, TalkFails, ended_by}
+use Rattle.program.specs.CommandEffects.{CheckDone, CheckFails, Does, EndsWell, FailsWith, ImportDone, ImportFails, InitFails, JudgmentFails, JudgmentPrinted, Listens, MigrateFails, ReplyFails, ReplyPrinted, ServeDone, ServeFails, ServerFails, TalkDone, TalkFails, ended_by}
 use Rattle.program.specs.Connections.{Serves}
 use Rattle.program.specs.Stores.{HasServed, HasTakenIn, IsMade, IsOpened, IsTalkedWith}
+use Rattle.program.specs.Streams.{AgreesWithCalls}
 use Rattle.program.specs.declared.faults.Break.{Break}
 use Rattle.program.specs.declared.faults.Fault.{Fault}
 use Rattle.program.specs.declared.faults.Fault.TheVariants.{Session}
@@ -60,13 +60,13 @@ module _ {S D : Type 0} (g : Ghosts D) (image : Image) where
     abbrev closed : StoreOutcome S (Files D)
     closed = Closed files
 
-    module _ (left left_after held held_after : Known) (office after : Held (FileStore D g)) (opened : IsOpened g image office)
+    module _ (reader reader_after out out_after : Stream) (office after : Held (FileStore D g)) (opened : IsOpened g image office)
         (intact : HasCleanDisk (file_state after) → HasCleanDisk (file_state office)) (left_so : HasLeft after files) where
-      talked_with : (end : Ended) → AtEndIf left_after (Ends end)
-          → Talks (is_shown (over_files {g = g}) RepresentsSpanRows Spans) (is_clean (over_files {g = g})) (is_still_open (over_files {g = g})) left left_after held held_after office end after
-          → IsTalkedWith g image left left_after held held_after end files
-      talked_with end at_end (read, written, gone, told, through) =
-          let it : IsTalkedWith g image left left_after held held_after end files = record {
+      talked_with : (end : Ended) → AgreesWithCalls reader reader_after out out_after end
+          → Talks (is_shown (over_files {g = g}) RepresentsSpanRows Spans) (is_clean (over_files {g = g})) (is_still_open (over_files {g = g})) reader.bytes reader_after.bytes out.bytes out_after.bytes office end after
+          → IsTalkedWith g image reader reader_after out out_after end files
+      talked_with end agrees (read, written, gone, told, through) =
+          let it : IsTalkedWith g image reader reader_after out out_after end files = record {
             office = office;
             after = after;
             opened = opened;
@@ -74,35 +74,35 @@ module _ {S D : Type 0} (g : Ghosts D) (image : Image) where
             input = read;
             output = written;
             read = gone;
-            at_end = at_end;
             written = told;
+            agrees = agrees;
             session = through;
             closed = left_so;
           } in
           it
 
       pub talk_done : (r : Result (Unit {0}) Fault)
-          → OnOk r ((end : Ended) × EndsWell end × AtEndIf left_after (Ends end) × Talks (is_shown (over_files {g = g}) RepresentsSpanRows Spans) (is_clean (over_files {g = g})) (is_still_open (over_files {g = g})) left left_after held held_after office end after)
-          → OnOk r (TalkDone g image left left_after held held_after closed)
-      talk_done (Ok u) (end, well, at_end, talks) = (end, well, talked_with end at_end talks)
+          → OnOk r ((end : Ended) × EndsWell end × AgreesWithCalls reader reader_after out out_after end × Talks (is_shown (over_files {g = g}) RepresentsSpanRows Spans) (is_clean (over_files {g = g})) (is_still_open (over_files {g = g})) reader.bytes reader_after.bytes out.bytes out_after.bytes office end after)
+          → OnOk r (TalkDone g image reader reader_after out out_after closed)
+      talk_done (Ok u) (end, well, agrees, talks) = (end, well, talked_with end agrees talks)
       talk_done (Err f) done = tt
 
       pub talk_broken : (r : Result (Unit {0}) Fault)
-          → IfErr r (λ f. (broken : Break) × (f ≡ Session broken) × AtEndIf left_after (Ends (ended_by broken)) × Talks (is_shown (over_files {g = g}) RepresentsSpanRows Spans) (is_clean (over_files {g = g})) (is_still_open (over_files {g = g})) left left_after held held_after office (ended_by broken) after)
-          → IfErr r (TalkFails g image left left_after held held_after closed)
+          → IfErr r (λ f. (broken : Break) × (f ≡ Session broken) × AgreesWithCalls reader reader_after out out_after (ended_by broken) × Talks (is_shown (over_files {g = g}) RepresentsSpanRows Spans) (is_clean (over_files {g = g})) (is_still_open (over_files {g = g})) reader.bytes reader_after.bytes out.bytes out_after.bytes office (ended_by broken) after)
+          → IfErr r (TalkFails g image reader reader_after out out_after closed)
       talk_broken (Ok u) why = tt
-      talk_broken (Err f) (broken, is_so, at_end, talks) = inr (broken, is_so, talked_with (ended_by broken) at_end talks)
+      talk_broken (Err f) (broken, is_so, agrees, talks) = inr (broken, is_so, talked_with (ended_by broken) agrees talks)
 
-    module _ (held held_after : Known) (source : Bytes) (reply : Reply) (taken : HasTakenIn g image source reply files) where
-      pub import_done : (r : Result (Unit {0}) Fault) → OnOk r (ReplyPrinted reply held held_after) → OnOk r (ImportDone g image source held held_after closed)
+    module _ (out out_after : Stream) (source : Bytes) (reply : Reply) (taken : HasTakenIn g image source reply files) where
+      pub import_done : (r : Result (Unit {0}) Fault) → OnOk r (ReplyPrinted reply out out_after) → OnOk r (ImportDone g image source out out_after closed)
       import_done (Ok u) printed = (reply, taken, printed)
       import_done (Err f) printed = tt
 
-      pub import_failed : (r : Result (Unit {0}) Fault) → IfErr r (ReplyFails reply held held_after) → IfErr r (ImportFails g image source held held_after closed)
+      pub import_failed : (r : Result (Unit {0}) Fault) → IfErr r (ReplyFails reply out out_after) → IfErr r (ImportFails g image source out out_after closed)
       import_failed (Ok u) why = tt
       import_failed (Err f) why = record { why = inr (inr (inr (reply, taken, why))) }
 
-    module _ (held held_after : Known) (port connections : ℕ) (office after : Held (FileStore D g)) (opened : IsOpened g image office)
+    module _ (out out_after : Stream) (port connections : ℕ) (office after : Held (FileStore D g)) (opened : IsOpened g image office)
         (intact : HasCleanDisk (file_state after) → HasCleanDisk (file_state office)) (left_so : HasLeft after files) where
       served : (all : Bool) → Serves (is_shown (over_files {g = g}) RepresentsSpanRows Spans) (is_clean (over_files {g = g})) (is_still_open (over_files {g = g})) connections None None office after all
           → HasServed g image connections all files
@@ -111,47 +111,47 @@ module _ {S D : Type 0} (g : Ghosts D) (image : Image) where
           it
 
       pub serve_done : (r : Result (Unit {0}) Fault)
-          → OnOk r (Listens port held held_after × Serves (is_shown (over_files {g = g}) RepresentsSpanRows Spans) (is_clean (over_files {g = g})) (is_still_open (over_files {g = g})) connections None None office after true)
-          → OnOk r (ServeDone g image port connections held held_after closed)
+          → OnOk r (Listens port out out_after × Serves (is_shown (over_files {g = g}) RepresentsSpanRows Spans) (is_clean (over_files {g = g})) (is_still_open (over_files {g = g})) connections None None office after true)
+          → OnOk r (ServeDone g image port connections out out_after closed)
       serve_done (Ok u) (listens, sessions) = (served true sessions, listens)
       serve_done (Err f) done = tt
 
       pub serve_failed : (r : Result (Unit {0}) Fault)
-          → IfErr r (λ f. ServerFails port held held_after f × Serves (is_shown (over_files {g = g}) RepresentsSpanRows Spans) (is_clean (over_files {g = g})) (is_still_open (over_files {g = g})) connections None None office after false)
-          → IfErr r (ServeFails g image port connections held held_after closed)
+          → IfErr r (λ f. ServerFails port out out_after f × Serves (is_shown (over_files {g = g}) RepresentsSpanRows Spans) (is_clean (over_files {g = g})) (is_still_open (over_files {g = g})) connections None None office after false)
+          → IfErr r (ServeFails g image port connections out out_after closed)
       serve_failed (Ok u) why = tt
       serve_failed (Err f) (why, sessions) = inr (served false sessions, why)
 
     -- a check that is done has found nothing
-    pub check_done : (held held_after : Known) (judged : Option OpenFault) (r : Result (Unit {0}) Fault) → WasJudgedAsFound g image judged files → OnOk r (JudgmentPrinted judged held held_after)
-        → OnOk r (CheckDone g image held held_after closed)
-    check_done held held_after None (Ok u) was printed = (was, printed)
-    check_done held held_after (Some why) (Ok u) was printed = absurd printed
-    check_done held held_after judged (Err f) was printed = tt
+    pub check_done : (out out_after : Stream) (judged : Option OpenFault) (r : Result (Unit {0}) Fault) → WasJudgedAsFound g image judged files → OnOk r (JudgmentPrinted judged out out_after)
+        → OnOk r (CheckDone g image out out_after closed)
+    check_done out out_after None (Ok u) was printed = (was, printed)
+    check_done out out_after (Some why) (Ok u) was printed = absurd printed
+    check_done out out_after judged (Err f) was printed = tt
 
-    pub check_failed : (held held_after : Known) (judged : Option OpenFault) (r : Result (Unit {0}) Fault) → WasJudgedAsFound g image judged files → IfErr r (JudgmentFails judged held held_after)
-        → IfErr r (CheckFails g image held held_after closed)
-    check_failed held held_after judged (Ok u) was why = tt
-    check_failed held held_after judged (Err f) was why = inr (judged, was, why)
+    pub check_failed : (out out_after : Stream) (judged : Option OpenFault) (r : Result (Unit {0}) Fault) → WasJudgedAsFound g image judged files → IfErr r (JudgmentFails judged out out_after)
+        → IfErr r (CheckFails g image out out_after closed)
+    check_failed out out_after judged (Ok u) was why = tt
+    check_failed out out_after judged (Err f) was why = inr (judged, was, why)
 
   -- a new office was made, and nothing was read or printed
-  pub init_done : (outcome : StoreOutcome S (Files D)) (task : Task) (path : Bytes) (founding : Founding) (left held : Known) (r : Result (Unit {0}) Fault) → task ≡ Init path founding → OnOk r (IsClosedAnd outcome (IsMade g image founding))
-      → OnOk r (Does g image task left left held held outcome)
-  init_done outcome task path founding left held (Ok u) is made = subst (λ t. Does g image t left left held held outcome) (sym is) (made, (Consumes-nil left, Appends-nil held))
-  init_done outcome task path founding left held (Err f) is made = tt
+  pub init_done : (outcome : StoreOutcome S (Files D)) (task : Task) (path : Bytes) (founding : Founding) (reader out : Stream) (r : Result (Unit {0}) Fault) → task ≡ Init path founding → OnOk r (IsClosedAnd outcome (IsMade g image founding))
+      → OnOk r (Does g image task reader reader out out outcome)
+  init_done outcome task path founding reader out (Ok u) is made = subst (λ t. Does g image t reader reader out out outcome) (sym is) (made, (refl, refl))
+  init_done outcome task path founding reader out (Err f) is made = tt
 
   -- an `init`, an import and a migration that fail are tasks that fail
-  pub init_as_task : (outcome : StoreOutcome S (Files D)) (task : Task) (path : Bytes) (founding : Founding) (left held : Known) (r : Result (Unit {0}) Fault) → task ≡ Init path founding → IfErr r (InitFails g image outcome)
-      → IfErr r (FailsWith g image task left left held held outcome)
-  init_as_task outcome task path founding left held (Ok u) is why = tt
-  init_as_task outcome task path founding left held (Err f) is why = subst (λ t. FailsWith g image t left left held held outcome f) (sym is) (why, (Consumes-nil left, Appends-nil held))
+  pub init_as_task : (outcome : StoreOutcome S (Files D)) (task : Task) (path : Bytes) (founding : Founding) (reader out : Stream) (r : Result (Unit {0}) Fault) → task ≡ Init path founding → IfErr r (InitFails g image outcome)
+      → IfErr r (FailsWith g image task reader reader out out outcome)
+  init_as_task outcome task path founding reader out (Ok u) is why = tt
+  init_as_task outcome task path founding reader out (Err f) is why = subst (λ t. FailsWith g image t reader reader out out outcome f) (sym is) (why, (refl, refl))
 
-  pub import_as_task : (outcome : StoreOutcome S (Files D)) (task : Task) (path source file : Bytes) (left held held_after : Known) (r : Result (Unit {0}) Fault) → task ≡ Import path source file → IfErr r (ImportFails g image source held held_after outcome)
-      → IfErr r (FailsWith g image task left left held held_after outcome)
-  import_as_task outcome task path source file left held held_after (Ok u) is why = tt
-  import_as_task outcome task path source file left held held_after (Err f) is why = subst (λ t. FailsWith g image t left left held held_after outcome f) (sym is) (Consumes-nil left, why)
+  pub import_as_task : (outcome : StoreOutcome S (Files D)) (task : Task) (path source file : Bytes) (reader out out_after : Stream) (r : Result (Unit {0}) Fault) → task ≡ Import path source file → IfErr r (ImportFails g image source out out_after outcome)
+      → IfErr r (FailsWith g image task reader reader out out_after outcome)
+  import_as_task outcome task path source file reader out out_after (Ok u) is why = tt
+  import_as_task outcome task path source file reader out out_after (Err f) is why = subst (λ t. FailsWith g image t reader reader out out_after outcome f) (sym is) (refl, why)
 
-  pub migrate_as_task : (outcome : StoreOutcome S (Files D)) (task : Task) (path : Bytes) (left held held_after : Known) (r : Result (Unit {0}) Fault) → task ≡ Migrate path → IfErr r (MigrateFails g image held held_after outcome)
-      → IfErr r (FailsWith g image task left left held held_after outcome)
-  migrate_as_task outcome task path left held held_after (Ok u) is why = tt
-  migrate_as_task outcome task path left held held_after (Err f) is why = subst (λ t. FailsWith g image t left left held held_after outcome f) (sym is) (Consumes-nil left, why)
+  pub migrate_as_task : (outcome : StoreOutcome S (Files D)) (task : Task) (path : Bytes) (reader out out_after : Stream) (r : Result (Unit {0}) Fault) → task ≡ Migrate path → IfErr r (MigrateFails g image out out_after outcome)
+      → IfErr r (FailsWith g image task reader reader out out_after outcome)
+  migrate_as_task outcome task path reader out out_after (Ok u) is why = tt
+  migrate_as_task outcome task path reader out out_after (Err f) is why = subst (λ t. FailsWith g image t reader reader out out_after outcome f) (sym is) (refl, why)

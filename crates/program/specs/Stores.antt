@@ -29,15 +29,16 @@ use Rattle.office.specs.IdleOffice.{IsAsBefore, IsIn, is_clean, is_shown, is_sti
 use Rattle.office.specs.declared.faults.OpenFault.{OpenFault}
 use Rattle.http_desk.specs.AcceptedMessages.{LeavesOpen}
 use Rattle.http_desk.specs.Session.{Session}
-use Rattle.http_desk.specs.Exchanges.{AtEndIf, Keeps}
+use Rattle.http_desk.specs.Exchanges.{Keeps}
+use Rattle.http_desk.specs.Streams.{Stream}
 use Rattle.http_desk.specs.declared.session_end.Ended.{Ended}
-use Rattle.http_desk.specs.declared.session_end.Next.TheVariants.{Ends}
 use Rattle.office_tables.specs.Schema.{no_schema}
 use Rattle.program.specs.ClosedFiles.{HasLeft, HaveCleanDisk, HoldState, WasJudgedAsFound}
 use Rattle.program.specs.Faults.{fault_of_opening}
 use Rattle.program.specs.OpenedFiles.{HoldsOffice, IsFound, IsStore}
 use Rattle.program.specs.Outcomes.{IsClosedAnd, IsUnopened}
 use Rattle.program.specs.Connections.{AreSessions, Serves, SessionsLeaveOpen}
+use Rattle.program.specs.Streams.{AgreesWithCalls}
 use Rattle.program.specs.declared.faults.Fault.{Fault}
 use Rattle.program.specs.declared.files.StoreOutcome.{StoreOutcome}
 
@@ -79,19 +80,18 @@ module _ {D : Type 0} (g : Ghosts D) (image : Image) where
   HasNoOffice outcome fault = IsUnopened outcome fault
       ⊎ ((why : OpenFault) × (fault ≡ fault_of_opening why) × IsClosedAnd outcome (WasJudgedAsFound g image (Some why)))
 
-  -- A session with an office that was opened. What was read is its input, and what was written is its output. If it
-  -- ended with its input, all of the input was read. These are the office's files.
-  pub record IsTalkedWith (left left_after held held_after : Option Bytes) (end : Ended) (files : Files D)
-      : Type 0 where
+  -- A session with an office that was opened. What was read is its input, what was written is its output, and its end
+  -- agrees with how the calls on its reader and writer went. These are the office's files.
+  pub record IsTalkedWith (reader reader_after out out_after : Stream) (end : Ended) (files : Files D) : Type 0 where
     pub office : Held (FileStore D g)
     pub after : Held (FileStore D g)
     pub opened : IsOpened office
     pub intact : HasCleanDisk (file_state after) → HasCleanDisk (file_state office)
     pub input : Bytes
     pub output : Bytes
-    pub read : Consumes left left_after input
-    pub at_end : AtEndIf left_after (Ends end)
-    pub written : Appends held held_after output
+    pub read : Consumes reader.bytes reader_after.bytes input
+    pub written : Appends out.bytes out_after.bytes output
+    pub agrees : AgreesWithCalls reader reader_after out out_after end
     pub session : is_clean (over_files {g = g}) after → (s : State) → is_kept office s
         → (t : State) × is_kept after t
         × Keeps (IsTrue (file_state office).is_open) (IsTrue (file_state after).is_open) s input output end t
@@ -174,8 +174,8 @@ module _ {D : Type 0} (g : Ghosts D) (image : Image) where
   -- failure of the disk may have shut it.
   abbrev pub WhatWasSaidIsHeld : Type 0
   WhatWasSaidIsHeld =
-      (left left_after held held_after : Option Bytes) (end : Ended) (files : Files D)
-      (it : IsTalkedWith left left_after held held_after end files) → HaveCleanDisk g files
+      (reader reader_after out out_after : Stream) (end : Ended) (files : Files D)
+      (it : IsTalkedWith reader reader_after out out_after end files) → HaveCleanDisk g files
       → (s : State) → HoldsOffice image s → IsSoundOffice s
       → (t : State) × (session : Session s it.input it.output end t)
       × (LeavesOpen (IsTrue (file_state it.office).is_open) session ⊎ IsTrue (file_state it.after).is_open

@@ -1,6 +1,5 @@
 //! Performs the task that the words name.
 ghost use Rattle.std.specs.Prelude.{true, false, IfErr, OnOk, map};
-ghost use Rattle.std.specs.Io.KnownBytes.{Appends};
 ghost use Rattle.std.specs.String.{string_bytes};
 ghost use Rattle.sqlite.specs.WalFiles.{image_at};
 ghost use Rattle.program.specs.CommandEffects.{CheckDone, CheckFails, Does, Fails, FailsWith, ImportDone, ImportFails};
@@ -9,6 +8,7 @@ ghost use Rattle.program.specs.CommandEffects.{ServeDone, ServeFails, ServerFail
 ghost use Rattle.program.specs.Connections.{Serves};
 ghost use Rattle.program.specs.Outcomes.{IsClosedAnd};
 ghost use Rattle.program.specs.Stores.{IsMade};
+ghost use Rattle.program.specs.Streams.{Prints};
 
 use crate::faults::Fault;
 use crate::files::{Outcome, StoreOutcome, close, find};
@@ -22,6 +22,7 @@ use crate::stores::{close_office, make_office, open_office};
 use crate::streams::write_whole;
 use crate::tasks::Task;
 use crate::words::task;
+use http_desk::streams::{Sink, Source};
 use isad_core::Text;
 use office::{Machine, Settings};
 use sqlite::{FileFrom, Start};
@@ -53,13 +54,13 @@ fn import<S: Start, W: Write>(
     store: &Text,
     source: Text,
     file: &Text,
-    out: &mut W,
+    out: &mut Sink<'_, W>,
     start: S,
 ) -> (Result<(), Fault>, Outcome<S>)
     ensures done { OnOk result.0 (ImportDone ⟦<FileFrom<S> as Disk>⟧ (image_at S.Start) source
-        (W.contents out.old) (W.contents out.new) result.1) }
+        out.old out.new result.1) }
     ensures fault { IfErr result.0 (ImportFails ⟦<FileFrom<S> as Disk>⟧ (image_at S.Start) source
-        (W.contents out.old) (W.contents out.new) result.1) }
+        out.old out.new result.1) }
 {
     let bytes = match file_bytes(rt, alloc, file) {
         Ok(bytes) => bytes,
@@ -82,14 +83,14 @@ fn talk<S: Start, R: Read, W: Write>(
     rt: &HostRuntime,
     alloc: Global,
     store: &Text,
-    reader: &mut R,
-    out: &mut W,
+    reader: &mut Source<'_, R>,
+    out: &mut Sink<'_, W>,
     start: S,
 ) -> (Result<(), Fault>, Outcome<S>)
     ensures done { OnOk result.0 (TalkDone ⟦<FileFrom<S> as Disk>⟧ (image_at S.Start)
-        (R.remaining reader.old) (R.remaining reader.new) (W.contents out.old) (W.contents out.new) result.1) }
+        reader.old reader.new out.old out.new result.1) }
     ensures fault { IfErr result.0 (TalkFails ⟦<FileFrom<S> as Disk>⟧ (image_at S.Start)
-        (R.remaining reader.old) (R.remaining reader.new) (W.contents out.old) (W.contents out.new) result.1) }
+        reader.old reader.new out.old out.new result.1) }
 {
     let mut office = match open_office(rt, alloc, store, start) {
         Ok(office) => office,
@@ -104,10 +105,10 @@ fn listen<W: Write>(
     rt: &HostRuntime,
     alloc: Global,
     port: u16,
-    out: &mut W,
+    out: &mut Sink<'_, W>,
 ) -> Result<LocalPort, Fault>
-    ensures done { OnOk result (Listens port (W.contents out.old) (W.contents out.new)) }
-    ensures fault { IfErr result (ServerFails port (W.contents out.old) (W.contents out.new)) }
+    ensures done { OnOk result (Listens port out.old out.new) }
+    ensures fault { IfErr result (ServerFails port out.old out.new) }
 {
     let Some(local) = LocalPort::listen(rt, port) else {
         return Err(Fault::Net);
@@ -124,11 +125,11 @@ fn serve_on_port<M: Machine, W: Write>(
     port: u16,
     connections: u32,
     office: &mut M,
-    out: &mut W,
+    out: &mut Sink<'_, W>,
 ) -> Result<(), Fault>
-    ensures done { OnOk result (Listens port (W.contents out.old) (W.contents out.new)
+    ensures done { OnOk result (Listens port out.old out.new
         × Serves M.represents M.is_intact M.is_open connections None None office.old office.new true) }
-    ensures fault { IfErr result (λ f. ServerFails port (W.contents out.old) (W.contents out.new) f
+    ensures fault { IfErr result (λ f. ServerFails port out.old out.new f
         × Serves M.represents M.is_intact M.is_open connections None None office.old office.new false) }
     ensures intact { M.is_intact office.new → M.is_intact office.old }
 {
@@ -147,13 +148,13 @@ fn serve_store<S: Start, W: Write>(
     store: &Text,
     port: u16,
     connections: u32,
-    out: &mut W,
+    out: &mut Sink<'_, W>,
     start: S,
 ) -> (Result<(), Fault>, Outcome<S>)
     ensures done { OnOk result.0 (ServeDone ⟦<FileFrom<S> as Disk>⟧ (image_at S.Start) port connections
-        (W.contents out.old) (W.contents out.new) result.1) }
+        out.old out.new result.1) }
     ensures fault { IfErr result.0 (ServeFails ⟦<FileFrom<S> as Disk>⟧ (image_at S.Start) port connections
-        (W.contents out.old) (W.contents out.new) result.1) }
+        out.old out.new result.1) }
 {
     let mut office = match open_office(rt, alloc, store, start) {
         Ok(office) => office,
@@ -168,13 +169,13 @@ fn check<S: Start, W: Write>(
     rt: &HostRuntime,
     alloc: Global,
     store: &Text,
-    out: &mut W,
+    out: &mut Sink<'_, W>,
     start: S,
 ) -> (Result<(), Fault>, Outcome<S>)
     ensures done { OnOk result.0 (CheckDone ⟦<FileFrom<S> as Disk>⟧ (image_at S.Start)
-        (W.contents out.old) (W.contents out.new) result.1) }
+        out.old out.new result.1) }
     ensures fault { IfErr result.0 (CheckFails ⟦<FileFrom<S> as Disk>⟧ (image_at S.Start)
-        (W.contents out.old) (W.contents out.new) result.1) }
+        out.old out.new result.1) }
 {
     match judge_file(rt, alloc, store, start) {
         Ok((judged, files)) => (
@@ -189,9 +190,9 @@ fn check<S: Start, W: Write>(
 }
 
 // Prints that an office was migrated.
-fn tell_migration<W: Write>(out: &mut W) -> Result<(), Fault>
-    ensures done { OnOk result (Appends (W.contents out.old) (W.contents out.new) migrated) }
-    ensures fault { IfErr result (LineFails migrated (W.contents out.old) (W.contents out.new)) }
+fn tell_migration<W: Write>(out: &mut Sink<'_, W>) -> Result<(), Fault>
+    ensures done { OnOk result (Prints migrated out.old out.new) }
+    ensures fault { IfErr result (LineFails migrated out.old out.new) }
 {
     write_whole(out, b"migrated\n")?;
     Ok(())
@@ -202,13 +203,13 @@ fn migrate<S: Start, W: Write>(
     rt: &HostRuntime,
     alloc: Global,
     store: &Text,
-    out: &mut W,
+    out: &mut Sink<'_, W>,
     start: S,
 ) -> (Result<(), Fault>, Outcome<S>)
     ensures done { OnOk result.0 (MigrateDone ⟦<FileFrom<S> as Disk>⟧ (image_at S.Start)
-        (W.contents out.old) (W.contents out.new) result.1) }
+        out.old out.new result.1) }
     ensures fault { IfErr result.0 (MigrateFails ⟦<FileFrom<S> as Disk>⟧ (image_at S.Start)
-        (W.contents out.old) (W.contents out.new) result.1) }
+        out.old out.new result.1) }
 {
     let mut conn = match find(rt, store.as_str(), start) {
         Ok(conn) => conn,
@@ -230,14 +231,14 @@ fn do_task<S: Start, R: Read, W: Write>(
     rt: &HostRuntime,
     alloc: Global,
     task: Task,
-    reader: &mut R,
-    out: &mut W,
+    reader: &mut Source<'_, R>,
+    out: &mut Sink<'_, W>,
     start: S,
 ) -> (Result<(), Fault>, Outcome<S>)
     ensures done { OnOk result.0 (Does ⟦<FileFrom<S> as Disk>⟧ (image_at S.Start) task
-        (R.remaining reader.old) (R.remaining reader.new) (W.contents out.old) (W.contents out.new) result.1) }
+        reader.old reader.new out.old out.new result.1) }
     ensures fault { IfErr result.0 (FailsWith ⟦<FileFrom<S> as Disk>⟧ (image_at S.Start) task
-        (R.remaining reader.old) (R.remaining reader.new) (W.contents out.old) (W.contents out.new) result.1) }
+        reader.old reader.new out.old out.new result.1) }
 {
     match task {
         Task::Preview {
@@ -275,14 +276,14 @@ pub fn run<S: Start, R: Read, W: Write>(
     rt: &HostRuntime,
     alloc: Global,
     words: &[String],
-    reader: &mut R,
-    out: &mut W,
+    reader: &mut Source<'_, R>,
+    out: &mut Sink<'_, W>,
     start: S,
 ) -> (Result<(), Fault>, Outcome<S>)
     ensures done { OnOk result.0 (IsDone ⟦<FileFrom<S> as Disk>⟧ (image_at S.Start) (map string_bytes words.now)
-        (R.remaining reader.old) (R.remaining reader.new) (W.contents out.old) (W.contents out.new) result.1) }
+        reader.old reader.new out.old out.new result.1) }
     ensures fault { IfErr result.0 (Fails ⟦<FileFrom<S> as Disk>⟧ (image_at S.Start) (map string_bytes words.now)
-        (R.remaining reader.old) (R.remaining reader.new) (W.contents out.old) (W.contents out.new) result.1) }
+        reader.old reader.new out.old out.new result.1) }
 {
     match task(alloc, words) {
         Ok(task) => do_task(rt, alloc, task, reader, out, start),

@@ -12,6 +12,7 @@ ghost use Rattle.program.specs.CommandEffects.{IsBusy, ReplyFails, ReplyPrinted}
 use crate::faults::{Fault, refused};
 use crate::streams::write_line;
 use catalogue_store::Places;
+use http_desk::streams::Sink;
 use isad_core::{List, Text};
 use office::{Command, Office, Reply};
 use sqlite::Alter;
@@ -47,10 +48,10 @@ pub fn take_in<P: Places, S: Alter>(
 }
 
 /// Prints what was done, or returns the refusal as a fault.
-pub fn tell_reply<W: Write>(alloc: Global, reply: Reply, out: &mut W) -> Result<(), Fault>
+pub fn tell_reply<W: Write>(alloc: Global, reply: Reply, out: &mut Sink<'_, W>) -> Result<(), Fault>
     requires { reply.json ≡ reply_text reply.done }
-    ensures done { OnOk result (ReplyPrinted reply.done (W.contents out.old) (W.contents out.new)) }
-    ensures fault { IfErr result (ReplyFails reply.done (W.contents out.old) (W.contents out.new)) }
+    ensures done { OnOk result (ReplyPrinted reply.done out.old out.new) }
+    ensures fault { IfErr result (ReplyFails reply.done out.old out.new) }
 {
     match reply.done {
         Ok(_) => {

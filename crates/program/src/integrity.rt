@@ -14,6 +14,7 @@ ghost use Rattle.program.specs.CommandEffects.{JudgmentFails, JudgmentPrinted};
 use crate::faults::Fault;
 use crate::files::{ClosedFiles, FailedOpening, close, find};
 use crate::streams::write_whole;
+use http_desk::streams::Sink;
 use isad_core::Text;
 use nested_sets::SpanPlaces;
 use office::{Office, OpenFault};
@@ -60,10 +61,10 @@ pub fn judge_file<S: Start>(
 pub fn tell_judgment<W: Write>(
     alloc: Global,
     judged: Option<OpenFault>,
-    out: &mut W,
+    out: &mut Sink<'_, W>,
 ) -> Result<(), Fault>
-    ensures done { OnOk result (JudgmentPrinted judged (W.contents out.old) (W.contents out.new)) }
-    ensures fault { IfErr result (JudgmentFails judged (W.contents out.old) (W.contents out.new)) }
+    ensures done { OnOk result (JudgmentPrinted judged out.old out.new) }
+    ensures fault { IfErr result (JudgmentFails judged out.old out.new) }
 {
     match judged {
         None => {

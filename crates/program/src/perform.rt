@@ -9,6 +9,7 @@ use crate::commands::run;
 use crate::faults::Fault;
 use crate::files::Outcome;
 use crate::streams::write_whole;
+use http_desk::streams::{Sink, Source};
 use sqlite::{FileFrom, Start};
 use sqlite_disk::Disk;
 use std::alloc::Global;
@@ -20,14 +21,14 @@ pub fn perform<S: Start, R: Read, W: Write, E: Write>(
     rt: &HostRuntime,
     alloc: Global,
     words: &[String],
-    reader: &mut R,
-    out: &mut W,
-    err: &mut E,
+    reader: &mut Source<'_, R>,
+    out: &mut Sink<'_, W>,
+    err: &mut Sink<'_, E>,
     start: S,
 ) -> (u8, Outcome<S>)
     ensures performs { Performs ⟦<FileFrom<S> as Disk>⟧ (image_at S.Start) (map string_bytes words.now)
-        (R.remaining reader.old) (R.remaining reader.new) (W.contents out.old) (W.contents out.new)
-        (E.contents err.old) (E.contents err.new) result.1 result.0 }
+        reader.old reader.new out.old out.new
+        err.old err.new result.1 result.0 }
     ensures status { result.0 ≤ 3 }
 {
     let (done, outcome) = run(rt, alloc, words, reader, out, start);
@@ -40,9 +41,9 @@ pub fn perform<S: Start, R: Read, W: Write, E: Write>(
 
 /// Prints on standard error why a command was not done, and returns the exit status. The status is the same whether
 /// or not standard error takes the text.
-pub fn tell<E: Write>(fault: &Fault, err: &mut E) -> u8
+pub fn tell<E: Write>(fault: &Fault, err: &mut Sink<'_, E>) -> u8
     ensures status { result ≡ status_of fault.now }
-    ensures told { Tells (E.contents err.old) (E.contents err.new) (message_of fault.now) }
+    ensures told { Tells err.old err.new (message_of fault.now) }
 {
     let _ = write_whole(err, fault.message().as_bytes());
     fault.status()

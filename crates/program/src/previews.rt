@@ -1,13 +1,13 @@
 //! Prints the finding aids of a file.
-ghost use Rattle.std.specs.Prelude.{ℕ, List, IfErr, IfOk, OnOk};
-ghost use Rattle.std.specs.Io.KnownBytes.{Consumes};
+ghost use Rattle.std.specs.Prelude.{◌≡◌, IfErr, IfOk, OnOk};
 ghost use Rattle.std.specs.Option.{option_copied};
 ghost use Rattle.program.specs.Faults.{RefusesFile};
-ghost use Rattle.program.specs.CommandEffects.{PreviewDone, PreviewFails, Reads};
+ghost use Rattle.program.specs.CommandEffects.{PreviewDone, PreviewFails, ReadingFails, Reads, ReadsPart};
 
 use crate::faults::{Fault, refused};
 use crate::streams::{ReadFault, read_to_end, write_whole};
 use atom_csv::FileFault;
+use http_desk::streams::{Sink, Source};
 use isad_core::Text;
 use office::{Refusal, preview};
 use std::alloc::Global;
@@ -18,7 +18,7 @@ use std::rt::Files;
 /// Reads the file at this path.
 pub fn file_bytes<F: Files>(rt: &F, alloc: Global, path: &Text) -> Result<Vec<u8>, ReadFault> {
     match File::open(rt, path.as_str()) {
-        Ok(mut file) => read_to_end(alloc, &mut file),
+        Ok(mut file) => read_to_end(alloc, &mut Source::new(&mut file)),
         Err(_) => Err(ReadFault::Failed),
     }
 }
@@ -28,11 +28,13 @@ fn read_file<F: Files, R: Read>(
     rt: &F,
     alloc: Global,
     path: Option<&Text>,
-    reader: &mut R,
+    reader: &mut Source<'_, R>,
 ) -> Result<Vec<u8>, ReadFault>
     ensures reads { IfOk result (λ v.
-        Reads (option_copied path.entry) (R.remaining reader.old) (R.remaining reader.new) v.items) }
-    ensures front { (gone : List ℕ) × Consumes (R.remaining reader.old) (R.remaining reader.new) gone }
+        Reads (option_copied path.entry) reader.old reader.new v.items) }
+    ensures front { ReadsPart (option_copied path.entry) reader.old reader.new }
+    ensures fails { IfErr result (λ e. e ≡ ReadFault.Failed
+        → ReadingFails (option_copied path.entry) reader.old reader.new) }
 {
     match path {
         Some(path) => file_bytes(rt, alloc, path),
@@ -57,13 +59,13 @@ pub fn print_preview<F: Files, R: Read, W: Write>(
     country: &Text,
     repo: &Text,
     path: Option<&Text>,
-    reader: &mut R,
-    out: &mut W,
+    reader: &mut Source<'_, R>,
+    out: &mut Sink<'_, W>,
 ) -> Result<(), Fault>
     ensures done { OnOk result (PreviewDone country.now repo.now (option_copied path.entry)
-        (R.remaining reader.old) (R.remaining reader.new) (W.contents out.old) (W.contents out.new)) }
+        reader.old reader.new out.old out.new) }
     ensures fault { IfErr result (PreviewFails country.now repo.now (option_copied path.entry)
-        (R.remaining reader.old) (R.remaining reader.new) (W.contents out.old) (W.contents out.new)) }
+        reader.old reader.new out.old out.new) }
 {
     let file = read_file(rt, alloc, path, reader)?;
     match preview(alloc, file.as_slice(), country.as_str(), repo.as_str()) {

@@ -1,11 +1,12 @@
 //! Sessions with an office over streams.
 ghost use Rattle.std.specs.Prelude.{◌≡◌, IfErr, OnOk};
-ghost use Rattle.http_desk.specs.Exchanges.{AtEndIf, Talks};
+ghost use Rattle.http_desk.specs.Exchanges.{Talks};
 ghost use Rattle.program.specs.CommandEffects.{EndsWell, TrialDone, TrialFails, ended_by};
+ghost use Rattle.program.specs.Streams.{AgreesWithCalls};
 
 use crate::faults::{Break, Fault};
 use http_desk::session::talk;
-use http_desk::session_end::{Ended, Next};
+use http_desk::session_end::Ended;
 use http_desk::streams::{Sink, Source};
 use nested_sets::SpanPlaces;
 use office::{Machine, Office, Settings};
@@ -27,65 +28,45 @@ fn after(ended: Ended) -> Result<(), Fault>
     }
 }
 
-// Holds one session over a reader and a writer.
-fn hold_session<M: Machine, R: Read, W: Write>(
-    alloc: Global,
-    reader: &mut R,
-    out: &mut W,
-    office: &mut M,
-) -> Ended
-    ensures session { Talks M.represents M.is_intact M.is_open (R.remaining reader.old) (R.remaining reader.new)
-        (W.contents out.old) (W.contents out.new) office.old result office.new }
-    ensures intact { M.is_intact office.new → M.is_intact office.old }
-    ensures was_open { M.is_intact office.new → M.is_open office.new → M.is_open office.old }
-    ensures at_end { AtEndIf (R.remaining reader.new) (Next.Ends result) }
-{
-    let mut source = Source::new(reader);
-    let mut sink = Sink::new(out);
-    let ended = talk(alloc, &mut source, &mut sink, office);
-    let _reader = source.into_reader();
-    let _writer = sink.into_writer();
-    ended
-}
-
 /// Answers the requests of one session on an office.
 pub fn talk_with<M: Machine, R: Read, W: Write>(
     alloc: Global,
     office: &mut M,
-    reader: &mut R,
-    out: &mut W,
+    reader: &mut Source<'_, R>,
+    out: &mut Sink<'_, W>,
 ) -> Result<(), Fault>
-    ensures done { OnOk result ((end : Ended) × EndsWell end × AtEndIf (R.remaining reader.new) (Next.Ends end)
-        × Talks M.represents M.is_intact M.is_open (R.remaining reader.old) (R.remaining reader.new)
-        (W.contents out.old) (W.contents out.new) office.old end office.new) }
+    ensures done { OnOk result ((end : Ended) × EndsWell end
+        × AgreesWithCalls reader.old reader.new out.old out.new end
+        × Talks M.represents M.is_intact M.is_open reader.old.bytes reader.new.bytes
+        out.old.bytes out.new.bytes office.old end office.new) }
     ensures broken { IfErr result (λ f. (broken : Break) × (f ≡ Fault.Session broken)
-        × AtEndIf (R.remaining reader.new) (Next.Ends (ended_by broken))
-        × Talks M.represents M.is_intact M.is_open (R.remaining reader.old) (R.remaining reader.new)
-        (W.contents out.old) (W.contents out.new) office.old (ended_by broken) office.new) }
+        × AgreesWithCalls reader.old reader.new out.old out.new (ended_by broken)
+        × Talks M.represents M.is_intact M.is_open reader.old.bytes reader.new.bytes
+        out.old.bytes out.new.bytes office.old (ended_by broken) office.new) }
     ensures intact { M.is_intact office.new → M.is_intact office.old }
     ensures was_open { M.is_intact office.new → M.is_open office.new → M.is_open office.old }
 {
-    after(hold_session(alloc, reader, out, office))
+    after(talk(alloc, reader, out, office))
 }
 
 /// Answers the requests of one session on a new office in memory.
 pub fn try_office<R: Read, W: Write>(
     alloc: Global,
     settings: Settings,
-    reader: &mut R,
-    out: &mut W,
+    reader: &mut Source<'_, R>,
+    out: &mut Sink<'_, W>,
 ) -> Result<(), Fault>
-    ensures done { OnOk result (TrialDone settings (R.remaining reader.old) (R.remaining reader.new)
-        (W.contents out.old) (W.contents out.new)) }
-    ensures fault { IfErr result (TrialFails settings (R.remaining reader.old) (R.remaining reader.new)
-        (W.contents out.old) (W.contents out.new)) }
+    ensures done { OnOk result (TrialDone settings reader.old reader.new
+        out.old out.new) }
+    ensures fault { IfErr result (TrialFails settings reader.old reader.new
+        out.old out.new) }
 {
     let conn = Connection::open_in_memory(alloc)?;
     let mut office = match Office::<SpanPlaces, MemStore>::create(conn, settings) {
         Ok(office) => office,
         Err((fault, _)) => return Err(Fault::from(fault)),
     };
-    let ended = hold_session(alloc, reader, out, &mut office);
+    let ended = talk(alloc, reader, out, &mut office);
     let _ = office.into_connection();
     after(ended)
 }

@@ -3,12 +3,14 @@
 //! At most 4294967295 reads are made of a stream, and as many writes. An interrupted call counts and
 //! is tried again. If more calls would be needed, the stream has failed. Flushes are counted
 //! separately.
-ghost use Rattle.std.specs.Prelude.{◌≡◌, ◌≤◌, ◌++◌, ℕ, List, [], IfOk, OnOk, codes};
+ghost use Rattle.std.specs.Prelude.{◌≡◌, ◌≤◌, ◌+◌, ◌++◌, ℕ, List, [], true, IfErr, IfOk, OnErr, OnOk, codes};
 ghost use Rattle.std.specs.Io.KnownBytes.{Appends, Consumes, IsAtEnd};
-ghost use Rattle.program.specs.Streams.{IsFront, most_calls};
+ghost use Rattle.http_desk.specs.Streams.{most_calls};
+ghost use Rattle.program.specs.Streams.{HaveMade, IsFront, Prints, PrintsPart, StreamFails};
 
+use http_desk::streams::{Sink, Source, Undone};
 use std::alloc::{AllocError, Global};
-use std::io::{ErrorKind, Read, Write};
+use std::io::{Read, Write};
 
 /// Why a stream was not read to its end.
 #[derive(Clone, Copy, Debug, PartialEq, Eq, Drop)]
@@ -44,44 +46,49 @@ pub fn most_calls() -> u32
 }
 
 /// Reads a stream to its end.
-pub fn read_to_end<R: Read>(alloc: Global, reader: &mut R) -> Result<Vec<u8>, ReadFault>
+pub fn read_to_end<R: Read>(
+    alloc: Global,
+    reader: &mut Source<'_, R>,
+) -> Result<Vec<u8>, ReadFault>
     // The bytes are all that the reader had left.
-    ensures bytes { IfOk result (λ v. Consumes (R.remaining reader.old) (R.remaining reader.new) v.items) }
-    ensures end { OnOk result (IsAtEnd (R.remaining reader.new)) }
+    ensures bytes { IfOk result (λ v. Consumes reader.old.bytes reader.new.bytes v.items) }
+    ensures end { OnOk result (IsAtEnd reader.new.bytes) }
     // In any case, only a front of what the reader had left was read.
-    ensures front { (gone : List ℕ) × Consumes (R.remaining reader.old) (R.remaining reader.new) gone }
+    ensures front { (gone : List ℕ) × Consumes reader.old.bytes reader.new.bytes gone }
+    ensures fails { IfErr result (λ e. e ≡ ReadFault.Failed → StreamFails most_calls reader.old reader.new) }
 {
     read_within(alloc, reader, most_calls())
 }
 
 // Reads a stream to its end in at most `reads` reads.
-pub fn read_within<R: Read>(alloc: Global, reader: &mut R, reads: u32) -> Result<Vec<u8>, ReadFault>
-    ensures bytes { IfOk result (λ v. Consumes (R.remaining reader.old) (R.remaining reader.new) v.items) }
-    ensures end { OnOk result (IsAtEnd (R.remaining reader.new)) }
-    ensures front { (gone : List ℕ) × Consumes (R.remaining reader.old) (R.remaining reader.new) gone }
+pub fn read_within<R: Read>(
+    alloc: Global,
+    reader: &mut Source<'_, R>,
+    reads: u32,
+) -> Result<Vec<u8>, ReadFault>
+    ensures bytes { IfOk result (λ v. Consumes reader.old.bytes reader.new.bytes v.items) }
+    ensures end { OnOk result (IsAtEnd reader.new.bytes) }
+    ensures front { (gone : List ℕ) × Consumes reader.old.bytes reader.new.bytes gone }
+    ensures fails { IfErr result (λ e. e ≡ ReadFault.Failed → StreamFails reads reader.old reader.new) }
 {
     let mut bytes = Vec::new(alloc);
     let mut chunk = [0u8; CHUNK];
+    reader.begin_stream();
     for _read in 0..reads {
         match reader.read(&mut chunk) {
             Ok(0) => return Ok(bytes),
             Ok(n) => bytes.extend_from_slice(&chunk[..n])?,
-            Err(error) => {
-                if error.kind() != ErrorKind::Interrupted {
-                    return Err(ReadFault::Failed);
-                }
-            }
+            Err(Undone::Failed) => return Err(ReadFault::Failed),
+            Err(Undone::Interrupted) => {}
         }
     }
     Err(ReadFault::Failed)
 }
 
 /// Writes the bytes and flushes. Makes no call if there are no bytes.
-pub fn write_whole<W: Write>(writer: &mut W, bytes: &[u8]) -> Result<(), WriteFault>
-    ensures whole { OnOk result (Appends (W.contents writer.old) (W.contents writer.new) bytes.now) }
-    // In any case, only a front of the bytes was written.
-    ensures front { (written : List ℕ) ×
-        IsFront written bytes.now × Appends (W.contents writer.old) (W.contents writer.new) written }
+pub fn write_whole<W: Write>(writer: &mut Sink<'_, W>, bytes: &[u8]) -> Result<(), WriteFault>
+    ensures whole { OnOk result (Prints bytes.now writer.old writer.new) }
+    ensures part { OnErr result (PrintsPart bytes.now writer.old writer.new) }
 {
     if bytes.is_empty() {
         return Ok(());
@@ -91,20 +98,25 @@ pub fn write_whole<W: Write>(writer: &mut W, bytes: &[u8]) -> Result<(), WriteFa
 }
 
 /// Writes the bytes and a line feed, whose writes are counted together, and flushes.
-pub fn write_line<W: Write>(writer: &mut W, bytes: &[u8]) -> Result<(), WriteFault>
-    ensures whole { OnOk result (Appends (W.contents writer.old) (W.contents writer.new) (bytes.now ++ codes "\n")) }
-    ensures front { (written : List ℕ) × IsFront written (bytes.now ++ codes "\n")
-        × Appends (W.contents writer.old) (W.contents writer.new) written }
+pub fn write_line<W: Write>(writer: &mut Sink<'_, W>, bytes: &[u8]) -> Result<(), WriteFault>
+    ensures whole { OnOk result (Prints (bytes.now ++ codes "\n") writer.old writer.new) }
+    ensures part { OnErr result (PrintsPart (bytes.now ++ codes "\n") writer.old writer.new) }
 {
     line_within(writer, bytes, most_calls())?;
     flush(writer)
 }
 
 // Writes the bytes and a line feed in at most `writes` writes in all.
-pub fn line_within<W: Write>(writer: &mut W, bytes: &[u8], writes: u32) -> Result<(), WriteFault>
-    ensures whole { OnOk result (Appends (W.contents writer.old) (W.contents writer.new) (bytes.now ++ codes "\n")) }
+pub fn line_within<W: Write>(
+    writer: &mut Sink<'_, W>,
+    bytes: &[u8],
+    writes: u32,
+) -> Result<(), WriteFault>
+    ensures whole { OnOk result (Appends writer.old.bytes writer.new.bytes (bytes.now ++ codes "\n")) }
     ensures front { (written : List ℕ) × IsFront written (bytes.now ++ codes "\n")
-        × Appends (W.contents writer.old) (W.contents writer.new) written }
+        × Appends writer.old.bytes writer.new.bytes written }
+    ensures fails { OnErr result (StreamFails writes writer.old writer.new) }
+    ensures made { HaveMade 0 writer.old writer.new }
 {
     let left = write_within(writer, bytes, writes)?;
     write_within(writer, b"\n", left)?;
@@ -112,25 +124,28 @@ pub fn line_within<W: Write>(writer: &mut W, bytes: &[u8], writes: u32) -> Resul
 }
 
 // Writes the bytes in at most `writes` writes, and returns how many of these are left.
-pub fn write_within<W: Write>(writer: &mut W, bytes: &[u8], writes: u32) -> Result<u32, WriteFault>
-    ensures whole { OnOk result (Appends (W.contents writer.old) (W.contents writer.new) bytes.now) }
-    ensures left { IfOk result (λ left. left ≤ writes) }
-    ensures front { (written : List ℕ) ×
-        IsFront written bytes.now × Appends (W.contents writer.old) (W.contents writer.new) written }
+pub fn write_within<W: Write>(
+    writer: &mut Sink<'_, W>,
+    bytes: &[u8],
+    writes: u32,
+) -> Result<u32, WriteFault>
+    ensures whole { OnOk result (Appends writer.old.bytes writer.new.bytes bytes.now) }
+    ensures left { IfOk result (λ left. (made : ℕ) × (made + left ≡ writes) × HaveMade made writer.old writer.new) }
+    ensures front { (written : List ℕ) × IsFront written bytes.now
+        × Appends writer.old.bytes writer.new.bytes written }
+    ensures fails { OnErr result (StreamFails writes writer.old writer.new) }
+    ensures made { HaveMade 0 writer.old writer.new }
 {
     let mut rest = bytes;
+    writer.begin_stream();
     for write in 0..writes {
         if rest.is_empty() {
             return Ok(writes - write);
         }
         match writer.write(rest) {
-            Ok(0) => return Err(WriteFault),
             Ok(n) => rest = &rest[n..],
-            Err(error) => {
-                if error.kind() != ErrorKind::Interrupted {
-                    return Err(WriteFault);
-                }
-            }
+            Err(Undone::Failed) => return Err(WriteFault),
+            Err(Undone::Interrupted) => {}
         }
     }
     if rest.is_empty() {
@@ -141,17 +156,17 @@ pub fn write_within<W: Write>(writer: &mut W, bytes: &[u8], writes: u32) -> Resu
 }
 
 // Flushes what was written.
-fn flush<W: Write>(writer: &mut W) -> Result<(), WriteFault>
-    ensures { Appends (W.contents writer.old) (W.contents writer.new) [] }
+fn flush<W: Write>(writer: &mut Sink<'_, W>) -> Result<(), WriteFault>
+    ensures nothing { Appends writer.old.bytes writer.new.bytes [] }
+    ensures flushed { OnOk result (writer.new.flushed ≡ true) }
+    ensures fails { OnErr result (StreamFails most_calls writer.old writer.new) }
 {
+    writer.begin_stream();
     for _flush in 0..most_calls() {
         match writer.flush() {
             Ok(()) => return Ok(()),
-            Err(error) => {
-                if error.kind() != ErrorKind::Interrupted {
-                    return Err(WriteFault);
-                }
-            }
+            Err(Undone::Failed) => return Err(WriteFault),
+            Err(Undone::Interrupted) => {}
         }
     }
     Err(WriteFault)

@@ -1,5 +1,6 @@
 use crate::fakes::{Page, Pieces, Spoken};
 use crate::printed_help::HELP;
+use http_desk::streams::{Sink, Source};
 use program::perform::perform;
 use program::tasks::{Task, TaskFault};
 use program::words::{given, task};
@@ -89,13 +90,13 @@ pub fn expect<R: Abort + Host>(
 ) -> Result<(), Fail> {
     let mut err = Page::new(Vec::new(alloc));
     let said = words_of(alloc, words)?;
-    let (status, _files) = perform(
+    let (status, _outcome) = perform(
         rt.host(),
         alloc,
         said.as_slice(),
-        &mut reader,
-        &mut out,
-        &mut err,
+        &mut Source::new(&mut reader),
+        &mut Sink::new(&mut out),
+        &mut Sink::new(&mut err),
         Wary,
     );
     let (wanted_status, wanted_out, wanted_err) = wanted;
@@ -256,13 +257,13 @@ fn a_status_stands_without_its_text(rt: HostRuntime) -> Result<(), Fail> {
         let mut out = Page::new(Vec::new(alloc));
         let mut err = Page::narrow(Vec::new(alloc), n);
         let mut reader = Pieces::of(b"");
-        let (status, _files) = perform(
+        let (status, _outcome) = perform(
             &rt,
             alloc,
             words.as_slice(),
-            &mut reader,
-            &mut out,
-            &mut err,
+            &mut Source::new(&mut reader),
+            &mut Sink::new(&mut out),
+            &mut Sink::new(&mut err),
             Wary,
         );
         assert_eq!(rt; status, 1);

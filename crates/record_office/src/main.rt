@@ -1,25 +1,28 @@
 //! The program `record_office`.
 #![tactic(auto)]
 
+use http_desk::streams::{Sink, Source};
 use program::{perform, words};
 use sqlite::Wary;
 use std::process::ExitCode;
 
 fn main(rt: HostRuntime) -> ExitCode {
+    let mut stderr = rt.stderr();
+    let mut err = Sink::new(&mut stderr);
     let status = match words::given(&rt, rt.alloc()) {
         Ok(words) => {
-            let (status, _files) = perform::perform(
+            let (status, _outcome) = perform::perform(
                 &rt,
                 rt.alloc(),
                 words.as_slice(),
-                &mut rt.stdin(),
-                &mut rt.stdout(),
-                &mut rt.stderr(),
+                &mut Source::new(&mut rt.stdin()),
+                &mut Sink::new(&mut rt.stdout()),
+                &mut err,
                 Wary,
             );
             status
         }
-        Err(fault) => perform::tell(&fault.into(), &mut rt.stderr()),
+        Err(fault) => perform::tell(&fault.into(), &mut err),
     };
     ExitCode::from(status)
 }

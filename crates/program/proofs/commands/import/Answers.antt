@@ -1,11 +1,10 @@
-use Rattle.std.proofs.Common.{inl, inr}
-use Rattle.std.proofs.KnownBytes.{Appends-nil}
+use Rattle.std.proofs.Common.{inl, inr, refl}
 use Rattle.program.specs.Stores.{HasTakenIn, WasBusy}
 use Rattle.program.proofs.StoreLemmas.{import_done, import_failed}
 use Rattle.program.proofs.commands.import.Goals as goal
 
 pub returns-in-Err-open_office-clause-fault : goal.returns-in-Err-open_office-clause-fault
-returns-in-Err-open_office-clause-fault g c = record { why = inr (inl (c.in-Err-open_office.ensures.fault, Appends-nil _)) }
+returns-in-Err-open_office-clause-fault g c = record { why = inr (inl (c.in-Err-open_office.ensures.fault, refl)) }
 
 pub returns-in-Err-taken-clause-fault : goal.returns-in-Err-taken-clause-fault
 returns-in-Err-taken-clause-fault g c =
@@ -18,7 +17,7 @@ returns-in-Err-taken-clause-fault g c =
       crash = c.take_in-taken.ensures.crash;
       closed = c.close_office-files.ensures;
     } in
-    record { why = inr (inr (inl (c.in-Err-taken.ensures.busy, Appends-nil _, busy))) }
+    record { why = inr (inr (inl (c.in-Err-taken.ensures.busy, refl, busy))) }
 
 pub returns-in-Ok-taken-clause-done : goal.returns-in-Ok-taken-clause-done
 returns-in-Ok-taken-clause-done g c =

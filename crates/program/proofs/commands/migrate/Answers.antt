@@ -1,5 +1,4 @@
-use Rattle.std.proofs.Common.{inl, inr}
-use Rattle.std.proofs.KnownBytes.{Appends-nil}
+use Rattle.std.proofs.Common.{inl, inr, refl}
 use Rattle.program.proofs.StoreLemmas.{failed_with, held_in, on_ok_with}
 use Rattle.program.specs.Stores.{IsBroughtOver, IsNotBroughtOver}
 use Rattle.program.proofs.commands.migrate.Goals as goal
@@ -43,4 +42,4 @@ returns-in-Err-brought-clause-fault g c =
       crash = c.migrate-brought.ensures.crash;
       closed = c.close-files.ensures (λ clean. (c.in-Err-brought.ensures.back clean).ended);
     } in
-    record { why = inr (inl (stays, Appends-nil _)) }
+    record { why = inr (inl (stays, refl)) }

@@ -1,10 +1,9 @@
-use Rattle.std.proofs.Common.{inl}
-use Rattle.std.proofs.KnownBytes.{Appends-nil, Consumes-nil}
+use Rattle.std.proofs.Common.{inl, refl}
 use Rattle.program.proofs.StoreLemmas.{talk_broken, talk_done}
 use Rattle.program.proofs.commands.talk.Goals as goal
 
 pub returns-in-Err-clause-fault : goal.returns-in-Err-clause-fault
-returns-in-Err-clause-fault g c = inl (Consumes-nil _, (c.in-Err.ensures.fault, Appends-nil _))
+returns-in-Err-clause-fault g c = inl (refl, (c.in-Err.ensures.fault, refl))
 
 pub returns-clause-done : goal.returns-clause-done
 returns-clause-done g c =

@@ -1,14 +1,23 @@
 use Rattle.std.proofs.Common.{subst}
-use Rattle.std.proofs.lemmas.Result.{IfErr-weaker}
-use Rattle.http_desk.specs.Exchanges.{AtEndIf, Talks}
-use Rattle.http_desk.specs.declared.session_end.Next.TheVariants.{Ends}
+use Rattle.std.proofs.lemmas.Result.{IfErr-weaker, on_ok_weaker}
+use Rattle.http_desk.specs.Exchanges.{Talks}
+use Rattle.program.proofs.Agreements.{agreed}
+use Rattle.program.specs.Streams.{AgreesWithCalls}
 use Rattle.program.proofs.sessions.talk_with.Goals as goal
+
+pub returns-clause-done : goal.returns-clause-done
+returns-clause-done g c =
+    let agrees = agreed c.args.reader.now c.talk.new.reader c.args.out.now c.talk.new.writer c.talk.result c.talk.ensures.at_end c.talk.ensures.flushed
+        c.talk.ensures.read_fault c.talk.ensures.write_fault c.talk.ensures.bound c.talk.ensures.used_up in
+    on_ok_weaker c.after.result (λ well. (c.talk.result, well, agrees, c.talk.ensures.session)) c.after.ensures.well
 
 pub returns-clause-broken : goal.returns-clause-broken
 returns-clause-broken g c =
+    let agrees = agreed c.args.reader.now c.talk.new.reader c.args.out.now c.talk.new.writer c.talk.result c.talk.ensures.at_end c.talk.ensures.flushed
+        c.talk.ensures.read_fault c.talk.ensures.write_fault c.talk.ensures.bound c.talk.ensures.used_up in
     IfErr-weaker c.after.result _ _ (λ f (broken, is, ended). (
       broken,
       is,
-      subst (λ e. AtEndIf (g.R.Read.remaining c.hold_session.new.reader) (Ends e)) ended c.hold_session.ensures.at_end,
-      subst (λ e. Talks g.M.Machine.represents g.M.Machine.is_intact g.M.Machine.is_open (g.R.Read.remaining c.args.reader.now) (g.R.Read.remaining c.hold_session.new.reader) (g.W.Write.contents c.args.out.now) (g.W.Write.contents c.hold_session.new.out) c.args.office.now e c.hold_session.new.office) ended c.hold_session.ensures.session,
+      subst (AgreesWithCalls c.args.reader.now c.talk.new.reader c.args.out.now c.talk.new.writer) ended agrees,
+      subst (λ e. Talks g.M.Machine.represents g.M.Machine.is_intact g.M.Machine.is_open c.args.reader.now.bytes c.talk.new.reader.bytes c.args.out.now.bytes c.talk.new.writer.bytes c.args.office.now e c.talk.new.office) ended c.talk.ensures.session,
     )) c.after.ensures.broken

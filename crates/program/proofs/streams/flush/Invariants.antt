@@ -1,7 +1,12 @@
--- nothing is written
-use Rattle.std.proofs.Common.{[]}
+-- nothing is written, and each turn was a call
+use Rattle.std.proofs.Common.{◌≡◌, ◌+◌, []}
 use Rattle.std.specs.Io.KnownBytes.{Appends}
+use Rattle.program.specs.Streams.{HaveMade}
 use Rattle.program.proofs.streams.flush.Given as goal
 
 abbrev pub invariant-loop-flush : goal.invariant-loop-flush
-invariant-loop-flush g l = Appends (g.W.Write.contents l.initial.writer) (g.W.Write.contents l.writer) []
+invariant-loop-flush g l = record {
+  nothing : Appends l.initial.writer.bytes l.writer.bytes [];
+  made : HaveMade l._flush l.initial.writer l.writer;
+  turns : l.writer.turns + l._flush ≡ 4294967295;
+}

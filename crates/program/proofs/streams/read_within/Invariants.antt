@@ -1,6 +1,12 @@
--- what is gone from the reader stands in `bytes`
+-- what is gone from the reader stands in `bytes`, and each turn was a call
+use Rattle.std.proofs.Common.{◌≡◌, ◌+◌}
 use Rattle.std.specs.Io.KnownBytes.{Consumes}
+use Rattle.program.specs.Streams.{HaveMade}
 use Rattle.program.proofs.streams.read_within.Given as goal
 
 abbrev pub invariant-loop-read : goal.invariant-loop-read
-invariant-loop-read g l = Consumes (g.R.Read.remaining l.initial.reader) (g.R.Read.remaining l.reader) l.bytes.items
+invariant-loop-read g l = record {
+  came : Consumes l.initial.reader.bytes l.reader.bytes l.bytes.items;
+  made : HaveMade l._read l.initial.reader l.reader;
+  turns : l.reader.turns + l._read ≡ 4294967295;
+}

@@ -1,22 +1,29 @@
-use Rattle.std.proofs.Common.{◌∙◌, ◌++◌, List, ℕ, ap, sym, take}
-use Rattle.std.proofs.KnownBytes.{Appends-kept, Appends-trans}
-use Rattle.program.proofs.streams.write_within.Goals as goal
-use Rattle.program.proofs.streams.write_within.Goals.{in-Ok, in-Err+else-ne}
+use Rattle.std.proofs.Common.{◌∙◌, ◌++◌, ◌+◌, List, ℕ, ap, append-nil, arith, subst, sym, take}
+use Rattle.std.specs.Io.KnownBytes.{Appends}
+use Rattle.std.proofs.KnownBytes.{Appends-trans}
 use Rattle.http_desk.proofs.Sends.{moves_front}
+use Rattle.program.proofs.Calls.{made_one}
+use Rattle.program.proofs.streams.write_within.Goals as goal
+use Rattle.program.proofs.streams.write_within.Goals.{in-Ok, in-Err-Interrupted}
 
 pub loop-write-preserved : goal.loop-write-preserved
 loop-write-preserved g c =
-    let (done, split, appended) = c.loop-write.invariant in
+    let (done, split, appended) = c.loop-write.invariant.came in
     let rest = c.loop-write.rest.now in
-    elim c.match-write.branch [
-      | in-Ok w ↦ (
-        done ++ take w.in-Ok.n rest,
-        moves_front _ done rest w.in-Ok.n split ∙ ap (λ (l : List ℕ). (done ++ take w.in-Ok.n rest) ++ l) (sym (ap (λ b. b.now) w.rest-is)),
-        Appends-trans _ _ _ _ _ appended w.in-Ok.ensures.bytes,
-      )
-      | in-Err+else-ne w ↦ (
-        done,
-        split ∙ ap (λ (l : List ℕ). done ++ l) (sym (ap (λ b. b.now) w.rest-is)),
-        Appends-kept _ _ _ _ appended w.in-Err.ensures.bytes,
-      )
-    ]
+    record {
+      came = elim c.match-write.branch [
+        | in-Ok w ↦
+            let (some, within, added) = w.in-Ok.ensures.took in (
+              done ++ take w.in-Ok.n rest,
+              moves_front _ done rest w.in-Ok.n split ∙ ap (λ (l : List ℕ). (done ++ take w.in-Ok.n rest) ++ l) (sym (ap (λ b. b.now) w.rest-is)),
+              Appends-trans _ _ _ _ _ appended added,
+            )
+        | in-Err-Interrupted w ↦ (
+            done,
+            split ∙ ap (λ (l : List ℕ). done ++ l) (sym (ap (λ b. b.now) w.rest-is)),
+            subst (Appends c.begin_stream.new.self.bytes c.write.new.self.bytes) (append-nil done) (Appends-trans _ _ _ _ _ appended w.in-Err-Interrupted.ensures.nothing),
+          )
+      ];
+      made = made_one c.loop-write.write c.begin_stream.new.self c.loop-write.writer c.write.new.self c.loop-write.invariant.made c.write.ensures.calls;
+      turns = omega (arith, c.write.ensures.turns, c.loop-write.invariant.turns);
+    }

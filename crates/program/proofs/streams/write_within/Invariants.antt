@@ -1,7 +1,12 @@
--- what is gone from `rest` was written
-use Rattle.std.proofs.Common.{◌≡◌, ◌++◌, ℕ, List}
+-- what is gone from `rest` was written, and each turn was a call
+use Rattle.std.proofs.Common.{◌≡◌, ◌++◌, ◌+◌, ℕ, List}
 use Rattle.std.specs.Io.KnownBytes.{Appends}
+use Rattle.program.specs.Streams.{HaveMade}
 use Rattle.program.proofs.streams.write_within.Given as goal
 
 abbrev pub invariant-loop-write : goal.invariant-loop-write
-invariant-loop-write g l = (done : List ℕ) × (l.bytes ≡ done ++ l.rest) × Appends (g.W.Write.contents l.initial.writer) (g.W.Write.contents l.writer) done
+invariant-loop-write g l = record {
+  came : (done : List ℕ) × (l.bytes ≡ done ++ l.rest) × Appends l.initial.writer.bytes l.writer.bytes done;
+  made : HaveMade l.write l.initial.writer l.writer;
+  turns : l.writer.turns + l.write ≡ 4294967295;
+}
