@@ -1,5 +1,5 @@
 -- Lemmas on how many calls of a stream were made, and on what a text that was not written whole leaves.
-use Rattle.std.proofs.Common.{◌≡◌, ◌∙◌, ◌⊎◌, ◌≤◌, ◌+◌, ◌++◌, ℕ, List, Result, Ok, Err, OnOk, OnErr, true, inl, inr, arith, subst, sym, [], ap, append-nil}
+use Rattle.std.proofs.Common.{◌≡◌, ◌⊎◌, ◌≤◌, ◌+◌, ℕ, inl, inr, arith, subst}
 use Rattle.std.proofs.Math.Nat.{min-eq_left, min_comm}
 use Rattle.std.proofs.lemmas.Bool.{cases_lt}
 use Rattle.http_desk.specs.Streams.{Stream, counted}
@@ -38,7 +38,7 @@ made_both a b old mid new first second = elim second [
 
 -- so many, and so fewer
 pub made_fewer : (a b : ℕ) (old new : Stream) → b ≤ a → HaveMade a old new → HaveMade b old new
-made_fewer a b old new fewer made = elim made [ | inl enough ↦ inl (omega arith) | inr full ↦ inr full ]
+made_fewer a b old new fewer made = elim made [ inl enough ↦ inl (omega arith) | inr full ↦ inr full ]
 
 -- a stream that fails after calls fails
 pub fails_after : (a b most : ℕ) (old mid new : Stream) → HaveMade a old mid → a + b ≡ most → StreamFails b mid new → StreamFails most old new

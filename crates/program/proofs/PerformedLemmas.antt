@@ -2,7 +2,6 @@
 use Rattle.std.proofs.Common.{◌≡◌, ◌∙◌, List, Result, Ok, Err, Option, Some, None, false, inl, inr, ℕ, IfErr, OnOk, refl, subst, sym}
 use Rattle.std.specs.Prelude.{IsErrAnd}
 use Rattle.sqlite_disk.specs.declared.Disk.{Ghosts}
-use Rattle.sqlite_disk.specs.declared.Files.{Files}
 use Rattle.sqlite.specs.Recovery.{Image}
 use Rattle.clap.specs.Simple.{subcommand_of}
 use Rattle.clap.specs.Takes.{takes}
@@ -18,6 +17,7 @@ use Rattle.office.specs.declared.faults.OpenFault.{OpenFault}
 use Rattle.office.specs.declared.faults.OpenFault.TheVariants as opening
 use Rattle.program.specs.Faults.{RefusesFile, fault_of_file, fault_of_opening, fault_of_reading, fault_of_words, message_of, status_of}
 use Rattle.program.specs.CommandEffects.{ComplaintFails, Fails, FailsWith, ImportFails, InitFails, IsBusy, IsDone, JudgmentFails, LineFails, MigrateFails, NotOpened, Performs, PreviewFails, ReadingFails, Reads, ReadsPart, ReplyFails, ServerFails, TalkFails, Tells, TrialFails, complaint_of, previewed}
+use Rattle.program.specs.FailedOpenings.{reason_of}
 use Rattle.program.specs.Outcomes.{IsClosedAnd, IsUnopened}
 use Rattle.program.specs.Stores.{HasNoOffice, IsNotBroughtOver, IsNotMade}
 use Rattle.program.specs.Streams.{PrintsPart}
@@ -140,37 +140,37 @@ busy_no _ of why = of
 -- ---- with an office in a file
 
 module _ {S D : Type 0} (g : Ghosts D) (image : Image) where
-  unopened_no : (outcome : StoreOutcome S (Files D)) (f : Fault) → OfWords f → IsUnopened outcome f → ⊥
+  unopened_no : (outcome : StoreOutcome S D g) (f : Fault) → OfWords f → IsUnopened image outcome f → ⊥
   unopened_no (Untouched start) f of why = why
-  unopened_no (Unopened failed) f of why = file_no failed f of why
+  unopened_no (Unopened failed) f of why = file_no (reason_of failed) f of why.0
   unopened_no (Closed files) f of why = why
 
-  no_office_no : (outcome : StoreOutcome S (Files D)) (f : Fault) → OfWords f → HasNoOffice g image outcome f → ⊥
+  no_office_no : (outcome : StoreOutcome S D g) (f : Fault) → OfWords f → HasNoOffice g image outcome f → ⊥
   no_office_no outcome f of (inl why) = unopened_no outcome f of why
   no_office_no outcome f of (inr (why, is, judged)) = opening_no why f of is
 
-  not_opened_no : (out out_after : Stream) (outcome : StoreOutcome S (Files D)) (f : Fault) → OfWords f → NotOpened g image out out_after outcome f → ⊥
+  not_opened_no : (out out_after : Stream) (outcome : StoreOutcome S D g) (f : Fault) → OfWords f → NotOpened g image out out_after outcome f → ⊥
   not_opened_no out out_after outcome f of why = no_office_no outcome f of why.0
 
-  not_made_no : (outcome : StoreOutcome S (Files D)) (f : Fault) → OfWords f → IsClosedAnd outcome (IsNotMade g image f) → ⊥
+  not_made_no : (outcome : StoreOutcome S D g) (f : Fault) → OfWords f → IsClosedAnd outcome (IsNotMade g image f) → ⊥
   not_made_no (Untouched start) f of why = why
   not_made_no (Unopened failed) f of why = why
   not_made_no (Closed files) f of why = opening_no why.why f of why.told
 
-  init_no : (outcome : StoreOutcome S (Files D)) (f : Fault) → OfWords f → InitFails g image outcome f → ⊥
+  init_no : (outcome : StoreOutcome S D g) (f : Fault) → OfWords f → InitFails g image outcome f → ⊥
   init_no outcome f of (inl why) = unopened_no outcome f of why
   init_no outcome f of (inr why) = not_made_no outcome f of why
 
-  talk_no : (reader reader_after out out_after : Stream) (outcome : StoreOutcome S (Files D)) (f : Fault) → OfWords f → TalkFails g image reader reader_after out out_after outcome f → ⊥
+  talk_no : (reader reader_after out out_after : Stream) (outcome : StoreOutcome S D g) (f : Fault) → OfWords f → TalkFails g image reader reader_after out out_after outcome f → ⊥
   talk_no reader reader_after out out_after outcome f of (inl why) = not_opened_no out out_after outcome f of why.1
   talk_no reader reader_after out out_after outcome f of (inr (broken, is, why)) = subst OfWords is of
 
-  not_brought_no : (outcome : StoreOutcome S (Files D)) (f : Fault) → OfWords f → IsClosedAnd outcome (IsNotBroughtOver g image f) → ⊥
+  not_brought_no : (outcome : StoreOutcome S D g) (f : Fault) → OfWords f → IsClosedAnd outcome (IsNotBroughtOver g image f) → ⊥
   not_brought_no (Untouched start) f of why = why
   not_brought_no (Unopened failed) f of why = why
   not_brought_no (Closed files) f of why = opening_no why.why f of why.told
 
-  import_no : (source : Text) (out out_after : Stream) (outcome : StoreOutcome S (Files D)) (f : Fault) → OfWords f → ImportFails g image source out out_after outcome f → ⊥
+  import_no : (source : Text) (out out_after : Stream) (outcome : StoreOutcome S D g) (f : Fault) → OfWords f → ImportFails g image source out out_after outcome f → ⊥
   import_no source out out_after outcome f of fails = elim fails.why [
     | inl why ↦ reading_no why.0.0 f of why.0.1
     | inr (inl why) ↦ not_opened_no out out_after outcome f of why
@@ -178,14 +178,14 @@ module _ {S D : Type 0} (g : Ghosts D) (image : Image) where
     | inr (inr (inr (reply, taken, why))) ↦ reply_no reply out out_after f of why
   ]
 
-  migrate_no : (out out_after : Stream) (outcome : StoreOutcome S (Files D)) (f : Fault) → OfWords f → MigrateFails g image out out_after outcome f → ⊥
+  migrate_no : (out out_after : Stream) (outcome : StoreOutcome S D g) (f : Fault) → OfWords f → MigrateFails g image out out_after outcome f → ⊥
   migrate_no out out_after outcome f of fails = elim fails.why [
     | inl why ↦ unopened_no outcome f of why.0
     | inr (inl (stays, quiet)) ↦ not_brought_no outcome f of stays
     | inr (inr (brought, why)) ↦ line_no _ out out_after f of why
   ]
 
-  none_of_words : (task : Task) (reader reader_after out out_after : Stream) (outcome : StoreOutcome S (Files D)) (f : Fault) → OfWords f → FailsWith g image task reader reader_after out out_after outcome f → ⊥
+  none_of_words : (task : Task) (reader reader_after out out_after : Stream) (outcome : StoreOutcome S D g) (f : Fault) → OfWords f → FailsWith g image task reader reader_after out out_after outcome f → ⊥
   none_of_words (Preview country repo path) reader reader_after out out_after outcome f of why = preview_no country repo path reader reader_after out out_after f of why.1
   none_of_words (Init path founding) reader reader_after out out_after outcome f of why = init_no outcome f of why.0
   none_of_words (Trial founding) reader reader_after out out_after outcome f of why = trial_no founding reader reader_after out out_after f of why.1
@@ -210,7 +210,7 @@ module _ {S D : Type 0} (g : Ghosts D) (image : Image) where
   words_failed words reader out start f fault is refused values = subst (Fails g image words reader reader out out (Untouched start)) (sym is) (words_fail words reader out start f refused values)
 
   -- so a task's fault is one of the task
-  fails : (words : List Text) (task : Task) (reader reader_after out out_after : Stream) (outcome : StoreOutcome S (Files D)) (f : Fault) → IsTaskOf (subcommand_of program words) task
+  fails : (words : List Text) (task : Task) (reader reader_after out out_after : Stream) (outcome : StoreOutcome S D g) (f : Fault) → IsTaskOf (subcommand_of program words) task
       → FailsWith g image task reader reader_after out out_after outcome f → Fails g image words reader reader_after out out_after outcome f
   fails words task reader reader_after out out_after outcome (Words text) is why = absurd (none_of_words task reader reader_after out out_after outcome (Words text) tt why)
   fails words task reader reader_after out out_after outcome Date is why = absurd (none_of_words task reader reader_after out out_after outcome Date tt why)
@@ -218,20 +218,20 @@ module _ {S D : Type 0} (g : Ghosts D) (image : Image) where
   fails words task reader reader_after out out_after outcome Memory is why = inr (task, is, why)
   fails words task reader reader_after out out_after outcome _ is why = (task, is, why)
 
-  pub task_failed : {X : Type 0} (words : List Text) (task : Task) (reader reader_after out out_after : Stream) (outcome : StoreOutcome S (Files D)) (r : Result X Fault) → IsTaskOf (subcommand_of program words) task
+  pub task_failed : {X : Type 0} (words : List Text) (task : Task) (reader reader_after out out_after : Stream) (outcome : StoreOutcome S D g) (r : Result X Fault) → IsTaskOf (subcommand_of program words) task
       → IfErr r (FailsWith g image task reader reader_after out out_after outcome) → IfErr r (Fails g image words reader reader_after out out_after outcome)
   task_failed words task reader reader_after out out_after outcome (Ok x) is why = tt
   task_failed words task reader reader_after out out_after outcome (Err f) is why = fails words task reader reader_after out out_after outcome f is why
 
   -- a command whose task is done
-  pub performs_done : (words : List Text) (reader reader_after out out_after err err_after : Stream) (outcome : StoreOutcome S (Files D)) (status : ℕ) (r : Result (Unit {0}) Fault) (u : Unit {0})
+  pub performs_done : (words : List Text) (reader reader_after out out_after err err_after : Stream) (outcome : StoreOutcome S D g) (status : ℕ) (r : Result (Unit {0}) Fault) (u : Unit {0})
       → r ≡ Ok u → OnOk r (IsDone g image words reader reader_after out out_after outcome) → status ≡ 0 → err_after ≡ err
       → Performs g image words reader reader_after out out_after err err_after outcome status
   performs_done words reader reader_after out out_after err err_after outcome status r u is done zero same =
       inl (zero, subst (λ it. OnOk it (IsDone g image words reader reader_after out out_after outcome)) is done, same)
 
   -- a command that ended with a fault, whose message was told
-  pub performs_fault : (words : List Text) (reader reader_after out out_after err err_told err_after : Stream) (outcome : StoreOutcome S (Files D)) (status code : ℕ) (r : Result (Unit {0}) Fault) (fault : Fault)
+  pub performs_fault : (words : List Text) (reader reader_after out out_after err err_told err_after : Stream) (outcome : StoreOutcome S D g) (status code : ℕ) (r : Result (Unit {0}) Fault) (fault : Fault)
       → r ≡ Err fault → IfErr r (Fails g image words reader reader_after out out_after outcome) → status ≡ code → code ≡ status_of fault → Tells err err_told (message_of fault) → err_after ≡ err_told
       → Performs g image words reader reader_after out out_after err err_after outcome status
   performs_fault words reader reader_after out out_after err err_told err_after outcome status code r fault is why same_status is_code told same =

@@ -57,7 +57,7 @@ failed_with (Err e) P Q why so = so e why
 module _ {S D : Type 0} (g : Ghosts D) (image : Image) where
   -- a store that was opened with this value, and closed
   module _ (start : S) (files : Files D) where
-    abbrev closed : StoreOutcome S (Files D)
+    abbrev closed : StoreOutcome S D g
     closed = Closed files
 
     module _ (reader reader_after out out_after : Stream) (office after : Held (FileStore D g)) (opened : IsOpened g image office)
@@ -135,23 +135,23 @@ module _ {S D : Type 0} (g : Ghosts D) (image : Image) where
     check_failed out out_after judged (Err f) was why = inr (judged, was, why)
 
   -- a new office was made, and nothing was read or printed
-  pub init_done : (outcome : StoreOutcome S (Files D)) (task : Task) (path : Bytes) (founding : Founding) (reader out : Stream) (r : Result (Unit {0}) Fault) → task ≡ Init path founding → OnOk r (IsClosedAnd outcome (IsMade g image founding))
+  pub init_done : (outcome : StoreOutcome S D g) (task : Task) (path : Bytes) (founding : Founding) (reader out : Stream) (r : Result (Unit {0}) Fault) → task ≡ Init path founding → OnOk r (IsClosedAnd outcome (IsMade g image founding))
       → OnOk r (Does g image task reader reader out out outcome)
   init_done outcome task path founding reader out (Ok u) is made = subst (λ t. Does g image t reader reader out out outcome) (sym is) (made, (refl, refl))
   init_done outcome task path founding reader out (Err f) is made = tt
 
   -- an `init`, an import and a migration that fail are tasks that fail
-  pub init_as_task : (outcome : StoreOutcome S (Files D)) (task : Task) (path : Bytes) (founding : Founding) (reader out : Stream) (r : Result (Unit {0}) Fault) → task ≡ Init path founding → IfErr r (InitFails g image outcome)
+  pub init_as_task : (outcome : StoreOutcome S D g) (task : Task) (path : Bytes) (founding : Founding) (reader out : Stream) (r : Result (Unit {0}) Fault) → task ≡ Init path founding → IfErr r (InitFails g image outcome)
       → IfErr r (FailsWith g image task reader reader out out outcome)
   init_as_task outcome task path founding reader out (Ok u) is why = tt
   init_as_task outcome task path founding reader out (Err f) is why = subst (λ t. FailsWith g image t reader reader out out outcome f) (sym is) (why, (refl, refl))
 
-  pub import_as_task : (outcome : StoreOutcome S (Files D)) (task : Task) (path source file : Bytes) (reader out out_after : Stream) (r : Result (Unit {0}) Fault) → task ≡ Import path source file → IfErr r (ImportFails g image source out out_after outcome)
+  pub import_as_task : (outcome : StoreOutcome S D g) (task : Task) (path source file : Bytes) (reader out out_after : Stream) (r : Result (Unit {0}) Fault) → task ≡ Import path source file → IfErr r (ImportFails g image source out out_after outcome)
       → IfErr r (FailsWith g image task reader reader out out_after outcome)
   import_as_task outcome task path source file reader out out_after (Ok u) is why = tt
   import_as_task outcome task path source file reader out out_after (Err f) is why = subst (λ t. FailsWith g image t reader reader out out_after outcome f) (sym is) (refl, why)
 
-  pub migrate_as_task : (outcome : StoreOutcome S (Files D)) (task : Task) (path : Bytes) (reader out out_after : Stream) (r : Result (Unit {0}) Fault) → task ≡ Migrate path → IfErr r (MigrateFails g image out out_after outcome)
+  pub migrate_as_task : (outcome : StoreOutcome S D g) (task : Task) (path : Bytes) (reader out out_after : Stream) (r : Result (Unit {0}) Fault) → task ≡ Migrate path → IfErr r (MigrateFails g image out out_after outcome)
       → IfErr r (FailsWith g image task reader reader out out_after outcome)
   migrate_as_task outcome task path reader out out_after (Ok u) is why = tt
   migrate_as_task outcome task path reader out out_after (Err f) is why = subst (λ t. FailsWith g image t reader reader out out_after outcome f) (sym is) (refl, why)

@@ -1,10 +1,9 @@
 -- What a command did with its streams and its files: `reader` and `reader_after` are standard input before and after it,
 -- `out` and `out_after` are standard output, and `outcome` is what became of the store.
-use Rattle.std.specs.Prelude.{◌≡◌, ◌⊎◌, ◌++◌, [], List, Option, Some, None, Result, Ok, Err, ℕ, codes, true, false}
+use Rattle.std.specs.Prelude.{◌≡◌, ◌⊎◌, ◌++◌, List, Option, Some, None, Result, Ok, Err, ℕ, codes, true, false}
 use Rattle.std.specs.Fmt.{decimal}
 use Rattle.std.specs.Io.KnownBytes.{Appends, Consumes, IsAtEnd}
 use Rattle.sqlite_disk.specs.declared.Disk.{Ghosts}
-use Rattle.sqlite_disk.specs.declared.Files.{Files}
 use Rattle.sqlite.specs.Recovery.{Image}
 use Rattle.clap.specs.Simple.{subcommand_of}
 use Rattle.clap.specs.Takes.{takes}
@@ -193,45 +192,45 @@ Unread reader reader_after = reader_after ≡ reader
 
 module _ {S D : Type 0} (g : Ghosts D) (image : Image) where
   -- the store was not touched, and nothing was read or printed
-  abbrev pub NothingDone : Stream → Stream → Stream → Stream → StoreOutcome S (Files D) → Type 0
+  abbrev pub NothingDone : Stream → Stream → Stream → Stream → StoreOutcome S D g → Type 0
   NothingDone reader reader_after out out_after outcome =
       IsUntouched outcome × DoesNothing reader reader_after out out_after
 
   -- the store could not be opened, and nothing was printed
-  abbrev pub NoStore : Stream → Stream → StoreOutcome S (Files D) → Fault → Type 0
-  NoStore out out_after outcome fault = IsUnopened outcome fault × IsSilent out out_after
+  abbrev pub NoStore : Stream → Stream → StoreOutcome S D g → Fault → Type 0
+  NoStore out out_after outcome fault = IsUnopened image outcome fault × IsSilent out out_after
 
   -- no office was opened, and nothing was printed; a store that was opened is closed as it was found
-  abbrev pub NotOpened : Stream → Stream → StoreOutcome S (Files D) → Fault → Type 0
+  abbrev pub NotOpened : Stream → Stream → StoreOutcome S D g → Fault → Type 0
   NotOpened out out_after outcome fault = HasNoOffice g image outcome fault × IsSilent out out_after
 
   -- a new office was made
-  abbrev pub InitDone : Founding → Stream → Stream → Stream → Stream → StoreOutcome S (Files D) → Type 0
+  abbrev pub InitDone : Founding → Stream → Stream → Stream → Stream → StoreOutcome S D g → Type 0
   InitDone founding reader reader_after out out_after outcome =
       IsClosedAnd outcome (IsMade g image founding) × DoesNothing reader reader_after out out_after
 
   -- no office was made
-  abbrev pub InitFails : StoreOutcome S (Files D) → Fault → Type 0
+  abbrev pub InitFails : StoreOutcome S D g → Fault → Type 0
   InitFails outcome fault = MakesNone g image outcome fault
 
   -- the file of an import could not be read, and nothing was printed
-  abbrev pub NotRead : Stream → Stream → StoreOutcome S (Files D) → Fault → Type 0
+  abbrev pub NotRead : Stream → Stream → StoreOutcome S D g → Fault → Type 0
   NotRead out out_after outcome fault =
       ((why : ReadFault) × (fault ≡ fault_of_reading why)) × IsUntouched outcome × IsSilent out out_after
 
   -- an import that is done: it was one step, whose reply was printed
-  abbrev pub ImportDone : Text → Stream → Stream → StoreOutcome S (Files D) → Type 0
+  abbrev pub ImportDone : Text → Stream → Stream → StoreOutcome S D g → Type 0
   ImportDone source out out_after outcome =
       (reply : Reply) × IsClosedAnd outcome (HasTakenIn g image source reply) × ReplyPrinted reply out out_after
 
   -- an office was busy, and nothing was printed
-  abbrev pub BusyFor : Text → Stream → Stream → StoreOutcome S (Files D) → Fault → Type 0
+  abbrev pub BusyFor : Text → Stream → Stream → StoreOutcome S D g → Fault → Type 0
   BusyFor source out out_after outcome fault =
       IsBusy fault × IsSilent out out_after × IsClosedAnd outcome (WasBusy g image source)
 
   -- an import that ended with a fault: its file was not read; or the office was not opened or was busy; or the import
   -- was refused; or the reply was not printed whole
-  pub record ImportFails (source : Text) (out out_after : Stream) (outcome : StoreOutcome S (Files D)) (fault : Fault)
+  pub record ImportFails (source : Text) (out out_after : Stream) (outcome : StoreOutcome S D g) (fault : Fault)
       : Type 0 where
     pub why : NotRead out out_after outcome fault
         ⊎ (NotOpened out out_after outcome fault
@@ -240,55 +239,55 @@ module _ {S D : Type 0} (g : Ghosts D) (image : Image) where
         × ReplyFails reply out out_after fault)))
 
   -- a talk that is done: a session that did not break off
-  abbrev pub TalkDone : Stream → Stream → Stream → Stream → StoreOutcome S (Files D) → Type 0
+  abbrev pub TalkDone : Stream → Stream → Stream → Stream → StoreOutcome S D g → Type 0
   TalkDone reader reader_after out out_after outcome =
       (end : Ended) × EndsWell end × IsClosedAnd outcome (IsTalkedWith g image reader reader_after out out_after end)
 
   -- a talk that ended with a fault: its session broke off, or the office was not opened
-  abbrev pub TalkFails : Stream → Stream → Stream → Stream → StoreOutcome S (Files D) → Fault → Type 0
+  abbrev pub TalkFails : Stream → Stream → Stream → Stream → StoreOutcome S D g → Fault → Type 0
   TalkFails reader reader_after out out_after outcome fault =
       (Unread reader reader_after × NotOpened out out_after outcome fault)
       ⊎ ((broken : Break) × (fault ≡ Session broken)
       × IsClosedAnd outcome (IsTalkedWith g image reader reader_after out out_after (ended_by broken)))
 
   -- a server that is done: it has printed that it listens, and has served all connections
-  abbrev pub ServeDone : ℕ → ℕ → Stream → Stream → StoreOutcome S (Files D) → Type 0
+  abbrev pub ServeDone : ℕ → ℕ → Stream → Stream → StoreOutcome S D g → Type 0
   ServeDone port connections out out_after outcome =
       IsClosedAnd outcome (HasServed g image connections true) × Listens port out out_after
 
   -- a server that ended with a fault: the office was not opened, or the server did not print that it listens, or did
   -- not take all connections
-  abbrev pub ServeFails : ℕ → ℕ → Stream → Stream → StoreOutcome S (Files D) → Fault → Type 0
+  abbrev pub ServeFails : ℕ → ℕ → Stream → Stream → StoreOutcome S D g → Fault → Type 0
   ServeFails port connections out out_after outcome fault =
       NotOpened out out_after outcome fault
       ⊎ (IsClosedAnd outcome (HasServed g image connections false) × ServerFails port out out_after fault)
 
   -- a check that is done: the tables are those of a sound office, and that was printed
-  abbrev pub CheckDone : Stream → Stream → StoreOutcome S (Files D) → Type 0
+  abbrev pub CheckDone : Stream → Stream → StoreOutcome S D g → Type 0
   CheckDone out out_after outcome =
       IsClosedAnd outcome (WasJudgedAsFound g image None) × JudgmentPrinted None out out_after
 
   -- a check that ended with a fault: the store could not be opened; or its tables are not those of a sound office; or they are,
   -- but that was not printed whole
-  abbrev pub CheckFails : Stream → Stream → StoreOutcome S (Files D) → Fault → Type 0
+  abbrev pub CheckFails : Stream → Stream → StoreOutcome S D g → Fault → Type 0
   CheckFails out out_after outcome fault =
       NoStore out out_after outcome fault
       ⊎ ((judged : Option OpenFault) × IsClosedAnd outcome (WasJudgedAsFound g image judged)
       × JudgmentFails judged out out_after fault)
 
   -- a migration that is done, and that was printed
-  abbrev pub MigrateDone : Stream → Stream → StoreOutcome S (Files D) → Type 0
+  abbrev pub MigrateDone : Stream → Stream → StoreOutcome S D g → Type 0
   MigrateDone out out_after outcome = IsClosedAnd outcome (IsBroughtOver g image) × Prints migrated out out_after
 
   -- a migration that ended with a fault: the store could not be opened; or its tables stay as they are; or the migration was
   -- done, but that was not printed whole
-  pub record MigrateFails (out out_after : Stream) (outcome : StoreOutcome S (Files D)) (fault : Fault) : Type 0 where
+  pub record MigrateFails (out out_after : Stream) (outcome : StoreOutcome S D g) (fault : Fault) : Type 0 where
     pub why : NoStore out out_after outcome fault
         ⊎ ((IsClosedAnd outcome (IsNotBroughtOver g image fault) × IsSilent out out_after)
         ⊎ (IsClosedAnd outcome (IsBroughtOver g image) × LineFails migrated out out_after fault))
 
   -- a task that is done
-  abbrev pub Does : Task → Stream → Stream → Stream → Stream → StoreOutcome S (Files D) → Type 0
+  abbrev pub Does : Task → Stream → Stream → Stream → Stream → StoreOutcome S D g → Type 0
   Does (Preview country repo path) reader reader_after out out_after outcome =
       IsUntouched outcome × PreviewDone country repo path reader reader_after out out_after
   Does (Init path founding) reader reader_after out out_after outcome =
@@ -305,7 +304,7 @@ module _ {S D : Type 0} (g : Ghosts D) (image : Image) where
       Unread reader reader_after × MigrateDone out out_after outcome
 
   -- a task that ended with a fault
-  abbrev pub FailsWith : Task → Stream → Stream → Stream → Stream → StoreOutcome S (Files D) → Fault → Type 0
+  abbrev pub FailsWith : Task → Stream → Stream → Stream → Stream → StoreOutcome S D g → Fault → Type 0
   FailsWith (Preview country repo path) reader reader_after out out_after outcome fault =
       IsUntouched outcome × PreviewFails country repo path reader reader_after out out_after fault
   FailsWith (Init path founding) reader reader_after out out_after outcome fault =
@@ -324,20 +323,20 @@ module _ {S D : Type 0} (g : Ghosts D) (image : Image) where
       Unread reader reader_after × MigrateFails out out_after outcome fault
 
   -- words whose task is done
-  abbrev pub IsDone : List Text → Stream → Stream → Stream → Stream → StoreOutcome S (Files D) → Type 0
+  abbrev pub IsDone : List Text → Stream → Stream → Stream → Stream → StoreOutcome S D g → Type 0
   IsDone words reader reader_after out out_after outcome =
       (task : Task) × IsTaskOf (subcommand_of program words) task
       × Does task reader reader_after out out_after outcome
 
   -- words whose task ended with that fault
-  abbrev pub TaskFails : List Text → Stream → Stream → Stream → Stream → StoreOutcome S (Files D) → Fault → Type 0
+  abbrev pub TaskFails : List Text → Stream → Stream → Stream → Stream → StoreOutcome S D g → Fault → Type 0
   TaskFails words reader reader_after out out_after outcome fault =
       (task : Task) × IsTaskOf (subcommand_of program words) task
       × FailsWith task reader reader_after out out_after outcome fault
 
   -- words that led to a fault: they name no task, or its values are refused, or there was no memory to read them, and
   -- nothing was read or printed; or their task ended with the fault
-  abbrev pub Fails : List Text → Stream → Stream → Stream → Stream → StoreOutcome S (Files D) → Fault → Type 0
+  abbrev pub Fails : List Text → Stream → Stream → Stream → Stream → StoreOutcome S D g → Fault → Type 0
   Fails words reader reader_after out out_after outcome (Words text) =
       (takes program words ≡ false) × NothingDone reader reader_after out out_after outcome
   Fails words reader reader_after out out_after outcome Date =
@@ -358,8 +357,8 @@ Tells err err_after text = Prints text err err_after ⊎ PrintsPart text err err
 
 -- the task was done, and nothing was written on standard error; or there was a fault, and its message was written
 -- there, as far as standard error took it; this is the exit status
-abbrev pub Performs : {S D : Type 0} → Ghosts D → Image → List Text → Stream → Stream → Stream → Stream → Stream
-    → Stream → StoreOutcome S (Files D) → ℕ → Type 0
+abbrev pub Performs : {S D : Type 0} → (g : Ghosts D) → Image → List Text → Stream → Stream → Stream → Stream → Stream
+    → Stream → StoreOutcome S D g → ℕ → Type 0
 Performs g image words reader reader_after out out_after err err_after outcome status =
     ((status ≡ 0) × IsDone g image words reader reader_after out out_after outcome × (err_after ≡ err))
     ⊎ ((fault : Fault) × (status ≡ status_of fault) × Fails g image words reader reader_after out out_after outcome fault

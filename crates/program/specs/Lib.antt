@@ -1,5 +1,6 @@
 pub mod Rows
 pub mod ClosedFiles
+pub mod FailedOpenings
 pub mod Faults
 pub mod Headline
 pub mod OpenedFiles

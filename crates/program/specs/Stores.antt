@@ -3,7 +3,7 @@
 -- name. What is stated of an office has the premise that its disk has returned what was written. A disk that did so to
 -- the end also did so before (`intact`, and the first field of `crash`). `crash` describes what the files may hold if a
 -- failure of the disk had shut the office.
-use Rattle.std.specs.Prelude.{◌≡◌, ◌⊎◌, ℕ, Bool, IsOk, IsTrue, Ok, Option, None, Some}
+use Rattle.std.specs.Prelude.{◌≡◌, ◌⊎◌, ℕ, Bool, IsOk, IsTrue, Ok, None, Some}
 use Rattle.std.specs.Io.KnownBytes.{Appends, Consumes}
 use Rattle.sqlite.specs.Files.{file_state, over_files}
 use Rattle.sqlite.specs.Held.{Held}
@@ -71,13 +71,13 @@ module _ {D : Type 0} (g : Ghosts D) (image : Image) where
     pub closed : HasLeft after files
 
   -- no office was made: the store could not be opened, or no office could be made in it
-  abbrev pub MakesNone : {S : Type 0} → StoreOutcome S (Files D) → Fault → Type 0
-  MakesNone outcome fault = IsUnopened outcome fault ⊎ IsClosedAnd outcome (IsNotMade fault)
+  abbrev pub MakesNone : {S : Type 0} → StoreOutcome S D g → Fault → Type 0
+  MakesNone outcome fault = IsUnopened image outcome fault ⊎ IsClosedAnd outcome (IsNotMade fault)
 
   -- no office was opened: the store could not be opened; or an office could not be opened on its tables, and it was
   -- closed as it was found
-  abbrev pub HasNoOffice : {S : Type 0} → StoreOutcome S (Files D) → Fault → Type 0
-  HasNoOffice outcome fault = IsUnopened outcome fault
+  abbrev pub HasNoOffice : {S : Type 0} → StoreOutcome S D g → Fault → Type 0
+  HasNoOffice outcome fault = IsUnopened image outcome fault
       ⊎ ((why : OpenFault) × (fault ≡ fault_of_opening why) × IsClosedAnd outcome (WasJudgedAsFound g image (Some why)))
 
   -- A session with an office that was opened. What was read is its input, what was written is its output, and its end

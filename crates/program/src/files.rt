@@ -1,18 +1,20 @@
 //! A connection to the file of an office.
-ghost use Rattle.std.specs.Prelude.{◌≡◌, IfOk, false};
+ghost use Rattle.std.specs.Prelude.{◌≡◌, IfErr, IfOk, false};
 ghost use Rattle.sqlite.specs.WalFiles.{image_at};
 ghost use Rattle.sqlite.specs.Files.{IsOpened, file_state};
 ghost use Rattle.sqlite.specs.Held.{IsNew};
 ghost use Rattle.sqlite.specs.Start.{FindsIn};
 ghost use Rattle.sqlite.specs.State.{HasCleanDisk};
 ghost use Rattle.program.specs.ClosedFiles.{HasLeft};
+ghost use Rattle.program.specs.FailedOpenings.{CouldNotOpen, reason_of, reason_of_error};
 ghost use Rattle.program.specs.Rows.{StandInOrder};
 
-use sqlite::{Connection, Error, ErrorCode, FileFrom, FileStore, Files, Start};
+use sqlite::{Connection, Error, ErrorCode, FileFrom, FileStore, Files, Leftover, Start};
+use sqlite_disk::Disk;
 use std::alloc::AllocError;
 use std::fs;
 use std::fs::File;
-use std::marker::{Model, PhantomData};
+use std::marker::Model;
 
 /// Why no store was opened.
 #[derive(Clone, Copy, Debug, PartialEq, Eq, Drop)]
@@ -25,73 +27,89 @@ pub enum FileFault {
     Unopened,
 }
 
-/// A store that `S` was to open and that could not be opened, and why. Only the functions here that open a store make
-/// one.
+/// The system did not open the files of a store, for this reason. Only the functions here that open a store make one.
 #[derive(Drop)]
-pub struct FailedOpening<S: Drop> {
+pub struct NoFiles {
     why: FileFault,
-    start: PhantomData<S>,
 }
 
-impl<S: Drop> Model for FailedOpening<S> {
+impl Model for NoFiles {
     ghost use Rattle.program.specs.declared.files.FileFault.{FileFault};
 
     ghost Value = { FileFault };
 
-    ghost view = { λ failed. failed.why };
+    ghost view = { λ none. none.why };
 }
 
-impl<S: Drop> FailedOpening<S> {
-    // A store that could not be opened for this reason.
-    fn new(why: FileFault) -> FailedOpening<S>
-        ensures { result ≡ why }
-    {
-        FailedOpening {
-            why,
-            start: PhantomData,
-        }
-    }
+/// Why a store that `S` was to open could not be opened.
+#[derive(Drop)]
+pub enum FailedOpening<S: Drop, D: Disk + Drop> {
+    /// Nothing tried to open its files, for this reason: here is what opens them.
+    Untried(FileFault, S),
+    /// The system did not open its files.
+    NoFiles(NoFiles),
+    /// Its files were opened, but no store on them, for this reason: this is what is left of them.
+    NoStore(FileFault, Leftover<D>),
+}
 
+impl<S: Drop, D: Disk + Drop> FailedOpening<S, D> {
     /// Why the store could not be opened.
     pub fn why(&self) -> FileFault
-        ensures { result ≡ self.now }
+        ensures { result ≡ reason_of self.now }
     {
-        self.why
+        match self {
+            FailedOpening::Untried(why, _) | FailedOpening::NoStore(why, _) => *why,
+            FailedOpening::NoFiles(none) => none.why,
+        }
     }
 }
 
-/// What became of the store of a command. `S` is what opens it, and `F` are its files.
+/// What became of the store of a command. `S` is what opens it, and `D` is its disk.
 #[derive(Drop)]
-pub enum StoreOutcome<S: Drop, F: Drop> {
+pub enum StoreOutcome<S: Drop, D: Disk + Drop> {
     /// Nothing tried to open it: here is what opens it.
     Untouched(S),
     /// It could not be opened.
-    Unopened(FailedOpening<S>),
+    Unopened(FailedOpening<S, D>),
     /// It was opened, and is closed: these are its files.
-    Closed(F),
+    Closed(Files<D>),
 }
 
 /// A store in a file. `S` gives what the file held before.
 pub type FileStoreFrom<S> = FileStore<FileFrom<S>>;
+
+/// Why a store in a file could not be opened. `S` gives what the file held before.
+pub type FailedOpeningFrom<S> = FailedOpening<S, FileFrom<S>>;
+
+// The reason that an error gives.
+fn reason_of(error: &Error) -> FileFault
+    ensures { result ≡ reason_of_error error.now }
+{
+    match error {
+        Error::SqliteFailure(ErrorCode::OutOfMemory) => FileFault::Memory,
+        _ => FileFault::Unopened,
+    }
+}
 
 // Opens the file.
 fn open<S: Start>(
     rt: &HostRuntime,
     path: &str,
     start: S,
-) -> Result<Connection<FileStoreFrom<S>>, FailedOpening<S>>
+) -> Result<Connection<FileStoreFrom<S>>, FailedOpeningFrom<S>>
     ensures opened { IfOk result (λ conn. HasCleanDisk (file_state conn) → IsOpened conn) }
     ensures found { IfOk result (λ conn. HasCleanDisk (file_state conn)
         → FindsIn (image_at S.Start) (file_state conn)) }
     ensures ordered { IfOk result (λ conn. HasCleanDisk (file_state conn) → StandInOrder (file_state conn).now) }
     ensures fresh { IfOk result IsNew }
+    ensures fails { IfErr result (CouldNotOpen ⟦<FileFrom<S> as Disk>⟧ (image_at S.Start)) }
 {
     match Connection::open_from(rt, path, false, start) {
         Ok(conn) => Ok(conn),
-        Err((Error::SqliteFailure(ErrorCode::OutOfMemory), _)) => Err(FailedOpening::new(
-            FileFault::Memory,
-        )),
-        Err(_) => Err(FailedOpening::new(FileFault::Unopened)),
+        Err((error, Some(left))) => Err(FailedOpening::NoStore(reason_of(&error), left)),
+        Err((error, None)) => Err(FailedOpening::NoFiles(NoFiles {
+            why: reason_of(&error),
+        })),
     }
 }
 
@@ -106,19 +124,20 @@ pub fn make<S: Start>(
     rt: &HostRuntime,
     path: &str,
     start: S,
-) -> Result<Connection<FileStoreFrom<S>>, FailedOpening<S>>
+) -> Result<Connection<FileStoreFrom<S>>, FailedOpeningFrom<S>>
     ensures opened { IfOk result (λ conn. HasCleanDisk (file_state conn) → IsOpened conn) }
     ensures found { IfOk result (λ conn. HasCleanDisk (file_state conn)
         → FindsIn (image_at S.Start) (file_state conn)) }
     ensures ordered { IfOk result (λ conn. HasCleanDisk (file_state conn) → StandInOrder (file_state conn).now) }
     ensures fresh { IfOk result IsNew }
+    ensures fails { IfErr result (CouldNotOpen ⟦<FileFrom<S> as Disk>⟧ (image_at S.Start)) }
 {
     // A log without its file may contain the last changes of another office.
     let Ok(log) = log_of(rt, path) else {
-        return Err(FailedOpening::new(FileFault::Memory));
+        return Err(FailedOpening::Untried(FileFault::Memory, start));
     };
     if !matches!(fs::exists(rt, log.as_str()), Ok(false)) || File::create_new(rt, path).is_err() {
-        return Err(FailedOpening::new(FileFault::Absent));
+        return Err(FailedOpening::Untried(FileFault::Absent, start));
     }
     let opened = open(rt, path, start);
     if opened.is_err() {
@@ -140,16 +159,17 @@ pub fn find<S: Start>(
     rt: &HostRuntime,
     path: &str,
     start: S,
-) -> Result<Connection<FileStoreFrom<S>>, FailedOpening<S>>
+) -> Result<Connection<FileStoreFrom<S>>, FailedOpeningFrom<S>>
     ensures opened { IfOk result (λ conn. HasCleanDisk (file_state conn) → IsOpened conn) }
     ensures found { IfOk result (λ conn. HasCleanDisk (file_state conn)
         → FindsIn (image_at S.Start) (file_state conn)) }
     ensures ordered { IfOk result (λ conn. HasCleanDisk (file_state conn) → StandInOrder (file_state conn).now) }
     ensures fresh { IfOk result IsNew }
+    ensures fails { IfErr result (CouldNotOpen ⟦<FileFrom<S> as Disk>⟧ (image_at S.Start)) }
 {
     match fs::exists(rt, path) {
         Ok(true) => open(rt, path, start),
-        _ => Err(FailedOpening::new(FileFault::Absent)),
+        _ => Err(FailedOpening::Untried(FileFault::Absent, start)),
     }
 }
 
@@ -157,7 +177,7 @@ pub fn find<S: Start>(
 pub type ClosedFiles<S> = Files<FileFrom<S>>;
 
 /// What became of the store of a command that was given `S`.
-pub type Outcome<S> = StoreOutcome<S, ClosedFiles<S>>;
+pub type Outcome<S> = StoreOutcome<S, FileFrom<S>>;
 
 /// Closes the file. What was committed is in the file, or in its log if it could not be copied: nothing is lost.
 pub fn close<S: Start>(conn: Connection<FileStoreFrom<S>>) -> ClosedFiles<S>

@@ -10,9 +10,10 @@ ghost use Rattle.office.specs.Adoption.{HasAdoptCause};
 ghost use Rattle.tree_core.specs.Versions.{Spans};
 ghost use Rattle.program.specs.ClosedFiles.{WasJudgedAsFound};
 ghost use Rattle.program.specs.CommandEffects.{JudgmentFails, JudgmentPrinted};
+ghost use Rattle.program.specs.FailedOpenings.{CouldNotOpen};
 
 use crate::faults::Fault;
-use crate::files::{ClosedFiles, FailedOpening, close, find};
+use crate::files::{ClosedFiles, FailedOpeningFrom, close, find};
 use crate::streams::write_whole;
 use http_desk::streams::Sink;
 use isad_core::Text;
@@ -48,8 +49,9 @@ pub fn judge_file<S: Start>(
     alloc: Global,
     store: &Text,
     start: S,
-) -> Result<(Option<OpenFault>, ClosedFiles<S>), FailedOpening<S>>
-    ensures { IfOk result (λ r. WasJudgedAsFound ⟦<FileFrom<S> as Disk>⟧ (image_at S.Start) r.0 r.1) }
+) -> Result<(Option<OpenFault>, ClosedFiles<S>), FailedOpeningFrom<S>>
+    ensures judged { IfOk result (λ r. WasJudgedAsFound ⟦<FileFrom<S> as Disk>⟧ (image_at S.Start) r.0 r.1) }
+    ensures fails { IfErr result (CouldNotOpen ⟦<FileFrom<S> as Disk>⟧ (image_at S.Start)) }
 {
     let conn = find(rt, store.as_str(), start)?;
     let (judged, conn) = judge(alloc, conn);

@@ -11,12 +11,13 @@ ghost use Rattle.nested_sets.specs.Representation.{RepresentsSpanRows};
 ghost use Rattle.tree_core.specs.Versions.{Spans};
 ghost use Rattle.program.specs.ClosedFiles.{HasLeft};
 ghost use Rattle.program.specs.OpenedFiles.{IsFound};
+ghost use Rattle.program.specs.FailedOpenings.{CouldNotOpen};
 ghost use Rattle.program.specs.Outcomes.{IsUnopened};
 ghost use Rattle.program.specs.Stores.{HasNoOffice, MakesNone};
 
 use crate::faults::Fault;
 use crate::files::{
-    ClosedFiles, FailedOpening, FileStoreFrom, Outcome, StoreOutcome, close, find, make, unmake,
+    ClosedFiles, FailedOpeningFrom, FileStoreFrom, Outcome, StoreOutcome, close, find, make, unmake,
 };
 use isad_core::Text;
 use nested_sets::SpanPlaces;
@@ -29,8 +30,9 @@ use std::alloc::Global;
 pub type KeptOffice<S> = Office<SpanPlaces, FileStoreFrom<S>>;
 
 // The fault of a store that could not be opened.
-fn unopened<S: Start>(failed: FailedOpening<S>) -> (Fault, Outcome<S>)
-    ensures { IsUnopened result.1 result.0 }
+fn unopened<S: Start>(failed: FailedOpeningFrom<S>) -> (Fault, Outcome<S>)
+    requires { CouldNotOpen ⟦<FileFrom<S> as Disk>⟧ (image_at S.Start) failed }
+    ensures { IsUnopened (image_at S.Start) result.1 result.0 }
 {
     (Fault::from(failed.why()), StoreOutcome::Unopened(failed))
 }

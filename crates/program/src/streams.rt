@@ -46,10 +46,7 @@ pub fn most_calls() -> u32
 }
 
 /// Reads a stream to its end.
-pub fn read_to_end<R: Read>(
-    alloc: Global,
-    reader: &mut Source<'_, R>,
-) -> Result<Vec<u8>, ReadFault>
+pub fn read_to_end<R: Read>(alloc: Global, reader: &mut Source<'_, R>) -> Result<Vec<u8>, ReadFault>
     // The bytes are all that the reader had left.
     ensures bytes { IfOk result (λ v. Consumes reader.old.bytes reader.new.bytes v.items) }
     ensures end { OnOk result (IsAtEnd reader.new.bytes) }

@@ -3,8 +3,8 @@ use Rattle.program.proofs.commands.check.Goals as goal
 
 pub returns-in-Ok-clause-done : goal.returns-in-Ok-clause-done
 returns-in-Ok-clause-done g c =
-    check_done _ _ c.args.start c.in-Ok.files _ _ c.in-Ok.judged c.tell_judgment.result c.in-Ok.ensures c.tell_judgment.ensures.done
+    check_done _ _ c.args.start c.in-Ok.files _ _ c.in-Ok.judged c.tell_judgment.result c.in-Ok.ensures.judged c.tell_judgment.ensures.done
 
 pub returns-in-Ok-clause-fault : goal.returns-in-Ok-clause-fault
 returns-in-Ok-clause-fault g c =
-    check_failed _ _ c.args.start c.in-Ok.files _ _ c.in-Ok.judged c.tell_judgment.result c.in-Ok.ensures c.tell_judgment.ensures.fault
+    check_failed _ _ c.args.start c.in-Ok.files _ _ c.in-Ok.judged c.tell_judgment.result c.in-Ok.ensures.judged c.tell_judgment.ensures.fault

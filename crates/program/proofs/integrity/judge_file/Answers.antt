@@ -3,8 +3,8 @@ use Rattle.program.proofs.ClosedLemmas.{as_found}
 use Rattle.program.proofs.StoreLemmas.{held_in}
 use Rattle.program.proofs.integrity.judge_file.Goals as goal
 
-pub returns : goal.returns
-returns g c =
+pub returns-clause-judged : goal.returns-clause-judged
+returns-clause-judged g c =
     let left = c.close.ensures c.judge-judged.ensures.ended in
     record {
       found = c.in_ok-conn.conn;

@@ -1,4 +1,4 @@
-use Rattle.std.proofs.Common.{◌∙◌, ◌++◌, ◌+◌, List, ℕ, ap, append-nil, arith, subst, sym, take}
+use Rattle.std.proofs.Common.{◌∙◌, ◌++◌, List, ℕ, ap, append-nil, arith, subst, sym, take}
 use Rattle.std.specs.Io.KnownBytes.{Appends}
 use Rattle.std.proofs.KnownBytes.{Appends-trans}
 use Rattle.http_desk.proofs.Sends.{moves_front}
@@ -19,10 +19,10 @@ loop-write-preserved g c =
               Appends-trans _ _ _ _ _ appended added,
             )
         | in-Err-Interrupted w ↦ (
-            done,
-            split ∙ ap (λ (l : List ℕ). done ++ l) (sym (ap (λ b. b.now) w.rest-is)),
-            subst (Appends c.begin_stream.new.self.bytes c.write.new.self.bytes) (append-nil done) (Appends-trans _ _ _ _ _ appended w.in-Err-Interrupted.ensures.nothing),
-          )
+          done,
+          split ∙ ap (λ (l : List ℕ). done ++ l) (sym (ap (λ b. b.now) w.rest-is)),
+          subst (Appends c.begin_stream.new.self.bytes c.write.new.self.bytes) (append-nil done) (Appends-trans _ _ _ _ _ appended w.in-Err-Interrupted.ensures.nothing),
+        )
       ];
       made = made_one c.loop-write.write c.begin_stream.new.self c.loop-write.writer c.write.new.self c.loop-write.invariant.made c.write.ensures.calls;
       turns = omega (arith, c.write.ensures.turns, c.loop-write.invariant.turns);
