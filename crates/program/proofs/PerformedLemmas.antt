@@ -16,7 +16,7 @@ use Rattle.command_line.specs.CommandLine.{program}
 use Rattle.office.specs.declared.faults.OpenFault.{OpenFault}
 use Rattle.office.specs.declared.faults.OpenFault.TheVariants as opening
 use Rattle.program.specs.Faults.{RefusesFile, fault_of_file, fault_of_opening, fault_of_reading, fault_of_words, message_of, status_of}
-use Rattle.program.specs.CommandEffects.{ComplaintFails, Fails, FailsWith, ImportFails, InitFails, IsBusy, IsDone, JudgmentFails, LineFails, MigrateFails, NotOpened, Performs, PreviewFails, ReadingFails, Reads, ReadsPart, ReplyFails, ServerFails, TalkFails, Tells, TrialFails, complaint_of, previewed}
+use Rattle.program.specs.CommandEffects.{ComplaintFails, Fails, FailsWith, ImportFails, InitFails, IsBusy, IsDone, JudgmentFails, LineFails, MigrateFails, NotOpened, Performs, PreviewFails, Reads, ReadsPart, ReplyFails, ServerFails, TalkFails, Tells, TrialFails, complaint_of, previewed}
 use Rattle.program.specs.FailedOpenings.{reason_of}
 use Rattle.program.specs.Outcomes.{IsClosedAnd, IsUnopened}
 use Rattle.program.specs.Stores.{HasNoOffice, IsNotBroughtOver, IsNotMade}
@@ -43,16 +43,6 @@ pub broken_off : {X : Type 0} (country repo : Text) (path : Option Text) (reader
 broken_off country repo path reader reader_after out out_after (Ok x) is why = tt
 broken_off country repo path reader reader_after out out_after (Err fault) is why =
     subst (PreviewFails country repo path reader reader_after out out_after) (sym is) (inr why)
-
--- a preview whose input could not be read
-pub unread_fails : {X : Type 0} (country repo : Text) (path : Option Text) (reader reader_after out : Stream) (why : ReadFault) (r : Result X Fault)
-    → IsErrAnd r (λ fault. fault ≡ fault_of_reading why) → ReadsPart path reader reader_after → (why ≡ reads.Failed → ReadingFails path reader reader_after)
-    → IfErr r (PreviewFails country repo path reader reader_after out out)
-unread_fails country repo path reader reader_after out why (Ok x) is part fails = tt
-unread_fails country repo path reader reader_after out reads.Memory (Err fault) is part fails =
-    subst (PreviewFails country repo path reader reader_after out out) (sym is) (part, refl)
-unread_fails country repo path reader reader_after out reads.Failed (Err fault) is part fails =
-    subst (PreviewFails country repo path reader reader_after out out) (sym is) (inl (part, fails refl, refl))
 
 -- a file that gives no finding aids ends a preview, and nothing was printed
 pub refused_fails : (country repo : Text) (path : Option Text) (reader reader_after out : Stream) (file : List ℕ) (why : csv.FileFault) (fault : Fault)

@@ -3,7 +3,7 @@
 //! At most 4294967295 reads are made of a stream, and as many writes. An interrupted call counts and
 //! is tried again. If more calls would be needed, the stream has failed. Flushes are counted
 //! separately.
-ghost use Rattle.std.specs.Prelude.{◌≡◌, ◌≤◌, ◌+◌, ◌++◌, ℕ, List, [], true, IfErr, IfOk, OnErr, OnOk, codes};
+ghost use Rattle.std.specs.Prelude.{◌≡◌, ◌+◌, ◌++◌, ℕ, List, [], true, IfErr, IfOk, OnErr, OnOk, codes};
 ghost use Rattle.std.specs.Io.KnownBytes.{Appends, Consumes, IsAtEnd};
 ghost use Rattle.http_desk.specs.Streams.{most_calls};
 ghost use Rattle.program.specs.Streams.{HaveMade, IsFront, Prints, PrintsPart, StreamFails};
