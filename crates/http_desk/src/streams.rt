@@ -1,4 +1,4 @@
-//! A session's reader and writer, with a record of how their calls went. Nothing here takes an allocator.
+//! A reader and a writer, with a record of how their calls went. Nothing here takes an allocator.
 ghost use Rattle.std.specs.Prelude.{◌≡◌, ◌≢◌, ◌+◌, ◌<◌, ◌≤◌, ◌||◌, ◌^◌, [], length, take, nat_lt, IfOk, OnErr};
 ghost use Rattle.std.specs.Io.KnownBytes.{Appends, ReadConsumes};
 ghost use Rattle.std.specs.Io.{ReadsAtMost};
@@ -122,7 +122,8 @@ impl<'a, R: Read> Source<'a, R> {
 
     /// One read, which takes a turn.
     pub fn read(&mut self, chunk: &mut [u8]) -> Result<usize, Undone>
-        requires { 0 < self.old.turns }
+        requires turn { 0 < self.old.turns }
+        requires room { 0 < length chunk.old }
         ensures within { ReadsAtMost result chunk.new }
         ensures bytes { ReadConsumes self.old.bytes self.new.bytes result chunk.new }
         ensures same { self.new.name ≡ self.old.name }
@@ -253,7 +254,8 @@ impl<'a, W: Write> Sink<'a, W> {
 
     /// One write, which takes a turn.
     pub fn write(&mut self, piece: &[u8]) -> Result<usize, Undone>
-        requires { 0 < self.old.turns }
+        requires turn { 0 < self.old.turns }
+        requires some { 0 < length piece.now }
         ensures took { IfOk result (λ n. (n ≢ 0) × (n ≤ length piece.now)
             × Appends self.old.bytes self.new.bytes (take n piece.now)) }
         ensures nothing { OnErr result (Appends self.old.bytes self.new.bytes []) }

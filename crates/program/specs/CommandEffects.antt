@@ -39,9 +39,11 @@ use Rattle.program.specs.declared.tasks.Task.{Task}
 use Rattle.program.specs.declared.tasks.Task.TheVariants.{Preview, Init, Trial, Import, Talk, Serve, Check, Migrate}
 use Rattle.program.specs.declared.tasks.TaskFault.TheVariants as tasks
 
--- the bytes of standard input, read to its end; or any bytes, such as those of a file, without reading standard input
+-- the bytes of standard input, read to its end, where no read has failed; or any bytes, such as those of a named file, and
+-- standard input was not touched
 abbrev pub Reads : Option Text → Stream → Stream → List ℕ → Type 0
-Reads None reader reader_after bytes = Consumes reader.bytes reader_after.bytes bytes × IsAtEnd reader_after.bytes
+Reads None reader reader_after bytes =
+    Consumes reader.bytes reader_after.bytes bytes × IsAtEnd reader_after.bytes × (reader_after.failed ≡ reader.failed)
 Reads (Some path) reader reader_after bytes = reader_after ≡ reader
 
 -- some of standard input was read, or all of it; or, if a file is named, nothing
@@ -226,7 +228,7 @@ module _ {S D : Type 0} (g : Ghosts D) (image : Image) where
   -- an office was busy, and nothing was printed
   abbrev pub BusyFor : Text → Stream → Stream → StoreOutcome S D g → Fault → Type 0
   BusyFor source out out_after outcome fault =
-      IsBusy fault × IsSilent out out_after × IsClosedAnd outcome (WasBusy g image source)
+      IsBusy fault × IsSilent out out_after × IsClosedAnd outcome (WasBusy g image source fault)
 
   -- an import that ended with a fault: its file was not read; or the office was not opened or was busy; or the import
   -- was refused; or the reply was not printed whole
@@ -267,8 +269,8 @@ module _ {S D : Type 0} (g : Ghosts D) (image : Image) where
   CheckDone out out_after outcome =
       IsClosedAnd outcome (WasJudgedAsFound g image None) × JudgmentPrinted None out out_after
 
-  -- a check that ended with a fault: the store could not be opened; or its tables are not those of a sound office; or they are,
-  -- but that was not printed whole
+  -- a check that ended with a fault: the store could not be opened; or no sound office was found in it, or it could not be
+  -- judged; or the office is sound, but that was not printed whole
   abbrev pub CheckFails : Stream → Stream → StoreOutcome S D g → Fault → Type 0
   CheckFails out out_after outcome fault =
       NoStore out out_after outcome fault

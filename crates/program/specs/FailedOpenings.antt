@@ -25,10 +25,9 @@ module _ {S D : Type 0} {g : Ghosts D} where
   reason_of (NoStore why left) = why
 
 module _ {D : Type 0} (g : Ghosts D) (image : Image) where
-  -- The files of a store were opened, and held these bytes, but no store was opened on them. That has its cause, as long as
-  -- the disk has returned what was written: there was not enough memory, or the disk failed, or the bytes are no database
-  -- or too long for one. And what is left of the files is as the toolchain says: the next opening finds what this one
-  -- would have found.
+  -- The files of a store were opened, and held these bytes, but no store was opened on them. As long as the disk has
+  -- returned what was written, that has its cause: there was not enough memory, or the disk failed, or the bytes are no
+  -- database or too long for one. And a crash then leaves of the files only what the toolchain allows.
   pub record HasNoStore (why : FileFault) (left : Leftover D g) : Type 0 where
     pub files : Files D
     pub found : image_of g files ≡ image
@@ -37,8 +36,8 @@ module _ {D : Type 0} (g : Ghosts D) (image : Image) where
     pub cause : IsCleanLeft left → FailsToOpenFiles files left error
     pub leaves : IsCleanLeft left → LeavesFiles files left
 
-  -- A store could not be opened: its file is absent, or there was no memory for its name; or the system did not open its
-  -- files, of which no cause is known; or its files hold no store that could be opened.
+  -- A store could not be opened. Nothing tried to open it; or the system did not open its files, and no cause is known; or
+  -- its files were opened, held these bytes, and no store was opened on them.
   abbrev pub CouldNotOpen : {S : Type 0} → FailedOpening S D g → Type 0
   CouldNotOpen (Untried why start) = why ≢ Unopened
   CouldNotOpen (NoFiles why) = why ≢ Absent

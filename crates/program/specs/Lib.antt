@@ -1,4 +1,5 @@
 pub mod Rows
+pub mod Busy
 pub mod ClosedFiles
 pub mod FailedOpenings
 pub mod Faults

@@ -17,7 +17,7 @@ module _ {S D : Type 0} {g : Ghosts D} where
   IsUntouched (Unopened failed) = ⊥
   IsUntouched (Closed files) = ⊥
 
-  -- the store could not be opened, whose files held this image, and this is the fault
+  -- the store could not be opened, and this is the fault; if its files were opened, they held this image
   abbrev pub IsUnopened : Image → StoreOutcome S D g → Fault → Type 0
   IsUnopened image (Untouched start) fault = ⊥
   IsUnopened image (Unopened failed) fault = (fault ≡ fault_of_file (reason_of failed)) × CouldNotOpen g image failed

@@ -34,6 +34,7 @@ use Rattle.http_desk.specs.Streams.{Stream}
 use Rattle.http_desk.specs.declared.session_end.Ended.{Ended}
 use Rattle.office_tables.specs.Schema.{no_schema}
 use Rattle.program.specs.ClosedFiles.{HasLeft, HaveCleanDisk, HoldState, WasJudgedAsFound}
+use Rattle.program.specs.Busy.{IsBusyFor}
 use Rattle.program.specs.Faults.{fault_of_opening}
 use Rattle.program.specs.OpenedFiles.{HoldsOffice, IsFound, IsStore}
 use Rattle.program.specs.Outcomes.{IsClosedAnd, IsUnopened}
@@ -112,13 +113,16 @@ module _ {D : Type 0} (g : Ghosts D) (image : Image) where
         (MayFind RepresentsSpanRows Spans (Import source file) (file_state office))
     pub closed : HasLeft after files
 
-  -- An office that was opened was busy when it was to import a file: its tables were as before. These are its files.
-  pub record WasBusy (source : Bytes) (files : Files D) : Type 0 where
+  -- An office that was opened was busy when it was to import a file: its tables were as before, and this fault has its
+  -- cause. These are its files.
+  pub record WasBusy (source : Bytes) (fault : Fault) (files : Files D) : Type 0 where
     pub office : Held (FileStore D g)
     pub after : Held (FileStore D g)
     pub opened : IsOpened office
     pub file : Bytes
     pub same : HasCleanDisk (file_state after) → IsAsBefore (file_state office) (file_state after)
+    pub cause : HasCleanDisk (file_state after) → (s : State) → IsSoundOffice s
+        → IsIn RepresentsSpanRows Spans s (file_state office) → IsBusyFor (file_state office) (file_state after) fault
     pub crash : Survives (file_state office) (file_state after)
         (MayFind RepresentsSpanRows Spans (Import source file) (file_state office))
     pub closed : HasLeft after files

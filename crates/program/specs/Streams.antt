@@ -1,18 +1,17 @@
 -- How the calls on a stream went: what was written, and why a stream failed.
-use Rattle.std.specs.Prelude.{◌≡◌, ◌≢◌, ◌⊎◌, ◌≤◌, ◌+◌, ◌++◌, List, ℕ, true, false}
+use Rattle.std.specs.Prelude.{◌≡◌, ◌⊎◌, ◌≤◌, ◌+◌, ◌++◌, List, ℕ, true}
 use Rattle.std.specs.Io.KnownBytes.{Appends}
 use Rattle.http_desk.specs.Exchanges.{AtEndIf}
 use Rattle.http_desk.specs.StreamFaults.{FlushesAll, TellsBound, TellsReadFault, TellsWriteFault}
 use Rattle.http_desk.specs.Streams.{Stream, most_calls}
 use Rattle.http_desk.specs.declared.session_end.Ended.{Ended}
-use Rattle.http_desk.specs.declared.session_end.Ended.TheVariants.{Bound}
 use Rattle.http_desk.specs.declared.session_end.Next.TheVariants.{Ends}
 
 -- a front of the bytes, or all of them
 abbrev pub IsFront : List ℕ → List ℕ → Type 0
 IsFront front bytes = (rest : List ℕ) × (bytes ≡ front ++ rest)
 
--- so many calls were made, or the count of calls has reached its end
+-- at least so many calls were made, or the count of calls has reached its end
 abbrev pub HaveMade : ℕ → Stream → Stream → Type 0
 HaveMade number old new = (old.calls + number ≤ new.calls) ⊎ (18446744073709551615 ≤ new.calls)
 
@@ -20,9 +19,10 @@ HaveMade number old new = (old.calls + number ≤ new.calls) ⊎ (18446744073709
 abbrev pub StreamFails : ℕ → Stream → Stream → Type 0
 StreamFails most old new = (new.failed ≡ true) ⊎ HaveMade most old new
 
--- the text was written, and everything is flushed if it was before
+-- the text was written, everything is flushed if it was before, and no call has failed
 abbrev pub Prints : List ℕ → Stream → Stream → Type 0
-Prints text old new = Appends old.bytes new.bytes text × (old.flushed ≡ true → new.flushed ≡ true)
+Prints text old new =
+    Appends old.bytes new.bytes text × (old.flushed ≡ true → new.flushed ≡ true) × (new.failed ≡ old.failed)
 
 -- a front of the text was written, before the stream failed
 abbrev pub PrintsPart : List ℕ → Stream → Stream → Type 0
@@ -36,5 +36,4 @@ pub record AgreesWithCalls (reader reader_after writer writer_after : Stream) (e
   pub flushed : FlushesAll writer writer_after (Ends end)
   pub read_fault : TellsReadFault reader reader_after (Ends end)
   pub write_fault : TellsWriteFault writer writer_after (Ends end)
-  pub bound : reader_after.interrupted ≡ false → writer_after.interrupted ≡ false → end ≢ Bound
   pub used_up : TellsBound reader_after writer_after (Ends end)

@@ -14,7 +14,7 @@ use sqlite_disk::Disk;
 use std::alloc::AllocError;
 use std::fs;
 use std::fs::File;
-use std::marker::Model;
+use std::marker::{Model, PhantomData};
 
 /// Why no store was opened.
 #[derive(Clone, Copy, Debug, PartialEq, Eq, Drop)]
@@ -27,13 +27,15 @@ pub enum FileFault {
     Unopened,
 }
 
-/// The system did not open the files of a store, for this reason. Only the functions here that open a store make one.
+/// The system did not open the files of a store that `S` was to open, or gave no random number for it. Only the functions
+/// here that open a store make one.
 #[derive(Drop)]
-pub struct NoFiles {
+pub struct NoFiles<S: Drop> {
     why: FileFault,
+    start: PhantomData<S>,
 }
 
-impl Model for NoFiles {
+impl<S: Drop> Model for NoFiles<S> {
     ghost use Rattle.program.specs.declared.files.FileFault.{FileFault};
 
     ghost Value = { FileFault };
@@ -46,8 +48,8 @@ impl Model for NoFiles {
 pub enum FailedOpening<S: Drop, D: Disk + Drop> {
     /// Nothing tried to open its files, for this reason: here is what opens them.
     Untried(FileFault, S),
-    /// The system did not open its files.
-    NoFiles(NoFiles),
+    /// The system did not open its files, or gave no random number for it.
+    NoFiles(NoFiles<S>),
     /// Its files were opened, but no store on them, for this reason: this is what is left of them.
     NoStore(FileFault, Leftover<D>),
 }
@@ -109,6 +111,7 @@ fn open<S: Start>(
         Err((error, Some(left))) => Err(FailedOpening::NoStore(reason_of(&error), left)),
         Err((error, None)) => Err(FailedOpening::NoFiles(NoFiles {
             why: reason_of(&error),
+            start: PhantomData,
         })),
     }
 }

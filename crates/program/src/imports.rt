@@ -7,6 +7,7 @@ ghost use Rattle.office_core.specs.SoundOffice.{IsSoundOffice};
 ghost use Rattle.office_core.specs.State.{State};
 ghost use Rattle.office.specs.OfficeCall.{MayFind, TakesStep};
 ghost use Rattle.office.specs.IdleOffice.{IsAsBefore, IsIn};
+ghost use Rattle.program.specs.Busy.{IsBusyFor};
 ghost use Rattle.program.specs.CommandEffects.{IsBusy, ReplyFails, ReplyPrinted};
 
 use crate::faults::{Fault, refused};
@@ -35,6 +36,9 @@ pub fn take_in<P: Places, S: Alter>(
         → IfOk result (λ reply. IsOk reply.done → IsTrue (state S.Store office.new).is_open) }
     ensures bytes { IfOk result (λ reply. reply.json ≡ reply_text reply.done) }
     ensures busy { IfErr result IsBusy }
+    ensures cause { HasCleanDisk (state S.Store office.new)
+        → (s : State) → IsSoundOffice s → IsIn P.represents P.version s (state S.Store office.old)
+        → IfErr result (IsBusyFor (state S.Store office.old) (state S.Store office.new)) }
     ensures back { HasCleanDisk (state S.Store office.new)
         → OnErr result (IsAsBefore (state S.Store office.old) (state S.Store office.new)) }
     ensures crash { Survives (state S.Store office.old) (state S.Store office.new)

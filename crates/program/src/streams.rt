@@ -50,6 +50,7 @@ pub fn read_to_end<R: Read>(alloc: Global, reader: &mut Source<'_, R>) -> Result
     // The bytes are all that the reader had left.
     ensures bytes { IfOk result (λ v. Consumes reader.old.bytes reader.new.bytes v.items) }
     ensures end { OnOk result (IsAtEnd reader.new.bytes) }
+    ensures good { OnOk result (reader.new.failed ≡ reader.old.failed) }
     // In any case, only a front of what the reader had left was read.
     ensures front { (gone : List ℕ) × Consumes reader.old.bytes reader.new.bytes gone }
     ensures fails { IfErr result (λ e. e ≡ ReadFault.Failed → StreamFails most_calls reader.old reader.new) }
@@ -57,7 +58,7 @@ pub fn read_to_end<R: Read>(alloc: Global, reader: &mut Source<'_, R>) -> Result
     read_within(alloc, reader, most_calls())
 }
 
-// Reads a stream to its end in at most `reads` reads.
+/// Reads a stream to its end in at most `reads` reads.
 pub fn read_within<R: Read>(
     alloc: Global,
     reader: &mut Source<'_, R>,
@@ -65,6 +66,7 @@ pub fn read_within<R: Read>(
 ) -> Result<Vec<u8>, ReadFault>
     ensures bytes { IfOk result (λ v. Consumes reader.old.bytes reader.new.bytes v.items) }
     ensures end { OnOk result (IsAtEnd reader.new.bytes) }
+    ensures good { OnOk result (reader.new.failed ≡ reader.old.failed) }
     ensures front { (gone : List ℕ) × Consumes reader.old.bytes reader.new.bytes gone }
     ensures fails { IfErr result (λ e. e ≡ ReadFault.Failed → StreamFails reads reader.old reader.new) }
 {
@@ -103,13 +105,14 @@ pub fn write_line<W: Write>(writer: &mut Sink<'_, W>, bytes: &[u8]) -> Result<()
     flush(writer)
 }
 
-// Writes the bytes and a line feed in at most `writes` writes in all.
+/// Writes the bytes and a line feed in at most `writes` writes in all.
 pub fn line_within<W: Write>(
     writer: &mut Sink<'_, W>,
     bytes: &[u8],
     writes: u32,
 ) -> Result<(), WriteFault>
     ensures whole { OnOk result (Appends writer.old.bytes writer.new.bytes (bytes.now ++ codes "\n")) }
+    ensures good { OnOk result (writer.new.failed ≡ writer.old.failed) }
     ensures front { (written : List ℕ) × IsFront written (bytes.now ++ codes "\n")
         × Appends writer.old.bytes writer.new.bytes written }
     ensures fails { OnErr result (StreamFails writes writer.old writer.new) }
@@ -120,13 +123,14 @@ pub fn line_within<W: Write>(
     Ok(())
 }
 
-// Writes the bytes in at most `writes` writes, and returns how many of these are left.
+/// Writes the bytes in at most `writes` writes, and returns how many of these are left.
 pub fn write_within<W: Write>(
     writer: &mut Sink<'_, W>,
     bytes: &[u8],
     writes: u32,
 ) -> Result<u32, WriteFault>
     ensures whole { OnOk result (Appends writer.old.bytes writer.new.bytes bytes.now) }
+    ensures good { OnOk result (writer.new.failed ≡ writer.old.failed) }
     ensures left { IfOk result (λ left. (made : ℕ) × (made + left ≡ writes) × HaveMade made writer.old writer.new) }
     ensures front { (written : List ℕ) × IsFront written bytes.now
         × Appends writer.old.bytes writer.new.bytes written }
@@ -156,6 +160,7 @@ pub fn write_within<W: Write>(
 fn flush<W: Write>(writer: &mut Sink<'_, W>) -> Result<(), WriteFault>
     ensures nothing { Appends writer.old.bytes writer.new.bytes [] }
     ensures flushed { OnOk result (writer.new.flushed ≡ true) }
+    ensures good { OnOk result (writer.new.failed ≡ writer.old.failed) }
     ensures fails { OnErr result (StreamFails most_calls writer.old writer.new) }
 {
     writer.begin_stream();

@@ -6,7 +6,7 @@ use catalogue_store::LinkPlaces;
 use isad_core::Day;
 use nested_sets::SpanPlaces;
 use office::{Office, Settings};
-use program::files::{FileStoreFrom, close, find, make, unmake};
+use program::files::{FailedOpening, FileFault, FileStoreFrom, close, find, make, unmake};
 use program::ports::LocalPort;
 use program::server::serve;
 use sqlite::{Connection, MemStore, Wary};
@@ -115,6 +115,23 @@ fn an_office_is_kept(rt: HostRuntime) -> Result<(), Fail> {
     says(&rt, alloc, import.as_str(), "", refused)?;
     forget(&rt, alloc, file)?;
     says(&rt, alloc, import.as_str(), "", (3, "", "file fault\n"))?;
+    forget(&rt, alloc, store)
+}
+
+// A store that is absent is not tried, a folder is not opened, and a file with other bytes holds no store.
+#[test]
+fn an_opening_fails_in_three_ways(rt: HostRuntime) -> Result<(), Fail> {
+    let alloc = rt.alloc();
+    let store = new_path(&rt, alloc, "record_office_unopened.db")?;
+    let store = store.as_str();
+    let absent = find(&rt, store, Wary);
+    assert!(rt; matches!(absent, Err(FailedOpening::Untried(FileFault::Absent, _))));
+    fs::write(&rt, store, "no store")?;
+    let other = find(&rt, store, Wary);
+    assert!(rt; matches!(other, Err(FailedOpening::NoStore(FileFault::Unopened, _))));
+    let folder = env::temp_dir(&rt)?;
+    let unopened = find(&rt, folder.as_str(), Wary);
+    assert!(rt; matches!(unopened, Err(FailedOpening::NoFiles(_))));
     forget(&rt, alloc, store)
 }
 

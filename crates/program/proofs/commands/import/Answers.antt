@@ -8,12 +8,13 @@ returns-in-Err-open_office-clause-fault g c = record { why = inr (inl (c.in-Err-
 
 pub returns-in-Err-taken-clause-fault : goal.returns-in-Err-taken-clause-fault
 returns-in-Err-taken-clause-fault g c =
-    let busy : WasBusy _ _ c.args.source c.close_office-files.result = record {
+    let busy : WasBusy _ _ c.args.source c.in-Err-taken.busy c.close_office-files.result = record {
       office = c.in-Ok-open_office.office;
       after = c.take_in-taken.new.office;
       opened = c.in-Ok-open_office.ensures.found;
       file = c.in-Ok.bytes.items;
       same = c.in-Err-taken.ensures.back;
+      cause = c.in-Err-taken.ensures.cause;
       crash = c.take_in-taken.ensures.crash;
       closed = c.close_office-files.ensures;
     } in

@@ -8,13 +8,13 @@ use Rattle.program.proofs.sessions.talk_with.Goals as goal
 pub returns-clause-done : goal.returns-clause-done
 returns-clause-done g c =
     let agrees = agreed c.args.reader.now c.talk.new.reader c.args.out.now c.talk.new.writer c.talk.result c.talk.ensures.at_end c.talk.ensures.flushed
-    c.talk.ensures.read_fault c.talk.ensures.write_fault c.talk.ensures.bound c.talk.ensures.used_up in
+    c.talk.ensures.read_fault c.talk.ensures.write_fault c.talk.ensures.used_up in
     on_ok_weaker c.after.result (λ well. (c.talk.result, well, agrees, c.talk.ensures.session)) c.after.ensures.well
 
 pub returns-clause-broken : goal.returns-clause-broken
 returns-clause-broken g c =
     let agrees = agreed c.args.reader.now c.talk.new.reader c.args.out.now c.talk.new.writer c.talk.result c.talk.ensures.at_end c.talk.ensures.flushed
-    c.talk.ensures.read_fault c.talk.ensures.write_fault c.talk.ensures.bound c.talk.ensures.used_up in
+    c.talk.ensures.read_fault c.talk.ensures.write_fault c.talk.ensures.used_up in
     IfErr-weaker c.after.result _ _ (λ f (broken, is, ended). (
       broken,
       is,

@@ -13,11 +13,11 @@ returns-in-Err-clause-fault g c =
 pub returns-clause-done : goal.returns-clause-done
 returns-clause-done g c =
     done_by c.args.settings _ _ _ _ c.talk-ended.result c.after.result
-    (talked _ _ c.args.settings _ _ _ _ c.in-Ok.office c.talk-ended.new.office c.talk-ended.result c.in-Ok.ensures.sound c.in-Ok.ensures.represents c.talk-ended.ensures.session (agreed _ _ _ _ _ c.talk-ended.ensures.at_end c.talk-ended.ensures.flushed c.talk-ended.ensures.read_fault c.talk-ended.ensures.write_fault c.talk-ended.ensures.bound c.talk-ended.ensures.used_up))
+    (talked _ _ c.args.settings _ _ _ _ c.in-Ok.office c.talk-ended.new.office c.talk-ended.result c.in-Ok.ensures.sound c.in-Ok.ensures.represents c.talk-ended.ensures.session (agreed _ _ _ _ _ c.talk-ended.ensures.at_end c.talk-ended.ensures.flushed c.talk-ended.ensures.read_fault c.talk-ended.ensures.write_fault c.talk-ended.ensures.used_up))
     c.after.ensures.well
 
 pub returns-clause-fault : goal.returns-clause-fault
 returns-clause-fault g c =
     broken_by c.args.settings _ _ _ _ c.talk-ended.result c.after.result
-    (talked _ _ c.args.settings _ _ _ _ c.in-Ok.office c.talk-ended.new.office c.talk-ended.result c.in-Ok.ensures.sound c.in-Ok.ensures.represents c.talk-ended.ensures.session (agreed _ _ _ _ _ c.talk-ended.ensures.at_end c.talk-ended.ensures.flushed c.talk-ended.ensures.read_fault c.talk-ended.ensures.write_fault c.talk-ended.ensures.bound c.talk-ended.ensures.used_up))
+    (talked _ _ c.args.settings _ _ _ _ c.in-Ok.office c.talk-ended.new.office c.talk-ended.result c.in-Ok.ensures.sound c.in-Ok.ensures.represents c.talk-ended.ensures.session (agreed _ _ _ _ _ c.talk-ended.ensures.at_end c.talk-ended.ensures.flushed c.talk-ended.ensures.read_fault c.talk-ended.ensures.write_fault c.talk-ended.ensures.used_up))
     c.after.ensures.broken

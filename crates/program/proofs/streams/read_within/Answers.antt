@@ -15,5 +15,6 @@ loop-read-preserved g c = record {
     | in-Err-Interrupted w ↦ search (rules, Consumes-kept)
   ];
   made = made_one c.loop-read._read c.begin_stream.new.self c.loop-read.reader c.read.new.self c.loop-read.invariant.made c.read.ensures.calls;
+  good = search rules;
   turns = omega (arith, c.read.ensures.turns, c.loop-read.invariant.turns);
 }

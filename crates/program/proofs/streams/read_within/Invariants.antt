@@ -1,4 +1,4 @@
--- what is gone from the reader stands in `bytes`, and each turn was a call
+-- what is gone from the reader stands in `bytes`, and each turn was a call that did not fail
 use Rattle.std.proofs.Common.{◌≡◌, ◌+◌}
 use Rattle.std.specs.Io.KnownBytes.{Consumes}
 use Rattle.program.specs.Streams.{HaveMade}
@@ -8,5 +8,6 @@ abbrev pub invariant-loop-read : goal.invariant-loop-read
 invariant-loop-read g l = record {
   came : Consumes l.initial.reader.bytes l.reader.bytes l.bytes.items;
   made : HaveMade l._read l.initial.reader l.reader;
+  good : l.reader.failed ≡ l.initial.reader.failed;
   turns : l.reader.turns + l._read ≡ 4294967295;
 }

@@ -1,4 +1,4 @@
-use Rattle.std.proofs.Common.{◌∙◌, ◌++◌, List, ℕ, ap, append-nil, arith, subst, sym, take}
+use Rattle.std.proofs.Common.{◌∙◌, ◌++◌, List, ℕ, ap, append-nil, arith, rules, subst, sym, take}
 use Rattle.std.specs.Io.KnownBytes.{Appends}
 use Rattle.std.proofs.KnownBytes.{Appends-trans}
 use Rattle.http_desk.proofs.Sends.{moves_front}
@@ -25,5 +25,9 @@ loop-write-preserved g c =
         )
       ];
       made = made_one c.loop-write.write c.begin_stream.new.self c.loop-write.writer c.write.new.self c.loop-write.invariant.made c.write.ensures.calls;
+      good = elim c.match-write.branch [
+        | in-Ok w ↦ w.in-Ok.ensures.failed ∙ c.loop-write.invariant.good
+        | in-Err-Interrupted w ↦ search rules
+      ];
       turns = omega (arith, c.write.ensures.turns, c.loop-write.invariant.turns);
     }

@@ -1,4 +1,4 @@
--- what is gone from `rest` was written, and each turn was a call
+-- what is gone from `rest` was written, and each turn was a call that did not fail
 use Rattle.std.proofs.Common.{◌≡◌, ◌++◌, ◌+◌, ℕ, List}
 use Rattle.std.specs.Io.KnownBytes.{Appends}
 use Rattle.program.specs.Streams.{HaveMade}
@@ -8,5 +8,6 @@ abbrev pub invariant-loop-write : goal.invariant-loop-write
 invariant-loop-write g l = record {
   came : (done : List ℕ) × (l.bytes ≡ done ++ l.rest) × Appends l.initial.writer.bytes l.writer.bytes done;
   made : HaveMade l.write l.initial.writer l.writer;
+  good : l.writer.failed ≡ l.initial.writer.failed;
   turns : l.writer.turns + l.write ≡ 4294967295;
 }
