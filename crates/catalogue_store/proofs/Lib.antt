@@ -19,6 +19,7 @@ pub mod UnitsThere
 pub mod HeadForests
 pub mod Joiners
 pub mod Entered
-pub mod MarkPaths
 pub mod OutsideBranch
 pub mod Accepted
+pub mod LaterAnswers
+pub mod AttachedRows

@@ -1,19 +1,17 @@
 -- Why reading marks fails: never for the units of a catalogue within its limits.
-use Rattle.std.proofs.Common.{◌≡◌, inl, inr, ℕ, ◌<◌, ◌≤◌, ◌^◌, List, [], ◌∷◌, map, filter, length, get_or, Some, None, slice_get, nat_eq, refl, sym, ap, subst, ◌∙◌, arith}
+use Rattle.std.proofs.Common.{◌≡◌, ℕ, ◌<◌, ◌≤◌, ◌^◌, List, [], ◌∷◌, map, filter, length, get_or, Some, None, slice_get, nat_eq, sym, ap, subst, ◌∙◌, arith}
 use Rattle.std.specs.List.{AllByRecursion}
 use Rattle.std.proofs.lemmas.Bool.{eq-eqb}
 use Rattle.std.proofs.lemmas.List.{get_or-map, length-map}
 use Rattle.std.proofs.lemmas.List.Sorted.{IsPermutation-sym}
 use Rattle.sqlite.specs.Tree.{Trees}
 use Rattle.sqlite_rules.specs.Lists.{Has}
-use Rattle.sqlite_rules.proofs.ListLemmas.{all_has, has_filtered, has_kept}
+use Rattle.sqlite_rules.proofs.ListLemmas.{all_has, has_kept}
 use Rattle.sqlite_trees.proofs.ListLemmas.{all-get_or, all-permutation, all_from_map}
 use Rattle.tree_core.specs.Forest.{Forest, nodes}
 use Rattle.tree_core.specs.declared.rows.Span.{Span}
 use Rattle.tree_core.proofs.EachLemmas.{nodes-each}
 use Rattle.catalogue_core.specs.Bounds.{IsKept, IsLegibleUnit}
-use Rattle.catalogue_store.specs.Attachments.{AreAttached}
-use Rattle.catalogue_core.specs.UnitMarks.{names}
 use Rattle.catalogue_core.specs.CatalogueMerge.{Catalogue}
 use Rattle.catalogue_statements.specs.Representation.{RepresentsUnits}
 use Rattle.catalogue_core.specs.Units.{Unit}
@@ -68,13 +66,3 @@ never_high c kept spans units i d all same low high =
     let it = unit_at c.forest spans units i d all same low in
     let small : it.0.id < 2 ^ 63 = low_id c kept it.0 it.1 in
     omega (arith, it.2, small, high)
-
--- and those of the units that a container is attached to
-pub attached_low : (c : Catalogue) → IsKept c → (container : ℕ) (units : List Unit) (ids : List ℕ) → AreAttached c container units → ids ≡ map (λ (u : Unit). u.id) units → AllByRecursion (λ id. id < 2 ^ 63) ids
-attached_low c kept container units ids at is =
-    subst (AllByRecursion (λ (id : ℕ). id < 2 ^ 63)) (sym is)
-    (all_low units (λ u h. (has_filtered (names c.containers container) (nodes c.forest) u (had (filter (names c.containers container) (nodes c.forest)) units at.are u h)).0))
-  where
-    all_low : (units : List Unit) → ((u : Unit) → Has units u → Has (nodes c.forest) u) → AllByRecursion (λ id. id < 2 ^ 63) (map (λ (u : Unit). u.id) units)
-    all_low [] there = tt
-    all_low (u ∷ units) there = (low_id c kept u (there u (inl refl)), all_low units (λ v h. there v (inr h)))

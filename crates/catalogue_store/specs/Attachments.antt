@@ -1,6 +1,9 @@
 -- The units that a container is attached to, and their marks.
-use Rattle.std.specs.Prelude.{ℕ, List, [], ◌∷◌, map, filter, Option, Some, None, IsPermutation, ⊤}
-use Rattle.tree_core.specs.Forest.{Forest, nodes, path, tree}
+use Rattle.std.specs.Prelude.{◌≡◌, ℕ, nat_eq, true, List, [], ◌∷◌, map, filter, IsPermutation, ⊤}
+use Rattle.std.specs.List.{AllByRecursion}
+use Rattle.tree_core.specs.Forest.{Forest, nodes, each, has, path, tree}
+use Rattle.tree_core.specs.declared.marks.Mark.{Mark}
+use Rattle.tree_core.specs.declared.rows.Span.{Span}
 use Rattle.catalogue_core.specs.CatalogueMerge.{Catalogue}
 use Rattle.office_tables.specs.Order.{Rises}
 use Rattle.catalogue_statements.specs.Rows.{by_number}
@@ -13,19 +16,41 @@ pub record AreAttached (c : Catalogue) (container : ℕ) (units : List Unit) : T
   pub are : IsPermutation (filter (names c.containers container) (nodes c.forest)) units
   pub rise : Rises by_number units
 
--- the units from a top down to this one; none if no unit is given
-abbrev pub way_to : Option ℕ → Forest Unit → List Unit
-way_to None f = []
-way_to (Some id) f = path (has_id id) f
+-- these units are in the forest
+abbrev pub AreThere : List ℕ → Forest ℕ → Type 0
+AreThere units f = AllByRecursion (λ u. has (nat_eq u) f ≡ true) units
+
+-- the rows of these units, one for each, in some order
+abbrev pub AreRowsOf : (Forest ℕ → Span → Type 0) → Forest ℕ → List ℕ → List Span → Type 0
+AreRowsOf stands f units rows = IsPermutation units (map (λ (row : Span). row.id) rows) × AllByRecursion (stands f) rows
+
+-- the numbers of the units that name the container
+abbrev pub named_by : Catalogue → ℕ → List ℕ
+named_by c container = map (λ (u : Unit). u.id) (filter (names c.containers container) (nodes c.forest))
+
+-- the rows of the units that name the container, one for each, in some order
+abbrev pub AreAttachedRows : (Forest ℕ → Span → Type 0) → Catalogue → ℕ → List Span → Type 0
+AreAttachedRows stands c container rows = AreRowsOf stands (each (λ (u : Unit). u.id) c.forest) (named_by c container) rows
+
+-- the marks of the path and of the branch of a unit
+abbrev pub AreMarksOf : Forest Unit → ℕ → Attached → Type 0
+AreMarksOf f id one = AreMarks (path (has_id id) f) one.path.items × AreWalkMarks (tree (has_id id) f) one.branch.items
 
 -- for each of these units, the marks of its path and of its branch
 abbrev pub AreMarksOfEach : Forest Unit → List ℕ → List Attached → Type 0
 AreMarksOfEach f [] [] = ⊤
 AreMarksOfEach f [] (one ∷ more) = ⊥
 AreMarksOfEach f (id ∷ ids) [] = ⊥
-AreMarksOfEach f (id ∷ ids) (one ∷ more) =
-    AreMarks (path (has_id id) f) one.path.items × AreWalkMarks (tree (has_id id) f) one.branch.items × AreMarksOfEach f ids more
+AreMarksOfEach f (id ∷ ids) (one ∷ more) = AreMarksOf f id one × AreMarksOfEach f ids more
 
--- the same for each unit that the container is attached to, in order of the units' numbers
+-- the same for each unit that names the container, once, in some order
 abbrev pub AreMarksOfContents : Catalogue → ℕ → List Attached → Type 0
-AreMarksOfContents c container found = (units : List Unit) × AreAttached c container units × AreMarksOfEach c.forest (map (λ u. u.id) units) found
+AreMarksOfContents c container found = (ids : List ℕ) × IsPermutation (named_by c container) ids × AreMarksOfEach c.forest ids found
+
+-- what the links say of a row: its unit is in the forest
+abbrev pub IsOfUnit : Forest ℕ → Span → Type 0
+IsOfUnit f row = has (nat_eq row.id) f ≡ true
+
+-- the links need not know any path
+abbrev pub NeedsNoPath : Catalogue → List Mark → Type 0
+NeedsNoPath c known = ⊤

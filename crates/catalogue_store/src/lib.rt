@@ -21,7 +21,7 @@ mod unit_values;
 pub use branch_moves::{move_unit, remove_branch};
 pub use catalogue::{create, known};
 pub use catalogue_statements::{NewUnit, OfficeRow};
-pub use container_marks::{Attached, branch_marks, contents_marks, path_marks};
+pub use container_marks::{Attached, attached_rows, branch_marks, contents_marks, path_marks};
 pub use descriptions::{add_unit, replace_values};
 pub use heads::{Head, find_head, heads_below, path_heads};
 pub use import_entries::{enter_unit, enter_values};

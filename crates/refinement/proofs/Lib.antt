@@ -1,7 +1,7 @@
 pub mod Answerings
 pub mod BranchesApart
 pub mod Changed
-pub mod CleanMarks
+pub mod AllPass
 pub mod Crashes
 pub mod DeskSteps
 pub mod DiskBlames

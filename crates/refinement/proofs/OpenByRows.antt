@@ -6,9 +6,10 @@ use Rattle.std.proofs.Math.Path.{fun_ext}
 use Rattle.std.proofs.lemmas.Bool.{false≢true}
 use Rattle.std.proofs.lemmas.List.Elements.{All-from_recursion, recursion_from_All}
 use Rattle.std.proofs.lemmas.List.Folds.{list_all-map}
-use Rattle.std.proofs.lemmas.List.Sorted.{All-permutation, list_any-IsPermutation}
+use Rattle.std.proofs.lemmas.List.Sorted.{All-permutation, IsPermutation-refl, list_any-IsPermutation}
 use Rattle.isad_core.specs.declared.values.BoxKey.{BoxKey}
 use Rattle.tree_core.specs.Forest.{Forest, nodes}
+use Rattle.tree_core.specs.declared.rows.Span.{Span}
 use Rattle.tree_core.proofs.Lists.{eqb_comm, list_any-map}
 use Rattle.desk_core.specs.DeskRows.{Desk, PermitRow}
 use Rattle.desk_store.specs.Permits.{permits_of}
@@ -21,15 +22,14 @@ use Rattle.catalogue_core.specs.Units.{Unit}
 use Rattle.catalogue_core.proofs.EachOf.{all_filtered}
 use Rattle.catalogue_core.proofs.OpenLemmas.{open_by_marks}
 use Rattle.catalogue_core.proofs.UnitsAfter.{each_there}
-use Rattle.catalogue_store.specs.Attachments.{AreMarksOfContents, AreMarksOfEach}
-use Rattle.catalogue_store.specs.declared.container_marks.Attached.{Attached}
+use Rattle.catalogue_store.specs.Attachments.{AreAttachedRows}
 use Rattle.office_core.specs.State as office
 use Rattle.office_core.specs.State.{State, is_permitted, opens}
-use Rattle.office_core.specs.Words.{is_empty, numbered, some_and}
+use Rattle.office_core.specs.Words.{numbered, some_and}
 use Rattle.state_encoding.specs.DeskEncoding.{permit_rows}
 use Rattle.state_encoding.proofs.ReadBack.{permits_known}
 use Rattle.refinement.specs.AccessConditions.{CanBeJudged}
-use Rattle.refinement.specs.Openness.{TellsAllClean, allows}
+use Rattle.refinement.specs.Openness.{AreTheirs, allows, are_clean_for}
 use Rattle.refinement.proofs.NamedContainers.{named, names_it}
 
 -- ---- lists
@@ -113,45 +113,61 @@ allowed s judged t d are day permits same = fun_ext (λ u.
     ∙ sym (list_any-map (λ (permit : office.Permit). nat_eq permit.unit u && int_le day permit.until) (λ (row : PermitRow). record { unit = row.unit; until = row.until }) (filter (λ (row : PermitRow). nat_eq row.ticket t) (permit_rows s)))
     ∙ ap (λ (of : ℕ → List office.Permit). is_permitted day (of t) u) (permits_known s judged.permits))
 
--- ---- by the marks that are read
+-- ---- by the rows of the units that name it
 
-some_found : (f : Forest Unit) (units : List Unit) (found : List Attached) → AreMarksOfEach f (map (λ (unit : Unit). unit.id) units) found → is_some_there units ≡ not (is_empty found)
-some_found f [] [] marks = refl
-some_found f [] (one ∷ found) marks = absurd marks
-some_found f (unit ∷ units) [] marks = absurd marks
-some_found f (unit ∷ units) (one ∷ found) marks = refl
+some_mapped : (units : List Unit) → is_some_there units ≡ is_some_there (map (λ (unit : Unit). unit.id) units)
+some_mapped [] = refl
+some_mapped (unit ∷ units) = refl
+
+abbrev row_ids : List Span → List ℕ
+row_ids rows = map (λ (row : Span). row.id) rows
+
+rows_there : (f : Forest Unit) (rows : List Span) → AllByRecursion (λ id. has_unit f id ≡ true) (row_ids rows) → AllByRecursion (λ (row : Span). has_unit f row.id ≡ true) rows
+rows_there f [] all = tt
+rows_there f (row ∷ rows) all = (all.0, rows_there f rows all.1)
 
 mapped : (P : ℕ → Type 0) (units : List Unit) → AllByRecursion (λ (unit : Unit). P unit.id) units → AllByRecursion P (map (λ (unit : Unit). unit.id) units)
 mapped P [] h = tt
 mapped P (unit ∷ units) h = (h.0, mapped P units h.1)
 
-module _ (s : State) (judged : CanBeJudged s) (t n : ℕ) (found : List Attached) (marks : AreMarksOfContents s.catalogue n found) where
-  -- no unit names it
-  pub empty_closed : length found ≡ 0 → false ≡ opens s t n
-  empty_closed empty =
-      let none : is_some_there marks.0 ≡ false = some_found s.catalogue.forest marks.0 found marks.2 ∙ ap not (nothing found empty) in
-      sym (opens_by s judged t n marks.0 marks.1.are ∙ ap (λ b. b && list_all (λ (unit : Unit). is_clean_for (is_permitted s.day (s.permits t)) s.day s.catalogue.forest unit.id) marks.0) none)
-    where
-      nothing : (found : List Attached) → length found ≡ 0 → is_empty found ≡ true
-      nothing [] e = refl
-      nothing (one ∷ found) e = absurd (omega (arith, e))
+module _ (stands : Forest ℕ → Span → Type 0) (s : State) (judged : CanBeJudged s) (t n : ℕ) (rows : List Span) (at : AreAttachedRows stands s.catalogue n rows) where
+  abbrev naming_it : List Unit
+  naming_it = filter (names s.catalogue.containers n) (nodes s.catalogue.forest)
 
-  -- the answer is whether the marks are clean
-  pub clean_open : (d : Desk) → d.permits ≡ permit_rows s → (permits : List Permit) → IsPermutation (permits_of t d) permits → nat_eq (length found) 0 ≡ false → (clean : Bool) → TellsAllClean s.day permits found clean → clean ≡ opens s t n
-  clean_open d are permits same some clean tells =
-      let f = s.catalogue.forest in
-      let units = marks.0 in
-      let all_there = each_there (nodes f) (nodes f) (λ v h. h) in
-      let P : Unit → Type 0 = λ (unit : Unit). has_unit f unit.id ≡ true in
-      let here = all_filtered P (names s.catalogue.containers n) (nodes f) all_there in
-      let there = recursion_from_All P units (All-permutation P (filter (names s.catalogue.containers n) (nodes f)) units marks.1.are (All-from_recursion P (filter (names s.catalogue.containers n) (nodes f)) here)) in
-      let is : clean ≡ list_all (λ (unit : Unit). is_clean_for (is_permitted s.day (s.permits t)) s.day f unit.id) units =
-      tells f (map (λ (unit : Unit). unit.id) units) (mapped (λ u. has_unit f u ≡ true) units there) marks.2
-      ∙ list_all-map (is_clean_for (allows s.day permits) s.day f) (λ (unit : Unit). unit.id) units
-      ∙ ap (λ may. list_all (λ (unit : Unit). is_clean_for may s.day f unit.id) units) (allowed s judged t d are s.day permits same) in
-      let any : is_some_there units ≡ true = some_found f units found marks.2 ∙ ap not (something found some) in
-      is ∙ sym (ap (λ b. b && list_all (λ (unit : Unit). is_clean_for (is_permitted s.day (s.permits t)) s.day f unit.id) units) any) ∙ sym (opens_by s judged t n units marks.1.are)
+  some_row : is_some_there naming_it ≡ is_some_there (row_ids rows)
+  some_row = some_mapped naming_it ∙ some_alike (map (λ (unit : Unit). unit.id) naming_it) (row_ids rows) at.0
+
+  -- no unit names it
+  pub empty_closed : length rows ≡ 0 → false ≡ opens s t n
+  empty_closed empty =
+      let none : is_some_there naming_it ≡ false = some_row ∙ nothing rows empty in
+      sym (opens_by s judged t n naming_it (IsPermutation-refl naming_it) ∙ ap (λ b. b && list_all (λ (unit : Unit). is_clean_for (is_permitted s.day (s.permits t)) s.day s.catalogue.forest unit.id) naming_it) none)
     where
-      something : (found : List Attached) → nat_eq (length found) 0 ≡ false → is_empty found ≡ false
+      nothing : (rows : List Span) → length rows ≡ 0 → is_some_there (row_ids rows) ≡ false
+      nothing [] e = refl
+      nothing (row ∷ rows) e = absurd (omega (arith, e))
+
+  -- the rows are those of units of the catalogue
+  pub theirs : AreTheirs stands s.catalogue rows
+  theirs =
+      let f = s.catalogue.forest in
+      let all_there = each_there (nodes f) (nodes f) (λ v h. h) in
+      let P : ℕ → Type 0 = λ id. has_unit f id ≡ true in
+      let here = mapped P naming_it (all_filtered (λ (unit : Unit). P unit.id) (names s.catalogue.containers n) (nodes f) all_there) in
+      let there = recursion_from_All P (row_ids rows) (All-permutation P (map (λ (unit : Unit). unit.id) naming_it) (row_ids rows) at.0 (All-from_recursion P (map (λ (unit : Unit). unit.id) naming_it) here)) in
+      (at.1, rows_there f rows there)
+
+  -- the answer is whether their units are clean
+  pub clean_open : (d : Desk) → d.permits ≡ permit_rows s → (permits : List Permit) → IsPermutation (permits_of t d) permits → nat_eq (length rows) 0 ≡ false → (clean : Bool) → clean ≡ are_clean_for s.day permits s.catalogue rows → clean ≡ opens s t n
+  clean_open d are permits same some clean is =
+      let f = s.catalogue.forest in
+      let permitted = is_permitted s.day (s.permits t) in
+      let any : is_some_there naming_it ≡ true = some_row ∙ something rows some in
+      is ∙ ap (λ may. list_all (is_clean_for may s.day f) (row_ids rows)) (allowed s judged t d are s.day permits same)
+      ∙ sym (all_alike (is_clean_for permitted s.day f) (map (λ (unit : Unit). unit.id) naming_it) (row_ids rows) at.0)
+      ∙ list_all-map (is_clean_for permitted s.day f) (λ (unit : Unit). unit.id) naming_it
+      ∙ sym (ap (λ b. b && list_all (λ (unit : Unit). is_clean_for permitted s.day f unit.id) naming_it) any) ∙ sym (opens_by s judged t n naming_it (IsPermutation-refl naming_it))
+    where
+      something : (rows : List Span) → nat_eq (length rows) 0 ≡ false → is_some_there (row_ids rows) ≡ true
       something [] e = absurd (false≢true (sym e))
-      something (one ∷ found) e = refl
+      something (row ∷ rows) e = refl

@@ -1,13 +1,14 @@
 -- Whether a reader with these permits may see a container, given the marks that are read for its units.
-use Rattle.std.specs.Prelude.{◌≡◌, ℕ, ℤ, int_le, Bool, true, ◌&&◌, List, nat_eq}
+use Rattle.std.specs.Prelude.{◌≡◌, ℕ, ℤ, int_le, Bool, true, ◌&&◌, List, map, nat_eq}
 use Rattle.std.specs.List.{AllByRecursion, list_all, list_any}
-use Rattle.tree_core.specs.Forest.{Forest, path, tree}
+use Rattle.tree_core.specs.Forest.{Forest, each, path, tree}
+use Rattle.tree_core.specs.declared.rows.Span.{Span}
 use Rattle.desk_store.specs.declared.reader_permits.Permit.{Permit}
+use Rattle.catalogue_core.specs.CatalogueMerge.{Catalogue}
 use Rattle.catalogue_core.specs.UnitLookup.{has_unit}
 use Rattle.catalogue_core.specs.UnitMarks.{AreMarks, AreWalkMarks}
 use Rattle.catalogue_core.specs.OpenMarks.{is_clean_for}
 use Rattle.catalogue_core.specs.Units.{Unit, has_id}
-use Rattle.catalogue_store.specs.Attachments.{AreMarksOfEach}
 use Rattle.catalogue_store.specs.declared.container_marks.Attached.{Attached}
 
 -- one of these permits is for the unit and valid on that day
@@ -20,8 +21,11 @@ TellsClean day permits attached answer =
     (f : Forest Unit) (u : ℕ) → has_unit f u ≡ true → AreMarks (path (has_id u) f) attached.path.items
     → AreWalkMarks (tree (has_id u) f) attached.branch.items → answer ≡ is_clean_for (allows day permits) day f u
 
--- the answer is whether all the units with these marks are clean for the reader
-abbrev pub TellsAllClean : ℤ → List Permit → List Attached → Bool → Type 0
-TellsAllClean day permits found answer =
-    (f : Forest Unit) (units : List ℕ) → AllByRecursion (λ u. has_unit f u ≡ true) units → AreMarksOfEach f units found
-    → answer ≡ list_all (is_clean_for (allows day permits) day f) units
+-- the rows are those of units of the catalogue
+abbrev pub AreTheirs : (Forest ℕ → Span → Type 0) → Catalogue → List Span → Type 0
+AreTheirs stands c rows =
+    AllByRecursion (stands (each (λ (u : Unit). u.id) c.forest)) rows × AllByRecursion (λ (row : Span). has_unit c.forest row.id ≡ true) rows
+
+-- whether all the units of these rows are clean for the reader
+abbrev pub are_clean_for : ℤ → List Permit → Catalogue → List Span → Bool
+are_clean_for day permits c rows = list_all (is_clean_for (allows day permits) day c.forest) (map (λ (row : Span). row.id) rows)

@@ -1,25 +1,29 @@
 //! Whether a container is open to a reader.
 
 ghost use Rattle.std.specs.Prelude.{◌≡◌, ⊤, IfErr, IfOk, map};
-ghost use Rattle.std.specs.List.{list_any};
+ghost use Rattle.std.specs.List.{AllByRecursion, list_any};
 ghost use Rattle.sqlite.specs.Held.{state};
 ghost use Rattle.sqlite.specs.State.{HasCleanDisk};
 ghost use Rattle.catalogue_core.specs.OpenMarks.{is_opened_above, with_permit};
 ghost use Rattle.office_core.specs.State.{opens};
-ghost use Rattle.office_tables.specs.Calls.{Answers};
+ghost use Rattle.tree_core.specs.Forest.{each};
+ghost use Rattle.catalogue_core.specs.Bounds.{IsKept};
+ghost use Rattle.catalogue_core.specs.Units.{«Unit» as Described};
+ghost use Rattle.catalogue_statements.specs.Representation.{Represents};
+ghost use Rattle.office_tables.specs.Calls.{Answers, StoreAnswers};
 ghost use Rattle.office_tables.specs.Faults.{BlamesDisk};
 ghost use Rattle.office_tables.specs.Step.{InTransaction};
 ghost use Rattle.refinement.specs.AccessConditions.{CanBeJudged, RepresentsWhole};
-ghost use Rattle.refinement.specs.Openness.{TellsAllClean, TellsClean, allows};
+ghost use Rattle.refinement.specs.Openness.{AreTheirs, TellsClean, allows, are_clean_for};
 
-use catalogue_store::{Attached, Places, contents_marks};
+use catalogue_store::{Attached, Places, attached_rows};
 use desk_store::{Permit, permits};
 use isad_core::Day;
 use office_tables::StoreFault;
 use office_tables::value::NO_NUMBER;
 use sqlite::{Alter, Connection};
 use std::alloc::{AllocError, Global};
-use tree_core::{Mark, clean_contents, clean_path};
+use tree_core::{Mark, Span, clean_contents, clean_path};
 
 /// Whether one of these permits is for the unit and valid on this day.
 fn is_permitted(permits: &[Permit], unit: u64, today: Day) -> bool
@@ -79,19 +83,27 @@ fn is_clean(
     Ok(clean_path(&path, day) && is_within)
 }
 
-/// Whether this holds for all units with these marks.
-fn are_clean(
+/// Whether nothing withholds the units of these rows, nor the units that take their containers from them. The first that
+/// is withheld ends the reading. Of each path only what the one before lacks is read.
+fn are_clean<P: Places, S: Alter>(
     alloc: Global,
-    found: &[Attached],
+    conn: &mut Connection<S>,
+    rows: &[Span],
     permits: &[Permit],
     today: Day,
-) -> Result<bool, AllocError>
-    ensures { IfOk result (TellsAllClean today permits.now found.now) }
+) -> Result<bool, StoreFault>
+    requires inside { InTransaction P.version (state S.Store conn.old) }
+    ensures tells { StoreAnswers S.Store (Represents P.represents P.version) IsKept conn.old conn.new result
+        (λ c. AllByRecursion (P.stands (each (λ (u : Described). u.id) c.forest)) rows.now)
+        (λ _ c yes. AreTheirs P.stands c rows.now → yes ≡ are_clean_for today permits.now c rows.now) }
 {
-    for attached in found {
-        if !is_clean(alloc, attached, permits, today)? {
+    let mut known = Vec::new(alloc);
+    for row in rows {
+        let found = P::marks_after(alloc, conn, &known, *row)?;
+        if !is_clean(alloc, &found, permits, today)? {
             return Ok(false);
         }
+        known = found.path;
     }
     Ok(true)
 }
@@ -114,10 +126,11 @@ pub fn is_open_to<P: Places, S: Alter>(
     if container >= NO_NUMBER {
         return Ok(false);
     }
-    let found = contents_marks::<P, S>(alloc, conn, container)?;
-    if found.is_empty() {
+    let rows = attached_rows::<P, S>(alloc, conn, container)?;
+    if rows.is_empty() {
         return Ok(false);
     }
     let permits = permits(alloc, conn, ticket)?;
-    Ok(are_clean(alloc, &found, &permits, today)?)
+    let yes = are_clean::<P, S>(alloc, conn, &rows, &permits, today)?;
+    Ok(yes)
 }

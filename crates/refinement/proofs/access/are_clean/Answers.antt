@@ -1,14 +1,130 @@
-use Rattle.refinement.proofs.CleanMarks.{all_clean, more_clean, not_clean}
+use Rattle.std.proofs.Common.{◌≡◌, true, false, map, refl, sym, subst, arith}
+use Rattle.std.specs.List.{AllByRecursion}
+use Rattle.std.proofs.lemmas.List.{length-map}
+use Rattle.sqlite.specs.Effect.{Database}
+use Rattle.sqlite.specs.Held.{state}
+use Rattle.sqlite_trees.proofs.ListLemmas.{all-get_or}
+use Rattle.tree_core.specs.Forest.{each}
+use Rattle.tree_core.specs.declared.rows.Span.{Span}
+use Rattle.catalogue_core.specs.Bounds.{IsKept}
+use Rattle.catalogue_core.specs.OpenMarks.{is_clean_for}
+use Rattle.catalogue_core.specs.UnitLookup.{has_unit}
+use Rattle.catalogue_core.specs.Units.{Unit}
+use Rattle.office_tables.specs.declared.fault.StoreFault.TheVariants as fault
+use Rattle.catalogue_statements.specs.Representation.{Represents}
+use Rattle.office_tables.proofs.CallEnds.{same_fault}
+use Rattle.office_tables.proofs.StoreCalls.{tells_not, tells_cut}
+use Rattle.office_tables.proofs.Calls.{cut_after, early, looks_nowhere, looks_then, office_of, still}
+use Rattle.office_tables.proofs.Sparing.{spares_full}
+use Rattle.refinement.specs.Openness.{AreTheirs, allows, are_clean_for}
+use Rattle.refinement.proofs.AllPass.{all_of, more_clean, not_clean}
 use Rattle.refinement.proofs.access.are_clean.Goals as goal
 
-pub returns-then-not-branch : goal.returns-then-not-branch
-returns-then-not-branch c =
-    not_clean c.args.today c.args.permits.now c.args.found.now c.loop-attached.attached-index c.attached-item.result c.attached-item.is c.loop-attached-test.true c.in_ok-is_clean.field-0 c.in_ok-is_clean.ensures c.if-not-branch.true
+pub loop-row-init : goal.loop-row-init
+loop-row-init g c =
+    let a = state g.S.Store c.args.conn.now in
+    record {
+      inside = c.requires.inside;
+      looks = looks_nowhere a (office_of g.P.Places.version a c.requires.inside);
+      so_far = λ clean o k it all. refl;
+      known = λ clean o k it all. subst (g.P.Places.knows k) (sym c.new-known.ensures.items) (g.met.P.Places.knows_none k);
+    }
 
-pub loop-attached-preserved : goal.loop-attached-preserved
-loop-attached-preserved c =
-    more_clean c.args.today c.args.permits.now c.args.found.now c.loop-attached.attached-index c.attached-item.result c.attached-item.is c.loop-attached-test.true c.in_ok-is_clean.field-0 c.in_ok-is_clean.ensures c.if-not-branch.false
-    c.loop-attached.invariant
+pub marks_after-requires : goal.marks_after-requires
+marks_after-requires g c =
+    record { inside = still g.P.Places.version (state g.S.Store c.args.conn.now) (state g.S.Store c.loop-row.conn) c.loop-row.invariant.inside c.loop-row.invariant.looks.goes }
+
+pub loop-row-preserved : goal.loop-row-preserved
+loop-row-preserved g c =
+    let a = state g.S.Store c.args.conn.now in
+    let b = state g.S.Store c.loop-row.conn in
+    let d = state g.S.Store c.marks_after.new.conn in
+    let rows = c.args.rows.now in
+    let i = c.loop-row.row-index in
+    let before = c.loop-row.invariant in
+    let told = c.in_ok-found.ensures.tells in
+    let represents = Represents g.P.Places.represents g.P.Places.version in
+    record {
+      inside = before.inside;
+      looks = looks_then a b d before.looks told.looks;
+      so_far = λ clean o k it theirs.
+          let at_b = early b d _ told.looks.goes.on.crash clean in
+          let it_b = subst (λ (db : Database). represents db o k) (sym (before.looks.same at_b)) it in
+          let known = subst (g.P.Places.knows k) (sym c.deref.ensures.value) (before.known at_b o k it theirs.0) in
+          let own = told.answers clean o k it_b (all-get_or (g.P.Places.stands (each (λ (u : Unit). u.id) k.forest)) rows i _ theirs.0 c.loop-row-test.true) known in
+          let there = all-get_or (λ (row : Span). has_unit k.forest row.id ≡ true) rows i _ theirs.1 c.loop-row-test.true in
+          more_clean (is_clean_for (allows c.args.today c.args.permits.now) c.args.today k.forest) rows i _ c.loop-row-test.true c.in_ok-is_clean.field-0 (c.in_ok-is_clean.ensures k.forest _ there own.0.0 own.0.1) c.if-not-branch.false
+          (before.so_far at_b o k it theirs);
+      known = λ clean o k it all.
+          let at_b = early b d _ told.looks.goes.on.crash clean in
+          let it_b = subst (λ (db : Database). represents db o k) (sym (before.looks.same at_b)) it in
+          let known = subst (g.P.Places.knows k) (sym c.deref.ensures.value) (before.known at_b o k it all) in
+          (told.answers clean o k it_b (all-get_or (g.P.Places.stands (each (λ (u : Unit). u.id) k.forest)) rows i _ all c.loop-row-test.true) known).1;
+    }
+
+pub returns-in_err-is_clean : goal.returns-in_err-is_clean
+returns-in_err-is_clean g c =
+    let a = state g.S.Store c.args.conn.now in
+    let d = state g.S.Store c.marks_after.new.conn in
+    let handed = c.from_residual-in_err-is_clean.ensures in
+    let looked = looks_then a (state g.S.Store c.loop-row.conn) d c.loop-row.invariant.looks c.in_ok-found.ensures.tells.looks in
+    record {
+      tells = tells_not g.S.Store (Represents g.P.Places.represents g.P.Places.version) IsKept (λ k. AllByRecursion (g.P.Places.stands (each (λ (u : Unit). u.id) k.forest)) c.args.rows.now) c.args.conn.now c.marks_after.new.conn c.from_residual-in_err-is_clean.result (λ _ k yes. AreTheirs g.P.Places.stands k c.args.rows.now → yes ≡ are_clean_for c.args.today c.args.permits.now k c.args.rows.now) fault.Memory
+          (same_fault c.from_residual-in_err-is_clean.result fault.Memory handed.0 handed.1) (cut_after a d looked.goes.on) (spares_full a d looked) (λ o k it all kept clean free. tt);
+    }
+
+pub returns-then-not-branch : goal.returns-then-not-branch
+returns-then-not-branch g c =
+    let a = state g.S.Store c.args.conn.now in
+    let b = state g.S.Store c.loop-row.conn in
+    let d = state g.S.Store c.marks_after.new.conn in
+    let rows = c.args.rows.now in
+    let i = c.loop-row.row-index in
+    let before = c.loop-row.invariant in
+    let told = c.in_ok-found.ensures.tells in
+    let represents = Represents g.P.Places.represents g.P.Places.version in
+    record {
+      tells = record {
+        answers = λ clean o k it theirs.
+            let at_b = early b d _ told.looks.goes.on.crash clean in
+            let it_b = subst (λ (db : Database). represents db o k) (sym (before.looks.same at_b)) it in
+            let known = subst (g.P.Places.knows k) (sym c.deref.ensures.value) (before.known at_b o k it theirs.0) in
+            let own = told.answers clean o k it_b (all-get_or (g.P.Places.stands (each (λ (u : Unit). u.id) k.forest)) rows i _ theirs.0 c.loop-row-test.true) known in
+            let there = all-get_or (λ (row : Span). has_unit k.forest row.id ≡ true) rows i _ theirs.1 c.loop-row-test.true in
+            not_clean (is_clean_for (allows c.args.today c.args.permits.now) c.args.today k.forest) rows i _ c.loop-row-test.true c.in_ok-is_clean.field-0 (c.in_ok-is_clean.ensures k.forest _ there own.0.0 own.0.1) c.if-not-branch.true;
+        looks = looks_then a b d before.looks told.looks;
+        cut = tt;
+        spares = λ clean. tt;
+        faults = λ o k it all kept clean free. tt;
+      };
+    }
+
+pub returns-in_err-found : goal.returns-in_err-found
+returns-in_err-found g c =
+    let handed = c.from_residual.ensures in
+    let e = c.in_err-found.field-0.0 in
+    let looked = c.loop-row.invariant.looks in
+    let why = c.in_err-found.ensures.tells in
+    let represents = Represents g.P.Places.represents g.P.Places.version in
+    record {
+      tells = tells_cut g.S.Store represents IsKept (λ k. AllByRecursion (g.P.Places.stands (each (λ (u : Unit). u.id) k.forest)) c.args.rows.now) c.args.conn.now c.loop-row.conn c.marks_after.new.conn c.from_residual.result
+          (λ _ k yes. AreTheirs g.P.Places.stands k c.args.rows.now → yes ≡ are_clean_for c.args.today c.args.permits.now k c.args.rows.now) e
+          (same_fault c.from_residual.result e handed.0 handed.1) looked why.cut why.spares
+          (λ o k it all kept at_b clean free.
+          why.faults o k (subst (λ (db : Database). represents db o k) (sym (looked.same at_b)) it)
+          (all-get_or (g.P.Places.stands (each (λ (u : Unit). u.id) k.forest)) c.args.rows.now c.loop-row.row-index _ all c.loop-row-test.true, subst (g.P.Places.knows k) (sym c.deref.ensures.value) (c.loop-row.invariant.known at_b o k it all)) kept clean free);
+    }
 
 pub returns : goal.returns
-returns c = all_clean c.args.today c.args.permits.now c.args.found.now c.loop-attached.attached-index c.loop-attached-test.false c.loop-attached.invariant
+returns g c =
+    record {
+      tells = record {
+        answers = λ clean o k it all.
+            all_of (is_clean_for (allows c.args.today c.args.permits.now) c.args.today k.forest) (map (λ (row : Span). row.id) c.args.rows.now) c.loop-row.row-index
+            (omega (arith, c.loop-row-test.false, length-map c.args.rows.now (λ (row : Span). row.id))) (c.loop-row.invariant.so_far clean o k it all);
+        looks = c.loop-row.invariant.looks;
+        cut = tt;
+        spares = λ clean. tt;
+        faults = λ o k it all kept clean free. tt;
+      };
+    }
