@@ -1,5 +1,5 @@
 #!/usr/bin/env python3
-"""Writes requests for `record_office trial` on standard output: bench/trial/requests.py WHAT N
+"""Writes the requests of a session on standard output: bench/trial/requests.py WHAT N
 
 import N   a file of N units, some 280 bytes each, in one fonds of up to 100 series
 twice N    the same file twice
@@ -8,6 +8,8 @@ grow N     N files of 20,000 units
 pages N    a file of N units, then 1,000 questions for the page of a unit, spread over all
 fonds N    a file of N units, 100 of them tops, then 100 questions for the list of tops
 aid N      a file of N units, then one question for the whole finding aid
+moves N    a file of N units, then 100 moves of a unit without children to another series
+boxes N    a file of N units, each in 64 of 20,000 boxes
 orders N   a file of N units, each in a box of its own, a ticket for each 50, then N orders, 50 of each ticket
 small N    N questions for what is out
 body N     a command whose body has N bytes, which are not looked at
@@ -23,6 +25,9 @@ SERIES = 100
 QUESTIONS = 1000
 ROWS = 20000
 ORDERS = 50
+MOVES = 100
+BOXES = 20000
+BOXES_OF_A_UNIT = 64
 
 
 def row(unit, place, tops, boxed):
@@ -43,6 +48,23 @@ def archive(units, first=1, tops=1, boxed=False):
     header = HEADER + (",physicalObjectName" if boxed else "")
     rows = (row(first + place, place, tops, boxed) for place in range(units))
     return ("\n".join([header, *rows]) + "\n").encode()
+
+
+def boxed_archive(units):
+    """A file of small rows, in which each unit lies in 64 boxes."""
+    rows = ["legacyId,parentId,identifier,title,levelOfDescription,publicationStatus,physicalObjectName"]
+    for place in range(units):
+        first = place * BOXES_OF_A_UNIT
+        boxes = "|".join(f"Box {box % BOXES + 1}" for box in range(first, first + BOXES_OF_A_UNIT))
+        parent = 1 if place else ""
+        rows.append(f"{place + 1},{parent},{place + 1},Unit {place + 1},File,Published,{boxes}")
+    return ("\n".join(rows) + "\n").encode()
+
+
+def move(unit):
+    """A move of a unit without children to another of the series of one fonds."""
+    series = (unit - 1 + SERIES // 2) % SERIES + 2
+    return post("/desk/move", b'{"unit":%d,"parent":%d}' % (unit, series))
 
 
 def post(path, body):
@@ -78,6 +100,12 @@ def requests(what, n):
     elif what == "aid":
         yield taken_in(n)
         yield get("/public/aid/1")
+    elif what == "moves":
+        yield taken_in(n)
+        for i in range(MOVES):
+            yield move(n - 7 * i)
+    elif what == "boxes":
+        yield post("/desk/import/a", boxed_archive(n))
     elif what == "orders":
         yield taken_in(n, boxed=True)
         for _ in range(0, n, ORDERS):

@@ -4,6 +4,7 @@ use Rattle.sqlite.specs.Effect.{Database}
 use Rattle.sqlite.specs.Files.{file_state, over_files}
 use Rattle.sqlite.specs.Held.{Held}
 use Rattle.sqlite.specs.Recovery.{Image}
+use Rattle.sqlite.specs.State.{HasCleanDisk}
 use Rattle.sqlite.specs.Steps.{over_memory}
 use Rattle.sqlite.proofs.Callers.{memory_is_clean}
 use Rattle.sqlite_disk.specs.declared.Disk.{Ghosts}
@@ -18,7 +19,7 @@ use Rattle.office_tables.specs.Schema.{schema}
 use Rattle.refinement.specs.Representation.{RepresentsState}
 use Rattle.tree_core.specs.Versions.{Spans}
 use Rattle.program.specs.ClosedFiles.{HasLeft, HaveCleanDisk, HoldState}
-use Rattle.program.specs.Headline.{TheHeadlineInAFile, TheHeadlineInMemory}
+use Rattle.program.specs.Headline.{TheHeadlineInAFile, TheHeadlineInMemory, TheHeadlineOfATrial}
 
 -- a disk that has returned what was written to the last visit did so before the first
 all_intact : {M : Type 0} (represents : M → State → Type 0) (is_intact is_open : M → Type 0) (visits : List Visit) (old new : M) → AreVisits represents is_intact is_open old new visits
@@ -31,6 +32,12 @@ in_memory founding visits old new shown are days =
     let (t, after, run, all) =
     law.the_headline (is_shown over_memory RepresentsSpanRows Spans) (is_clean over_memory) (is_still_open over_memory) visits old new are days (memory_is_clean new) _ shown shown.0.sound in
     (t, after, run)
+
+pub of_a_trial : {D : Type 0} (g : Ghosts D) → ((office : Held (FileStore D g)) → HasCleanDisk (file_state office)) → TheHeadlineOfATrial g
+of_a_trial g clean founding visits old new shown are days =
+    let (t, after, run, all) =
+    law.the_headline (is_shown (over_files {g = g}) RepresentsSpanRows Spans) (is_clean (over_files {g = g})) (is_still_open (over_files {g = g})) visits old new are days (clean new) _ shown shown.0.sound in
+    (t, after, run, (all.0, λ leaves. after.1 (all.1 leaves)))
 
 -- the tables that show a state are of our schema
 shows : (db : Database) (s : State) → RepresentsState RepresentsSpanRows Spans db s → RepresentsState RepresentsSpanRows Spans (record { schema = schema Spans; trees = db.trees }) s

@@ -17,11 +17,12 @@ use Rattle.office.specs.InitialSettings.{Founding, founded}
 use Rattle.office.specs.IdleOffice.{is_clean, is_shown, is_still_open}
 use Rattle.office_core.specs.SoundOffice.{IsSoundOffice}
 use Rattle.office_core.specs.State.{State}
+use Rattle.refinement.specs.Representation.{RepresentsState}
 use Rattle.tree_core.specs.Versions.{Spans}
 use Rattle.program.specs.ClosedFiles.{HasLeft, HaveCleanDisk, HoldState}
 use Rattle.program.specs.OpenedFiles.{HoldsOffice, IsFound}
 
--- For a new office in memory, after any sessions and calls: the machine has carried out the commands among them, from
+-- For a new office in the engine's store in memory, after any sessions and calls: the machine has carried out the commands among them, from
 -- the state in which the office began, and the rules are kept at each point.
 abbrev pub TheHeadlineInMemory : Type 0
 TheHeadlineInMemory =
@@ -31,6 +32,22 @@ TheHeadlineInMemory =
     old new visits
     → AllByRecursion CallsNameDays visits
     → (t : State) × is_shown over_memory RepresentsSpanRows Spans new t × IsOneRun (founded founding) visits t
+
+module _ {D : Type 0} (g : Ghosts D) where
+  -- The same for a new office in the store of files. If the last message or call was a command that was accepted, the
+  -- tables are those of the machine's state. They are so after anything else, too, unless a failed write had shut the
+  -- office.
+  abbrev pub TheHeadlineOfATrial : Type 0
+  TheHeadlineOfATrial =
+      (founding : Founding) (visits : List Visit) (old new : Held (FileStore D g))
+      → is_shown (over_files {g = g}) RepresentsSpanRows Spans old (founded founding)
+      → AreVisits (is_shown (over_files {g = g}) RepresentsSpanRows Spans) (is_clean (over_files {g = g}))
+      (is_still_open (over_files {g = g})) old new visits
+      → AllByRecursion CallsNameDays visits
+      → (t : State) × is_shown (over_files {g = g}) RepresentsSpanRows Spans new t × IsOneRun (founded founding) visits t
+      × ((all : AllHappen (founded founding) visits t)
+      × (VisitsLeaveOpen (IsTrue (file_state old).is_open) (founded founding) visits t all
+      → RepresentsState RepresentsSpanRows Spans (file_state new).now t))
 
 module _ {D : Type 0} (g : Ghosts D) (image : Image) where
   -- The same for an office that a file held when it was opened, and that is closed again. If the last message or call

@@ -5,11 +5,12 @@ ghost use Rattle.sqlite.specs.Recovery.{Image};
 ghost use Rattle.sqlite.specs.WalFiles.{image_at};
 ghost use Rattle.office_core.specs.State.{State};
 ghost use Rattle.program.specs.ClosedFiles.{ACheckChangesNothing};
-ghost use Rattle.program.specs.Headline.{TheHeadlineInAFile, TheHeadlineInMemory};
+ghost use Rattle.program.specs.Headline.{TheHeadlineInAFile, TheHeadlineInMemory, TheHeadlineOfATrial};
 ghost use Rattle.program.specs.OpenedFiles.{IsInTheStateThatWasLeft};
 ghost use Rattle.program.specs.Stores.{WhatWasBroughtOverIsHeld, WhatWasMadeIsHeld, WhatWasSaidIsHeld};
 ghost use Rattle.program.specs.Stores.{WhatWasServedIsHeld, WhatWasTakenInIsHeld};
 
+use memory_disk::MemoryDisk;
 use sqlite::{FileFrom, Start};
 use sqlite_disk::Disk;
 
@@ -18,10 +19,15 @@ pub fn a_file_opens_in_the_state_that_was_left()
     ensures { (image : Image) (s : State) (found : Database) → IsInTheStateThatWasLeft image s found }
 {}
 
-/// After any sessions and calls, a new office in memory is in the machine's state after the commands among them, and
-/// the rules are kept at each point.
+/// After any sessions and calls, a new office in the engine's store in memory is in the machine's state after the
+/// commands among them, and the rules are kept at each point.
 pub fn the_headline_in_memory()
     ensures { TheHeadlineInMemory }
+{}
+
+/// The same for the new office of a trial, unless a write that found no memory has shut it.
+pub fn the_headline_of_a_trial()
+    ensures { TheHeadlineOfATrial ⟦<MemoryDisk as Disk>⟧ }
 {}
 
 /// The same for an office that a file held. When it is closed, the file holds it in that state, at least if the last

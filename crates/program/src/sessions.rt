@@ -5,12 +5,11 @@ ghost use Rattle.program.specs.CommandEffects.{EndsWell, TrialDone, TrialFails, 
 ghost use Rattle.program.specs.Streams.{AgreesWithCalls};
 
 use crate::faults::{Break, Fault};
+use crate::stores::make_trial_office;
 use http_desk::session::talk;
 use http_desk::session_end::Ended;
 use http_desk::streams::{Sink, Source};
-use nested_sets::SpanPlaces;
-use office::{Machine, Office, Settings};
-use sqlite::{Connection, MemStore};
+use office::{Machine, Settings};
 use std::alloc::Global;
 use std::io::{Read, Write};
 
@@ -61,11 +60,7 @@ pub fn try_office<R: Read, W: Write>(
     ensures fault { IfErr result (TrialFails settings reader.old reader.new
         out.old out.new) }
 {
-    let conn = Connection::open_in_memory(alloc)?;
-    let mut office = match Office::<SpanPlaces, MemStore>::create(conn, settings) {
-        Ok(office) => office,
-        Err((fault, _)) => return Err(Fault::from(fault)),
-    };
+    let mut office = make_trial_office(alloc, settings)?;
     let ended = talk(alloc, reader, out, &mut office);
     let _ = office.into_connection();
     after(ended)

@@ -1,4 +1,4 @@
-//! Offices in files.
+//! Offices in files, and the office of a trial, which is in memory.
 //!
 //! The contracts on a file's content hold for every start `S`, that is, for whatever the file held when it was opened.
 ghost use Rattle.std.specs.Prelude.{IfErr, IfOk, IsTrue};
@@ -7,6 +7,7 @@ ghost use Rattle.sqlite.specs.State.{HasCleanDisk};
 ghost use Rattle.sqlite.specs.WalFiles.{image_at};
 ghost use Rattle.office.specs.InitialSettings.{founded};
 ghost use Rattle.office.specs.IdleOffice.{IsIn};
+ghost use Rattle.office_core.specs.SoundOffice.{IsSoundOffice};
 ghost use Rattle.nested_sets.specs.Representation.{RepresentsSpanRows};
 ghost use Rattle.tree_core.specs.Versions.{Spans};
 ghost use Rattle.program.specs.ClosedFiles.{HasLeft};
@@ -20,14 +21,22 @@ use crate::files::{
     ClosedFiles, FailedOpeningFrom, FileStoreFrom, Outcome, StoreOutcome, close, find, make, unmake,
 };
 use isad_core::Text;
+use memory_disk::MemoryDisk;
 use nested_sets::SpanPlaces;
 use office::{Office, Settings};
-use sqlite::{FileFrom, Start};
+use sqlite::{Connection, FileFrom, FileStore, Files, Options, Start};
 use sqlite_disk::Disk;
-use std::alloc::Global;
+use std::alloc::{AllocError, Global};
 
 /// An office in a file. `S` gives what the file held before.
 pub type KeptOffice<S> = Office<SpanPlaces, FileStoreFrom<S>>;
+
+/// The office of a trial. It has the store of an office in a file, over a disk in memory.
+pub type TrialOffice = Office<SpanPlaces, FileStore<MemoryDisk>>;
+
+// A random number marks what a log holds, so that an opening after a crash takes nothing old for new. No opening finds
+// the log of a trial, so any number will do.
+const TRIAL_SEED: u64 = 1;
 
 // The fault of a store that could not be opened.
 fn unopened<S: Start>(failed: FailedOpeningFrom<S>) -> (Fault, Outcome<S>)
@@ -91,4 +100,24 @@ pub fn close_office<S: Start>(office: KeptOffice<S>) -> ClosedFiles<S>
     ensures { HasLeft office result }
 {
     close(office.into_connection())
+}
+
+/// Makes a new office for a trial. A failure of its disk is want of memory, too.
+pub fn make_trial_office(alloc: Global, settings: Settings) -> Result<TrialOffice, AllocError>
+    ensures sound { IfOk result (λ _. IsSoundOffice (founded settings)) }
+    ensures founded { IfOk result (λ office. IsIn RepresentsSpanRows Spans (founded settings) (file_state office)) }
+    ensures kept { IfOk result (λ office. IsTrue (file_state office).is_open) }
+{
+    let files = Files {
+        log: MemoryDisk::new(alloc),
+        db: MemoryDisk::new(alloc),
+    };
+    let conn = match Connection::open_files(alloc, files, Options::new(TRIAL_SEED)) {
+        Ok(conn) => conn,
+        Err(_) => return Err(AllocError),
+    };
+    match TrialOffice::create(conn, settings) {
+        Ok(office) => Ok(office),
+        Err(_) => Err(AllocError),
+    }
 }

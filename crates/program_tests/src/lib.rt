@@ -1,8 +1,10 @@
-//! Tests of the program: its words, streams and exit statuses, and offices in files.
+//! Tests of the program: its words, streams and exit statuses, and offices in files and in memory.
 #![tactic(auto)]
 
 #[cfg(test)]
 mod fakes;
+#[cfg(test)]
+mod memory_disks;
 #[cfg(test)]
 mod office_messages;
 #[cfg(test)]
