@@ -31,12 +31,13 @@ import rules_told  # noqa: E402
 import turning  # noqa: E402
 
 PLAIN = ROOT / "acceptance" / "plain"
-TURNED = ["catalogue", "desk", "elements", "files", "refusals", "requests", "shown"]
+TURNED = ["answers", "catalogue", "desk", "elements", "files", "heads", "refusals", "requests", "session", "shown"]
 OTHERS = ["tables", "__init__"]
 TEXTS = {name: (PLAIN / f"{name}.py").read_text() for name in TURNED + OTHERS}
 COMPILED = {name: compile(text, f"<plain {name}>", "exec") for name, text in TEXTS.items()}
 SECONDS, MEMORY, AT_ONCE, LONG = 20, 4 << 30, 2, 0.1
 NO_RULES = "no rules"
+STATUSES = {"end": (0, b""), "closed": (0, b""), "cut": (3, b"cut\n")}
 
 
 # ---- what a turned rule may call
@@ -108,10 +109,9 @@ def is_answered(plain, day):
     tables = importlib.import_module("plain.tables")
     office = plain.Office(**day.settings)
     filled.fill(office, day)
-    for method, path, body, status, text in day.asked:
-        told, said = office.get(path) if method == "GET" else office.post(path, body)
-        if (told, said if isinstance(said, str) else plain.as_json(said)) != (status, text):
-            return False
+    output, ended = plain.talk(office, day.said)
+    if (output, STATUSES[ended]) != (day.answered, (day.status, day.told)):
+        return False
     return all(tables.kept(office, query) == text for query, text in day.kept)
 
 
@@ -242,7 +242,7 @@ class Trial:
 
 
 def all_days():
-    return [it for it in days.written() + limits.made() + filled.made() if it.asked and not it.is_raw]
+    return days.written() + limits.made() + filled.made()
 
 
 def is_reached(function, called):
