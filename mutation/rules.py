@@ -3,9 +3,9 @@
 
 The rules are the modules of acceptance/plain, except tables.py and __init__.py. A *turn* is a wrong rule: turning.py makes
 them at each place of the modules, and rules_told.py lists more. All fixed days of the rules are replayed: those of
-acceptance/days without raw lines, those of limits.py, and those of filled.py, on an office that is nearly full. What raw lines
-say (heads, lengths, methods, how a connection ends) concerns the program alone. First the unchanged rules must answer each day
-as it is written.
+acceptance/days, limits.py and heads.py, and those of filled.py, on an office that is nearly full. Each is read from its first
+byte to its last, so that the rules of heads and of how a connection ends are turned too. First the unchanged rules must answer
+each day as it is written.
 
 A day fails if an answer differs or is missing. Of the days that call the changed function the shortest are tried first, and
 the first that fails is named. Turns that mean the same are listed in rules_same.py, with the reason: they must pass. A turn
@@ -25,6 +25,7 @@ ROOT = Path(__file__).resolve().parents[1]
 sys.path[:0] = [str(ROOT / "acceptance"), str(ROOT / "mutation")]
 import days  # noqa: E402
 import filled  # noqa: E402
+import heads  # noqa: E402
 import limits  # noqa: E402
 import rules_same  # noqa: E402
 import rules_told  # noqa: E402
@@ -70,7 +71,15 @@ def reversed_list(things):
     return list(reversed(things))
 
 
-CALLED = {it.__name__: it for it in (wrong, another, insert_first, remove_another, reversed_list)}
+def first_only(things):
+    return list(things)[:1]
+
+
+def last_only(things):
+    return list(things)[-1:]
+
+
+CALLED = {it.__name__: it for it in (wrong, another, insert_first, remove_another, reversed_list, first_only, last_only)}
 
 
 # ---- an office by turned rules
@@ -242,7 +251,7 @@ class Trial:
 
 
 def all_days():
-    return days.written() + limits.made() + filled.made()
+    return days.written() + limits.made() + heads.made() + filled.made()
 
 
 def is_reached(function, called):

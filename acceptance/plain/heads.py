@@ -2,11 +2,13 @@
 
 A head is kept as text in which each character stands for one byte."""
 import dataclasses
+import io
 import string
 
 LONGEST_HEAD, MOST_FIELDS, LONGEST_BODY = 16_384, 64, 8_388_608
 TOKEN = {*string.ascii_letters, *string.digits, *"!#$%&'*+-.^_`|~"}
 WHITE = " \t"
+EMPTY = (b"\n", b"\r\n")
 VERSIONS = {"HTTP/1.0": 0, "HTTP/1.1": 1}
 
 
@@ -50,27 +52,25 @@ class Request:
 
 def head_block(said):
     """The first head with the empty lines before it, or none if it does not end."""
-    place, has_begun = 0, False
-    while said.find(b"\n", place) >= 0:
-        line = said[place : said.find(b"\n", place)]
-        place += len(line) + 1
-        if line.removesuffix(b"\r"):
-            has_begun = True
-        elif has_begun:
-            return said[:place]
+    block, has_begun = b"", False
+    for line in io.BytesIO(said):
+        block += line
+        if has_begun and line in EMPTY:
+            return block
+        has_begun = line not in EMPTY
     return None
 
 
 def is_blank(said):
-    """Whether these are empty lines alone, the last one ended."""
-    return all(not line.removesuffix(b"\r") for line in said.split(b"\n")[:-1]) and said[-1:] in (b"", b"\n")
+    """Whether these are empty lines alone, each with its end."""
+    return not said.replace(b"\r\n", b"").strip(b"\n")
 
 
 # ---- how a head is read
 
 
 def lines_of(block):
-    """The lines of a block without their ends, the empty lines before and after the head left out."""
+    """The lines of a block without their ends, and without the empty lines before and after the head."""
     lines = [line.removesuffix("\r") for line in block.decode("latin-1").split("\n")[:-2]]
     while not lines[0]:
         lines.pop(0)
@@ -92,9 +92,10 @@ def is_token(word):
 def is_target(word):
     """Whether these are visible bytes, which together are UTF-8."""
     try:
-        return word != "" and all(map(is_visible, word)) and word.encode("latin-1").decode() is not None
+        word.encode("latin-1").decode()
     except UnicodeDecodeError:
         return False
+    return word != "" and all(map(is_visible, word))
 
 
 def check(holds):
@@ -144,7 +145,7 @@ def accept(block):
 
 
 def is_number(value):
-    return value.isascii() and value.isdigit()
+    return value != "" and all(byte in string.digits for byte in value)
 
 
 def waits(head, length):

@@ -10,34 +10,37 @@ END, CLOSED, CUT = "end", "closed", "cut"
 
 def talk(office, said):
     """The bytes that are written, and how the session ends."""
-    output = []
-    for number in range(1, MOST_ANSWERS + 1):
-        size, ended = exchange(office, said, number == MOST_ANSWERS, output)
-        if ended:
-            return b"".join(output), ended
-        said = said[size:]
-    raise AssertionError("the last answer closes")
+    output, number, ended = [], 0, None
+    while ended is None:
+        number += 1
+        said, ended = exchange(office, said, number, output)
+    return b"".join(output), ended
 
 
-def exchange(office, said, is_last, output):
-    """Answers the first message of an input: its size, and how the session ends, if it does."""
+def exchange(office, said, number, output):
+    """Answers the first message of an input: the rest of the input, and how the session ends, if it does."""
     block = head_block(said[:LONGEST_HEAD])
     if block is None:
-        return 0, no_head(said, output)
+        return None, no_head(said, output)
     try:
         request = accept(block)
     except Refused as it:
         output.append(written(error(it.status), True, it.is_head))
-        return 0, CLOSED
+        return None, CLOSED
     if request.waits:
         output.append(CONTINUE)
-    size = len(block) + (request.length or 0)
-    if len(said) < size:
-        return 0, CUT
-    closes = request.closes or is_last
-    it = answer(office, request.method, path_of(request.target), request.length, said[len(block) : size])
+    body, rest = parted(said[len(block) :], request.length or 0)
+    if body is None:
+        return None, CUT
+    closes = request.closes or number == MOST_ANSWERS
+    it = answer(office, request.method, path_of(request.target), request.length, body)
     output.append(written(it, closes, request.method == "HEAD"))
-    return size, CLOSED if closes else None
+    return rest, CLOSED if closes else None
+
+
+def parted(said, size):
+    """A body of this size and what follows it, or no body if too little was said."""
+    return (said[:size], said[size:]) if len(said) >= size else (None, None)
 
 
 def no_head(said, output):
