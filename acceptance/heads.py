@@ -180,6 +180,7 @@ ENDINGS = {
     "a_return_in_an_empty_line": [">^", ">", ">", *BAD],
     "no_last_empty_line": [f"> {ASKED}", f"> {HOST}", CUT],
     "half_of_the_last_line": [f"> {ASKED}", f"> {HOST}", ">^", CUT],
+    "a_return_and_a_byte_in_a_line": [f"> {ASKED}", f"> {HOST}", ">^", ">$ x", CUT],
     "one_byte": [">| G", CUT],
     "no_body": [*said("POST /desk/run HTTP/1.1", HOST, "Content-Length: 1"), CUT],
     "a_body_without_its_last_byte": [*said("GET /nothing HTTP/1.1", HOST, "Content-Length: 31"), f">| {DOTS}", CUT],

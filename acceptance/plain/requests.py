@@ -81,10 +81,20 @@ QUESTIONS = {
 }
 
 
+def whole(digits):
+    """A number in digits alone; a minus makes it one that no member wants."""
+    return -1 if digits.startswith("-") else int(digits)
+
+
+def refuse_constant(word):
+    """Python reads NaN and Infinity, JSON has no such words."""
+    raise Bad(word)
+
+
 def members_of(body, wanted):
     """The members that a path wants, out of a body."""
     try:
-        said = json.loads(body)
+        said = json.loads(body.decode(), parse_int=whole, parse_constant=refuse_constant)
     except ValueError as it:
         raise Bad from it
     if not isinstance(said, dict):
