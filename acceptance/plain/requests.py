@@ -82,8 +82,8 @@ QUESTIONS = {
 
 
 def whole(digits):
-    """A number in digits alone; a minus makes it one that no member wants."""
-    return -1 if digits.startswith("-") else int(digits)
+    """A whole number; one with a minus is none, as no member wants it."""
+    return float(digits) if digits.startswith("-") else int(digits)
 
 
 def refuse_constant(word):
