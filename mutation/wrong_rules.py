@@ -26,6 +26,7 @@ from concurrent.futures import ThreadPoolExecutor
 
 import side_by_side
 import wrong_rules_of_http
+import wrong_rules_of_trees
 from wrong_rules_told import WRONG
 
 TOP = os.path.dirname(os.path.dirname(os.path.abspath(__file__)))
@@ -176,12 +177,20 @@ def days_of_acceptance():
     return {day.name for day in days.written() + heads.made() + limits.made()}
 
 
+def untried():
+    """The rules that the prover does not try."""
+    return wrong_rules_of_http.written(Path(TOP)) + wrong_rules_of_trees.written()
+
+
 def has_field(row):
-    """Whether a worked row has this field: `CRATE::MODULE::FUNCTION FIELD`."""
+    """Whether a worked row has this field: `CRATE::MODULE::FUNCTION FIELD`. Some are clauses of a function."""
     function, field = row.split()
     crate, *path = function.split("::")
     answers = Path(TOP, "crates", crate, "proofs", *path, "Answers.antt")
-    return answers.is_file() and re.search(rf"^  {field} ", answers.read_text(encoding="utf-8"), re.M)
+    if answers.is_file():
+        return re.search(rf"^  {field} ", answers.read_text(encoding="utf-8"), re.M)
+    source = Path(TOP, "crates", crate, "src", *path[:-1]).with_suffix(".rt").read_text(encoding="utf-8")
+    return re.search(rf"^    ensures {field} ", source.partition(f"pub fn {path[-1]}()")[2].partition("\n{}")[0], re.M)
 
 
 def is_there(told, named_days):
@@ -194,8 +203,8 @@ def is_there(told, named_days):
 
 def wrong_untried(given):
     """The untried rules that do not apply or whose row or day is not there, and the number of all."""
-    rules, named_days = wrong_rules_of_http.written(Path(TOP)), days_of_acceptance()
-    rules = [it for it in rules if not given.words or any(word in it[0] for word in given.words)]
+    named_days = days_of_acceptance()
+    rules = [it for it in untried() if not given.words or any(word in it[0] for word in given.words)]
     wrong = []
     for label, file, old, new, told in rules:
         times = Path(TOP, file).read_text(encoding="utf-8").count(old)
@@ -219,7 +228,7 @@ def definitions(path):
 def changed_definitions():
     """The definitions that some rule changes, as (file, name)."""
     changed = set()
-    for _, file, old, *_ in [*WRONG, *wrong_rules_of_http.written(Path(TOP))]:
+    for _, file, old, *_ in [*WRONG, *untried()]:
         path = Path(TOP, file)
         place = path.read_text(encoding="utf-8").find(old)
         before = [name for begin, name in definitions(path) if begin < place + len(old)]
@@ -264,10 +273,10 @@ def main():
         missing = [it for it in rules if it.verdict]
         for it in missing:
             print(it.line())
-        untried, number = wrong_untried(given)
-        print("".join(f"{it}\n" for it in untried), end="")
-        print(f"{len(rules) + number} rules, {len(missing) + len(untried)} not applied")
-        return 1 if missing or untried or not rules and not number else 0
+        wrong, number = wrong_untried(given)
+        print("".join(f"{it}\n" for it in wrong), end="")
+        print(f"{len(rules) + number} rules, {len(missing) + len(wrong)} not applied")
+        return 1 if missing or wrong or not rules and not number else 0
     with tempfile.TemporaryDirectory(prefix="rules-") as room:
         run = Run(modules, given, given.keep or room)
         for it in rules:

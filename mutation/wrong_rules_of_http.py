@@ -129,6 +129,12 @@ OF_HEADS = [
      day("heads_one_word")),
     ("what is no head is not implemented", "(verdict ≡ Refused BadRequest false)", "(verdict ≡ Refused NotImplemented false)",
      day("heads_one_word")),
+    ("a length is its field's name", "option_map (λ field. field.1) (find", "option_map (λ field. field.0) (find",
+     head_row("two_that_agree")),
+    ("every version is 1.0", "weigh head.method head.target head.minor", "weigh head.method head.target 0",
+     session_row("twice")),
+    ("every version is 1.1", "weigh head.method head.target head.minor", "weigh head.method head.target 1", day("old_peer")),
+    ("the target comes first", "weigh head.method head.target", "weigh head.target head.method", session_row("twice")),
     ("the target is the method", "      method = method;\n", "      method = target;\n", head_row("no_host_needed")),
     ("the method is the target", "      target = target;\n", "      target = method;\n", head_row("no_host_needed")),
 ]  # fmt: skip
@@ -158,6 +164,7 @@ OF_SCANS = [
     ("a head is a byte shorter", "one_more (Whole n) = Whole (n + 1)", "one_more (Whole n) = Whole n", session_row("twice")),
     ("a head ends before its last byte", "found_after None more = Whole 1", "found_after None more = Whole 0",
      session_row("twice")),
+    ("what has not ended has not begun", "scan_from p [] = Open p", "scan_from p [] = Open Lead", day("cut_head")),
     ("no empty line before a head", "scan bytes = scan_from Lead bytes", "scan bytes = scan_from Start bytes",
      day("heads_empty_lines_before")),
 ]  # fmt: skip
@@ -222,6 +229,7 @@ OF_ROUTES = [
      answer_row("draft")),
     ("a beginning may differ", "if a == b then after beginning path", f"if {TRUE} then after beginning path",
      day("numbers_in_paths")),
+    ("paths with a number have no route", "or_else None other = other", "or_else None other = None", day("pages")),
     ("no path has a number", "or_else (plain_route plain path) (ending_route ending path)", "plain_route plain path",
      day("pages")),
     ("questions are commands", "is_post (Asks asked) = false", f"is_post (Asks asked) = {TRUE}", answer_row("fonds")),
@@ -303,6 +311,8 @@ OF_ANSWERS = [
     ("questions need a length", "is_post route && is_none request.length", "is_none request.length", answer_row("fonds")),
     ("the length comes before the method", METHOD + LENGTH,
      LENGTH.replace("else if", "if") + METHOD.replace("if not", "else if not", 1), day("methods")),
+    ("bodies come before heads", "answer_text bare closing a = head_text closing a ++ body_text bare a",
+     "answer_text bare closing a = body_text bare a ++ head_text closing a", answer_row("fonds")),
     ("a path has its query", "route_of (path_of request.target)", "route_of request.target", answer_row("refused")),
 ]  # fmt: skip
 
