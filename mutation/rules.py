@@ -2,15 +2,15 @@
 """Changes the rules of the plain office, one at a time: a fixed day must refuse each change. mutation/rules.py [WORD ..]
 
 The rules are the modules of acceptance/plain, except tables.py and __init__.py. A *turn* is a wrong rule: turning.py makes
-them at each place of the modules, and rules_told.py lists more. All fixed days of the rules are replayed: those of
+them at each place of the modules; rules_told.py and rules_of_heads.py list more. All fixed days of the rules are replayed: those of
 acceptance/days, limits.py and heads.py, and those of filled.py, on an office that is nearly full. Each is read from its first
 byte to its last, so that the rules of heads and of how a connection ends are turned too. First the unchanged rules must answer
 each day as it is written.
 
 A day fails if an answer differs or is missing. Of the days that call the changed function the shortest are tried first, and
 the first that fails is named. Turns that mean the same are listed in rules_same.py, with the reason: they must pass. A turn
-that leaves a table unreadable does not count. With words, only turns whose names have one of them are tried. Two run at a time. The
-last line is `N passed, M failed`; the script ends with 1 if one failed."""
+that leaves a table unreadable does not count. With words, only turns whose names have one of them are tried. Two run at a time.
+The last line is `N passed, M failed`; the script ends with 1 if one failed."""
 import ast
 import importlib.util
 import itertools
@@ -27,6 +27,7 @@ import days  # noqa: E402
 import filled  # noqa: E402
 import heads  # noqa: E402
 import limits  # noqa: E402
+import rules_of_heads  # noqa: E402
 import rules_same  # noqa: E402
 import rules_told  # noqa: E402
 import turning  # noqa: E402
@@ -151,7 +152,7 @@ def calls_of(day):
 
 def told_turns():
     """The turns that are told by hand, each with what makes its module: its text stands there once."""
-    for name, module, old, new in rules_told.TURNS:
+    for name, module, old, new in rules_told.TURNS + rules_of_heads.HEADS:
         is_there = TEXTS[module].count(old) == 1
         yield name, module, "", (lambda text=TEXTS[module].replace(old, new): ast.parse(text)) if is_there else None
 

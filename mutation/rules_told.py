@@ -1,6 +1,4 @@
 """Wrong rules, written by hand: a name, the module, a text that occurs once in it, and the wrong text."""
-import rules_of_heads
-
 GATE = "refuse(21, not self.is_open(container, ticket), container=container)"
 DEEP = "        refuse(25, len(self.path(parent)) + self.height(unit) > DEEPEST)\n"
 GOES = "        self.below(it.above).remove(unit)\n        self.below(parent).append(unit)\n        it.above = parent\n"
@@ -56,7 +54,6 @@ def closing(name, wrong):
 
 
 TURNS = [
-    *rules_of_heads.HEADS,
     ("Move tells 21 before 25", "catalogue", DEEP + GOES + "        self.gate()\n",
      DEEP.replace("refuse(25, ", "deep = (") + GOES + "        self.gate()\n        refuse(25, deep)\n"),
     ("the gate refuses for a holder who has expired", "catalogue", GATE,
