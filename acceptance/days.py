@@ -32,6 +32,7 @@ from urllib.parse import unquote_to_bytes
 HERE = Path(__file__).parent
 USUAL = {"country": "GB", "repo": "0999", "seats": "2", "daily": "3", "hands": "1", "run": "2", "day": "2024-03-01"}
 PHRASES = {"200": "OK", "400": "Bad Request", "404": "Not Found", "409": "Conflict"}
+ENDED = {"end": (0, b""), "closed": (0, b""), "cut": (3, b"cut\n")}
 ENDS = {"": b"\r\n", "$": b"\n", "^": b"\r", "|": b""}
 
 

@@ -39,7 +39,6 @@ TEXTS = {name: (PLAIN / f"{name}.py").read_text() for name in TURNED + OTHERS}
 COMPILED = {name: compile(text, f"<plain {name}>", "exec") for name, text in TEXTS.items()}
 SECONDS, MEMORY, AT_ONCE, LONG = 20, 4 << 30, 2, 0.1
 NO_RULES = "no rules"
-STATUSES = {"end": (0, b""), "closed": (0, b""), "cut": (3, b"cut\n")}
 
 
 # ---- what a turned rule may call
@@ -120,7 +119,7 @@ def is_answered(plain, day):
     office = plain.Office(**day.settings)
     filled.fill(office, day)
     output, ended = plain.talk(office, day.said)
-    if (output, STATUSES[ended]) != (day.answered, (day.status, day.told)):
+    if (output, days.ENDED[ended]) != (day.answered, (day.status, day.told)):
         return False
     return all(tables.kept(office, query) == text for query, text in day.kept)
 
