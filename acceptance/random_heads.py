@@ -23,7 +23,7 @@ NO_PATHS = ["/desk/readers/01", "/desk/runs/10000000000", "/desk/import/", "/not
 ROUTES = [("GET", QUESTIONS), ("POST", COMMANDS)] * 2 + [(None, NO_PATHS)]
 ORIGINS = [""] * 20 + ["http://x", "HTTP://x:80", "http://", "https://x", "//x"]
 QUERIES = [""] * 8 + ["?", "?x=/desk/run", "#x", "?a?b"]
-VERSIONS = ["HTTP/1.0", "HTTP/1.0", "HTTP/2.0", "http/1.1"]
+VERSIONS = ["HTTP/1.0"] * 6 + ["HTTP/1.2", "HTTP/2.0", "http/1.1"]
 BODIES = [
     b"", b"", b"{}", b'{"ticket":1}', b'{"ticket":-0}', b'{"name":"Ann","until":"2024-12-31"}', b'{"name":"\xff"}',
     b"legacyId\n1\n", b"GET /desk/issued HTTP/1.1\r\nHost: x\r\n\r\n", b"\r\n\r\n",
@@ -57,7 +57,7 @@ class Input:
         """A request with its body; some have empty lines before them, and some another byte."""
         (method, paths), body = self.one_of(ROUTES), self.one_of(BODIES)
         method = method if method and self.happens(0.7) else self.one_of(METHODS)
-        version = self.one_of(VERSIONS) if self.ends_it(0.02) else "HTTP/1.1"
+        version = self.one_of(VERSIONS) if self.ends_it(0.05) else "HTTP/1.1"
         first = f"{method} {self.one_of(ORIGINS)}{self.one_of(paths)}{self.one_of(QUERIES)} {version}"
         fields = [*self.hosts(), *self.lengths(method, body), *self.some()]
         self.random.shuffle(fields)
@@ -88,10 +88,10 @@ class Input:
 
     def some(self):
         """Fields that ask for something, and others."""
-        fields = [it for it in OTHERS if self.happens(0.1)]
+        fields = [it for it in OTHERS if self.happens(0.15)]
         fields += [f"Expect: {self.one_of(EXPECTED)}" for _ in range(2) if self.happens(0.2)]
-        fields += [f"Connection: {self.one_of(OPTIONS)}" for _ in range(2) if self.happens(0.1)]
-        fields += [f"connection: {self.one_of(CLOSING)}"] if self.ends_it(0.01) else []
+        fields += [f"Connection: {self.one_of(OPTIONS)}" for _ in range(2) if self.happens(0.15)]
+        fields += [f"connection: {self.one_of(CLOSING)}"] if self.ends_it(0.03) else []
         return fields + ([f"Transfer-Encoding: {self.one_of(['chunked', 'identity'])}"] if self.ends_it(0.02) else [])
 
     def changed(self, head):
