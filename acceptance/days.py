@@ -16,7 +16,7 @@ have other settings than the usual ones. A day has these lines:
     kept QUERY          a query that SQLite answers on the store at the end; the answer is the text that follows, a line
                         for each row, with | between its cells
     > TEXT, < TEXT      a line that is sent or answered, ended by CR LF; after >$ and <$ by LF, after >^ by CR, after >|
-                        and <| by nothing
+                        and <| by nothing; after >% each %HH is a byte, and nothing is added
     ends STATUS TEXT    the exit status, if it is not 0, and the line on standard error
 """
 import contextlib
@@ -27,10 +27,12 @@ import subprocess
 import sys
 import threading
 from pathlib import Path
+from urllib.parse import unquote_to_bytes
 
 HERE = Path(__file__).parent
 USUAL = {"country": "GB", "repo": "0999", "seats": "2", "daily": "3", "hands": "1", "run": "2", "day": "2024-03-01"}
 PHRASES = {"200": "OK", "400": "Bad Request", "404": "Not Found", "409": "Conflict"}
+ENDED = {"end": (0, b""), "closed": (0, b""), "cut": (3, b"cut\n")}
 ENDS = {"": b"\r\n", "$": b"\n", "^": b"\r", "|": b""}
 
 
@@ -127,6 +129,8 @@ class Day:
         if word == "ends":
             status, _, told = rest.partition(" ")
             self.status, self.told = int(status), f"{told}\n".encode()
+        elif word == ">%":
+            self.said += unquote_to_bytes(rest)
         elif word[0] == ">":
             self.said += rest.encode() + ENDS[word[1:]]
         else:

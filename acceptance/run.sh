@@ -292,10 +292,12 @@ fi
 an_old_store
 timeout 600 python3 "$here/days.py" "$program" "$fast" || wrong=1
 timeout 300 python3 "$here/limits.py" "$program" "$fast" || wrong=1
+timeout 600 python3 "$here/heads.py" "$program" "$fast" || wrong=1
 timeout 600 python3 "$here/filled.py" "$program" "$fast" || wrong=1
 timeout 120 python3 "$here/rounds.py" "$program" || wrong=1
 timeout 300 python3 "$here/sessions.py" "$program" 0 100 || wrong=1
-timeout 600 python3 "$here/../mutation/rules.py" >"$room/rules" || wrong=1
+timeout 300 python3 "$here/random_heads.py" "$program" || wrong=1
+timeout 900 python3 "$here/../mutation/rules.py" >"$room/rules" || wrong=1
 grep -v '^refused by\|^same ' "$room/rules"
 if has cc gcc; then timeout 300 python3 "$here/../mutation/faults/init.py" "$program" "$fast" 25 || wrong=1; fi
 if has sqlite3; then timeout 300 "$here/rewritten.sh" "$program" || wrong=1; fi

@@ -2,15 +2,15 @@
 """Changes the rules of the plain office, one at a time: a fixed day must refuse each change. mutation/rules.py [WORD ..]
 
 The rules are the modules of acceptance/plain, except tables.py and __init__.py. A *turn* is a wrong rule: turning.py makes
-them at each place of the modules, and rules_told.py lists more. All fixed days of the rules are replayed: those of
-acceptance/days without raw lines, those of limits.py, and those of filled.py, on an office that is nearly full. What raw lines
-say (heads, lengths, methods, how a connection ends) concerns the program alone. First the unchanged rules must answer each day
-as it is written.
+them at each place of the modules; rules_told.py and rules_of_heads.py list more. All fixed days of the rules are replayed: those of
+acceptance/days, limits.py and heads.py, and those of filled.py, on an office that is nearly full. Each is read from its first
+byte to its last, so that the rules of heads and of how a connection ends are turned too. First the unchanged rules must answer
+each day as it is written.
 
 A day fails if an answer differs or is missing. Of the days that call the changed function the shortest are tried first, and
 the first that fails is named. Turns that mean the same are listed in rules_same.py, with the reason: they must pass. A turn
-that leaves a table unreadable does not count. With words, only turns whose names have one of them are tried. Two run at a time. The
-last line is `N passed, M failed`; the script ends with 1 if one failed."""
+that leaves a table unreadable does not count. With words, only turns whose names have one of them are tried. Two run at a time.
+The last line is `N passed, M failed`; the script ends with 1 if one failed."""
 import ast
 import importlib.util
 import itertools
@@ -25,13 +25,15 @@ ROOT = Path(__file__).resolve().parents[1]
 sys.path[:0] = [str(ROOT / "acceptance"), str(ROOT / "mutation")]
 import days  # noqa: E402
 import filled  # noqa: E402
+import heads  # noqa: E402
 import limits  # noqa: E402
+import rules_of_heads  # noqa: E402
 import rules_same  # noqa: E402
 import rules_told  # noqa: E402
 import turning  # noqa: E402
 
 PLAIN = ROOT / "acceptance" / "plain"
-TURNED = ["catalogue", "desk", "elements", "files", "refusals", "requests", "shown"]
+TURNED = ["answers", "catalogue", "desk", "elements", "files", "heads", "refusals", "requests", "session", "shown"]
 OTHERS = ["tables", "__init__"]
 TEXTS = {name: (PLAIN / f"{name}.py").read_text() for name in TURNED + OTHERS}
 COMPILED = {name: compile(text, f"<plain {name}>", "exec") for name, text in TEXTS.items()}
@@ -69,7 +71,15 @@ def reversed_list(things):
     return list(reversed(things))
 
 
-CALLED = {it.__name__: it for it in (wrong, another, insert_first, remove_another, reversed_list)}
+def first_only(things):
+    return list(things)[:1]
+
+
+def last_only(things):
+    return list(things)[-1:]
+
+
+CALLED = {it.__name__: it for it in (wrong, another, insert_first, remove_another, reversed_list, first_only, last_only)}
 
 
 # ---- an office by turned rules
@@ -108,10 +118,9 @@ def is_answered(plain, day):
     tables = importlib.import_module("plain.tables")
     office = plain.Office(**day.settings)
     filled.fill(office, day)
-    for method, path, body, status, text in day.asked:
-        told, said = office.get(path) if method == "GET" else office.post(path, body)
-        if (told, said if isinstance(said, str) else plain.as_json(said)) != (status, text):
-            return False
+    output, ended = plain.talk(office, day.said)
+    if (output, days.ENDED[ended]) != (day.answered, (day.status, day.told)):
+        return False
     return all(tables.kept(office, query) == text for query, text in day.kept)
 
 
@@ -142,7 +151,7 @@ def calls_of(day):
 
 def told_turns():
     """The turns that are told by hand, each with what makes its module: its text stands there once."""
-    for name, module, old, new in rules_told.TURNS:
+    for name, module, old, new in rules_told.TURNS + rules_of_heads.HEADS:
         is_there = TEXTS[module].count(old) == 1
         yield name, module, "", (lambda text=TEXTS[module].replace(old, new): ast.parse(text)) if is_there else None
 
@@ -242,7 +251,7 @@ class Trial:
 
 
 def all_days():
-    return [it for it in days.written() + limits.made() + filled.made() if it.asked and not it.is_raw]
+    return days.written() + limits.made() + heads.made() + filled.made()
 
 
 def is_reached(function, called):

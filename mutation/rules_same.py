@@ -4,6 +4,10 @@ ALL_FULL = "all three are told as 23"
 SEATED = "who has a box has a seat: nobody leaves with one, and no day ends"
 HEAD = "the head line has it, and no line prints its name"
 ASKED = "a refused question is answered 404, whatever its number"
+A_LETTER = "x is a letter, and letters are listed beside it"
+NO_SPACE = "the first line is parted at spaces, and a value may have them"
+NO_ROUTE = "neither the empty path nor / has a route"
+ONE_REMARK = "a row has one remark at most"
 NO_RANK = "neither is a level that has a rank"
 ROW_FULL = {
     ("len(self.containers) > MOST_CONTAINERS", "len(self.units) > MOST_UNITS"),
@@ -12,7 +16,18 @@ ROW_FULL = {
 }
 IN_ELEMENTS = "in ELEMENTS = [('3.1.1', 'Reference code(s)', ['identifier']), ('3.1.2', 'Title', ['title']),.."
 SHOWN = "in refuse(1, any((self.units[it].draft for it in path)) or any(map(self.is_closed, path["
+ROW_REMARKS = "[{'kind': kind, 'row': row.number} for row, it in zip(rows, units) for kind in "
+MARKS = "!#$%&'*+-.^_`|~"
+IN_TOKEN = f"""in TOKEN = {{*string.ascii_letters, *string.digits, *"{MARKS}"}}"""
 SAME = {
+    "answers.path_of: '/' -> '/x' in return path or '/'": NO_ROUTE,
+    "answers.path_of: path or '/' -> path in return path or '/'": NO_ROUTE,
+    f'heads: "{MARKS}" -> "{MARKS}x" {IN_TOKEN}': A_LETTER,
+    "heads.is_visible: ' ' -> ' x' in return byte > ' ' and byte != '\\x7f'": NO_SPACE,
+    "heads.is_visible: byte > ' ' -> byte >= ' ' in return byte > ' ' and byte != '\\x7f'": NO_SPACE,
+    "heads.accept: lengths[0] -> lengths[-1] in length = int(lengths[0]) if lengths else None": "they are the same number",
+    f"catalogue.Catalogue.import_file: {ROW_REMARKS}self.remark.. -> {ROW_REMARKS}first_only(.. in remarks = [{{'kind'": ONE_REMARK,
+    f"catalogue.Catalogue.import_file: {ROW_REMARKS}self.remark.. -> {ROW_REMARKS}last_only(s.. in remarks = [{{'kind'": ONE_REMARK,
     **{f"catalogue.Catalogue.too_much: refuse(23, {later}) before refuse(23, {first})": ALL_FULL for later, first in ROW_FULL},
     **{f"elements: '{it}' -> '{it}x' {IN_ELEMENTS}": HEAD for it in ("Reference code(s)", "Title", "Level of description")},
     "catalogue.Catalogue.remarks: '' -> 'x' in own, higher = (rank(self.units[n].texts.get(LEVEL, '')) for n in "

@@ -1,5 +1,4 @@
 """Wrong rules, written by hand: a name, the module, a text that occurs once in it, and the wrong text."""
-
 GATE = "refuse(21, not self.is_open(container, ticket), container=container)"
 DEEP = "        refuse(25, len(self.path(parent)) + self.height(unit) > DEEPEST)\n"
 GOES = "        self.below(it.above).remove(unit)\n        self.below(parent).append(unit)\n        it.above = parent\n"

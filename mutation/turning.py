@@ -2,8 +2,9 @@
 
 A check or an effect is left out, or a later check comes before it; a comparison is off by one or reversed; an operand of
 `and` and `or`, a condition of a list, a key of a reply or of a table is left out; a number is one more, a text is another; an
-effect is done to the next thing; a member of a reply is wrong. A name has the function and the text before and after, but no
-line number."""
+effect is done to the next thing; a member of a reply is wrong; only the first or the last of several things counts; a text is
+taken as it is, without a change of its case or its ends. A name has the function and the text before and after, but no line
+number."""
 import ast
 import collections
 import re
@@ -23,6 +24,9 @@ COMPARED = {
 CALLED = {"any": "all", "all": "any", "max": "min", "min": "max", "sorted": "list", "reversed": "iter"}
 CHECKS = {"refuse", "reader", "unit", "container", "gate", "shown", "too_much"}
 METHODS = {"append": "insert_first", "remove": "remove_another"}
+ENDS = {"partition": "rpartition", "startswith": "endswith"}
+CHANGES = {"lower", "strip", "removeprefix", "removesuffix", "replace"}
+FEWER = ("first_only", "last_only")
 
 
 def name_of(call):
@@ -84,6 +88,8 @@ def of_constant(node):
             yield ast.Constant(value - 1)
     elif isinstance(value, str):
         yield ast.Constant(value + "x")
+    elif isinstance(value, bytes):
+        yield ast.Constant(value + b"x")
 
 
 def of_call(node):
@@ -91,14 +97,30 @@ def of_call(node):
         yield with_field(node, "func", ast.Name(id=CALLED[node.func.id], ctx=ast.Load()))
     if name_of(node) == "sorted":
         yield called("reversed_list", node)
-    if isinstance(node.func, ast.Attribute) and METHODS.get(node.func.attr):
-        yield called(METHODS[node.func.attr], node.func.value, *node.args)
+    if name_of(node) == "map":
+        for fewer in FEWER:
+            yield with_field(node, "args", [node.args[0], called(fewer, node.args[1])])
+    if isinstance(node.func, ast.Attribute):
+        yield from of_method(node, node.func)
+
+
+def of_method(node, method):
+    """Another method, the other end of a text, or the text as it is."""
+    if METHODS.get(method.attr):
+        yield called(METHODS[method.attr], method.value, *node.args)
+    if ENDS.get(method.attr):
+        yield with_field(node, "func", with_field(method, "attr", ENDS[method.attr]))
+    if method.attr in CHANGES:
+        yield method.value
 
 
 def of_list(node):
     for n, loop in enumerate(node.generators):
         for m in range(len(loop.ifs)):
             fewer = ast.comprehension(loop.target, loop.iter, loop.ifs[:m] + loop.ifs[m + 1 :], loop.is_async)
+            yield with_field(node, "generators", [*node.generators[:n], fewer, *node.generators[n + 1 :]])
+        for some in FEWER:
+            fewer = ast.comprehension(loop.target, called(some, loop.iter), loop.ifs, loop.is_async)
             yield with_field(node, "generators", [*node.generators[:n], fewer, *node.generators[n + 1 :]])
 
 

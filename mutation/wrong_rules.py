@@ -3,6 +3,7 @@
 
   wrong_rules.py [--jobs N] [--cases N] [--over CHECKOUT] [--log FILE] [--keep FOLDER] [WORD ..]
   wrong_rules.py --dry [WORD ..]
+  wrong_rules.py --covered [CRATE ..]
 
 The changes are those of wrong_rules_told.py; with WORD, those whose label has one of the words. Each is made in copies of the
 modules between the definition and the worked rows or the law that are named for it (side_by_side.py). If none is named, all
@@ -20,9 +21,12 @@ import re
 import sys
 import tempfile
 import time
+from pathlib import Path
 from concurrent.futures import ThreadPoolExecutor
 
 import side_by_side
+import wrong_rules_of_http
+import wrong_rules_of_trees
 from wrong_rules_told import WRONG
 
 TOP = os.path.dirname(os.path.dirname(os.path.abspath(__file__)))
@@ -160,9 +164,100 @@ def chosen(modules, given):
     return rules, len(told) - len(rules)
 
 
+# ---- rules that the prover does not try
+
+
+def days_of_acceptance():
+    """The names of all fixed days."""
+    sys.path[:0] = [f"{TOP}/acceptance"]
+    import days
+    import heads
+    import limits
+
+    return {day.name for day in days.written() + heads.made() + limits.made()}
+
+
+def untried():
+    """The rules that the prover does not try."""
+    return wrong_rules_of_http.written(Path(TOP)) + wrong_rules_of_trees.written()
+
+
+def has_field(row):
+    """Whether a worked row has this field: `CRATE::MODULE::FUNCTION FIELD`. Some are clauses of a function."""
+    function, field = row.split()
+    crate, *path = function.split("::")
+    answers = Path(TOP, "crates", crate, "proofs", *path, "Answers.antt")
+    if answers.is_file():
+        return re.search(rf"^  {field} ", answers.read_text(encoding="utf-8"), re.M)
+    source = Path(TOP, "crates", crate, "src", *path[:-1]).with_suffix(".rt").read_text(encoding="utf-8")
+    return re.search(rf"^    ensures {field} ", source.partition(f"pub fn {path[-1]}()")[2].partition("\n{}")[0], re.M)
+
+
+def is_there(told, named_days):
+    """Whether what tells a rule is there: a day, a field of a worked row, or a law."""
+    kind, _, name = told.partition(" ")
+    if kind == "day":
+        return name in named_days
+    return has_field(name) if kind == "row" else Path(TOP, "crates", name.replace("::", "/proofs/", 1).replace("::", "/")).is_dir()
+
+
+def wrong_untried(given):
+    """The untried rules that do not apply or whose row or day is not there, and the number of all."""
+    named_days = days_of_acceptance()
+    rules = [it for it in untried() if not given.words or any(word in it[0] for word in given.words)]
+    wrong = []
+    for label, file, old, new, told in rules:
+        times = Path(TOP, file).read_text(encoding="utf-8").count(old)
+        if times != 1 or old == new:
+            wrong.append(f"not applied | {label} | the old text stands {times} times in {file}")
+        elif not is_there(told, named_days):
+            wrong.append(f"not applied | {label} | there is no {told}")
+    return wrong, len(rules)
+
+
+# ---- which definitions are changed
+
+DEFINITION = re.compile(r"^(?:abbrev|unfoldable)(?: pub)? (\w+) :", re.M)
+
+
+def definitions(path):
+    """The names of a module's definitions, each with the place where its text begins."""
+    return [(at.start(), at[1]) for at in DEFINITION.finditer(path.read_text(encoding="utf-8"))]
+
+
+def changed_definitions():
+    """The definitions that some rule changes, as (file, name)."""
+    changed = set()
+    for _, file, old, *_ in [*WRONG, *untried()]:
+        path = Path(TOP, file)
+        place = path.read_text(encoding="utf-8").find(old)
+        before = [name for begin, name in definitions(path) if begin < place + len(old)]
+        changed |= {(path, before[-1])} if before else set()
+    return changed
+
+
+def cover(crates):
+    """Prints how many definitions of each crate some rule changes; of the named crates those that none changes."""
+    changed, total = changed_definitions(), [0, 0]
+    for folder in sorted(Path(TOP, "crates").glob("*/specs")):
+        crate = folder.parent.name
+        files = [it for it in sorted(folder.rglob("*.antt")) if "declared" not in it.parts and not it.name.startswith("Worked")]
+        names = [(file, name) for file in files for _, name in definitions(file)]
+        mine = [it for it in names if it in changed]
+        total = [total[0] + len(names), total[1] + len(mine)]
+        if mine and not crates:
+            print(f"{crate}: {len(mine)} of {len(names)}")
+        if crate in crates:
+            for file, name in names:
+                if (file, name) not in changed:
+                    print(f"{crate}/{file.relative_to(folder)}: {name}")
+    print(f"{total[1]} of {total[0]} definitions are changed by a rule")
+
+
 def main():
     words = argparse.ArgumentParser(prog="wrong_rules.py", description=__doc__.split("\n")[0])
     words.add_argument("--dry", action="store_true", help="only look whether each old text stands once in its file")
+    words.add_argument("--covered", action="store_true", help="count the definitions that some rule changes")
     words.add_argument("--jobs", type=int, default=1, help="checks at once")
     words.add_argument("--cases", type=int, default=24, help="rules in one check")
     words.add_argument("--over", default=TOP, help="the checkout whose libraries are used")
@@ -170,14 +265,18 @@ def main():
     words.add_argument("--keep", help="a folder that keeps what was checked and said")
     words.add_argument("words", nargs="*", metavar="WORD")
     given = words.parse_args()
+    if given.covered:
+        return cover(given.words)
     modules = side_by_side.Modules(TOP)
     rules, before = chosen(modules, given)
     if given.dry:
         missing = [it for it in rules if it.verdict]
         for it in missing:
             print(it.line())
-        print(f"{len(rules)} rules, {len(missing)} not applied")
-        return 1 if missing or not rules else 0
+        wrong, number = wrong_untried(given)
+        print("".join(f"{it}\n" for it in wrong), end="")
+        print(f"{len(rules) + number} rules, {len(missing) + len(wrong)} not applied")
+        return 1 if missing or wrong or not rules and not number else 0
     with tempfile.TemporaryDirectory(prefix="rules-") as room:
         run = Run(modules, given, given.keep or room)
         for it in rules:

@@ -1,22 +1,23 @@
 """An office by its rules, plainly and slowly, in memory: what the built program is held against by sessions.py, and what
 mutation/rules.py turns.
 
-It was written from the rules, and not from the program. A command that is refused is taken back whole. It speaks paths,
-bodies and answers, and no HTTP: heads, lengths, methods and how a connection ends are the program's alone. What it does not
-know either: how deep JSON may nest, and a surrogate that stands alone in it."""
+It was written from the rules, and not from the program. `talk` reads whole inputs of HTTP, `get` and `post` ask by path and
+body. What it does not know: how deep JSON may nest, a surrogate that stands alone in it, streams that fail and memory that
+runs out."""
 import collections
 import csv
 import pickle
 
+from .answers import answer, as_json
 from .catalogue import Catalogue
 from .desk import Desk
 from .elements import ELEMENTS, text
 from .files import BOX
 from .refusals import Refused
-from .requests import COMMANDS, Bad, as_json, is_import, members_of, question_of
+from .session import talk
 from .shown import Shown
 
-__all__ = ["BOX", "ELEMENTS", "Office", "as_json", "text"]
+__all__ = ["BOX", "ELEMENTS", "Office", "as_json", "talk", "text"]
 csv.field_size_limit(1 << 30)
 
 
@@ -32,32 +33,19 @@ class Office(Catalogue, Desk, Shown):
 
     def get(self, path):
         """The status and the answer to a question: a text, or what is told as JSON."""
-        asked = question_of(path)
-        if asked is None:
-            return 404, {"error": "not found"}
-        name, number = asked
-        try:
-            return 200, getattr(self, name)(*number)
-        except Refused:
-            return 404, {"error": "not found"}
+        it = answer(self, "GET", path, None, b"")
+        return it.status, it.told
 
     def post(self, path, body):
-        """The status and the answer to a command, which is taken back where it is refused."""
+        """The status and the answer to a command."""
+        it = answer(self, "POST", path, len(body), body)
+        return it.status, it.told
+
+    def done(self, name, /, *words, **members):
+        """What a command tells; one that is refused is taken back whole."""
         kept = pickle.dumps(vars(self))
         try:
-            return self.done(path, body)
-        except Refused as it:
+            return getattr(self, name)(*words, **members)
+        except Refused:
             vars(self).update(pickle.loads(kept))
-            return 409, it.told
-
-    def done(self, path, body):
-        if is_import(path):
-            return 200, self.import_file(path.removeprefix("/desk/import/"), body)
-        if path not in COMMANDS:
-            return 404, {"error": "not found"}
-        name, wanted = COMMANDS[path]
-        try:
-            members = {} if wanted is None else members_of(body, wanted)
-        except Bad:
-            return 400, {"error": "bad request"}
-        return 200, getattr(self, name)(**members)
+            raise

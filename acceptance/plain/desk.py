@@ -98,7 +98,8 @@ class Desk:
 
     def live(self, container):
         """The orders for a container that wait or are out."""
-        numbers = [*self.queue(container), *(it for it in [self.places.get(container, "desk")] if it != "desk")]
+        place = self.places.get(container, "desk")
+        numbers = self.queue(container) + ([] if place == "desk" else [place])
         return {it: self.orders[it] for it in numbers}
 
     def cancel(self, order):

@@ -1,4 +1,5 @@
 """Paths, and the members of bodies: what a request asks of an office."""
+import dataclasses
 import json
 import re
 
@@ -80,10 +81,20 @@ QUESTIONS = {
 }
 
 
+def whole(digits):
+    """A whole number; one with a minus is none, as no member wants it."""
+    return float(digits) if digits.startswith("-") else int(digits)
+
+
+def refuse_constant(word):
+    """Python reads NaN and Infinity, JSON has no such words."""
+    raise Bad(word)
+
+
 def members_of(body, wanted):
     """The members that a path wants, out of a body."""
     try:
-        said = json.loads(body)
+        said = json.loads(body.decode(), parse_int=whole, parse_constant=refuse_constant)
     except ValueError as it:
         raise Bad from it
     if not isinstance(said, dict):
@@ -106,6 +117,23 @@ def is_import(path):
     return re.fullmatch("/desk/import/[^/]+", path)
 
 
-def as_json(value):
-    return json.dumps(value, separators=(",", ":"), sort_keys=True, ensure_ascii=False)
+@dataclasses.dataclass
+class Route:
+    """The method of a path, what it asks of an office, the words for that in the path, and the members that a body must have."""
 
+    method: str
+    name: str
+    words: list
+    wanted: dict = None
+    is_import: bool = False
+
+
+def route_of(path):
+    """The route of a path, if there is one."""
+    if path in COMMANDS:
+        name, wanted = COMMANDS[path]
+        return Route("POST", name, [], wanted)
+    if is_import(path):
+        return Route("POST", "import_file", [path.removeprefix("/desk/import/")], is_import=True)
+    asked = question_of(path)
+    return asked and Route("GET", *asked)

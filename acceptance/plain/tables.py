@@ -7,6 +7,7 @@ from .elements import LEVEL
 
 SCHEMA = """
 CREATE TABLE unit (id, source, legacy, level, draft, until);
+CREATE TABLE reader (ticket, name, until);
 CREATE TABLE permit (ticket, unit, until);
 CREATE TABLE container (id, name, location, kind);
 CREATE TABLE holding (container, place, held_by);
@@ -22,6 +23,10 @@ def units(office):
     for unit, it in sorted(office.units.items()):
         until = None if it.until is None else number_of(it.until)
         yield unit, it.source, it.legacy, it.texts.get(LEVEL, ""), int(it.draft), until
+
+
+def readers(office):
+    return [(ticket, it.name, number_of(it.until)) for ticket, it in office.readers.items()]
 
 
 def permits(office):
@@ -41,6 +46,7 @@ def kept(office, query):
     with contextlib.closing(sqlite3.connect(":memory:")) as connection:
         connection.executescript(SCHEMA)
         connection.executemany("INSERT INTO unit VALUES (?, ?, ?, ?, ?, ?)", units(office))
+        connection.executemany("INSERT INTO reader VALUES (?, ?, ?)", readers(office))
         connection.executemany("INSERT INTO permit VALUES (?, ?, ?)", permits(office))
         connection.executemany("INSERT INTO container VALUES (?, ?, ?, ?)", containers(office))
         connection.executemany("INSERT INTO holding VALUES (?, ?, ?)", holdings(office))

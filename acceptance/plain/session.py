@@ -1,0 +1,51 @@
+"""What an office writes for a whole input, and how the session ends.
+
+Streams do not fail here and memory does not run out, so no answer is 503."""
+from .answers import CONTINUE, answer, error, path_of, written
+from .heads import LONGEST_HEAD, Refused, accept, head_block, is_blank
+
+MOST_ANSWERS = 10_000
+END, CLOSED, CUT = "end", "closed", "cut"
+
+
+def talk(office, said):
+    """The bytes that are written, and how the session ends."""
+    output, number, ended = [], 0, None
+    while ended is None:
+        number += 1
+        said, ended = exchange(office, said, number, output)
+    return b"".join(output), ended
+
+
+def exchange(office, said, number, output):
+    """Answers the first message of an input: the rest of the input, and how the session ends, if it does."""
+    block = head_block(said[:LONGEST_HEAD])
+    if block is None:
+        return None, no_head(said, output)
+    try:
+        request = accept(block)
+    except Refused as it:
+        output.append(written(error(it.status), True, it.is_head))
+        return None, CLOSED
+    if request.waits:
+        output.append(CONTINUE)
+    body, rest = parted(said[len(block) :], request.length or 0)
+    if body is None:
+        return None, CUT
+    closes = request.closes or number == MOST_ANSWERS
+    it = answer(office, request.method, path_of(request.target), request.length, body)
+    output.append(written(it, closes, request.method == "HEAD"))
+    return rest, CLOSED if closes else None
+
+
+def parted(said, size):
+    """A body of this size and what follows it, or no body if too little was said."""
+    return (said[:size], said[size:]) if len(said) >= size else (None, None)
+
+
+def no_head(said, output):
+    """How a session ends at an input in which no head ends."""
+    if len(said) >= LONGEST_HEAD:
+        output.append(written(error(400), True, False))
+        return CLOSED
+    return END if is_blank(said) else CUT

@@ -1,0 +1,136 @@
+#!/usr/bin/env python3
+"""Compares random heads of requests with a plain office: random_heads.py PROGRAM [FIRST [COUNT]]
+
+Each of COUNT inputs (100) has its own seed, from FIRST (0) on. An input is up to forty requests: methods, targets, versions,
+lengths, fields and bodies are drawn from pools in which most are right. In every other input some requests end the connection:
+by their version, hosts, length or fields, or by a byte that the head lost, gained or changed. `trial` must write the bytes that
+acceptance/plain writes, and end as it ends. The script prints how often each status and each end came. It ends with 1 if an
+input differs, or if, in a hundred inputs or more, a status or an end did not come."""
+import collections
+import random
+import re
+import subprocess
+import sys
+
+import days
+import plain
+
+MOST = 40
+METHODS = ["GET", "POST", "HEAD", "PUT", "OPTIONS", "get", "G!T"]
+COMMANDS = ["/desk/register", "/desk/run", "/desk/seat", "/desk/import/a", "/desk/import/a%20b"]
+QUESTIONS = ["/desk/issued", "/public/fonds", "/desk/readers/1", "/public/units/1"]
+NO_PATHS = ["/desk/readers/01", "/desk/runs/10000000000", "/desk/import/", "/nothing", "*", "/"]
+ROUTES = [("GET", QUESTIONS), ("POST", COMMANDS)] * 2 + [(None, NO_PATHS)]
+ORIGINS = [""] * 20 + ["http://x", "HTTP://x:80", "http://", "https://x", "//x"]
+QUERIES = [""] * 8 + ["?", "?x=/desk/run", "#x", "?a?b"]
+VERSIONS = ["HTTP/1.0"] * 6 + ["HTTP/1.2", "HTTP/2.0", "http/1.1"]
+BODIES = [
+    b"", b"", b"{}", b'{"ticket":1}', b'{"ticket":-0}', b'{"name":"Ann","until":"2024-12-31"}', b'{"name":"\xff"}',
+    b"legacyId\n1\n", b"GET /desk/issued HTTP/1.1\r\nHost: x\r\n\r\n", b"\r\n\r\n",
+]  # fmt: skip
+EXPECTED = ["100-continue", "100-Continue", "100-continue, x", "100", "100-continue\t"]
+OPTIONS = ["keep-alive", "keep-alive, closed", "", "x,y", "clos"]
+CLOSING = ["close", "keep-alive, Close", "close ,x", "x,\tclose\t"]
+OTHERS = ["Accept: */*", "X:", "Y: a:b", "TE: chunked", "X-Host: x", "Content-Encoding: gzip", "z:\t\x80\xff"]
+BYTES = b"\0\t\r\n :,;?#/%\x7f\x80\xffaZ09"
+count = collections.Counter()
+
+
+class Input:
+    """The requests of a seed, as bytes."""
+
+    def __init__(self, seed):
+        self.random, self.is_calm = random.Random(seed), seed % 2
+        self.said = b"".join(self.request() for _ in range(self.random.randint(1, MOST))) + self.ending()
+
+    def happens(self, chance):
+        return self.random.random() < chance
+
+    def ends_it(self, chance):
+        """Whether a request ends the connection in one way; in a calm input none does."""
+        return not self.is_calm and self.happens(chance)
+
+    def one_of(self, pool):
+        return self.random.choice(pool)
+
+    def request(self):
+        """A request with its body; some have empty lines before them, and some another byte."""
+        (method, paths), body = self.one_of(ROUTES), self.one_of(BODIES)
+        method = method if method and self.happens(0.7) else self.one_of(METHODS)
+        version = self.one_of(VERSIONS) if self.ends_it(0.05) else "HTTP/1.1"
+        first = f"{method} {self.one_of(ORIGINS)}{self.one_of(paths)}{self.one_of(QUERIES)} {version}"
+        fields = [*self.hosts(), *self.lengths(method, body), *self.some()]
+        self.random.shuffle(fields)
+        head = "".join(line + self.end() for line in (*self.blank(), first, *fields, "")).encode("latin-1")
+        is_sent = any(it.lower().startswith("content-length") for it in fields)
+        return (self.changed(head) if self.ends_it(0.03) else head) + (body if is_sent else b"")
+
+    def end(self):
+        return "\n" if self.happens(0.1) else "\r\n"
+
+    def blank(self):
+        return [""] * self.random.randint(1, 3) if self.happens(0.1) else []
+
+    def hosts(self):
+        return self.one_of([[], ["Host: x", "Host: x"]]) if self.ends_it(0.01) else [self.one_of(["Host: x", "hOST:"])]
+
+    def lengths(self, method, body):
+        """The fields with the length of a body; some POSTs have none, and some lengths are wrong."""
+        size = len(body)
+        if method != "POST" and self.happens(0.7) or self.happens(0.05):
+            return []
+        right = [f"Content-Length: {size}"]
+        other = [[f"content-length:00{size}"], [*right, f"CONTENT-LENGTH:\t0{size} "]]
+        wrong = [*["8388609", "99999999999999999999"] * 2, f"{size}, {size}", f"+{size}", "", "x", f"{size} 0"]
+        if self.ends_it(0.06):
+            return [*self.one_of([[], [], [], right]), f"Content-Length: {self.one_of(wrong)}"]
+        return self.one_of(other) if self.happens(0.2) else right
+
+    def some(self):
+        """Fields that ask for something, and others."""
+        fields = [it for it in OTHERS if self.happens(0.15)]
+        fields += [f"Expect: {self.one_of(EXPECTED)}" for _ in range(2) if self.happens(0.2)]
+        fields += [f"Connection: {self.one_of(OPTIONS)}" for _ in range(2) if self.happens(0.15)]
+        fields += [f"connection: {self.one_of(CLOSING)}"] if self.ends_it(0.03) else []
+        return fields + ([f"Transfer-Encoding: {self.one_of(['chunked', 'identity'])}"] if self.ends_it(0.02) else [])
+
+    def changed(self, head):
+        """A head with a byte more, a byte less, or another byte."""
+        place, byte = self.random.randrange(len(head)), bytes([self.one_of(BYTES)])
+        return head[:place] + self.one_of([byte, b""]) + head[place + self.one_of([0, 1]) :]
+
+    def ending(self):
+        """What comes after the last request: mostly nothing."""
+        half = b"POST / HTTP/1.1\r\nHost: x\r\nContent-Length: 9\r\n\r\nx"
+        return self.one_of([b"\r\n", b"\r", b"GET /", half, b"x" * 16_384]) if self.happens(0.3) else b""
+
+
+def is_held(program, seed):
+    """Whether the program answers an input as the plain office does; prints the difference if it does not."""
+    said = Input(seed).said
+    output, ended = plain.talk(plain.Office(), said)
+    count.update(it.decode() for it in re.findall(rb"HTTP/1\.1 ([0-9]{3}) ", output))
+    count[ended] += 1
+    done = subprocess.run([program, "trial", *days.SETTINGS], input=said, capture_output=True, timeout=60)
+    status, message = days.ENDED[ended]
+    told, wanted = (done.returncode, done.stdout, done.stderr), (status, output, message)
+    if told != wanted:
+        print(f"WRONG input {seed}: {days.parted(told, wanted)}")
+    return told == wanted
+
+
+def main(program, first=0, number=100):
+    held = sum(is_held(program, seed) for seed in range(int(first), int(first) + int(number)))
+    print(f"of {number} random inputs {held} were answered as by a plain office")
+    print("what came: " + ", ".join(f"{name} {times}" for name, times in sorted(count.items())))
+    names = ["100", "200", "400", "404", "405", "409", "411", "413", "501", *days.ENDED]
+    missing = [it for it in names if not count[it]] if int(number) >= 100 else []
+    if missing:
+        print(f"did not come: {missing}")
+    return bool(missing) or held != int(number)
+
+
+if __name__ == "__main__":
+    if len(sys.argv) < 2:
+        sys.exit(__doc__)
+    sys.exit(main(*sys.argv[1:]))
