@@ -17,9 +17,9 @@ programs and this script are bound to one processor.
     spread    10,000 items in 1,000 sub-series; a box has one item of each; ten out
     series    ten series in a box each, with 1,000 items, of which every other one has a box of its own; the ten out
 
-A cell of the first table has our figure, the other program's, and the ratio. A bold ratio is more than MOST. The second table has
-our figures with the boxes out and with none; a bold one is more than its goal. The last says how many times as long an answer
-takes with 4,000 items in a box as with 1,000. The script ends with 1 if a goal is missed.
+A cell of the first table has our figure, the other program's, and the ratio. The second table has our figures with the boxes
+out and with none, and the third says how many times as long an answer takes with 4,000 items in a box as with 1,000. What
+misses its goal is in bold and listed at the end; then the script ends with 1.
 """
 import argparse
 import datetime
@@ -32,12 +32,13 @@ import measure
 from beside import Side
 from measure import OK, REFUSED, get, post, say
 
+IN_HANDS = IN_A_RUN = 10
 SETTINGS = "--country GB --repo 0999 --seats 200 --daily 50 --hands 10 --run 10 --day 2024-03-01".split()
 FIRST_DAY = datetime.date(2024, 3, 1)
-IN_HANDS = 10
 MOST = 8
 MOST_OUT = {"status": 10, "closure": 10, "opening": 1.2}
 MOST_GROWTH = 4.5
+MOVED = range(7, 5000, 50)
 COLUMNS = {
     "order": "order of a box amid",
     "again": "the same again, refused 6",
@@ -139,7 +140,7 @@ SHAPES = {
     "10x1000": lambda: flat("10,000 items, 1,000 in a box, ten out", 10000, 1000, 10),
     "190x100": lambda: flat("19,000 items, 100 in a box, ten out", 19000, 100, 10),
     "400x4000": lambda: many_boxes("400 boxes of one unit with 4,000 below it, all out", 400, 4000),
-    "sorted": lambda: flat("5,000 items, 1,000 in a box, a hundred moved to the end, five out", 5000, 1000, 5, range(7, 5000, 50)),
+    "sorted": lambda: flat("5,000 items, 1,000 in a box, a hundred moved to the end, five out", 5000, 1000, 5, MOVED),
     "spread": lambda: spread_over_series("10,000 items in 1,000 sub-series, one of each in a box, ten out", 20, 50, 10),
     "series": lambda: series_in_boxes("ten series in a box each, half of their 1,000 items in others, ten out", 10, 1000),
 }
@@ -204,8 +205,8 @@ class Office:
 
     def fetch(self):
         self.ask("run", post("/desk/run"))
-        runs = -(-len(self.loans) // 10)
-        self.quietly([post("/desk/run")] * (runs - 1))
+        more = (len(self.loans) - 1) // IN_A_RUN
+        self.quietly([post("/desk/run")] * more)
 
     def issue(self):
         issues = [post("/desk/issue", **loan) for loan in self.loans]
@@ -305,8 +306,10 @@ def main():
     words.add_argument("--cpu", type=int, default=max(os.sched_getaffinity(0)))
     words.add_argument("--rounds", type=int, default=5)
     words.add_argument("other", metavar="OTHER")
-    words.add_argument("shapes", nargs="*", metavar="SHAPE", choices=[[], *SHAPES])
+    words.add_argument("shapes", nargs="*", metavar="SHAPE")
     told = words.parse_args()
+    if not set(told.shapes) <= set(SHAPES):
+        words.error(f"SHAPE is one of {', '.join(SHAPES)}")
     os.sched_setaffinity(0, {told.cpu})
     programs = [os.path.realpath(it) for it in (told.program, told.other)]
     print(f"{time.strftime('%Y-%m-%d %H:%M')}, load {os.getloadavg()[0]:.1f}\n")
