@@ -2,7 +2,7 @@
 """Plays a day around a box of 4,000 items: large_box.py PROGRAM ROOM
 
 Each row of the file names its box. Box 2 holds 4,000 items that lie side by side in a series, and six more behind a series of
-1,500 items without a box; every hundredth of its items lies in box 3 too. Box 1 is that of a series whose items name none, save
+2,500 items without a box; every hundredth of its items lies in box 3 too. Box 1 is that of a series whose items name none, save
 some that lie in boxes of their own. The day orders, fetches, issues and returns these boxes, and closes, withdraws, moves,
 removes and imports units in them, above them and beside them.
 
@@ -20,7 +20,7 @@ import sessions
 SECONDS = 60
 SETTINGS = days.USUAL | {"seats": "3", "daily": "20", "hands": "3", "run": "3"}
 FONDS, LARGE, APART, LATER, HOUSE = 1, 2, 3, 4, 5
-ITEMS, BESIDE, LAST, BELOW = 4000, 1500, 6, 300
+ITEMS, BESIDE, LAST, BELOW = 4000, 2500, 6, 300
 FIRST_ITEM = HOUSE + 1
 FIRST_BESIDE = FIRST_ITEM + ITEMS
 FIRST_LAST = FIRST_BESIDE + BESIDE
