@@ -2,9 +2,10 @@
 """Compares random sessions about boxes that many units name with a plain office: boxes.py PROGRAM [FIRST [COUNT]]
 
 These are sessions as in sessions.py, with other catalogues and other choices. A session begins with twenty to sixty units that
-share a few boxes: side by side, in turns or anyhow, below one fonds, in series or in a deep tree. Then boxes are ordered,
-fetched and issued, while units in and above them are closed, withdrawn, moved, removed, imported again and opened to readers.
-`trial` must answer to the byte as acceptance/plain does.
+share a few boxes: side by side, in turns or anyhow, below one fonds, in series or in a deep tree. In one of forty sessions
+there are thousands of units without a box between them. Then boxes are ordered, fetched and issued, while units in and above
+them are closed, withdrawn, moved, removed, imported again and opened to readers. `trial` must answer to the byte as
+acceptance/plain does.
 
 The script prints how many sessions were equal, how often each command was accepted or refused, and what was so of the boxes
 that an order, a run, an issue or the gate judged. It ends with 1 and the first different answer if a session differs, and
@@ -30,6 +31,7 @@ KEPT = {
 SHAPES = ["flat", "series", "deep", "any"]
 ORDERS = ["side by side", "in turns", "anyhow"]
 TICKETS = range(1, 4)
+WIDE, BETWEEN = 40, 2100
 FAR = ["2024-03-04", "2030-01-01", "2030-01-01", "2030-01-01"]
 KINDS = [
     "eight units or more",
@@ -73,7 +75,8 @@ def kinds(office, container, ticket):
     """What is so of a box that is judged for a ticket."""
     units = walk(office)
     naming = [unit for unit in units if container in office.units[unit].boxes]
-    contents = [unit for unit in units if unit in set(office.contents(container))]
+    lying = set(office.contents(container))
+    contents = [unit for unit in units if unit in lying]
     ways = {unit: office.path(unit) for unit in naming}
     lower = [unit for unit in contents if unit not in ways]
     withheld = [unit for unit in contents if office.is_withheld(unit, ticket)]
@@ -136,6 +139,8 @@ class BoxSession(sessions.Session):
             named = [] if self.happens(unnamed) else [self.box(order, unit, units, boxes)]
             named += [self.box("anyhow", unit, units, boxes)] if self.happens(0.05) else []
             rows.append(f"{unit},{parent},{'Draft' if self.happens(drafts) else 'Published'},{'|'.join(named)}")
+        if self.seed % WIDE == WIDE - 1:
+            rows += [f"{100 + nth},2,Published," for nth in range(BETWEEN)]
         return plain.text(["legacyId,parentId,publicationStatus,physicalObjectName", *rows])
 
     def parent(self, shape, unit):
