@@ -19,7 +19,7 @@ import plain
 import sessions
 from sessions import count, days
 
-LEAST = 20
+LEAST = 10
 KEPT = {
     7: "what begins between two units",
     10: "a unit in the box of one above, and the gate",
