@@ -89,7 +89,7 @@ def morning():
 
 def changes():
     """What the gate lets pass and what not, while all three boxes are out."""
-    for unit in (FIRST_ITEM, MIDDLE, FIRST_BESIDE - 1, FIRST_LAST, FIRST_BELOW - 1, FIRST_BELOW + 1, END - 1):
+    for unit in (FIRST_ITEM, MIDDLE, FIRST_BESIDE - 1, FIRST_LAST, FIRST_BELOW - 1, FIRST_BELOW, FIRST_BELOW + 1, END - 1):
         yield 21 if unit % 3 or unit < FIRST_BELOW else 0, *closed(unit)
     for unit in (FONDS, LARGE, LATER, HOUSE):
         yield 21, *closed(unit)
@@ -104,8 +104,12 @@ def changes():
         yield 21, *moved(unit, APART)
     yield 0, *moved(FIRST_ITEM, LARGE)
     yield 0, *moved(FIRST_LAST, MIDDLE)
-    yield 0, *moved(MIDDLE, HOUSE)
+    yield 0, *shown(APART)
+    yield 0, *closed(APART, PAST)
+    yield 0, *moved(MIDDLE, FIRST_BESIDE + 1)
     yield 0, *moved(LARGE, FONDS)
+    for unit in (APART, FIRST_BESIDE + 1, MIDDLE):
+        yield 21, *closed(unit)
     yield 21, *closed(FIRST_ITEM)
     yield 21, *closed(FIRST_LAST)
     yield 0, *moved(FIRST_BELOW, LATER)
@@ -129,6 +133,7 @@ def permits():
     yield 0, "permit", {"ticket": 1, "unit": FIRST_ITEM, "until": FAR}
     yield 0, "orders", loan(1, 2)
     yield 5, "orders", loan(2, 2)
+    yield 0, *moved(LATER, FONDS)
     yield 0, *closed(LARGE)
     yield 5, "issue", loan(1, 2)
     yield 0, "permit", {"ticket": 1, "unit": LARGE, "until": FAR}
@@ -137,6 +142,10 @@ def permits():
     yield 0, "revoke", {"ticket": 1, "unit": FIRST_ITEM}
     yield 21, *closed(FIRST_LAST + 1)
     yield 0, "return", {"container": 2}
+    yield 0, *closed(HOUSE)
+    yield 5, "orders", loan(1, 1)
+    yield 0, "permit", {"ticket": 1, "unit": HOUSE, "until": FAR}
+    yield 0, "orders", loan(1, 1)
     yield 0, *drawn(FIRST_BELOW - 1)
     yield 5, "orders", loan(1, 2)
     yield 0, "reshelve", {}
