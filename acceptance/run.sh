@@ -297,6 +297,8 @@ timeout 600 python3 "$here/filled.py" "$program" "$fast" || wrong=1
 timeout 120 python3 "$here/rounds.py" "$program" || wrong=1
 timeout 300 python3 "$here/sessions.py" "$program" 0 100 || wrong=1
 timeout 300 python3 "$here/random_heads.py" "$program" || wrong=1
+timeout 300 python3 "$here/boxes.py" "$program" 0 40 || wrong=1
+timeout 120 python3 "$here/large_box.py" "$program" "$fast" || wrong=1
 timeout 900 python3 "$here/../mutation/rules.py" >"$room/rules" || wrong=1
 grep -v '^refused by\|^same ' "$room/rules"
 if has cc gcc; then timeout 300 python3 "$here/../mutation/faults/init.py" "$program" "$fast" 25 || wrong=1; fi

@@ -51,21 +51,23 @@ KEPT = Path(__file__).parent / "seeds.txt"
 STATES = ["shelf", "desk", "out"]
 PERMITS = ["new", "longer", "as it was", "expired", "revoked", "gone with its unit", "opens a closure", "below a closure"]
 CAUSES = [1, 2, 3, 4, 5, 6, 7, 8, 11, 12]
-LEAST = 5
+LEAST, PATIENCE = 5, 60
 count = collections.Counter()
 
 
 class Session:
     """The requests of a session, with the answers of a plain office."""
 
+    OFFICE = plain.Office
+
     def __init__(self, seed):
-        self.random = random.Random(seed)
+        self.seed, self.random = seed, random.Random(seed)
         self.settings = self.some_settings()
-        self.office = plain.Office(**self.settings)
+        self.office = self.OFFICE(**self.settings)
         self.numbers = self.random.choice([8, 25, 25, 60])
         self.pools = {name: pool and self.fewer(pool) for name, pool in COLUMNS.items()}
         self.weights = [often * self.random.choice([0.5, 1, 1, 2]) for often in self.OFTEN.values()]
-        self.first = list(self.BEGINNINGS.get(seed % 10, lambda _: ())(self))
+        self.first = list(self.beginning())
         self.said = [it for _ in range(COMMANDS + len(self.first)) for it in self.some()]
 
     def some_settings(self):
@@ -80,6 +82,9 @@ class Session:
         return self.random.sample(pool, self.random.randint((len(pool) + 1) // 2, len(pool)))
 
     # ---- how a session may begin
+
+    def beginning(self):
+        return self.BEGINNINGS.get(self.seed % 10, lambda _: ())(self)
 
     def a_chain(self):
         rows = "".join(f"{n},{n - 1 if n > 1 else ''},Published\n" for n in range(1, 65))
@@ -365,16 +370,15 @@ class Seen:
             count["permit", "expired"] += sum(it["until"] < office.day for it in told)
 
 
-def is_held(program, seed):
+def is_held(program, session):
     """Whether the program answers a session as the plain office does; prints the difference if it does not."""
-    session = Session(seed)
     said = b"".join(it for _, _, it, _ in session.said)
     words = [program, "trial", *days.options(session.settings)]
-    done = subprocess.run(words, input=said, capture_output=True, timeout=60)
+    done = subprocess.run(words, input=said, capture_output=True, timeout=PATIENCE)
     place = 0
     for path, body, _, wanted in session.said:
         if done.stdout[place : place + len(wanted)] != wanted:
-            print(f"WRONG session {seed}, {path} {body!r}: {done.stdout[place:place + 400]}, wanted {wanted}")
+            print(f"WRONG session {session.seed}, {path} {body!r}: {done.stdout[place:place + 400]}, wanted {wanted}")
             return False
         place += len(wanted)
     return (done.returncode, done.stderr, len(done.stdout)) == (0, b"", place)
@@ -393,7 +397,7 @@ def listed(counts):
 def main(program, first=0, number=200):
     kept = {int(it.split()[0]) for it in KEPT.read_text().splitlines() if it and not it.startswith("#")}
     seeds = sorted(kept | set(range(int(first), int(first) + int(number))))
-    held = sum(is_held(program, seed) for seed in seeds)
+    held = sum(is_held(program, Session(seed)) for seed in seeds)
     print(f"of {len(seeds)} random sessions, {len(kept)} of kept seeds, {held} were answered as by a plain office")
     came = wanted_counts()
     asked = ((f"{path} {code or ''}".strip(), times) for (path, code), times in sorted(count.items()))

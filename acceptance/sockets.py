@@ -228,6 +228,7 @@ def unread(program, port):
             client.sendall(AID * 20)
             taken, _ = asked(server, "read nothing")
             # after a write that moved some bytes in its time there is another write, so more than one may time out
+            print(f"a client that reads nothing of long answers is left after {taken:.0f} s")
             same(f"read nothing: left after {PATIENCE} seconds or more", PATIENCE - 1 < taken < 10 * PATIENCE, True)
         server.ends_well("the end after a client that reads nothing")
 

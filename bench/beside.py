@@ -36,22 +36,22 @@ class Took:
 class Side:
     """One of the two programs, with its office and its session."""
 
-    def __init__(self, words, room):
+    def __init__(self, words, room, settings=measure.SETTINGS):
         self.words = words
         self.office = Program(words[-1], room)
-        self.office.begin()
+        self.office.begin(settings)
         self.session = Session(self.office.program, self.office.store, words[:-1])
 
     def processor(self):
         """Seconds of the processor that the session has taken."""
         return int(self.session.told("schedstat").split()[0]) / 1e9
 
-    def ask(self, requests):
-        """The mean of an answer."""
+    def ask(self, requests, wanted=measure.OK):
+        """The mean of an answer, which must have this status."""
         before, start = self.processor(), time.perf_counter()
         for request in requests:
             self.session.send(request)
-            self.session.take_answer()
+            self.session.take_answer(wanted)
         wall = time.perf_counter() - start
         return Took((self.processor() - before) / len(requests), wall / len(requests))
 

@@ -41,6 +41,7 @@ TOPS = 100
 BELOW = 9
 IN_HANDS = 10
 TICKS = os.sysconf("SC_CLK_TCK")
+OK, REFUSED = b"200 OK", b"409 Conflict"
 
 
 class Archive:
@@ -137,8 +138,8 @@ class Program:
             user, system, kilobytes = it.read().split()
         return Spent(wall, float(user) + float(system), int(kilobytes) * 1024), done.stdout
 
-    def begin(self):
-        self.spent(["init", "--store", self.store, *SETTINGS])
+    def begin(self, settings=SETTINGS):
+        self.spent(["init", "--store", self.store, *settings])
 
     def open(self):
         """A session without requests."""
@@ -191,8 +192,8 @@ class Session:
         self.running.stdin.write(said)
         self.running.stdin.flush()
 
-    def take_answer(self):
-        """Reads an answer, which must be a 200."""
+    def take_answer(self, wanted=OK):
+        """Reads an answer, which must have this status."""
         answers = self.running.stdout
         status = answers.readline()
         length = 0
@@ -201,7 +202,7 @@ class Session:
             if name == b"Content-Length":
                 length = int(value)
         body = answers.read(length)
-        if status != b"HTTP/1.1 200 OK\r\n":
+        if status != b"HTTP/1.1 %s\r\n" % wanted:
             fail(f"an answer: {status!r} {body[:200]!r}")
 
     def ask(self, requests):

@@ -1,13 +1,11 @@
 #!/usr/bin/env python3
-"""Measures an office with many past orders, and what large bodies of JSON take:
+"""Measures an office with many past orders:
 
     bench/orders.py [--program PROGRAM] [--room DIRECTORY] [ORDERS ..]
 
 First, `reader` for a ticket with one order that waits and 1, 10, 100 or 1,000 earlier ones, all cancelled: the mean of 9,000
 questions in one session. Next to it is the mean of 9,000 questions for what is out, which find nothing here. The difference is
 what the answer itself takes.
-
-Then, requests with a body of 8 MiB to a program with an empty office: how many times its size each body takes in memory.
 
 Then, for each of ORDERS (by default 100000 and 1000000; 10000000 takes some minutes), `check` of an office with this many orders of
 100,000 tickets for 10,000 boxes, each fetched by a line of a run of a hundred. Python's own SQLite writes the rows. Processor
@@ -23,13 +21,12 @@ import tempfile
 
 sys.path.insert(0, os.path.dirname(os.path.abspath(__file__)))
 import measure
-from measure import BUILT, Program, Session, fail, get, post, say
+from measure import BUILT, Program, get, post, say
 
 UNITS, TICKETS, IN_A_RUN = 20000, 100000, 100
 TODAY = 19783  # the first of March 2024
 QUESTIONS = 9000  # a session has at most 10,000 messages
 A_DAY = 50
-MIB_8 = 8 * 1024 * 1024
 
 
 def write_orders(store, orders):
@@ -113,41 +110,6 @@ def readers(program, archive):
         say(f"{before:,}", *(f"{milliseconds:.4f} ms" for milliseconds in (*took, took[0] - took[1])))
 
 
-def filled(first, each, last):
-    """A body of 8 MiB."""
-    return first + each * ((MIB_8 - len(first) - len(last)) // len(each)) + last
-
-
-BODIES = {
-    "`[0,0,..]`": filled(b"[0", b",0", b"]"),
-    '`{"x":[0,0,..]}`': filled(b'{"x":[0', b",0", b"]}"),
-    "`[[],[],..]`": filled(b"[[]", b",[]", b"]"),
-    "`[{},{},..]`": filled(b"[{}", b",{}", b"]"),
-    '`["","",..]`': filled(b'[""', b',""', b"]"),
-    '`["a","a",..]`': filled(b'["a"', b',"a"', b"]"),
-    '`{"0":0,"1":0,..}`': b"{" + b",".join(b'"%x":0' % n for n in range(800000)) + b"}",
-    "one text": filled(b'{"name":"', b"a", b'"}'),
-    "spaces": b" " * (MIB_8 - 2) + b"{}",
-}
-
-
-def bodies(program):
-    say("Body", "Bytes", "Memory", "Without", "Times the body")
-    say(*["---"] * 5)
-    begin(program, SETTINGS)
-    for name, body in BODIES.items():
-        session = Session(program.program, program.store)
-        before = session.memory()
-        session.send(b"POST /desk/cancel HTTP/1.1\r\nHost: x\r\nContent-Length: %d\r\n\r\n" % len(body) + body)
-        status = session.running.stdout.readline()
-        if status not in (b"HTTP/1.1 400 Bad Request\r\n", b"HTTP/1.1 503 Service Unavailable\r\n"):
-            fail(f"{name}: {status!r}")
-        memory = session.memory()
-        session.running.kill()
-        session.running.wait()
-        say(name, f"{len(body):,}", f"{memory / 1e6:.0f} MB", f"{before / 1e6:.0f} MB", f"{(memory - before) / len(body):.1f}")
-
-
 def main():
     words = argparse.ArgumentParser(description=__doc__, formatter_class=argparse.RawDescriptionHelpFormatter)
     words.add_argument("--program", default=BUILT)
@@ -158,8 +120,6 @@ def main():
         program = Program(os.path.abspath(given.program), room)
         archive = measure.Archive(UNITS)
         readers(program, archive)
-        print()
-        bodies(program)
         print()
         check_orders(program, archive, given.orders or [100000, 1000000])
 

@@ -1,0 +1,259 @@
+#!/usr/bin/env python3
+"""Compares random sessions about boxes that many units name with a plain office: boxes.py PROGRAM [FIRST [COUNT]]
+
+These are sessions as in sessions.py, with other catalogues and other choices. A session begins with twenty to sixty units that
+share a few boxes: side by side, in turns or anyhow, below one fonds, in series or in a deep tree. In one of forty sessions
+there are thousands of units without a box between them. Then boxes are ordered, fetched and issued, while units in and above
+them are closed, withdrawn, moved, removed, imported again and opened to readers. `trial` must answer to the byte as
+acceptance/plain does.
+
+The script prints how many sessions were equal, how often each command was accepted or refused, and what was so of the boxes
+that an order, a run, an issue or the gate judged. It ends with 1 and the first different answer if a session differs, and
+also if, in a hundred sessions or more, something came less often than LEAST says. The sessions of KEPT come too: each finds a
+wrong way to read a box in one pass."""
+import itertools
+import json
+import sys
+
+import plain
+import sessions
+from sessions import count, days
+
+LEAST = 10
+KEPT = {
+    7: "what begins between two units",
+    10: "a unit in the box of one above, and the gate",
+    12: "the first and the last unit of a branch",
+    15: "a box that is emptied",
+    16: "the first and the last unit of a branch",
+    18: "the first unit of a box, a box that is emptied",
+}
+SHAPES = ["flat", "series", "deep", "any"]
+ORDERS = ["side by side", "in turns", "anyhow"]
+TICKETS = range(1, 4)
+WIDE, BETWEEN = 40, 2100
+FAR = ["2024-03-04", "2030-01-01", "2030-01-01", "2030-01-01"]
+KINDS = [
+    "eight units or more",
+    "not in the order of their numbers",
+    "not below one unit",
+    "one below another",
+    "a unit above begins after the one before",
+    "a unit above ends before the next",
+    "contents that name no box",
+    "opened by a permit",
+    "a permit ends before a unit that is closed",
+    "only the first is withheld",
+    "only the last is withheld",
+    "only one between is withheld",
+    "only contents that name no box are withheld",
+]
+
+
+class Watched(plain.Office):
+    """An office that counts what is so of the boxes that its commands judge."""
+
+    is_judging = False
+
+    def post(self, path, body):
+        self.is_judging = True
+        told = super().post(path, body)
+        self.is_judging = False
+        return told
+
+    def is_open(self, container, ticket):
+        if self.is_judging:
+            count.update(("judged", kind) for kind in kinds(self, container, ticket))
+        return super().is_open(container, ticket)
+
+
+def walk(office):
+    return [unit for top in office.tops for unit in office.branch(top)]
+
+
+def kinds(office, container, ticket):
+    """What is so of a box that is judged for a ticket."""
+    units = walk(office)
+    naming = [unit for unit in units if container in office.units[unit].boxes]
+    lying = set(office.contents(container))
+    contents = [unit for unit in units if unit in lying]
+    ways = {unit: office.path(unit) for unit in naming}
+    lower = [unit for unit in contents if unit not in ways]
+    withheld = [unit for unit in contents if office.is_withheld(unit, ticket)]
+    held_back = {
+        "only the first is withheld": contents[:1],
+        "only the last is withheld": contents[-1:],
+        "only one between is withheld": withheld[:1] if withheld[:1] and withheld[0] in contents[1:-1] else [],
+    }
+    so = {
+        "eight units or more": len(naming) >= 8,
+        "not in the order of their numbers": naming != sorted(naming),
+        "not below one unit": len({office.units[unit].above for unit in naming}) > 1,
+        "one below another": any(set(ways) & set(way[:-1]) for way in ways.values()),
+        "contents that name no box": bool(lower),
+        "opened by a permit": bool(contents) and not withheld and any(office.is_withheld(it, 0) for it in contents),
+        "only contents that name no box are withheld": bool(withheld) and set(withheld) <= set(lower),
+        **{kind: len(contents) > 2 and bool(it) and withheld == it for kind, it in held_back.items()},
+    }
+    for one, other in itertools.pairwise(naming):
+        new, gone = set(ways[other][:-1]) - set(ways[one]), set(ways[one]) - set(ways[other]) - {one}
+        so["a unit above begins after the one before"] = so.get("a unit above begins after the one before") or bool(new)
+        so["a unit above ends before the next"] = so.get("a unit above ends before the next") or bool(gone)
+        ends = any(office.is_permitted(it, ticket) for it in gone) and other in withheld
+        so["a permit ends before a unit that is closed"] = so.get("a permit ends before a unit that is closed") or ends
+    return [kind for kind, is_so in so.items() if is_so]
+
+
+class BoxSession(sessions.Session):
+    """The requests of a session about boxes that many units name."""
+
+    OFFICE = Watched
+
+    def some_settings(self):
+        chosen = {"seats": "200", "daily": "50", "hands": self.random.choice(["3", "10"]), "run": self.random.choice("1359")}
+        return days.USUAL | chosen
+
+    def beginning(self):
+        """A catalogue, readers, in half of the sessions closed units that are open to a reader, and boxes that go out."""
+        yield "/desk/import/a", self.catalogue()
+        for ticket in TICKETS:
+            yield "/desk/register", json.dumps({"name": f"Reader {ticket}", "until": "2030-01-01"})
+            yield "/desk/seat", json.dumps({"ticket": ticket})
+        for unit in range(2, self.random.choice([2, 2, 3, 5, 12])):
+            yield "/desk/permit", json.dumps({"ticket": 1, "unit": unit, "until": "2030-01-01"})
+            yield "/desk/closure", json.dumps({"unit": unit, "until": "2030-01-01"})
+        loans = [json.dumps({"ticket": self.random.choice([1, 1, 2, 3]), "container": box}) for box in range(1, 6)]
+        for path in ("/public/orders", "/desk/run", "/desk/issue"):
+            yield from ((path, "" if path == "/desk/run" else loan) for loan in loans)
+
+    # ---- files
+
+    def catalogue(self):
+        """A file of a whole catalogue, parents first."""
+        shape, order = self.random.choice(SHAPES), self.random.choice(ORDERS)
+        units, boxes = self.random.randint(20, 60), self.random.choice([1, 2, 3, 5])
+        unnamed, drafts = self.random.choice([0, 0.1, 0.4, 0.7]), self.random.choice([0, 0, 0.03])
+        rows = ["1,,Published,"]
+        for unit in range(2, units + 1):
+            parent = self.parent(shape, unit)
+            named = [] if self.happens(unnamed) else [self.box(order, unit, units, boxes)]
+            named += [self.box("anyhow", unit, units, boxes)] if self.happens(0.05) else []
+            rows.append(f"{unit},{parent},{'Draft' if self.happens(drafts) else 'Published'},{'|'.join(named)}")
+        if self.seed % WIDE == WIDE - 1:
+            rows += [f"{100 + nth},2,Published," for nth in range(BETWEEN)]
+        return plain.text(["legacyId,parentId,publicationStatus,physicalObjectName", *rows])
+
+    def parent(self, shape, unit):
+        """The parent of the unit in this place of a file."""
+        if shape == "flat" or unit <= 4:
+            return 1
+        if shape == "series":
+            return self.random.randint(2, 4) if unit <= 10 else self.random.randint(2, 10)
+        return max(1, unit - self.random.randint(1, 3)) if shape == "deep" else self.random.randint(1, unit - 1)
+
+    def box(self, order, unit, units, boxes):
+        nth = {"side by side": unit * boxes // (units + 1), "in turns": unit % boxes}.get(order, self.random.randrange(boxes))
+        return f"Box {nth + 1}"
+
+    def file(self, source):
+        """Known units in other boxes, and new ones."""
+        known = [it.legacy for it in self.office.units.values() if it.source == source]
+        boxes = [name for name, _, _ in self.office.containers] or ["Box 1"]
+        rows = []
+        for _ in range(self.random.randint(1, 4)):
+            is_new = not known or self.happens(0.5)
+            legacy = str(self.random.randint(61, 99)) if is_new else self.random.choice(known)
+            parent = self.random.choice(known) if known else ""
+            named = "|".join(self.random.sample(boxes, min(len(boxes), self.random.choice([0, 1, 1, 1, 2]))))
+            rows.append(f"{legacy},{parent},{self.random.choice(['Published'] * 9 + ['Draft'])},{named}")
+        return plain.text(["legacyId,parentId,publicationStatus,physicalObjectName", *rows])
+
+    # ---- commands
+
+    def lying(self):
+        """The contents of a box, in walk order; often of one that is out or waited for."""
+        office = self.office
+        wanted = [*office.out(), *(office.orders[it].container for it in office.waiting)]
+        boxes = wanted if wanted and self.happens(0.8) else range(1, len(office.containers) + 1)
+        contents = set(office.contents(self.random.choice(list(boxes)))) if boxes else set()
+        return [unit for unit in walk(office) if unit in contents]
+
+    def unit(self):
+        """The first, the last or another unit of a box, or one above it."""
+        contents = self.lying()
+        if not contents:
+            return super().unit()
+        unit = self.random.choice([contents[0], contents[-1], self.random.choice(contents)])
+        return unit if self.happens(0.6) else self.random.choice(self.office.path(unit))
+
+    def closure(self):
+        closed = [it for it in self.office.units if self.office.is_closed(it)]
+        if closed and self.happens(0.45):
+            return "closure", {"unit": self.random.choice(closed), "until": None}
+        return "closure", {"unit": self.unit(), "until": self.random.choice(["2024-02-29", *FAR])}
+
+    def move(self):
+        """A move below another unit of a box, or below a unit that is withheld, or anywhere."""
+        parent = self.random.choice([self.unit, self.unit, self.withheld_unit, lambda: self.one_of(self.office.units, 99)])()
+        return "move", {"unit": self.unit(), "parent": None if self.happens(0.03) else parent}
+
+    def remove(self):
+        contents = [it for it in self.lying() if not self.office.below(it)]
+        return "remove", {"unit": self.random.choice(contents) if contents and self.happens(0.9) else self.unit()}
+
+    def permit(self):
+        """A permit for a reader who waits for a box or has it; often for what is closed above the contents."""
+        office, ticket = self.office, self.ticket()
+        live = [office.orders[it].ticket for it in office.waiting] + list(office.out().values())
+        closed = [it for it in office.units if any(map(office.is_closed, office.path(it)))]
+        unit = self.random.choice(closed) if closed and self.happens(0.6) else self.unit()
+        if self.happens(0.5):
+            unit = self.random.choice(office.path(unit)) if unit in office.units else unit
+        ticket = self.random.choice(live) if live and self.happens(0.7) else ticket
+        return "permit", {"ticket": ticket, "unit": unit, "until": self.random.choice(FAR)}
+
+    def revoke(self):
+        granted = list(self.office.permits)
+        ticket, unit = self.random.choice(granted) if granted and self.happens(0.9) else (self.ticket(), self.unit())
+        return "revoke", {"ticket": ticket, "unit": unit}
+
+    OFTEN = {
+        sessions.Session.import_file: 7,
+        sessions.Session.register: 1,
+        sessions.Session.renew: 1,
+        sessions.Session.seat: 2,
+        sessions.Session.leave: 1,
+        sessions.Session.order: 12,
+        sessions.Session.cancel: 1,
+        sessions.Session.run: 4,
+        sessions.Session.reshelve: 1,
+        sessions.Session.issue: 14,
+        sessions.Session.give_back: 3,
+        sessions.Session.next_day: 2,
+        sessions.Session.status: 9,
+        closure: 14,
+        move: 12,
+        remove: 2,
+        permit: 12,
+        revoke: 6,
+    }
+
+
+def main(program, first=0, number=200):
+    seeds = sorted(set(KEPT) | set(range(int(first), int(first) + int(number))))
+    held = sum(sessions.is_held(program, BoxSession(seed)) for seed in seeds)
+    print(f"of {len(seeds)} random sessions about boxes, {len(KEPT)} of kept seeds, {held} were answered as by a plain office")
+    judged = {kind: count.pop(("judged", kind), 0) for kind in KINDS}
+    asked = ((f"{path} {code or ''}".strip(), times) for (path, code), times in sorted(count.items()) if path.startswith("/"))
+    print(f"commands, and those refused by number: {sessions.listed(asked)}")
+    print(f"what was so of boxes that were judged: {sessions.listed(judged.items())}")
+    rare = [kind for kind, times in judged.items() if times < LEAST] if int(number) >= 100 else []
+    if rare:
+        print(f"came less than {LEAST} times: {rare}")
+    return bool(rare) or held != len(seeds)
+
+
+if __name__ == "__main__":
+    if len(sys.argv) < 2:
+        sys.exit(__doc__)
+    sys.exit(main(*sys.argv[1:]))

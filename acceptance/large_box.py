@@ -1,0 +1,214 @@
+#!/usr/bin/env python3
+"""Plays a day around a box of 4,000 items: large_box.py PROGRAM ROOM
+
+Each row of the file names its box. Box 2 holds 4,000 items that lie side by side in a series, and six more behind a series of
+2,500 items without a box; every hundredth of its items lies in box 3 too. Box 1 is that of a series whose items name none, save
+some that lie in boxes of their own. The day orders, fetches, issues and returns these boxes, and closes, withdraws, moves,
+removes and imports units in them, above them and beside them.
+
+The program plays the day by `talk` on a store in ROOM. Each answer must be that of acceptance/plain to the byte, the store must
+be sound afterwards, and all must be done within a minute. The script ends with 1 if not."""
+import subprocess
+import sys
+import time
+from pathlib import Path
+
+import days
+import plain
+import sessions
+
+SECONDS = 60
+SETTINGS = days.USUAL | {"seats": "3", "daily": "20", "hands": "3", "run": "3"}
+FONDS, LARGE, APART, LATER, HOUSE = 1, 2, 3, 4, 5
+ITEMS, BESIDE, LAST, BELOW = 4000, 2500, 6, 300
+FIRST_ITEM = HOUSE + 1
+FIRST_BESIDE = FIRST_ITEM + ITEMS
+FIRST_LAST = FIRST_BESIDE + BESIDE
+FIRST_BELOW = FIRST_LAST + LAST
+END = FIRST_BELOW + BELOW
+MIDDLE = FIRST_ITEM + ITEMS // 2
+FAR, PAST = "2030-01-01", "2024-02-01"
+
+
+def rows():
+    """Unit, parent and boxes of each row; the units get these numbers."""
+    yield FONDS, "", ""
+    yield from ((it, FONDS, "Box 1" if it == HOUSE else "") for it in range(LARGE, HOUSE + 1))
+    for it in range(FIRST_ITEM, FIRST_BESIDE):
+        yield it, LARGE, "Box 2" if it % 100 else "Box 2|Box 3"
+    yield from ((it, APART, "") for it in range(FIRST_BESIDE, FIRST_LAST))
+    yield from ((it, LATER, "Box 2") for it in range(FIRST_LAST, FIRST_BELOW))
+    yield from ((it, HOUSE, "" if it % 3 else f"Roll {it}") for it in range(FIRST_BELOW, END))
+
+
+def file(lines):
+    return plain.text(["legacyId,parentId,publicationStatus,physicalObjectName", *lines])
+
+
+WHOLE = file(f"{unit},{parent},Published,{boxes}" for unit, parent, boxes in rows())
+
+
+def closed(unit, until=FAR):
+    return "closure", {"unit": unit, "until": until}
+
+
+def drawn(unit, branch=False):
+    return "status", {"unit": unit, "status": "draft", "branch": branch}
+
+
+def shown(unit, branch=False):
+    return "status", {"unit": unit, "status": "published", "branch": branch}
+
+
+def moved(unit, parent):
+    return "move", {"unit": unit, "parent": parent}
+
+
+def loan(ticket, container):
+    return {"ticket": ticket, "container": container}
+
+
+def morning():
+    """Readers come, order, and get the boxes: the refusal that each command meets, or 0, and the command."""
+    yield 0, "import/a", WHOLE
+    for ticket in (1, 2):
+        yield 0, "register", {"name": f"Reader {ticket}", "until": FAR}
+        yield 0, "seat", {"ticket": ticket}
+    for ticket in (1, 2):
+        yield 0, "orders", loan(ticket, 2)
+        yield 6, "orders", loan(ticket, 2)
+    for container in (1, 3):
+        yield 0, "orders", loan(2, container)
+    yield 0, "run", {}
+    yield 24, "run", {}
+    yield 0, "issue", loan(1, 2)
+    yield 14, "issue", loan(2, 2)
+    for container in (1, 3):
+        yield 0, "issue", loan(2, container)
+
+
+def changes():
+    """What the gate lets pass and what not, while all three boxes are out."""
+    for unit in (FIRST_ITEM, MIDDLE, FIRST_BESIDE - 1, FIRST_LAST, FIRST_BELOW - 1, FIRST_BELOW, FIRST_BELOW + 1, END - 1):
+        yield 21 if unit % 3 or unit < FIRST_BELOW else 0, *closed(unit)
+    for unit in (FONDS, LARGE, LATER, HOUSE):
+        yield 21, *closed(unit)
+        yield 21, *drawn(unit, True)
+        yield 0, *closed(unit, PAST)
+    for unit in (APART, FIRST_BESIDE, FIRST_LAST - 1):
+        yield 0, *closed(unit)
+        yield 0, *drawn(unit)
+    for unit in (FIRST_ITEM, MIDDLE, FIRST_LAST):
+        yield 0, *shown(unit)
+        yield 0, *closed(unit, PAST)
+        yield 21, *moved(unit, APART)
+    yield 0, *moved(FIRST_ITEM, LARGE)
+    yield 0, *moved(FIRST_LAST, MIDDLE)
+    yield 0, *shown(APART)
+    yield 0, *closed(APART, PAST)
+    yield 0, *moved(MIDDLE, FIRST_BESIDE + 1)
+    yield 0, *moved(LARGE, FONDS)
+    for unit in (APART, FIRST_BESIDE + 1, MIDDLE):
+        yield 21, *closed(unit)
+    yield 21, *closed(FIRST_ITEM)
+    yield 21, *closed(FIRST_LAST)
+    yield 0, *moved(FIRST_BELOW, LATER)
+    yield 0, "import/a", WHOLE
+    yield 21, "import/a", file([f"{FIRST_BESIDE},{APART},Published,Box 2"])
+    yield 0, "import/a", file([f"new,{LARGE},Published,Box 2"])
+    yield 21, "import/a", file([f"draft,{LARGE},Draft,Box 3"])
+    yield 0, "remove", {"unit": FIRST_ITEM + 1}
+    yield 21, "remove", {"unit": FONDS}
+
+
+def permits():
+    """Boxes come back; a closed item withholds one, until a reader may see it."""
+    for container in (1, 2, 3):
+        yield 0, "return", {"container": container}
+    yield 0, "issue", loan(2, 2)
+    yield 0, "return", {"container": 2}
+    yield 0, *closed(FIRST_ITEM)
+    yield 5, "orders", loan(1, 2)
+    yield 0, "orders", loan(1, 3)
+    yield 0, "permit", {"ticket": 1, "unit": FIRST_ITEM, "until": FAR}
+    yield 0, "orders", loan(1, 2)
+    yield 5, "orders", loan(2, 2)
+    yield 0, *moved(LATER, FONDS)
+    yield 0, *closed(LARGE)
+    yield 5, "issue", loan(1, 2)
+    yield 0, "permit", {"ticket": 1, "unit": LARGE, "until": FAR}
+    yield 0, "issue", loan(1, 2)
+    yield 21, "revoke", {"ticket": 1, "unit": LARGE}
+    yield 0, "revoke", {"ticket": 1, "unit": FIRST_ITEM}
+    yield 21, *closed(FIRST_LAST + 1)
+    yield 0, "return", {"container": 2}
+    yield 0, *closed(HOUSE)
+    yield 5, "orders", loan(1, 1)
+    yield 0, "permit", {"ticket": 1, "unit": HOUSE, "until": FAR}
+    yield 0, "orders", loan(1, 1)
+    yield 0, *drawn(FIRST_BELOW - 1)
+    yield 5, "orders", loan(1, 2)
+    yield 0, "reshelve", {}
+
+
+class Day:
+    """The requests of the day, with the answers of a plain office."""
+
+    def __init__(self):
+        self.office, self.said, self.wanted = plain.Office(**SETTINGS), [], []
+        for code, word, members in (*morning(), *changes(), *permits()):
+            self.command(code, word, members)
+            self.question("/desk/issued")
+        for path in ("/desk/readers/1", "/desk/queue/2", "/desk/runs/1", f"/public/units/{FIRST_BESIDE - 1}", "/public/fonds"):
+            self.question(path)
+
+    def command(self, code, word, members):
+        path = "/public/orders" if word == "orders" else f"/desk/{word}"
+        body = members if isinstance(members, str) else plain.as_json(members)
+        status, told = self.office.post(path, body.encode())
+        if told.get("code", 0) != code:
+            sys.exit(f"WRONG a plain office answers {path} {body[:100]} with {told}, not with refusal {code}")
+        self.keep(days.post(path, body.encode()), status, told)
+
+    def question(self, path):
+        self.keep(days.get(path), *self.office.get(path))
+
+    def keep(self, request, status, told):
+        self.said.append(request)
+        self.wanted.append(sessions.Session.answer(status, told))
+
+
+def first_wrong(day, printed):
+    """The first request that was not answered as it should be, if there is one."""
+    place = 0
+    for request, wanted in zip(day.said, day.wanted):
+        if printed[place : place + len(wanted)] != wanted:
+            return f"{request[:300]}: {printed[place:place + 400]}, wanted {wanted[:400]}"
+        place += len(wanted)
+    return None if place == len(printed) else f"more than was asked: {printed[place:place + 400]}"
+
+
+def main(program, room):
+    day, store = Day(), str(Path(room) / "large_box.db")
+    begun = time.monotonic()
+    try:
+        subprocess.run([program, "init", "--store", store, *days.options(SETTINGS)], check=True, timeout=SECONDS)
+        talk = [program, "talk", "--store", store]
+        done = subprocess.run(talk, input=b"".join(day.said), capture_output=True, timeout=SECONDS)
+    except subprocess.TimeoutExpired:
+        print(f"WRONG a day around a box of {ITEMS:,} items takes more than {SECONDS} seconds")
+        return True
+    taken = time.monotonic() - begun
+    wrong = first_wrong(day, done.stdout)
+    if wrong or done.returncode or done.stderr:
+        print(f"WRONG a day around a box of {ITEMS:,} items: {done.returncode}, {done.stderr}, {wrong}")
+        return True
+    told = subprocess.run([program, "check", "--store", store], capture_output=True, timeout=SECONDS).stdout
+    print(f"{len(day.said)} requests around a box of {ITEMS:,} items were answered as by a plain office in {taken:.1f} s")
+    return told != b"sound\n" or taken > SECONDS
+
+
+if __name__ == "__main__":
+    if len(sys.argv) < 3:
+        sys.exit(__doc__)
+    sys.exit(main(*sys.argv[1:]))

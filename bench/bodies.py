@@ -1,0 +1,118 @@
+#!/usr/bin/env python3
+"""Measures what large bodies take in memory, and how long:
+
+    bench/bodies.py [--program PROGRAM] [--room DIRECTORY] [--bytes N] [NAME ..]
+
+Each body has 8 MiB, or N bytes. It is sent by `talk` to an office without units: JSON to a command, CSV as an import. A row of
+the table has the maximum memory of the program, how many bytes each byte of the body took on top of what the program had
+before, and the seconds of the processor. The rows are sorted, the worst first. With words, only bodies whose names have one of
+them are sent. Every answer must be 200 (nothing but blank lines), 400, 409, or 503 (a lack of memory).
+"""
+import argparse
+import os
+import tempfile
+import time
+
+from measure import BUILT, Program, Session, fail, say
+
+MIB_8 = 8 * 1024 * 1024
+DEEPEST = 124
+STATUSES = [b"200 OK", b"400 Bad Request", b"409 Conflict", b"503 Service Unavailable"]
+COMMAND, IMPORT = "/desk/cancel", "/desk/import/a"
+HEADER = b"legacyId,parentId,publicationStatus\n"
+
+
+def filled(first, each, last, size):
+    """A body of this size: as many of `each` as there is room for."""
+    return first + each * ((size - len(first) - len(last)) // len(each)) + last
+
+
+def listed(each, size):
+    """An array of equal values."""
+    return filled(b"[" + each, b"," + each, b"]", size)
+
+
+def nested(begin, value, end, depth):
+    return begin * depth + value + end * depth
+
+
+def numbered(size):
+    """An object with as many different members as there is room for."""
+    members = (b'"%x":0' % n for n in range(size // 10))
+    return b"{" + b",".join(members) + b"}"
+
+
+VALUES = {
+    "0": b"0",
+    "[]": b"[]",
+    "{}": b"{}",
+    '""': b'""',
+    '"a"': b'"a"',
+    "[0]": b"[0]",
+    "[[0]]": b"[[0]]",
+    '{"":0}': b'{"":0}',
+    '{"":""}': b'{"":""}',
+    '{"":[0]}': b'{"":[0]}',
+    '[{"":0}]': b'[{"":0}]',
+    f"{DEEPEST} arrays, in each other": nested(b"[", b"0", b"]", DEEPEST),
+    f"{DEEPEST} empty arrays, in each other": nested(b"[", b"", b"]", DEEPEST),
+    f"{DEEPEST} objects, in each other": nested(b'{"":', b"0", b"}", DEEPEST),
+    f"{DEEPEST} arrays and objects in turns": nested(b'[{"":', b"0", b"}]", DEEPEST // 2),
+    "ten arrays, in each other": nested(b"[", b"0", b"]", 10),
+    "ten objects, in each other": nested(b'{"":', b"0", b"}", 10),
+}
+
+BODIES = {
+    **{f"JSON, an array of {name}": (COMMAND, lambda size, it=it: listed(it, size)) for name, it in VALUES.items()},
+    'JSON, `{"x":[0,0,..]}`': (COMMAND, lambda size: filled(b'{"x":[0', b",0", b"]}", size)),
+    'JSON, `{"0":0,"1":0,..}`': (COMMAND, numbered),
+    "JSON, one text": (COMMAND, lambda size: filled(b'{"name":"', b"a", b'"}', size)),
+    "JSON, spaces": (COMMAND, lambda size: b" " * (size - 2) + b"{}"),
+    "CSV, commas": (IMPORT, lambda size: b"," * size),
+    "CSV, commas below a header": (IMPORT, lambda size: filled(HEADER, b",", b"\n", size)),
+    "CSV, lines of a comma": (IMPORT, lambda size: filled(HEADER, b",\n", b"", size)),
+    "CSV, empty lines": (IMPORT, lambda size: filled(HEADER, b"\n", b"", size)),
+    "CSV, one cell": (IMPORT, lambda size: filled(HEADER + b'"', b"a", b'"\n', size)),
+    "CSV, quotes": (IMPORT, lambda size: filled(HEADER + b'"', b'""', b'"\n', size)),
+}
+
+
+def spent(program, path, body):
+    """What a body takes of memory and of the processor's seconds, and what the program had before."""
+    session = Session(program.program, program.store)
+    memory, seconds = session.memory(), session.processor()
+    session.send(b"POST %s HTTP/1.1\r\nHost: x\r\nContent-Length: %d\r\n\r\n" % (path.encode(), len(body)) + body)
+    status = session.running.stdout.readline()
+    if status.removeprefix(b"HTTP/1.1 ").strip() not in STATUSES:
+        fail(f"{path} {body[:40]!r}: {status!r}")
+    told = session.memory(), memory, session.processor() - seconds
+    session.running.kill()
+    session.running.wait()
+    return told
+
+
+def main():
+    words = argparse.ArgumentParser(description=__doc__, formatter_class=argparse.RawDescriptionHelpFormatter)
+    words.add_argument("--program", default=BUILT)
+    words.add_argument("--room")
+    words.add_argument("--bytes", type=int, default=MIB_8)
+    words.add_argument("names", nargs="*", metavar="NAME")
+    told = words.parse_args()
+    print(f"{time.strftime('%Y-%m-%d %H:%M')}, load {os.getloadavg()[0]:.1f}\n")
+    rows = []
+    with tempfile.TemporaryDirectory(dir=told.room) as room:
+        program = Program(os.path.realpath(told.program), room)
+        program.begin()
+        for name, (path, made) in BODIES.items():
+            if not told.names or any(word in name for word in told.names):
+                body = made(told.bytes)
+                memory, before, seconds = spent(program, path, body)
+                rows.append((memory, name, (memory - before) / len(body), seconds))
+    say("A body", "Memory", "Bytes for each byte", "Processor")
+    say(*["---"] * 4)
+    for memory, name, each, seconds in sorted(rows, reverse=True):
+        say(name, f"{memory / 1e6:,.0f} MB", f"{each:.1f}", f"{seconds:.2f} s")
+
+
+if __name__ == "__main__":
+    main()

@@ -1,0 +1,334 @@
+#!/usr/bin/env python3
+"""Measures the built program beside another one where a catalogue names its box in every row, and prints tables of markdown:
+
+    bench/boxes.py [--program PROGRAM] [--room FOLDER] [--cpu N] [--rounds N] OTHER [SHAPE ..]
+
+SHAPE is one of the offices below; by default all of them. Each is imported from one file. Then come rounds, by default five. In
+a round the boxes are ordered, fetched and issued, and what they slow down is asked: with nothing out, and with them out. Each
+request waits for the answer to the one before. Figures are milliseconds of the processor, the least of the rounds; both
+programs and this script are bound to one processor.
+
+    1000      1,000 items in one box
+    4000      4,000 items in one box
+    10x1000   10,000 items, 1,000 in a box, ten out
+    190x100   19,000 items, 100 in a box, ten out
+    400x4000  400 boxes that lie in one unit with 4,000 units below it, all out
+    sorted    5,000 items, 1,000 in a box, of which staff have moved a hundred to the end; all five boxes out
+    spread    10,000 items in 1,000 sub-series; a box has one item of each; ten out
+    series    ten series in a box each, with 1,000 items, of which every other one has a box of its own; the ten out
+
+A cell of the first table has our figure, the other program's, and the ratio. The second table has our figures with the boxes
+out and with none, and the third says how many times as long an answer takes with 4,000 items in a box as with 1,000. What
+misses its goal is in bold and listed at the end; then the script ends with 1.
+"""
+import argparse
+import datetime
+import os
+import sys
+import tempfile
+import time
+
+import measure
+from beside import Side
+from measure import OK, REFUSED, get, post, say
+
+IN_HANDS = IN_A_RUN = 10
+SETTINGS = "--country GB --repo 0999 --seats 200 --daily 50 --hands 10 --run 10 --day 2024-03-01".split()
+FIRST_DAY = datetime.date(2024, 3, 1)
+MOST = 8
+MOST_OUT = {"status": 10, "closure": 10, "opening": 1.2}
+MOST_GROWTH = 4.5
+MOVED = range(7, 5000, 50)
+COLUMNS = {
+    "order": "order of a box amid",
+    "again": "the same again, refused 6",
+    "run": "run of as many as ten",
+    "issue": "issue",
+    "status": "status of an item of a box that is out",
+    "closure": "closure of it that is past",
+    "first": "refused closure of the first unit of a box",
+    "last": "refused closure of the last",
+    "opening": "opening with them out",
+}
+JUDGED = ["order", "again", "run", "issue", "first", "last"]
+
+
+class Shape:
+    """The units of an office, in the order of their numbers from 1 on: the parent, the level and the boxes of each. `ordered`
+    are the boxes that go out. `moved` are units that staff move to the end of their siblings."""
+
+    def __init__(self, name, units, ordered, moved=()):
+        self.name, self.units, self.ordered, self.moved = name, units, ordered, moved
+        numbers = {}
+        for _, _, boxes in units:
+            for box in boxes:
+                numbers.setdefault(box, len(numbers) + 1)
+        self.numbers = [numbers[box] for box in ordered]
+        self.amid = len(ordered) // 2
+
+    def write(self, name):
+        with open(name, "w", encoding="utf-8") as it:
+            it.write(measure.HEADER)
+            for unit, (parent, level, boxes) in enumerate(self.units, 1):
+                it.write(
+                    f"{unit},{parent or ''},{unit},Minutes of the board {unit},{level},Published,1774-1893,1 volume,"
+                    f'"{measure.SCOPE}",{"|".join(boxes)},{"|".join(["Strongroom"] * len(boxes))}\n'
+                )
+
+    def walk(self):
+        """The units in walk order."""
+        below = {}
+        for unit, (parent, _, _) in enumerate(self.units, 1):
+            below.setdefault(parent, []).append(unit)
+        for unit in self.moved:
+            siblings = below[self.units[unit - 1][0]]
+            siblings.remove(unit)
+            siblings.append(unit)
+        ahead = below[0][::-1]
+        while ahead:
+            unit = ahead.pop()
+            yield unit
+            ahead += below.get(unit, [])[::-1]
+
+    def contents(self):
+        """The units that lie in the box amid, in walk order."""
+        housing = {}
+        for unit in self.walk():
+            parent, _, boxes = self.units[unit - 1]
+            housing[unit] = boxes or housing.get(parent, [])
+            if self.ordered[self.amid] in housing[unit]:
+                yield unit
+
+
+def box(nth):
+    return f"Box {nth + 1}"
+
+
+def flat(name, items, in_a_box, out, moved=()):
+    """A fonds whose items lie side by side, each with the name of its box. The boxes that go out are spread over all."""
+    units = [(0, "Fonds", []), *[(1, "Item", [box(nth // in_a_box)]) for nth in range(items)]]
+    boxes = items // in_a_box
+    return Shape(name, units, [box(nth * boxes // out) for nth in range(out)], moved)
+
+
+def many_boxes(name, boxes, items):
+    """A series in many boxes, whose items name none."""
+    named = [box(nth) for nth in range(boxes)]
+    return Shape(name, [(0, "Fonds", []), (1, "Series", named), *[(2, "Item", [])] * items], named)
+
+
+def spread_over_series(name, series, sub_series, boxes):
+    """Each sub-series has an item in each box; parents first, so numbers do not rise along the walk."""
+    units = [(0, "Fonds", []), *[(1, "Series", [])] * series]
+    units += [(2 + nth, "Sub-series", []) for nth in range(series) for _ in range(sub_series)]
+    parents = range(2 + series, len(units) + 1)
+    units += [(parent, "Item", [box(nth)]) for nth in range(boxes) for parent in parents]
+    return Shape(name, units, [box(nth) for nth in range(boxes)])
+
+
+def series_in_boxes(name, series, items):
+    """The items that name no box lie in that of their series, between others that have boxes of their own."""
+    units = [(0, "Fonds", []), *[(1, "Series", [box(nth)]) for nth in range(series)]]
+    for nth in range(series):
+        units += [(2 + nth, "Item", [f"Item {nth}-{item}"] if item % 2 else []) for item in range(items)]
+    return Shape(name, units, [box(nth) for nth in range(series)])
+
+
+SHAPES = {
+    "1000": lambda: flat("1,000 items in one box", 1000, 1000, 1),
+    "4000": lambda: flat("4,000 items in one box", 4000, 4000, 1),
+    "10x1000": lambda: flat("10,000 items, 1,000 in a box, ten out", 10000, 1000, 10),
+    "190x100": lambda: flat("19,000 items, 100 in a box, ten out", 19000, 100, 10),
+    "400x4000": lambda: many_boxes("400 boxes of one unit with 4,000 below it, all out", 400, 4000),
+    "sorted": lambda: flat("5,000 items, 1,000 in a box, a hundred moved to the end, five out", 5000, 1000, 5, MOVED),
+    "spread": lambda: spread_over_series("10,000 items in 1,000 sub-series, one of each in a box, ten out", 20, 50, 10),
+    "series": lambda: series_in_boxes("ten series in a box each, half of their 1,000 items in others, ten out", 10, 1000),
+}
+
+
+class Office:
+    """An office of this shape with both programs, and the least that each kind of answer took."""
+
+    def __init__(self, shape, sides):
+        self.shape, self.sides, self.took = shape, sides, {}
+        contents = list(shape.contents())
+        self.first, self.middle, self.last = contents[0], contents[len(contents) // 2], contents[-1]
+        self.loans = [{"ticket": nth // IN_HANDS + 1, "container": box} for nth, box in enumerate(shape.numbers)]
+        self.tickets = range(1, self.loans[-1]["ticket"] + 1)
+        self.day = FIRST_DAY
+
+    def quietly(self, requests):
+        for side in self.sides:
+            for request in requests:
+                side.ask([request])
+
+    def keep(self, kind, took):
+        """Keeps milliseconds of both programs, if they are less than before."""
+        each = [1000 * it.processor for it in took]
+        self.took[kind] = [min(pair) for pair in zip(each, self.took.get(kind, each))]
+
+    def ask(self, kind, request, wanted=OK):
+        self.keep(kind, [side.ask([request], wanted) for side in self.sides])
+
+    def opening(self, kind):
+        self.keep(kind, [side.reopen() for side in self.sides])
+
+    def take_in(self, folder):
+        name = f"{folder}/rows.csv"
+        self.shape.write(name)
+        with open(name, "rb") as it:
+            rows = it.read()
+        head = b"POST /desk/import/s HTTP/1.1\r\nHost: x\r\nContent-Length: %d\r\n\r\n" % len(rows)
+        moves = [post("/desk/move", unit=unit, parent=self.shape.units[unit - 1][0]) for unit in self.shape.moved]
+        readers = [post("/desk/register", name=f"Reader {n}", until="2030-12-31") for n in self.tickets]
+        self.quietly([head + rows, *moves, *readers])
+
+    def harmless(self, kind):
+        """Changes of one unit that withhold nothing: that of status leaves it published, the closure is past."""
+        status = post("/desk/status", unit=self.middle, status="published", branch=False)
+        closure = post("/desk/closure", unit=self.middle, until="2024-01-01")
+        self.quietly([status, closure])
+        self.ask(f"status{kind}", status)
+        self.ask(f"closure{kind}", closure)
+
+    def refused_closures(self):
+        for kind, unit in ("first", self.first), ("last", self.last):
+            self.ask(kind, post("/desk/closure", unit=unit, until="2035-01-01"), REFUSED)
+
+    def order(self):
+        orders = [post("/public/orders", **loan) for loan in self.loans]
+        amid = orders[self.shape.amid]
+        self.quietly(orders[: self.shape.amid])
+        self.ask("order", amid)
+        self.ask("again", amid, REFUSED)
+        self.quietly(orders[self.shape.amid + 1 :])
+
+    def fetch(self):
+        self.ask("run", post("/desk/run"))
+        more = (len(self.loans) - 1) // IN_A_RUN
+        self.quietly([post("/desk/run")] * more)
+
+    def issue(self):
+        issues = [post("/desk/issue", **loan) for loan in self.loans]
+        self.ask("issue", issues.pop(self.shape.amid))
+        self.quietly(issues)
+
+    def round(self):
+        """A day: with nothing out, then with the boxes out; they are back at its end."""
+        self.day += datetime.timedelta(1)
+        self.opening("opening, none")
+        seats = [post("/desk/seat", ticket=ticket) for ticket in self.tickets]
+        self.quietly([post("/desk/day", day=f"{self.day}"), *seats, get("/desk/issued")])
+        self.harmless(", none")
+        self.order()
+        self.fetch()
+        self.issue()
+        self.harmless("")
+        self.refused_closures()
+        self.opening("opening")
+        self.quietly([*[post("/desk/return", container=box) for box in self.shape.numbers], post("/desk/reshelve")])
+
+
+def measured(shape, programs, room, rounds):
+    """The office of this shape, after so many rounds."""
+    with tempfile.TemporaryDirectory(dir=room) as folder:
+        sides = []
+        for nth, program in enumerate(programs):
+            os.mkdir(f"{folder}/{nth}")
+            sides.append(Side([program], f"{folder}/{nth}", SETTINGS))
+        office = Office(shape, sides)
+        office.take_in(folder)
+        for _ in range(rounds):
+            office.round()
+        for side in sides:
+            side.session.__exit__(None)
+        return office
+
+
+class Goals:
+    """What is too much, and the names of the goals that were missed."""
+
+    def __init__(self):
+        self.missed = []
+
+    def told(self, what, value, most):
+        """A ratio, in bold if it is more than `most`."""
+        if most is None or value <= most:
+            return f"{value:.1f}"
+        self.missed.append(f"{what}: {value:.1f} times, goal {most}")
+        return f"**{value:.1f}**"
+
+
+def milliseconds(value):
+    """Three digits, as far as they mean something."""
+    return f"{value:,.0f}" if value >= 100 else f"{value:.1f}" if value >= 10 else f"{value:.2f}"
+
+
+def tell_row(goals, office):
+    """A row of the first table."""
+    cells = []
+    for kind in COLUMNS:
+        ours, other = office.took[kind]
+        ratio = goals.told(f"{COLUMNS[kind]}, {office.shape.name}", ours / other, MOST if kind in JUDGED else None)
+        cells.append(f"{milliseconds(ours)}; {milliseconds(other)}; {ratio}")
+    say(office.shape.name, *cells)
+
+
+def tell_out(goals, offices):
+    """What it costs that boxes are out."""
+    say("Ours, with them out; with none; times", *MOST_OUT)
+    say(*["---"] * (1 + len(MOST_OUT)))
+    for office in offices:
+        cells = []
+        for kind, most in MOST_OUT.items():
+            out, none = office.took[kind][0], office.took[f"{kind}, none"][0]
+            times = goals.told(f"{kind} with boxes out, {office.shape.name}", out / none, most)
+            cells.append(f"{milliseconds(out)}; {milliseconds(none)}; {times}")
+        say(office.shape.name, *cells)
+
+
+def tell_growth(goals, few, many):
+    """What it costs that a box holds four times as many items."""
+    say("Ours: 1,000 items; 4,000; times", *COLUMNS.values())
+    say(*["---"] * (1 + len(COLUMNS)))
+    cells = []
+    for kind in COLUMNS:
+        ours = [office.took[kind][0] for office in (few, many)]
+        times = goals.told(f"{COLUMNS[kind]}, from 1,000 to 4,000 items", ours[1] / ours[0], MOST_GROWTH)
+        cells.append(f"{milliseconds(ours[0])}; {milliseconds(ours[1])}; {times}")
+    say("one box", *cells)
+
+
+def main():
+    words = argparse.ArgumentParser(description=__doc__, formatter_class=argparse.RawDescriptionHelpFormatter)
+    words.add_argument("--program", default=measure.BUILT)
+    words.add_argument("--room")
+    words.add_argument("--cpu", type=int, default=max(os.sched_getaffinity(0)))
+    words.add_argument("--rounds", type=int, default=5)
+    words.add_argument("other", metavar="OTHER")
+    words.add_argument("shapes", nargs="*", metavar="SHAPE")
+    told = words.parse_args()
+    if not set(told.shapes) <= set(SHAPES):
+        words.error(f"SHAPE is one of {', '.join(SHAPES)}")
+    os.sched_setaffinity(0, {told.cpu})
+    programs = [os.path.realpath(it) for it in (told.program, told.other)]
+    print(f"{time.strftime('%Y-%m-%d %H:%M')}, load {os.getloadavg()[0]:.1f}\n")
+    say("Ours; the other; ratio", *COLUMNS.values())
+    say(*["---"] * (1 + len(COLUMNS)))
+    goals, offices = Goals(), {}
+    for name in told.shapes or SHAPES:
+        offices[name] = measured(SHAPES[name](), programs, told.room, told.rounds)
+        tell_row(goals, offices[name])
+    print()
+    tell_out(goals, offices.values())
+    if {"1000", "4000"} <= set(offices):
+        print()
+        tell_growth(goals, offices["1000"], offices["4000"])
+    print(f"\n{time.strftime('%H:%M')}, load {os.getloadavg()[0]:.1f}")
+    for it in goals.missed:
+        print(f"missed: {it}")
+    return bool(goals.missed)
+
+
+if __name__ == "__main__":
+    sys.exit(main())
