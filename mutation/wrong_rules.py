@@ -13,7 +13,12 @@ crates/*/out/rlib of --over, or of this checkout, as `rt check` and `rt ci` leav
 A line says for each rule that it is `refused`, with the rows or lemmas that fail; `LET THROUGH`; `unreadable`, if the wrong
 text does not parse; `not applied`, if the old text does not occur once in its file; or `no verdict`. With --log these lines
 are added to FILE, and rules that are refused in FILE are skipped. --jobs checks run at once, each of --cases rules. The last
-line has the counts; the script ends with 1 if a rule was not refused. With --dry it only looks for the old texts."""
+line has the counts; the script ends with 1 if a rule was not refused.
+
+With --dry it only looks for the old texts, also those of wrong_rules_of_http.py, wrong_rules_of_trees.py and
+wrong_rules_of_files.py, and for the row or the day that is named for each of these; the prover does not try them. With
+--covered it counts for each crate how many definitions some rule changes; with CRATE it lists those of the crate that none
+changes."""
 
 import argparse
 import os
@@ -21,10 +26,11 @@ import re
 import sys
 import tempfile
 import time
-from pathlib import Path
 from concurrent.futures import ThreadPoolExecutor
+from pathlib import Path
 
 import side_by_side
+import wrong_rules_of_files
 import wrong_rules_of_http
 import wrong_rules_of_trees
 from wrong_rules_told import WRONG
@@ -179,7 +185,7 @@ def days_of_acceptance():
 
 def untried():
     """The rules that the prover does not try."""
-    return wrong_rules_of_http.written(Path(TOP)) + wrong_rules_of_trees.written()
+    return wrong_rules_of_http.written(Path(TOP)) + wrong_rules_of_trees.written() + wrong_rules_of_files.written()
 
 
 def has_field(row):
@@ -198,7 +204,10 @@ def is_there(told, named_days):
     kind, _, name = told.partition(" ")
     if kind == "day":
         return name in named_days
-    return has_field(name) if kind == "row" else Path(TOP, "crates", name.replace("::", "/proofs/", 1).replace("::", "/")).is_dir()
+    if kind == "row":
+        return has_field(name)
+    crate, *path = name.split("::")
+    return Path(TOP, "crates", crate, "proofs", *path).is_dir()
 
 
 def wrong_untried(given):

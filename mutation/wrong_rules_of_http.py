@@ -346,7 +346,7 @@ def of_members(members):
         ("a body may be any bytes", "if is_utf8 body then read body else None", "read body", day("bytes_of_bodies")),
         ("a null is no number", "or_null as_value null = Some None\n", "", body_row("null_parent")),
         ("a null is missing", "or_null as_value null = Some None", "or_null as_value null = None", body_row("null_parent")),
-        ("published is a draft", '"published") then Some false', f'"published") then Some {TRUE}', day("status")),
+        ("published is a draft", '"published") then Some false', f'"published") then Some {TRUE}', day("whole_branch")),
         ("draft is published", '"draft") then Some true', f'"draft") then Some {FALSE}', body_row("no_branch")),
         ("any other status is a draft", "    else None\n\nabbrev pub as_draft", f"    else Some {TRUE}\n\nabbrev pub as_draft",
          day("members")),
