@@ -1,6 +1,6 @@
 """Plays all parts in a real browser: run.py PROGRAM FOLDER SHOTS [PART..]
 
-FOLDER is made anew and kept; SHOTS gets pictures of the pages. PART is one of pages, refusals, rules, restarts.
+FOLDER is made anew and kept; SHOTS gets pictures of the pages. PART is one of pages, refusals, rules, restarts, stall.
 The last line is `N passed, M failed`; the exit status is 0 where none failed."""
 
 import pathlib
@@ -13,6 +13,7 @@ import foldings  # noqa: E402
 import refusals  # noqa: E402
 import restarts  # noqa: E402
 import shapes  # noqa: E402
+import stall  # noqa: E402
 from asks import Asks  # noqa: E402
 from browser import Browser  # noqa: E402
 from checks import Checks  # noqa: E402
@@ -62,6 +63,8 @@ def two_offices(checks, program, folder, shots, parts):
                 Rules(checks, Asks(office), browser and browser.page(SIGNED_IN)).play()
             if "restarts" in parts:
                 restarts.play(checks, Asks(office))
+        if "stall" in parts:
+            checks.part("stall: commands beside aids whose readers lag", stall.play, checks, program, folder / "stall")
         if browser and "refusals" in parts:
             with Office(folder / "second", program, refusals.SETTINGS).init() as office:
                 page = browser.page(SIGNED_IN)
@@ -83,7 +86,7 @@ def main(program, folder, shots, *parts):
     folder, shots = pathlib.Path(fresh(folder)).resolve(), pathlib.Path(fresh(shots)).resolve()
     folder.mkdir(parents=True)
     shots.mkdir(parents=True)
-    checks.part("offices", two_offices, checks, program, folder, shots, parts or ("pages", "rules", "restarts", "refusals"))
+    checks.part("offices", two_offices, checks, program, folder, shots, parts or ("pages", "rules", "restarts", "stall", "refusals"))
     return checks.end()
 
 
