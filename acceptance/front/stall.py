@@ -4,7 +4,7 @@
     stall.py PROGRAM FOLDER [--aids N] [--way socket|tcp|nginx] [--readers N] [--desks N] [--kills N] [--lag MS]
 
 Without --aids it plays the steps that CI plays: aids of rising size, each of which its reader leaves alone until a command has
-been sent. One of these sizes fills the socket and leaves its end with the queue, which then needs a second connection.
+been sent. One of these sizes fills the socket and leaves its end with the queue, which then needs a second connection for the command.
 With --aids, readers who lag take so many aids, by this way, while desks register readers. Every reader who was told to be
 registered must be there once, and one who was told `not reached` must not be. It prints what the commands waited."""
 
@@ -24,7 +24,8 @@ from checks import Checks  # noqa: E402
 from office import Office, fresh  # noqa: E402
 
 HEADER = "legacyId,parentId,identifier,title,levelOfDescription,publicationStatus,scopeAndContent\n"
-SIZES = range(256_000, 96_000, -8_000)  # of the steps' aids. Linux lets a socket hold some 100 to 213 kB, and the queue 16 kB
+# Of the steps' aids. A socket holds some 100 to 213 kB, and the queue 16 kB, so one of the sizes is between the two.
+SIZES = range(256_000, 96_000, -8_000)
 STALL = 2  # seconds that a command may take after the aid before it has ended. A stall is four to six
 NO_LIMITS = [("limit_req zone=record_office_readers burst=200 nodelay;", ""), ("limit_conn record_office_visits 100;", ""),
              ("limit_conn record_office_aids 10;", "")]
@@ -102,24 +103,24 @@ def with_stats(folder):
 
 def play(checks, program, folder):
     """The steps of CI."""
-    office = Office(fresh(pathlib.Path(folder)), program, changes=[with_stats(folder)]).init()
+    office = Office(fresh(pathlib.Path(folder)), program).init()
     text, numbers = nested(SIZES)
     (office.folder / "archives.csv").write_text(text)
     office.take_in("archives", office.folder / "archives.csv")
     with office:
-        met = [step(checks, office, number, size) for number, size in zip(numbers, SIZES)]
-        checks.check("an aid ended with the queue while its socket was full", any(met))
+        before = [step(checks, office, number, size) for number, size in zip(numbers, SIZES)]
+        checks.check("the sizes are on both sides of what the socket holds", before[-1] and not before[0], before)
 
 
 def step(checks, office, number, size):
-    """A reader asks for an aid of this size and leaves it alone until a command was sent. Whether that needed another connection."""
-    before = connections(office)
+    """A reader asks for an aid of this size and leaves it alone until a command was sent. Whether the command was done before."""
     reader = Socket(office.folder / "search.sock")
     reader.request("GET", f"/public/aid/{number}")
     time.sleep(0.15)
     command = Command(office.ports["8092"], f"Reader of {size}")
     command.start()
     time.sleep(0.15)
+    was_done = command.answered is not None
     answer = reader.getresponse()
     checks.check(f"an aid of {size} bytes comes whole", answer.status == 200 and len(answer.read()) > size * 0.9, answer.status)
     reader.close()
@@ -128,7 +129,7 @@ def step(checks, office, number, size):
     late = (command.answered or time.monotonic() + 60) - ended
     checks.check(f"a command beside an aid of {size} bytes is done, and does not wait", command.status == 200 and late < STALL,
                  (command.status, late))
-    return connections(office) > before
+    return was_done
 
 
 class Reader(multiprocessing.Process):
@@ -204,7 +205,7 @@ class Crowd:
         self.office.init()
         file = self.office.folder / "archives.csv"
         for source in range(self.words.archives):
-            file.write_text(nested([self.words.size])[0])
+            file.write_text(nested([self.words.size - 20_000 * source])[0])
             self.office.take_in(f"s{source}", file)
         with self.office:
             self.tops = tops_of(self.office)
@@ -234,7 +235,8 @@ class Crowd:
         checks.same("who was told to be is registered", {name for name, status in answers.items() if status == 200} - set(there), set())
         checks.same("who was told `not reached` is not", {name for name, status in answers.items() if status == 503} & set(there), set())
         if not self.words.kills:
-            checks.check("no command waits four seconds more than the longest aid", waits[-1] < times[-1] + 4, (waits[-3:], times[-3:]))
+            usual = times[len(times) // 2]  # a stall makes aids wait too, so the longest of them says nothing
+            checks.check("no command waits much longer than an aid usually takes", waits[-1] < 3 * usual + STALL, (waits[-3:], usual))
 
     def registered(self):
         connection, names = http.client.HTTPConnection("127.0.0.1", self.office.ports["8092"], timeout=300), []
@@ -257,10 +259,10 @@ def main():
     words.add_argument("--desks", type=int, default=1)
     words.add_argument("--kills", type=int, default=0)
     words.add_argument("--between", type=float, default=2, help="seconds before each kill")
-    words.add_argument("--lag", type=float, default=4, help="milliseconds after each burst, on average")
-    words.add_argument("--burst", type=int, default=131072, help="bytes that a reader takes at once")
+    words.add_argument("--lag", type=float, default=15, help="milliseconds after each burst, on average")
+    words.add_argument("--burst", type=int, default=300_000, help="bytes that a reader takes at once")
     words.add_argument("--archives", type=int, default=8)
-    words.add_argument("--size", type=int, default=1_200_000, help="bytes of an aid, at most 10,000,000")
+    words.add_argument("--size", type=int, default=1_200_000, help="bytes of the largest aid, at most 10,000,000; each other has 20,000 less")
     words.add_argument("--ports", type=int, default=21000, help="the first of a hundred ports")
     words = words.parse_args()
     checks = Checks()
