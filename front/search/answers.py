@@ -94,7 +94,7 @@ class Finder:
         if self.query.top is not None and (way is None or [*(step["unit"] for step in way), number][0] != self.query.top):
             return None
         return {"unit": number, "way": way, "head": marked(page.head, folding.places_of(self.query.phrases, page.head)),
-                "lines": excerpt(self.query.phrases, lines)}
+                "lines": excerpt(self.query.phrases, page.head, lines)}
 
     def _page(self, number):
         if number not in self.pages:
@@ -114,11 +114,21 @@ class Finder:
         return way if at in self.tops else None
 
 
-def excerpt(phrases, lines):
-    """Some lines: those with the most phrases, or else the first. Their texts are in pieces, of which every second is marked."""
-    many = [sum(folding.occurs(phrase, folding.folded_words(value_of(line))) for phrase in phrases) for line in lines]
-    best = sorted((place for place, found in enumerate(many) if found), key=lambda place: -many[place])[:LINES] or [0] * bool(lines)
-    return [{"name": name_of(lines[place]), "text": shortened(value_of(lines[place]), phrases)} for place in best]
+def excerpt(phrases, head, lines):
+    """Some lines: those with the most phrases that the head and the lines before lack, or else the first line. Their texts are in
+    pieces, of which every second is marked."""
+    shown, rest = held(phrases, head), {place: held(phrases, value_of(line)) for place, line in enumerate(lines)}
+    best = []
+    while len(best) < LINES and any(rest.values()):
+        best.append(max(rest, key=lambda place: (len(rest[place] - shown), len(rest[place]), -place)))
+        shown |= rest.pop(best[-1])
+    return [{"name": name_of(lines[place]), "text": shortened(value_of(lines[place]), phrases)} for place in best or [0] * bool(lines)]
+
+
+def held(phrases, text):
+    """The phrases that a text has."""
+    words = folding.folded_words(text)
+    return {phrase for phrase in phrases if folding.occurs(phrase, words)}
 
 
 def shortened(text, phrases):

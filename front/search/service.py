@@ -1,4 +1,3 @@
-#!/usr/bin/env python3
 """The search in all archives: answers for nginx, and rounds in a process of their own.
 
     service.py --queue SOCKET --index FILE --listen SOCKET [--every SECONDS] [--rest TIMES]
