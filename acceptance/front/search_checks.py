@@ -3,22 +3,24 @@
 
     search_checks.py PROGRAM FOLDER [PART..]
 
-PART is one of pairs, bounds, hostile, kills, states."""
+PART is one of questions, pairs, bounds, hostile, kills, states."""
 
 import contextlib
 import json
 import os
 import pathlib
 import random
+import socket
 import sqlite3
 import sys
+import threading
 import time
 from urllib.parse import quote, urlencode
 
 sys.dont_write_bytecode = True
 from checks import Checks  # noqa: E402
 from office import TOP, fresh  # noqa: E402
-from searched import LOOKS, Searched  # noqa: E402
+from searched import LOOKS, Asking, Searched, Unreached  # noqa: E402
 
 HEADER = "legacyId,parentId,identifier,title,levelOfDescription,publicationStatus,eventDates,scopeAndContent\n"
 QUICK = ("--every", ".2", "--rest", "0")
@@ -83,6 +85,7 @@ def bounds(checks, program, folder):
     with office:
         office.round()
         found = office.find("letters")
+        checks.same("the way to a unit", (found.units[0]["way"], found.units[1]["way"]), ([], [{"unit": 1, "head": "GB 0999 1 [Fonds] dock letters 1"}]))
         checks.same("twenty are shown, by number", [unit["unit"] for unit in found.units], list(range(1, 21)))
         checks.same("and there are more", (found.more, found.after), (True, (0, 20)))
         checks.same("they go on", [unit["unit"] for unit in office.find("letters", after=found.after).units], list(range(21, 41)))
@@ -96,7 +99,60 @@ def bounds(checks, program, folder):
         checks.same("and the next round mends that", [unit["unit"] for unit in office.find("dock").units], [1, *range(400, 420)][:20])
         checks.same("the socket has no route of the desk", office.ask("/desk/issued"), None)
         checks.same("and no other", [office.ask(path) for path in ("/public/orders", "/public/units/01", "/public/units/1/")], [None] * 3)
-        checks.check("a round that is disturbed takes nothing away", office.round() is None and len(office.find("dock").units) == 20)
+        office.index.unlink()
+        paths = office.round(large=10)
+        checks.check("nobody waits for the aid of a large archive", "/public/aid/1" not in paths and "/public/aid/400" in paths, paths)
+        checks.same("nor in a round without changes", "/public/aid/1" in office.round(large=10), False)
+        checks.same("all is found in it", [unit["unit"] for unit in office.find("dock").units], [1, *range(400, 420)][:20])
+
+
+class FakeOffice(threading.Thread):
+    """Answers at a socket: 200 to whatever is asked, but what `statuses` says of some. heads: of each request."""
+
+    def __init__(self, path, statuses):
+        super().__init__(daemon=True)
+        self.statuses, self.heads, self.listener = statuses, [], socket.socket(socket.AF_UNIX)
+        self.listener.bind(str(path))
+        self.listener.listen()
+
+    def run(self):
+        while True:
+            with self.listener.accept()[0] as it:
+                while b"\r\n\r\n" in (head := it.recv(4096)):
+                    self.heads.append(head.decode())
+                    status = self.statuses.get(head.split()[1].decode(), 200)
+                    if status is None:
+                        break
+                    time.sleep(.05)
+                    it.sendall(f"HTTP/1.1 {status} x\r\nContent-Length: 5\r\n\r\nlines".encode())
+
+
+def questions(checks, folder):
+    """How the office is asked: rounds after everybody else, at rest for four fifths of the time; readers for so long only."""
+    folder.mkdir(parents=True, exist_ok=True)
+    (folder / "fake.sock").unlink(missing_ok=True)
+    fake = FakeOffice(folder / "fake.sock", {"/shut": 404, "/broken": 502, "/gone": None})
+    fake.start()
+    ask = Asking(folder / "fake.sock", 4)
+    began = time.monotonic()
+    checks.same("what is shown, and what is not", [ask("/one"), ask("/shut")], ["lines", None])
+    checks.check("a round rests", time.monotonic() - began > 4.5 * ask.busy > .4, (time.monotonic() - began, ask.busy))
+    checks.check("a round asks after everybody else", all("Record-Office-Round" in head for head in fake.heads), fake.heads)
+    for path in ("/broken", "/gone"):
+        checks.same(f"{path} is no answer", failure(ask, path), "Unreached")
+    reader = Asking(folder / "fake.sock")
+    reader.until = time.monotonic() + .3
+    checks.same("a reader's question", reader("/reader"), "lines")
+    checks.check("goes before rounds", "Record-Office-Round" not in fake.heads[-1], fake.heads[-1])
+    time.sleep(.3)
+    checks.same("a reader's time is over", failure(reader, "/late"), "Slow")
+
+
+def failure(ask, path):
+    try:
+        return ask(path)
+    except Unreached as lost:
+        return type(lost).__name__
 
 
 def hostile(checks, office):
@@ -136,7 +192,7 @@ def is_found(office, wanted, seconds=60):
     return False
 
 
-def kills(checks, office, turns=24):
+def kills(checks, office, turns=12):
     """kill -9 of service, rounds and program at random; the index damaged, cut, foreign or deleted, at rest and while it is used."""
     chance, wanted = random.Random(3), units(office)
     checks.check("something is found", wanted)
@@ -202,8 +258,10 @@ def with_service(checks, program, folder, parts):
                 checks.part(f"search: {part.__name__}", part, checks, office)
 
 
-def play(checks, program, folder, parts=("pairs", "bounds", "hostile", "kills", "states")):
+def play(checks, program, folder, parts=("questions", "pairs", "bounds", "hostile", "kills", "states")):
     folder = pathlib.Path(folder)
+    if "questions" in parts:
+        checks.part("search: questions", questions, checks, folder)
     for part in (pairs, bounds):
         if part.__name__ in parts:
             checks.part(f"search: {part.__name__}", part, checks, program, folder)

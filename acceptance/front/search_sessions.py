@@ -1,20 +1,22 @@
 #!/usr/bin/env python3
 """Random offices and random sessions of commands, with the index at every degree of staleness:
 
-    search_sessions.py PROGRAM FOLDER [--steps N] [--seed N] [--service FOLDER]
+    search_sessions.py PROGRAM FOLDER [--steps N] [--seed N]
 
 After each step a random question is asked, and what is found is compared with all public pages, which are read by other code
 than the service's: nothing is found that is not public now, and nothing is missing that a round has seen. It prints how often
 what happened; an assertion that fails says which promise was broken."""
 
 import argparse
-import pathlib
 import random
 import re
 import sys
 import unicodedata
 
 sys.dont_write_bytecode = True
+import searched  # noqa: E402
+from checks import Checks  # noqa: E402
+from office import fresh  # noqa: E402
 
 WORDS = ["dock", "Minutes", "minute", "letters", "caf\u00e9", "cafe\u0301", "\u05de\u05db\u05ea\u05d1", "Dock-gates", "x2", "plans", "\u0141\u00f3d\u017a", "O\u2019Brien"]
 ODD = ["closed until 2030-01-01", "Unit 1: GB 0999 A [Fonds] dock", "dock (from GB 0999 A)", "plans (from GB 0999)", "minute\nGB 0999 A [File] letters",
@@ -52,12 +54,12 @@ def phrases_of(typed):
 
 
 class Session:
-    """office: a Searched office that is running; service: the modules of the service."""
+    """office: a Searched office that is running."""
 
-    def __init__(self, office, seed, service):
-        self.office, self.random, self.service = office, random.Random(seed), service
-        self.db, self.asking = service.index.made(str(office.index), True), service.Asking(office.queue)
-        self.reader = service.Asking(office.queue)
+    def __init__(self, office, seed):
+        self.office, self.random = office, random.Random(seed)
+        self.db, self.asking = searched.index.made(str(office.index), True), searched.Asking(office.queue)
+        self.reader = searched.Asking(office.queue)
         self.day, self.rows, self.last, self.fetched, self.snap, self.doubts, self.told = 0, {}, ("s0", b""), {}, {}, set(), {}
         self.by_parts = set()
 
@@ -135,7 +137,7 @@ class Session:
         then, so that archives are read by parts; what is below a unit that was shut while its page was read for that comes back
         with the next round."""
         for number in self.doubts:
-            self.service.index.doubt(self.db, number)
+            searched.index.doubt(self.db, number)
         self.doubts, left, was, last, shut, blinked = set(), self.random.randint(1, 12), self.now, "", [], set()
 
         def ask(path):
@@ -148,7 +150,7 @@ class Session:
                 blinked.add(shut[0])
                 self.office.tell("/desk/closure", {"unit": shut[0], "until": "2999-12-31"})
             if kind == "cut" and left == 0:
-                raise self.service.Unreached
+                raise searched.Unreached
             if kind == "disturbed" and (left == 0 or between and left > 0):
                 left = 0
                 self.command()
@@ -157,13 +159,13 @@ class Session:
             if path.startswith("/public/units/") and text:
                 self.fetched[int(path[14:])] = tuple(line for line in text.split("\n") if line.startswith("  Unit "))
             return text
-        sweep = self.service.FOREVER if kind == "all" else self.random.choice([1, 3])
-        made, by_parts = self.service.Round(self.db, ask, sweep, self.random.choice([1, 3, 2000])), set()
+        sweep = searched.FOREVER if kind == "all" else self.random.choice([1, 3])
+        made, by_parts = searched.Round(self.db, ask, sweep, self.random.choice([1, 3, 2000])), set()
         parts = made.parts
         made.parts = lambda number, *rest: by_parts.add(number) or parts(number, *rest)
         try:
             made.run()
-        except self.service.Unreached:
+        except searched.Unreached:
             pass
         self.by_parts |= by_parts
         for number in shut:
@@ -198,8 +200,8 @@ class Session:
         return 0 if all(holds(head, *phrase) for phrase in phrases) else 1
 
     def must_match(self, one, number, asked):
-        """Whether a unit must be found. Of a large one below a top, a value that ends as if it came from above is not searched."""
-        if number in self.by_parts and one.above:
+        """Whether a unit must be found. Of one that was read by parts, a value that ends as if it came from above is not searched."""
+        if number in self.by_parts:
             one = Unit(one.head, tuple(value for value in one.values if not re.search(r" \(from .*\)$", value)), one.above, one.years, one.units)
         return self.matches(one, number, *asked) is not None
 
@@ -208,8 +210,8 @@ class Session:
         typed, top, first, last = asked
         found, after = [], (0, 0)
         for _ in range(500):
-            query = self.service.Query(self.service.read_typed(typed), top, first, last, after)
-            answer = self.service.Finder(self.db, self.reader, query, self.random.randint(1, 6)).find()
+            query = searched.Query(searched.read_typed(typed), top, first, last, after)
+            answer = searched.Finder(self.db, self.reader, query, self.random.randint(1, 6)).find()
             self.doubts |= answer.doubts
             numbers = [unit["unit"] for unit in found]
             assert answer.state == "done" and not set(numbers) & {unit["unit"] for unit in answer.units}, (asked, answer.state, numbers)
@@ -273,9 +275,8 @@ class Session:
 
 
 def play(checks, program, folder, steps, seed):
-    import searched
-    with searched.Searched(folder, program).init() as office:
-        told = Session(office, seed, searched).play(steps)
+    with searched.Searched(fresh(folder), program).init() as office:
+        told = Session(office, seed).play(steps)
     print(f"seed {seed}: {told}", flush=True)
     checks.check(f"{steps} random steps", told["hits"])
 
@@ -286,14 +287,9 @@ def main():
     words.add_argument("folder")
     words.add_argument("--steps", type=int, default=1000)
     words.add_argument("--seed", type=int, default=1)
-    words.add_argument("--service", help="a folder with another copy of the service's code")
     words = words.parse_args()
-    import office
-    from checks import Checks
-    if words.service:
-        office.FRONT = pathlib.Path(words.service).resolve().parent
     checks = Checks()
-    checks.part("sessions", play, checks, office.fresh(words.folder) and words.program, words.folder, words.steps, words.seed)
+    checks.part("sessions", play, checks, words.program, words.folder, words.steps, words.seed)
     return checks.end()
 
 

@@ -2,6 +2,7 @@
 
 import http.client
 import json
+import os
 import pathlib
 import subprocess
 import sys
@@ -9,9 +10,10 @@ import time
 
 from office import FRONT, Office
 
-SEARCH = FRONT / "search"
+SEARCH = pathlib.Path(os.environ.get("SEARCH_SERVICE") or FRONT / "search")  # mutation/search.py names copies of it
 sys.path.insert(0, str(SEARCH))
 
+import folding  # noqa: E402, F401
 import index  # noqa: E402
 from answers import LOOKS, Finder, Query  # noqa: E402, F401
 from asking import Asking, Unreached  # noqa: E402, F401
@@ -23,18 +25,15 @@ PYTHON = "/usr/bin/python3"  # Debian's own, which has waitress
 
 
 class Searched(Office):
-    """service: where the service's code is, if it is not the project's."""
-
-    def __init__(self, folder, program, service=SEARCH, **values):
+    def __init__(self, folder, program, **values):
         super().__init__(folder, program, changes=[("searches:2m rate=2r/s", "searches:2m rate=30r/s")], **values)
-        self.code, self.service, self.desk = pathlib.Path(service), None, None
-        self.queue, self.index, self.public_ask = self.folder / "search.sock", self.folder / "index.db", None
-        self.listen = self.folder / "answers.sock"
+        self.service, self.desk, self.public_ask = None, None, None
+        self.queue, self.index, self.listen = (self.folder / name for name in ("search.sock", "index.db", "answers.sock"))
 
     def serve_search(self, *more):
         """Begins the service; more: further words of its command line."""
         with open(self.folder / "search.told", "a") as log:
-            words = [PYTHON, "-B", self.code / "service.py", "--queue", self.queue, "--index", self.index, "--listen", self.listen, *more]
+            words = [PYTHON, "-B", SEARCH / "service.py", "--queue", self.queue, "--index", self.index, "--listen", self.listen, *more]
             self.service = subprocess.Popen([str(word) for word in words], stdout=log, stderr=log)
 
     def kill_search(self):
@@ -69,12 +68,13 @@ class Searched(Office):
                     raise
 
     def round(self, sweep=FOREVER, **values):
-        """One round, without the service."""
-        db = index.made(str(self.index), False)
+        """One round, without the service. What was asked for."""
+        ask, paths, db = Asking(self.queue), [], index.made(str(self.index), False)
         try:
-            Round(db, Asking(self.queue), sweep, **values).run()
+            Round(db, lambda path: paths.append(path) or ask(path), sweep, **values).run()
         finally:
             db.close()
+        return paths
 
     def find(self, typed, **values):
         """One answer, without the service and nginx."""

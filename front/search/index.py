@@ -22,6 +22,7 @@ CREATE INDEX unit_parent ON unit(parent, pos);
 CREATE VIRTUAL TABLE words USING fts5(head, body, tokenize = 'ascii', columnsize = 0);
 """
 ABOVE = "WITH RECURSIVE above(n) AS (SELECT ? UNION SELECT parent FROM unit JOIN above USING (n) WHERE parent IS NOT NULL) "
+LOST = "WITH RECURSIVE lost(n) AS (SELECT n FROM unit WHERE gone UNION SELECT unit.n FROM unit JOIN lost ON unit.parent = lost.n) "
 BELOW = "WITH RECURSIVE below(n) AS (SELECT ? UNION SELECT unit.n FROM unit JOIN below ON unit.parent = below.n) "
 
 
@@ -122,6 +123,7 @@ def forget_gone(db, tops):
         db.execute("DELETE FROM now")
         db.executemany("INSERT OR IGNORE INTO now VALUES (?)", ((top,) for top in tops))
         db.execute("UPDATE unit SET gone = 1 WHERE top NOT IN now")
+        db.execute(LOST + "UPDATE unit SET gone = 1 WHERE n IN lost")  # a part that was not sure may have left some below
         db.execute("DELETE FROM words WHERE rowid IN (SELECT n FROM unit WHERE gone)")
         db.execute("DELETE FROM unit WHERE gone")
         db.execute("DELETE FROM part WHERE n NOT IN (SELECT n FROM unit)")

@@ -4,7 +4,8 @@ of a changed aid the pages of those units are read whose branch changed and that
 command came in between; that part is left as it was, and read again in the next round.
 
 Nobody should wait for the aid of a large archive. So an archive is read by parts, unless it is known to be small: its page, and
-the aid of each unit right below; and so is each of these that is known to be large."""
+the aid of each unit right below; and so is each of these that is known to be large. Of what is read so, a value that ends as if
+it were found above is not searched, since only an aid could say that it is the unit's own."""
 
 import argparse
 import os
@@ -66,7 +67,7 @@ class Round:
         if page is None:
             return 0
         node = Node(page.head)
-        node.lines = page.own_lines() if parent else page.lines
+        node.lines = page.own_lines()
         node.close()
         now = {n for n, _ in page.units}
         with index.whole(self.db):
