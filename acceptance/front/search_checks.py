@@ -82,8 +82,13 @@ def bounds(checks, program, folder):
     rows = "".join(f"{n},{1 if n > 1 else ''},{n},dock letters {n},{'File' if n > 1 else 'Fonds'},Published,{1700 + n % 300},\n" for n in range(1, 420))
     (office.folder / "units.csv").write_text(HEADER + rows)
     office.take_in("a", office.folder / "units.csv")
+    (office.folder / "long.csv").write_text(HEADER + f"1,,L,Long,Fonds,Published,,{'word ' * 100}lighthouse keepers {'word ' * 100}\n")
+    office.take_in("b", office.folder / "long.csv")
     with office:
         office.round()
+        before, mark, after = office.find("lighthouse").units[0]["lines"][0]["text"]
+        checks.check("an excerpt is short, and has what was found", (before[:6], mark, after[:9], after[-2:]) ==
+                     ("… word", "lighthouse", " keepers ", " …") and len(before + after) < 250, (before, mark, after))
         found = office.find("letters")
         checks.same("the way to a unit", (found.units[0]["way"], found.units[1]["way"]), ([], [{"unit": 1, "head": "GB 0999 1 [Fonds] dock letters 1"}]))
         checks.same("twenty are shown, by number", [unit["unit"] for unit in found.units], list(range(1, 21)))

@@ -42,8 +42,7 @@ class Round:
         """A branch that was removed and imported again has other numbers and may have the same bytes. So each round reads a few
         pages more, until it has been around all units that have some below."""
         swept = self.db.execute("SELECT swept FROM round").fetchone()[0]
-        some = [n for n, in self.db.execute("SELECT DISTINCT parent FROM unit WHERE parent IS NOT NULL ORDER BY parent <= ?, parent LIMIT ?",
-                                            (swept, self.sweep))]
+        some = index.next_with_units(self.db, swept, self.sweep)
         for number in some:
             page = self.page(number)
             if page is None or [n for n, _ in page.units] != index.below(self.db, number):
@@ -94,8 +93,9 @@ class Round:
         return node.size
 
     def is_known(self, number, top, parent, seen):
-        return self.db.execute("SELECT 1 FROM part JOIN unit USING (n) WHERE n = ? AND digest = ? AND top = ? AND parent IS ? AND NOT gone",
-                               (number, seen, top, parent)).fetchone()
+        """Whether the index has this aid, and its unit at this place."""
+        return self.db.execute("SELECT 1 FROM part JOIN unit USING (n) WHERE n = ? AND digest = ? AND top = ? AND parent IS ? "
+                               "AND NOT gone", (number, seen, top, parent)).fetchone()
 
     def page(self, number):
         text = self.ask(f"/public/units/{number}")
@@ -118,9 +118,14 @@ class Aid:
     def __init__(self, round_, number, top):
         self.round, self.db, self.number, self.top = round_, round_.db, number, top
         self.old, self.below, self.changed, self.kept, self.places = {}, {}, [], set(), []
+        self.remember(number)
+
+    def remember(self, number):
+        """What the index has of a unit and of all below it."""
         for n, *rest in index.branch(self.db, number):
-            self.old[n] = rest
-            self.below.setdefault(rest[1], []).append(n)
+            if n not in self.old:
+                self.old[n] = rest
+                self.below.setdefault(rest[1], []).append(n)
 
     def take(self, node, parent, pos):
         """Whether all units of the aid got their numbers."""
@@ -132,11 +137,13 @@ class Aid:
             self.db.executemany("UPDATE unit SET pos = ? WHERE n = ?", self.places)
             self.db.executemany("UPDATE unit SET gone = 0 WHERE n = ?", [(n,) for n in self.kept if self.old[n][4]])
             if sure:
-                self.db.executemany("UPDATE unit SET gone = 1 WHERE n = ?", [(n,) for n in self.old if n not in found])
+                self.db.executemany("UPDATE unit SET gone = 1 WHERE n = ?", [(n,) for n in self.old.keys() - found])
         return sure
 
     def assign(self, number, parent, pos, node):
-        """Whether all of the branch got its numbers."""
+        """Whether all of the branch got its numbers. A unit that was elsewhere may leave some behind that are below it no more."""
+        if number not in self.old:
+            self.remember(number)
         if self.is_kept(number, parent, pos, node):
             return True
         sure = not node.units or self.assign_below(number, node)
@@ -147,7 +154,8 @@ class Aid:
         page = self.round.page(number)
         if page is None or [head for _, head in page.units] != [unit.head for unit in node.units]:
             return False
-        return all([self.assign(n, number, pos, unit) for pos, ((n, _), unit) in enumerate(zip(page.units, node.units))])
+        pairs = enumerate(zip(page.units, node.units))
+        return all([self.assign(n, number, pos, unit) for pos, ((n, _), unit) in pairs])
 
     def is_kept(self, number, parent, pos, node):
         """Whether a branch is as the index has it. Then all its numbers stay."""
