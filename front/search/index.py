@@ -104,9 +104,9 @@ def doubt(db, number):
         db.execute(ABOVE + "UPDATE unit SET branch = NULL WHERE n IN above", (number,))
 
 
-def lose(db, number):
-    """A unit is no longer where it was, with all below it."""
-    db.execute(BELOW + "UPDATE unit SET gone = 1 WHERE n IN below", (number,))
+def lose(db, numbers):
+    """Units are no longer where they were. What is below them goes with them at the end of the round, unless it has moved."""
+    db.executemany("UPDATE unit SET gone = 1 WHERE n = ?", [(number,) for number in numbers])
 
 
 def branch(db, number):
@@ -133,7 +133,7 @@ def forget_gone(db, tops):
         db.execute("DELETE FROM now")
         db.executemany("INSERT OR IGNORE INTO now VALUES (?)", ((top,) for top in tops))
         db.execute("UPDATE unit SET gone = 1 WHERE top NOT IN now")
-        db.execute(LOST + "UPDATE unit SET gone = 1 WHERE n IN lost")  # a part that was not sure may have left some below
+        db.execute(LOST + "UPDATE unit SET gone = 1 WHERE n IN lost")
         db.execute("DELETE FROM words WHERE rowid IN (SELECT n FROM unit WHERE gone)")
         db.execute("DELETE FROM unit WHERE gone")
         db.execute("DELETE FROM part WHERE n NOT IN (SELECT n FROM unit)")

@@ -71,9 +71,7 @@ class Round:
         now = {n for n, _ in page.units}
         with index.whole(self.db):
             index.put(self.db, top, number, parent, pos, node, None)
-            for lost in index.below(self.db, number):
-                if lost not in now:
-                    index.lose(self.db, lost)
+            index.lose(self.db, [n for n in index.below(self.db, number) if n not in now])
         size = 1 + sum(self.part(n, top, number, place) for place, (n, _) in enumerate(page.units))
         self.note(number, None, size)
         return size
@@ -137,7 +135,7 @@ class Aid:
             self.db.executemany("UPDATE unit SET pos = ? WHERE n = ?", self.places)
             self.db.executemany("UPDATE unit SET gone = 0 WHERE n = ?", [(n,) for n in self.kept if self.old[n][4]])
             if sure:
-                self.db.executemany("UPDATE unit SET gone = 1 WHERE n = ?", [(n,) for n in self.old.keys() - found])
+                index.lose(self.db, self.old.keys() - found)
         return sure
 
     def assign(self, number, parent, pos, node):
