@@ -152,12 +152,13 @@ def with_sql(*statements):
     return harmed
 
 
+DAMAGED_WORDS = with_sql("UPDATE words_data SET block = zeroblob(9) WHERE id > 10")  # a round without changes does not see it
 HARMS = {
     "deleted": pathlib.Path.unlink,
     "no database": lambda path: path.write_bytes(b"dock letters " * 999),
     "empty": lambda path: path.write_bytes(b""),
     "of another version": with_sql("PRAGMA user_version = 77", "DELETE FROM unit", "DROP TABLE part"),
-    "without a word's row": with_sql("DELETE FROM words_content WHERE id = 2"),
+    "damaged in its words": DAMAGED_WORDS,
     "another program's": lambda path: path.unlink() or with_sql("CREATE TABLE unit(n)")(path),
 }
 
@@ -262,6 +263,8 @@ def kills(checks, office, turns=12):
         checks.check(f"never anything else after {what}, turn {turn}", now is None or now <= wanted, now)
         if turn % 3 == 2:
             checks.check(f"found again after {what}, turn {turn}", is_found(office, wanted), (units(office), wanted))
+    DAMAGED_WORDS(office.index)
+    checks.check("found again after words were damaged", is_found(office, wanted), units(office))
     checks.same("the index is private", oct(os.stat(office.index).st_mode & 0o777), "0o600")
 
 
