@@ -20,6 +20,7 @@ from texts import Node, Page, digest, read_aid, read_fonds
 
 LARGE = 2000  # units; an aid with more is read by parts
 SWEEP = 20  # pages that each round reads whatever has changed
+CHECKED = 60  # so many rounds after a check of the index comes the next: damage need not show in answers or rounds
 
 
 class Round:
@@ -178,7 +179,7 @@ class Keeper:
 
     def __init__(self, path, ask, told, every):
         self.path, self.ask, self.told, self.every = path, ask, told, every
-        self.damaged, self.doubts, self.parent = True, set(), os.getppid()
+        self.damaged, self.unchecked, self.doubts, self.parent = True, 0, set(), os.getppid()
 
     def keep(self):
         """After a failure whose cause may be the index, the index is checked, and begun anew if it is damaged."""
@@ -218,7 +219,8 @@ class Keeper:
             self.damaged = True
 
     def round(self):
-        check, self.damaged = self.damaged, False
+        check = self.damaged or self.unchecked == CHECKED
+        self.damaged, self.unchecked = False, 0 if check else self.unchecked + 1
         db = index.made(self.path, check)
         try:
             doubts, self.doubts = self.doubts, set()
