@@ -264,9 +264,18 @@ def kills(checks, office, turns=12):
         checks.check(f"never anything else after {what}, turn {turn}", now is None or now <= wanted, now)
         if turn % 3 == 2:
             checks.check(f"found again after {what}, turn {turn}", is_found(office, wanted), (units(office), wanted))
+    await_rounds(office, 2)  # the first has checked the index
     DAMAGED_WORDS(office.index)
     checks.check("found again after words were damaged", is_found(office, wanted, 180), units(office))
     checks.same("the index is private", oct(os.stat(office.index).st_mode & 0o777), "0o600")
+
+
+def await_rounds(office, many, seconds=60):
+    """Waits until so many more rounds have ended."""
+    with contextlib.closing(index.opened(office.index)) as db:
+        wanted, end = db.execute("SELECT finished FROM round").fetchone()[0] + many, time.time() + seconds
+        while db.execute("SELECT finished FROM round").fetchone()[0] < wanted and time.time() < end:
+            time.sleep(.1)
 
 
 def harm(office, what, chance):
