@@ -1,6 +1,6 @@
 """Plays all parts in a real browser: run.py PROGRAM FOLDER SHOTS [PART..]
 
-FOLDER is made anew and kept; SHOTS gets pictures of the pages. PART is one of pages, refusals, rules, restarts.
+FOLDER is made anew and kept; SHOTS gets pictures of the pages. PART is one of pages, refusals, rules, restarts, stall, search.
 The last line is `N passed, M failed`; the exit status is 0 where none failed."""
 
 import pathlib
@@ -9,9 +9,14 @@ import signal
 import sys
 
 sys.dont_write_bytecode = True
+import foldings  # noqa: E402
 import refusals  # noqa: E402
 import restarts  # noqa: E402
+import search_checks  # noqa: E402
+import search_pages  # noqa: E402
+import search_sessions  # noqa: E402
 import shapes  # noqa: E402
+import stall  # noqa: E402
 from asks import Asks  # noqa: E402
 from browser import Browser  # noqa: E402
 from checks import Checks  # noqa: E402
@@ -36,6 +41,8 @@ def pages(checks, office, browser, folder, shot):
     hall, desk = browser.page(), browser.page(SIGNED_IN)
     visit = Visit(checks, asks, hall, shot)
     day = Day(checks, asks, desk, visit, shot, folder)
+    hall.open(office.public, "/help")
+    checks.part("folding of words", foldings.play, checks, hall)
     checks.part("day: imports", day.imports)
     visit.play()
     day.play()
@@ -59,6 +66,10 @@ def two_offices(checks, program, folder, shots, parts):
                 Rules(checks, Asks(office), browser and browser.page(SIGNED_IN)).play()
             if "restarts" in parts:
                 restarts.play(checks, Asks(office))
+        if "stall" in parts:
+            checks.part("stall: commands beside aids whose readers lag", stall.play, checks, program, folder / "stall")
+        if "search" in parts:
+            search(checks, program, folder / "search", browser, pictures(shots))
         if browser and "refusals" in parts:
             with Office(folder / "second", program, refusals.SETTINGS).init() as office:
                 page = browser.page(SIGNED_IN)
@@ -67,6 +78,13 @@ def two_offices(checks, program, folder, shots, parts):
     finally:
         if browser:
             browser.end()
+
+
+def search(checks, program, folder, browser, shot):
+    search_checks.play(checks, program, folder)
+    checks.part("search: random sessions", search_sessions.play, checks, program, folder / "sessions", 60, 7)
+    if browser:
+        checks.part("search: pages", search_pages.play, checks, program, folder / "pages", browser, shot)
 
 
 def office_without_pages(office, folder):
@@ -80,7 +98,7 @@ def main(program, folder, shots, *parts):
     folder, shots = pathlib.Path(fresh(folder)).resolve(), pathlib.Path(fresh(shots)).resolve()
     folder.mkdir(parents=True)
     shots.mkdir(parents=True)
-    checks.part("offices", two_offices, checks, program, folder, shots, parts or ("pages", "rules", "restarts", "refusals"))
+    checks.part("offices", two_offices, checks, program, folder, shots, parts or ("pages", "rules", "restarts", "stall", "search", "refusals"))
     return checks.end()
 
 
