@@ -142,6 +142,15 @@ class Page:
     def press(self, button, card=None):
         self.js(f"({PRESS})({json.dumps(button)}, {json.dumps(card)})")
 
+    def insist(self, button, words, seconds=30):
+        """Presses a button again and again until the page says this: forms pass over what looks like a second click."""
+        end = time.time() + seconds
+        while words not in self.text():
+            if time.time() > end:
+                raise AssertionError(f"{button} does not lead to: {words}")
+            self.press(button)
+            time.sleep(0.1)
+
     def press_starting(self, words):
         self.js(f"[...document.querySelectorAll('summary, button, a')].find((one) => one.textContent.startsWith({json.dumps(words)})).click()")
 

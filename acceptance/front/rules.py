@@ -35,7 +35,7 @@ class Rules:
         self.public, self.staff = (asks.office.ports[name] for name in ("8080", "8081"))
 
     def play(self):
-        for part in (self.odd_paths, self.readers_limits, self.password, self.other_sites, self.other_names, self.heads, *([self.foreign_page] if self.page else [])):
+        for part in (self.odd_paths, self.readers_limits, self.password, self.other_sites, self.other_names, self.heads, self.limit_of_orders, self.orders_from_elsewhere, *([self.foreign_page] if self.page else [])):
             self.checks.part(f"rules: {part.__name__}", part)
 
     def state(self):
@@ -98,6 +98,27 @@ class Rules:
             strict = all(part in policy for part in ("default-src 'none'", "script-src 'self'", "require-trusted-types-for 'script'"))
             strict = strict and "unsafe" not in policy and "x-content-type-options: nosniff" in head
             self.checks.check(f"a strict policy at {path}", strict, head)
+
+    def order(self):
+        return self.asks.post("/public/orders", {"ticket": 999, "container": 1}, desk=False)
+
+    def limit_of_orders(self):
+        """A dozen orders at once from one address, then a few a minute; pages go on, and so does the desk."""
+        got = [self.order()[0] for _ in range(20)]
+        self.checks.check("orders end in 429", got[0] in (409, 429) and got[-1] == 429 and 409 not in got[got.index(429):], got)
+        self.checks.check("at most a dozen orders are taken at once", got.count(409) <= 12, got)
+        self.checks.same("pages are not held up by orders", self.asks.get("/public/fonds")[0], 200)
+        self.checks.same("the desk orders on", self.asks.post("/public/orders", {"ticket": 999, "container": 1})[0], 409)
+
+    def orders_from_elsewhere(self):
+        """Orders from listed addresses alone."""
+        office = self.asks.office
+        with office.changed("orders-from.conf", "default 1;", "default 0; 192.0.2.0/24 1;"):
+            self.checks.same("no order from elsewhere", self.order(), (403, '{"error":"not from here"}'))
+            self.checks.same("pages from elsewhere", self.asks.get("/public/fonds")[0], 200)
+            self.checks.same("the desk's orders are not asked where from", self.asks.post("/public/orders", {"ticket": 999, "container": 1})[0], 409)
+        with office.changed("orders-from.conf", "default 1;", "default 0; 127.0.0.1 1;"):
+            self.checks.check("orders from a listed address", self.order()[0] in (409, 429))
 
     def foreign_page(self):
         """A page of another site, open in the browser of a member of staff who is signed in."""

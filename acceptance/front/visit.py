@@ -1,7 +1,5 @@
 """A reader's visit: every text of the program stands on the pages to the letter, and nothing of it is markup."""
 
-import time
-
 from catalogue import ODD
 
 # Each gives back what the page shows as the program would have written it.
@@ -10,7 +8,7 @@ UNIT = """(() => {
   const text = (node) => node.textContent;
   const element = (entry) => `  ${entry.dataset.element} ${entry.querySelector('dt').firstChild.data}: ${text(entry.querySelector('dd'))}\\n`;
   const own = [...document.querySelectorAll('main [data-element]')].filter((one) => !['3.1.1', '3.1.2', '3.1.4'].includes(one.dataset.element));
-  const boxes = [...document.querySelectorAll('main ul.containers li > p:first-child')].map((line) => `  ${text(line.firstChild)}: ${text(line).slice(text(line.firstChild).length + 1)}\\n`);
+  const boxes = [...document.querySelectorAll('main ul.containers li')].map((line) => `  ${text(line.firstChild)}: ${text(line).slice(text(line.firstChild).length + 1)}\\n`);
   const units = [...document.querySelectorAll('main ul.units a')].map((a) => `  Unit ${a.hash.slice(7)}: ${text(a)}\\n`);
   return text(document.querySelector('main h1')) + '\\n' + own.map(element).join('') + boxes.join('') + units.join('');
 })()"""
@@ -188,14 +186,12 @@ class Visit:
             page.press("Order this container")
             page.see(words)
             self.checks.check(f"an order by ticket {ticket.strip()}", True)
-            self.shot(page, "reader-ordered") if "number 2" in words else None
-            time.sleep(0.65)
+        self.shot(page, "reader-ordered")
+        self.checks.same("an order taken has the focus", page.js("document.activeElement.className"), "outcome")
+        self.checks.check("it says what happens next", "at their next run to the strongrooms" in page.text(".outcome"))
         page.answer_with("*/public/orders", 504, b'{"error":"not answered"}')
         page.fill("Number of your reader’s ticket", "2")
-        page.press("Order this container")
-        page.see("We cannot tell whether your order was taken. Please send it once more")
+        page.insist("Order this container", "We cannot tell whether your order was taken. Please send it once more")
         page.answer_with(None, 0, b"")
-        time.sleep(0.65)
-        page.press("Order this container")
-        page.see("You have ordered this container already.")
+        page.insist("Order this container", "You have ordered this container already.")
         self.checks.check("an order of which nothing is known is given once more and not taken twice", True)

@@ -69,12 +69,12 @@ function marked(text, mark) {
 
 function containers(list) {
   if (list.length === 0) return null;
-  return el('section', {},
+  return el('section', { class: 'kept' },
     el('h2', {}, 'Where it is kept'),
-    el('p', { class: 'quiet no-print' }, 'Order a container to see what is in it in the reading room. You need a reader’s ticket. ',
-      link('#/help', 'How to order')),
     el('ul', { class: 'containers' }, list.map(({ number, text, mark }) => el('li', {},
-      el('p', {}, el('span', { class: 'number' }, `Container ${number}`), ' ', marked(text, mark)), orderBox(number, text)))));
+      el('span', { class: 'number' }, `Container ${number}`), ' ', marked(text, mark)))),
+    orderBox(list),
+    el('p', { class: 'quiet no-print' }, 'You need a reader’s ticket. ', link('#/help', 'How to order')));
 }
 
 function below(units) {

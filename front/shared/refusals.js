@@ -104,6 +104,8 @@ const READER_OTHERS = {
   ...OTHERS,
   unread: ['The office could not read the order.', 'Please check the number of your ticket.'],
   barred: ['The order was not let through.', 'Please load this page again.'],
+  elsewhere: ['Orders are not taken from here.', 'Please order in the reading room.'],
+  often: ['Too many requests came from here in a short time. This one was not passed on.', 'Please wait a minute and try again.'],
   uncertain: ['We cannot tell whether your order was taken.',
     'Please send it once more: if it was taken, you will be told that you have ordered this container already.'],
 };
