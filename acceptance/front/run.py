@@ -9,6 +9,7 @@ import signal
 import sys
 
 sys.dont_write_bytecode = True
+import foldings  # noqa: E402
 import refusals  # noqa: E402
 import restarts  # noqa: E402
 import shapes  # noqa: E402
@@ -36,6 +37,8 @@ def pages(checks, office, browser, folder, shot):
     hall, desk = browser.page(), browser.page(SIGNED_IN)
     visit = Visit(checks, asks, hall, shot)
     day = Day(checks, asks, desk, visit, shot, folder)
+    hall.open(office.public, "/help")
+    checks.part("folding of words", foldings.play, checks, hall)
     checks.part("day: imports", day.imports)
     visit.play()
     day.play()
