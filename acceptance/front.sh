@@ -30,7 +30,7 @@ if [ ${#missing[@]} -gt 0 ]; then
     echo "0 passed, ${#missing[@]} failed"
     exit 1
 fi
-parts=(pages rules restarts refusals)
+parts=(pages rules restarts refusals journeys)
 if ! has chromium chromium fonts-liberation; then
     echo "left out the pages, their refusals and the page of another site: chromium is not here and cannot be installed"
     if [ -n "${CI:-}" ]; then

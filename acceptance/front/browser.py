@@ -109,14 +109,32 @@ class Page:
                 if not any(word in str(lost) for word in ("context", "navigated", "Cannot read properties of null")):
                     raise
             time.sleep(0.03)
-        raise AssertionError(f"not within {seconds} s: {condition}\n--- the page shows:\n{self.text()}")
+        raise AssertionError(f"not within {seconds} s: {condition}\n--- the page shows:\n{self.text()[:2000]}")
 
     def open(self, site, hash_, condition="document.querySelector('main h1')"):
         """Loads a page of the site again: the text after `?` differs each time, and nothing reads it."""
         self.opened += 1
+        self.visit(f"{site}/?{self.opened}#{hash_}", condition)
+
+    def visit(self, address, condition="document.querySelector('main h1')"):
+        """Loads the page of this address, even if it is shown already."""
         self.call("Page.bringToFront")
-        self.call("Page.navigate", url=f"{site}/?{self.opened}#{hash_}")
-        self.wait(f"location.search === '?{self.opened}' && document.readyState === 'complete' && {condition}")
+        self.js("window.isLeft = true")
+        self.call("Page.navigate", url=address)
+        self.arrive(condition)
+
+    def reload(self, condition="document.querySelector('main h1')"):
+        self.js("window.isLeft = true")
+        self.call("Page.reload")
+        self.arrive(condition)
+
+    def arrive(self, condition):
+        self.wait(f"!window.isLeft && document.readyState === 'complete' && {condition}")
+
+    def turn(self, address, condition="true"):
+        """To another page of the readers' site, as a link does it."""
+        self.js(f"import('/shared/router.js').then((router) => router.go({json.dumps(address)}))")
+        self.wait(condition)
 
     def go(self, hash_, condition="true"):
         """To another page of the same site, by its address alone."""

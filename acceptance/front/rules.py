@@ -35,7 +35,7 @@ class Rules:
         self.public, self.staff = (asks.office.ports[name] for name in ("8080", "8081"))
 
     def play(self):
-        for part in (self.odd_paths, self.readers_limits, self.password, self.other_sites, self.other_names, self.heads, self.limit_of_orders, self.orders_from_elsewhere, *([self.foreign_page] if self.page else [])):
+        for part in (self.odd_paths, self.readers_limits, self.password, self.other_sites, self.other_names, self.heads, self.questions_of_heads, self.no_page, self.limit_of_orders, self.orders_from_elsewhere, *([self.foreign_page] if self.page else [])):
             self.checks.part(f"rules: {part.__name__}", part)
 
     def state(self):
@@ -98,6 +98,24 @@ class Rules:
             strict = all(part in policy for part in ("default-src 'none'", "script-src 'self'", "require-trusted-types-for 'script'"))
             strict = strict and "unsafe" not in policy and "x-content-type-options: nosniff" in head
             self.checks.check(f"a strict policy at {path}", strict, head)
+
+    def questions_of_heads(self):
+        """HEAD: the head of the answer to GET, and the connection goes on."""
+        for path in ("/public/fonds", "/public/units/1", "/public/aid/1", "/", "/unit/1", "/robots.txt", "/public/units/999999"):
+            wanted = self.asks.get(path)[0]
+            got = raw(self.public, f"HEAD {path} HTTP/1.1\r\nHost: x\r\n\r\nHEAD {path} HTTP/1.1\r\nHost: x\r\nConnection: close\r\n\r\n")
+            heads = got.decode().split("\r\n\r\n")
+            self.checks.same(f"HEAD {path}", ([int(head.split()[1]) for head in heads[:-1]], heads[-1]), ([wanted, wanted], ""))
+        self.checks.same("an order is no question", self.asks.call("HEAD", "/public/orders", None, False)[0], 405)
+
+    def no_page(self):
+        """What is no page says so in words, with 404; pages' addresses are the same file."""
+        page = self.asks.text("/")
+        for path in ("/unit/1", "/aid/1", "/help", "/unit/4711"):
+            self.checks.same(f"{path} is a page", self.asks.get(path), (200, page))
+        for path in ("/no/such/page", "/unit/x", "/unit/", "/shared/none.js", "/.well-known/x"):
+            self.checks.same(f"{path} is none", self.asks.get(path), (404, page))
+        self.checks.check("robots are told", "User-agent: *" in self.asks.text("/robots.txt"))
 
     def order(self):
         return self.asks.post("/public/orders", {"ticket": 999, "container": 1}, desk=False)

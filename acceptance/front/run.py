@@ -1,6 +1,6 @@
 """Plays all parts in a real browser: run.py PROGRAM FOLDER SHOTS [PART..]
 
-FOLDER is made anew and kept; SHOTS gets pictures of the pages. PART is one of pages, refusals, rules, restarts.
+FOLDER is made anew and kept; SHOTS gets pictures of the pages. PART is one of pages, journeys, refusals, rules, restarts.
 The last line is `N passed, M failed`; the exit status is 0 where none failed."""
 
 import pathlib
@@ -10,6 +10,7 @@ import sys
 
 sys.dont_write_bytecode = True
 import foldings  # noqa: E402
+import journeys  # noqa: E402
 import refusals  # noqa: E402
 import restarts  # noqa: E402
 import shapes  # noqa: E402
@@ -50,26 +51,46 @@ def complaints(checks, seen):
     checks.same("the browser complains of nothing", [said for page in seen for said in page.complaints()], [])
 
 
-def two_offices(checks, program, folder, shots, parts):
+def offices(checks, program, folder, shots, parts):
     browser = Browser(folder / "profile") if shutil.which("chromium") else None
     try:
-        with Office(folder / "first", program).init() as office:
-            if browser and "pages" in parts:
-                pages(checks, office, browser, folder, pictures(shots))
-            else:
-                office_without_pages(office, folder)
-            if "rules" in parts:
-                Rules(checks, Asks(office), browser and browser.page(SIGNED_IN)).play()
-            if "restarts" in parts:
-                restarts.play(checks, Asks(office))
+        if {"pages", "rules", "restarts"} & set(parts):
+            first_office(checks, browser, program, folder, shots, parts)
         if browser and "refusals" in parts:
-            with Office(folder / "second", program, refusals.SETTINGS).init() as office:
-                page = browser.page(SIGNED_IN)
-                refusals.Refusals(checks, Asks(office), page, folder).play()
-                complaints(checks, [page])
+            second_office(checks, browser, program, folder)
+        if browser and "journeys" in parts:
+            third_office(checks, browser, program, folder, shots)
     finally:
         if browser:
             browser.end()
+
+
+def first_office(checks, browser, program, folder, shots, parts):
+    with Office(folder / "first", program).init() as office:
+        if browser and "pages" in parts:
+            pages(checks, office, browser, folder, pictures(shots))
+        else:
+            office_without_pages(office, folder)
+        if "rules" in parts:
+            Rules(checks, Asks(office), browser and browser.page(SIGNED_IN)).play()
+        if "restarts" in parts:
+            restarts.play(checks, Asks(office))
+
+
+def second_office(checks, browser, program, folder):
+    with Office(folder / "second", program, refusals.SETTINGS).init() as office:
+        page = browser.page(SIGNED_IN)
+        refusals.Refusals(checks, Asks(office), page, folder).play()
+        complaints(checks, [page])
+
+
+def third_office(checks, browser, program, folder, shots):
+    office = Office(folder / "third", program, journeys.SETTINGS, changes=journeys.MORE_ORDERS).init()
+    office.take_in("harbour", journeys.catalogue_in(folder))
+    with office:
+        page = browser.page()
+        journeys.Journeys(checks, Asks(office), page, pictures(shots)).play()
+        complaints(checks, [page])
 
 
 def office_without_pages(office, folder):
@@ -83,7 +104,7 @@ def main(program, folder, shots, *parts):
     folder, shots = pathlib.Path(fresh(folder)).resolve(), pathlib.Path(fresh(shots)).resolve()
     folder.mkdir(parents=True)
     shots.mkdir(parents=True)
-    checks.part("offices", two_offices, checks, program, folder, shots, parts or ("pages", "rules", "restarts", "refusals"))
+    checks.part("offices", offices, checks, program, folder, shots, parts or ("pages", "rules", "restarts", "refusals", "journeys"))
     return checks.end()
 
 

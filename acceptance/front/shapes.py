@@ -52,6 +52,16 @@ def all_of(checks, at, hashes, shot):
             if width == 320:
                 shot(page, f"phone-{at.name}{hash_.replace('/', '-')}")
         parts(checks, page, hash_)
+        if at.name == "reader":
+            in_the_dark(checks, page, hash_)
+
+
+def in_the_dark(checks, page, hash_):
+    """A reader whose system is dark gets dark pages, and every text still has contrast."""
+    page.call("Emulation.setEmulatedMedia", features=[{"name": "prefers-color-scheme", "value": "dark"}])
+    checks.check(f"dark: {hash_}", page.js("getComputedStyle(document.body).backgroundColor") == "rgb(26, 25, 22)")
+    checks.same(f"every text has contrast in the dark: {hash_}", page.js(CONTRAST), [])
+    page.call("Emulation.setEmulatedMedia", features=[])
 
 
 def parts(checks, page, hash_):

@@ -12,3 +12,9 @@ export function officeWords() {
     .then((own) => ({ ...PLAIN, ...own }));
   return asked;
 }
+
+/** Puts the office's name at the top of the page. */
+export async function showName() {
+  const { name } = await officeWords();
+  document.querySelector('header .name a').textContent = name;
+}

@@ -92,10 +92,41 @@ export function containersOfAid(text) {
   return found;
 }
 
-/** Whether a head line ends like that of a closed unit. A title may end like that too, so this proves nothing about the unit. */
-export function endsAsClosed(head) {
-  return /\] closed until \d{4}-\d\d-\d\d$/.test(head);
+/**
+ * The day at the end of a head line that ends like that of a closed unit, or null. A title may end like that too, so this
+ * proves nothing about the unit.
+ */
+export function dayOfClosure(head) {
+  return /\] closed until (\d{4}-\d\d-\d\d)$/.exec(head)?.[1] ?? null;
 }
+
+/** The ways to the units of a finding aid: for each head line, the places among their siblings of the units down to it. */
+export function waysOfAid(lines) {
+  const counts = [];
+  return lines.map(({ depth, isHead }) => {
+    if (!isHead) return null;
+    counts.length = depth + 1;
+    counts[depth] = (counts[depth] ?? 0) + 1;
+    return counts.slice(1);
+  });
+}
+
+/** Dates and extent of the units right below the one whose finding aid this is: { head, dates, extent } each, in order. */
+export function factsOfAid(text) {
+  const facts = [];
+  let depthOfLast = 0;
+  for (const { text: line, depth, isHead } of readAid(text)) {
+    if (isHead) depthOfLast = depth;
+    if (isHead && depth === 1) facts.push({ head: line, dates: '', extent: '' });
+    if (isHead || depthOfLast !== 1) continue;
+    if (line.startsWith(DATES)) facts.at(-1).dates = line.slice(DATES.length);
+    if (line.startsWith(EXTENT)) facts.at(-1).extent = line.slice(EXTENT.length);
+  }
+  return facts;
+}
+
+const DATES = '3.1.3 Date(s): ';
+const EXTENT = '3.1.5 Extent and medium of the unit of description: ';
 
 /** The lines of a slip. Each ends with three numbers, whatever comes before them. */
 export function readSlip(text) {
