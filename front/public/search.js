@@ -22,7 +22,8 @@ export function aidSearch(lines, typed) {
     previous: stepButton(state, 'Previous', -1), next: stepButton(state, 'Next', 1),
   });
   const bar = el('form', { class: 'search bar no-print', role: 'search' }, field,
-    el('p', { class: 'buttons' }, el('button', { type: 'submit', class: 'plain' }, 'Search'), state.previous, state.next, state.open),
+    el('p', { class: 'buttons' }, el('button', { type: 'submit', class: 'plain' }, 'Search')),
+    el('p', { class: 'buttons' }, state.previous, state.next, state.open),
     state.told);
   bar.addEventListener('submit', (event) => {
     event.preventDefault();

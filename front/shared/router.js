@@ -39,7 +39,7 @@ export async function showAgain() {
   const kept = history.state;
   shown = null;
   const slow = setTimeout(() => site.main.replaceChildren(waiting()), 400);
-  const page = await pageAt(site.addresses.here());
+  const page = await pageOrFailure(site.addresses.here());
   clearTimeout(slow);
   if (mine !== turn) return;
   shown = page;
@@ -50,6 +50,18 @@ export async function showAgain() {
   target?.focus({ preventScroll: true });
   if (!(kept && page.restore?.(kept))) window.scrollTo(0, kept?.place ?? 0);
   page.shown?.();
+}
+
+/** A page that fails is a mistake in these pages; the console has it, and the window says what to do. */
+async function pageOrFailure(address) {
+  try {
+    return await pageAt(address);
+  } catch (mistake) {
+    console.warn(mistake);
+    return { title: 'This page failed', content: [el('h1', {}, 'This page failed'),
+      el('p', {}, 'There is a mistake in it, and it cannot be shown. Load it again. If it fails again, tell whoever runs the office: ',
+        el('code', {}, String(mistake)))] };
+  }
 }
 
 function pageAt(address) {
