@@ -30,7 +30,7 @@ class Journeys:
             self.page.size(*shape)
             self.checks.part(f"journey: {name}", self.order, name, ticket, self.tap if name == "phone" else self.by_keys)
         self.page.size(1280, 850)
-        for part in (self.several, self.each_line, self.changed, self.series, self.without_container, self.copied, self.long_aid):
+        for part in (self.several, self.each_line, self.changed, self.series, self.tree, self.without_container, self.copied, self.long_aid):
             self.checks.part(f"journey: {part.__name__}", part)
 
     def at(self, address):
@@ -132,10 +132,22 @@ class Journeys:
         page.choose("Carton 77b")
         page.fill("Number of your reader\u2019s ticket", "1")
         page.insist("Order these containers", "Ordered: 1 of 2 containers, with ticket 1.")
-        self.checks.check("the other is explained", "Carton 77a: not ordered. You have ordered this container already." in page.text(".outcome"))
-        self.shot(page, "journey-several")
+        self.checks.same("no list is kept unasked", page.js("sessionStorage.length"), 0)
+        page.press("Keep a list of my orders in this tab")
+        page.press("list of what was ordered in this tab")
+        page.see("Carton 77b, order", "ul.units")
+        self.checks.same("the list has what was ordered since", page.js("document.querySelectorAll('ul.units li').length"), 1)
+        page.press("Forget this list")
+        self.checks.same("the list is gone", page.js("sessionStorage.length"), 0)
+        page.js("history.back()")
+        page.see("Cafe\u0301", "h1")
+        page.press_starting("Order")
         page.choose("Carton 77a")
         page.choose("Carton 77b")
+        page.fill("Number of your reader\u2019s ticket", "1")
+        page.insist("Order these containers", "You have ordered this container already.")
+        self.checks.check("the other is explained", "Carton 77b: not ordered. You have ordered this container already." in page.text(".outcome"))
+        self.shot(page, "journey-several")
         page.fill("Number of your reader\u2019s ticket", "4711")
         page.insist("Order these containers", "There is no reader\u2019s ticket with this number.")
         self.checks.same("both orders stand", len(self.asks.text("/desk/readers/1", True).split('"order"')) - 1, 2)
@@ -188,6 +200,21 @@ class Journeys:
         page.fill("Show only units with", "nothing")
         page.js("document.activeElement.dispatchEvent(new Event('input', { bubbles: true }))")
         page.see("No unit here has these words.")
+
+    def tree(self):
+        """The branch below a unit opens a level at a time, without one more question to the office."""
+        page = self.at(f"/unit/{self.top()}")
+        page.wait("document.querySelector('details.branch')")
+        asked = "performance.getEntriesByType('resource').filter((one) => one.name.includes('/public/')).length"
+        before = page.js(asked)
+        page.press_starting("121 units")
+        page.wait("document.querySelectorAll('details.branch li').length === 100")
+        self.checks.same("no question for a level", page.js(asked), before)
+        self.checks.check("the rest is told", "And 21 more: open the unit to see them." in page.text("details.branch"))
+        self.shot(page, "journey-tree", full=False)
+        page.js("document.querySelectorAll('details.branch a')[77].click()")
+        page.see("Cafe\u0301", "h1")
+        self.checks.same("a line of the tree leads to its unit", page.js("location.pathname"), f"/unit/{self.unit()}")
 
     def without_container(self):
         page = self.at(f"/unit/{self.top()}")

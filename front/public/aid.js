@@ -4,8 +4,8 @@ import { el, link, printButton } from '../shared/dom.js';
 import { nameOf } from '../shared/heads.js';
 import { aid } from '../shared/routes.js';
 import { readAid, waysOfAid } from '../shared/texts.js';
+import { addressOfLine } from './line_address.js';
 import { largePrint } from './parts.js';
-import { addressOfPlace } from './place.js';
 import { aidSearch } from './search.js';
 import { trouble } from './trouble.js';
 
@@ -17,7 +17,7 @@ export async function aidPage(number, query) {
   if (!answer.ok) return trouble(answer, 'Finding aid');
   const lines = readAid(answer.value);
   const ways = waysOfAid(lines);
-  const rows = lines.map((line, at) => row(line, ways[at] && addressOfPlace(number, ways[at], line.text)));
+  const rows = lines.map((line, at) => row(line, ways[at] && addressOfLine(number, ways[at], line.text)));
   const blocks = rows.length > LARGE ? inBlocks(rows) : null;
   const search = aidSearch(lines.map((line, at) => ({ ...line, row: rows[at] })), new URLSearchParams(query).get('q') ?? '');
   const name = nameOf(lines[0]?.text ?? '');

@@ -1,4 +1,5 @@
-// The units right below a unit: in pages of a hundred, with a filter, and with dates and extent from the unit's finding aid.
+// The units right below a unit: in pages of a hundred, with a filter. The unit's finding aid gives dates and extent, and what is
+// further down: a tree that opens a level at a time.
 
 import { count, el, link, words } from '../shared/dom.js';
 import { textField } from '../shared/fields.js';
@@ -6,7 +7,8 @@ import { wordsOf } from '../shared/folding.js';
 import { headLine } from '../shared/heads.js';
 import { keep } from '../shared/router.js';
 import { aid } from '../shared/routes.js';
-import { factsOfAid } from '../shared/texts.js';
+import { treeOfAid } from '../shared/texts.js';
+import { addressOfLine } from './line_address.js';
 
 const SHOWN = 100; // units on one page
 const FEW = 20; // so many need no filter
@@ -18,7 +20,7 @@ const large = new Set(); // units whose finding aids were that large
 export function contentsOf(number, units) {
   if (units.length === 0) return { section: null, look() {} };
   const { from = 0, filter = '' } = history.state ?? {};
-  const state = { number, units, from, filter, facts: null, heads: units.map(({ rest }) => wordsOf(rest).map(({ word }) => word)) };
+  const state = { number, units, from, filter, tree: null, heads: units.map(({ rest }) => wordsOf(rest).map(({ word }) => word)) };
   state.list = el('ul', { class: 'units' });
   state.told = el('p', { class: 'told', role: 'status' });
   state.turns = el('p', { class: 'buttons no-print' });
@@ -51,7 +53,7 @@ function chosen({ units, heads, filter }) {
 function show(state) {
   const all = chosen(state);
   const page = all.slice(state.from, state.from + SHOWN);
-  state.list.replaceChildren(...page.map((unit) => item(unit, state.facts?.[unit.at])));
+  state.list.replaceChildren(...page.map((unit) => item(state, unit)));
   state.told.textContent = toldOf(state, all.length, page.length);
   state.turns.replaceChildren(...(all.length > SHOWN ? [turnButton(state, 'Previous 100', -SHOWN, all.length), turnButton(state, 'Next 100', SHOWN, all.length)] : []));
 }
@@ -79,10 +81,29 @@ function turn(state, from) {
   state.list.querySelector('a').focus({ preventScroll: true });
 }
 
-function item({ number, rest }, facts) {
-  const text = [facts?.dates, facts?.extent].filter(Boolean);
-  return el('li', {}, link(`/unit/${number}`, headLine(rest)),
-    text.length > 0 && el('p', { class: 'facts' }, text.map((fact, at) => [at > 0 && ' · ', words(fact)])));
+function item({ number: above, tree }, { number, rest, at }) {
+  return el('li', {}, link(`/unit/${number}`, headLine(rest)), tree && further(above, tree[at]));
+}
+
+/** What the finding aid says of a unit: dates and extent, and its own contents once the reader opens them. */
+function further(aidOf, node) {
+  const facts = [node.dates, node.extent].filter(Boolean);
+  return [facts.length > 0 && el('p', { class: 'facts' }, facts.map((fact, at) => [at > 0 && ' · ', words(fact)])),
+    node.below.length > 0 && branch(aidOf, node)];
+}
+
+function branch(aidOf, node) {
+  const box = el('details', { class: 'branch no-print' }, el('summary', {}, count(node.below.length, 'unit', 'units'),
+    el('span', { class: 'unseen' }, ' in ', headLine(node.head))));
+  box.addEventListener('toggle', () => box.append(...level(aidOf, node.below)), { once: true });
+  return box;
+}
+
+function level(aidOf, nodes) {
+  const items = nodes.slice(0, SHOWN).map((node) => el('li', {},
+    link(addressOfLine(aidOf, node.way, node.head), headLine(node.head)), further(aidOf, node)));
+  const more = nodes.length - SHOWN;
+  return [el('ul', { class: 'units' }, items), ...(more > 0 ? [el('p', {}, `And ${more.toLocaleString('en-GB')} more: open the unit to see them.`)] : [])];
 }
 
 /** Asks for dates and extent, unless that makes the office write a large finding aid once more. */
@@ -96,18 +117,17 @@ async function lookNow(state) {
   const answer = await aid(state.number);
   if (!answer.ok) return;
   if (answer.value.length > LARGE) large.add(state.number);
-  const facts = factsOfAid(answer.value);
-  const isSame = facts.length === state.units.length && facts.every(({ head }, at) => head === state.units[at].rest);
+  const tree = treeOfAid(answer.value)?.below ?? [];
+  const isSame = tree.length === state.units.length && tree.every(({ head }, at) => head === state.units[at].rest);
   if (!isSame || !state.list.isConnected) return;
-  state.facts = facts;
-  addFacts(state);
+  state.tree = tree;
+  addFurther(state);
 }
 
-/** Adds the facts without making the list anew, so that the reader's focus stays. */
-function addFacts(state) {
+/** Adds what is known now without making the list anew, so that the reader's focus stays. */
+function addFurther(state) {
   const page = chosen(state).slice(state.from, state.from + SHOWN);
-  page.forEach((unit, at) => {
-    const made = item(unit, state.facts[unit.at]).querySelector('.facts');
-    if (made) state.list.children[at].append(made);
+  page.forEach(({ at }, place) => {
+    state.list.children[place].append(...further(state.number, state.tree[at]).filter(Boolean));
   });
 }

@@ -7,25 +7,26 @@ import { numberOf } from '../shared/numbers.js';
 import { readerWords } from '../shared/refusals.js';
 import { order } from '../shared/routes.js';
 import { officeWords } from './office.js';
+import { listNote } from './ordered.js';
 
 const OF_THE_TICKET = new Set([2, 4, 7, 23]); // refusals that every further order with this ticket would meet
 
-/** A button that opens the form. containers: { number, text } each. */
-export function orderBox(containers) {
+/** A button that opens the form. containers: { number, text } each; unit: { number, head }, on whose page it is. */
+export function orderBox(containers, unit) {
   const [{ number, text }] = containers;
   const which = containers.length > 1 ? count(containers.length, 'container', 'containers') : [`container ${number}, `, words(text)];
   const box = el('details', { class: 'order no-print' }, el('summary', {}, 'Order ', el('span', { class: 'unseen' }, which)));
-  box.addEventListener('toggle', () => open(box, containers));
+  box.addEventListener('toggle', () => open(box, containers, unit));
   return box;
 }
 
-function open(box, containers) {
+function open(box, containers, unit) {
   if (!box.open) return;
-  if (!box.querySelector('form')) box.append(orderForm(containers));
+  if (!box.querySelector('form')) box.append(orderForm(containers, unit));
   box.querySelector('input').focus();
 }
 
-function orderForm(containers) {
+function orderForm(containers, unit) {
   const several = containers.length > 1;
   return commandForm({
     fields: [several && choices(containers),
@@ -33,7 +34,7 @@ function orderForm(containers) {
     button: several ? 'Order these containers' : 'Order this container',
     before: async (values) => (chosen(containers, values).length > 0 ? null : { ok: false, kind: 'none' }),
     send: ({ ticket, ...values }) => orderEach(chosen(containers, values), numberOf(ticket)),
-    done: showOrdered,
+    done: (results, values) => showOrdered(results, values, unit),
     shown: comeTo,
     focus: toTicket,
     explain: (answer) => (answer.kind === 'none' ? ['No container is chosen.', 'Choose at least one.'] : readerWords(answer)),
@@ -64,9 +65,12 @@ async function orderEach(containers, ticket) {
 
 const goesOn = (answer) => answer.ok || (answer.kind === 'refused' && !OF_THE_TICKET.has(answer.code));
 
-async function showOrdered(results, { ticket }) {
+async function showOrdered(results, { ticket }, unit) {
   const { ordered } = await officeWords();
-  return [results.length === 1 ? one(results[0], numberOf(ticket)) : several(results, numberOf(ticket)), el('p', {}, words(ordered))];
+  const taken = results.filter(({ answer }) => answer.ok)
+    .map(({ container, answer }) => ({ number: answer.value.order, container: container.text }));
+  return [results.length === 1 ? one(results[0], numberOf(ticket)) : several(results, numberOf(ticket)),
+    el('p', {}, words(ordered)), listNote(taken, unit)];
 }
 
 function one({ container, answer }, ticket) {

@@ -5,13 +5,9 @@ import { el, link } from '../shared/dom.js';
 import { keep } from '../shared/router.js';
 import { unit } from '../shared/routes.js';
 import { readPage } from '../shared/texts.js';
+import { digest } from './line_address.js';
 import { trouble } from './trouble.js';
 import { unitPage } from './unit.js';
-
-/** The address of the unit of a line. way: places among siblings, from the aid's own unit down; head: the line. */
-export function addressOfPlace(aid, way, head) {
-  return way.length === 0 ? `/unit/${aid}` : `/aid/${aid}/${way.join('.')}?head=${digest(head)}`;
-}
 
 /** Turns the address of a line into that of its unit, and shows the unit. */
 export async function placePage(aid, way, query) {
@@ -43,11 +39,4 @@ function changed(aid) {
     el('p', {}, 'The unit that you chose is no longer at this place. ', link(`/aid/${aid}`, 'Open the finding aid again'),
       ' and choose the unit there.'),
   ] };
-}
-
-/** A short number of a text, by which a change is noticed: FNV-1a over its UTF-16 units. */
-function digest(text) {
-  let hash = 0x811c9dc5;
-  for (let at = 0; at < text.length; at += 1) hash = Math.imul(hash ^ text.charCodeAt(at), 0x01000193);
-  return (hash >>> 0).toString(36);
 }

@@ -22,7 +22,7 @@ export async function unitPage(number) {
   return { title: nameOf(page.head), shown: () => { way.look(); contents?.look(); }, content: [
     way.nav,
     headLine(page.head, 'h1'),
-    isClosed ? closed(page.head) : [kept(page), tools(number), description(page), contents.section, await citation(number, page)],
+    isClosed ? closed(page.head) : [kept(number, page), tools(number), description(page), contents.section, await citation(number, page)],
   ] };
 }
 
@@ -35,15 +35,15 @@ function closed(head) {
 }
 
 /** The containers and the order, or why there is none. The program lists those of the nearest unit above that has some. */
-function kept({ containers, units }) {
+function kept(number, { head, containers, units }) {
   if (containers.length === 0) return el('section', { class: 'kept' }, el('p', {}, units.length > 0
     ? 'This unit as a whole is in no container, so it cannot be ordered as one. Look in its contents, below, for what you want to see.'
     : 'No container is named for this unit or for any unit above it, so it cannot be ordered here. Please ask at the desk.'));
   return el('section', { class: 'kept' },
     el('h2', {}, 'Where it is kept'),
-    el('ul', { class: 'containers' }, containers.map(({ number, text, mark }) => el('li', {},
-      el('span', { class: 'number' }, `Container ${number}`), ' ', marked(text, mark)))),
-    orderBox(containers),
+    el('ul', { class: 'containers' }, containers.map(({ number: its, text, mark }) => el('li', {},
+      el('span', { class: 'number' }, `Container ${its}`), ' ', marked(text, mark)))),
+    orderBox(containers, { number, head }),
     el('p', { class: 'quiet no-print' }, 'You need a reader’s ticket. ', link('/help', 'How to order')));
 }
 

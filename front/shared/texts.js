@@ -111,18 +111,20 @@ export function waysOfAid(lines) {
   });
 }
 
-/** Dates and extent of the units right below the one whose finding aid this is: { head, dates, extent } each, in order. */
-export function factsOfAid(text) {
-  const facts = [];
-  let depthOfLast = 0;
-  for (const { text: line, depth, isHead } of readAid(text)) {
-    if (isHead) depthOfLast = depth;
-    if (isHead && depth === 1) facts.push({ head: line, dates: '', extent: '' });
-    if (isHead || depthOfLast !== 1) continue;
-    if (line.startsWith(DATES)) facts.at(-1).dates = line.slice(DATES.length);
-    if (line.startsWith(EXTENT)) facts.at(-1).extent = line.slice(EXTENT.length);
-  }
-  return facts;
+/** The units of a finding aid as a tree, from its own unit down: { head, way, dates, extent, below } each. */
+export function treeOfAid(text) {
+  const lines = readAid(text);
+  const ways = waysOfAid(lines);
+  const path = [];
+  lines.forEach(({ text: line, depth, isHead }, at) => {
+    if (isHead) {
+      path.length = depth;
+      path.push({ head: line, way: ways[at], dates: '', extent: '', below: [] });
+      path.at(-2)?.below.push(path.at(-1));
+    } else if (line.startsWith(DATES)) path.at(-1).dates = line.slice(DATES.length);
+    else if (line.startsWith(EXTENT)) path.at(-1).extent = line.slice(EXTENT.length);
+  });
+  return path[0];
 }
 
 const DATES = '3.1.3 Date(s): ';
