@@ -2,24 +2,33 @@
 # A day of the reading room and a visit of a reader, played on the pages in a real browser, and the rules of the front.
 #   acceptance/front.sh [PROGRAM]
 # It starts the program and the front of front/server on free ports of 127.0.0.1, and ends them. It needs nginx and haproxy,
-# and chromium for the pages, and tries to install them from Debian's packages. If it cannot, it says what it leaves out; in CI
-# that is wrong. Pictures of the pages go to acceptance/front/out, which is not committed.
+# python3-waitress for the search in all archives and chromium for the pages, and tries to install them from Debian's packages.
+# If it cannot, it says what it leaves out; in CI that is wrong. Pictures of the pages go to acceptance/front/out, which is not
+# committed.
 # Its last line is `N passed, M failed`; it ends with 0 if all passed.
 set -euo pipefail
 here=$(cd "$(dirname "$0")" && pwd)
 program=$(realpath "${1:-$here/../crates/record_office/out/record_office}")
 export PATH=$PATH:/usr/sbin:/usr/local/sbin
 
+# install PACKAGE..: tries to install packages of Debian
+install() {
+    if [ "$(id -u)" = 0 ] && command -v apt-get >/dev/null; then
+        timeout 120 apt-get update -q >/dev/null 2>&1 || true
+        DEBIAN_FRONTEND=noninteractive timeout 300 apt-get install -y -q --no-install-recommends "$@" >/dev/null 2>&1 || true
+    fi
+}
+
 # has NAME [PACKAGE..]: whether there is such a program, or it can be installed
 has() {
     command -v "$1" >/dev/null && return
     local packages=("${@:2}")
-    if [ "$(id -u)" = 0 ] && command -v apt-get >/dev/null; then
-        timeout 120 apt-get update -q >/dev/null 2>&1 || true
-        DEBIAN_FRONTEND=noninteractive timeout 300 apt-get install -y -q --no-install-recommends "${packages[@]:-$1}" >/dev/null 2>&1 || true
-    fi
+    install "${packages[@]:-$1}"
     command -v "$1" >/dev/null
 }
+
+# Debian's own Python runs the search, under waitress.
+has_waitress() { /usr/bin/python3 -c 'import waitress' 2>/dev/null; }
 
 missing=()
 for name in python3 nginx haproxy; do
@@ -30,14 +39,19 @@ if [ ${#missing[@]} -gt 0 ]; then
     echo "0 passed, ${#missing[@]} failed"
     exit 1
 fi
-parts=(pages rules restarts refusals journeys)
+parts=(pages rules restarts stall search refusals journeys)
 if ! has chromium chromium fonts-liberation; then
     echo "left out the pages, their refusals and the page of another site: chromium is not here and cannot be installed"
-    if [ -n "${CI:-}" ]; then
-        echo "0 passed, 1 failed"
-        exit 1
-    fi
-    parts=(rules restarts)
+    parts=(rules restarts stall search)
+fi
+has_waitress || install python3 python3-waitress
+if ! has_waitress; then
+    echo "left out the search in all archives: python3-waitress is not here and cannot be installed"
+    parts=("${parts[@]/search/}")
+fi
+if [ -n "${CI:-}" ] && [[ ! " ${parts[*]} " =~ \ pages\ .*\ search\  ]]; then
+    echo "0 passed, 1 failed"
+    exit 1
 fi
 room=$(mktemp -d)
 trap 'rm -rf "$room"' EXIT

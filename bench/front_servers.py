@@ -78,6 +78,7 @@ class Office:
         for old, new in self.changes:
             text = text.replace(old, new)
         text = text.replace("/etc/record-office", str(self.folder)).replace("/usr/share/record-office/front", str(TOP / "front"))
+        text = text.replace("/run/record-office-queue", str(self.folder)).replace("/run/record-office-search/search", str(self.folder / "answers"))
         for name, port in PORTS.items():
             text = text.replace(f":{port}", f":{self.ports[name]}").replace(f"listen {port}", f"listen 127.0.0.1:{self.ports[name]}")
         return text

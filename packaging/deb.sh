@@ -37,6 +37,7 @@ for part in public desk shared; do
         place 644 "usr/share/record-office/front/$(dirname "$file")" "$top/front/$file"
     done
 done
+place 644 usr/share/record-office/search "$top"/front/search/*.py
 for file in "$top"/front/server/*; do
     case ${file##*/} in
     nginx.conf) place 644 etc/nginx/sites-available "$file" && mv "$root"/etc/nginx/sites-available/{nginx.conf,record-office} ;;
@@ -70,7 +71,7 @@ Architecture: $arch
 Maintainer: $maintainer
 Installed-Size: $(du -sk --exclude=DEBIAN "$root" | cut -f1)
 Depends: adduser, libc6 (>= $(needed_libc "$program"))
-Recommends: haproxy (>= 2.4), nginx (>= 1.19.4), openssl, sqlite3
+Recommends: haproxy (>= 2.4), nginx (>= 1.19.4), openssl, python3, python3-waitress, sqlite3
 Section: database
 Priority: optional
 Description: public side of a record office: catalogue and reading room
@@ -79,8 +80,8 @@ Description: public side of a record office: catalogue and reading room
  slips, seats, closures and permits. One file keeps the office.
  .
  Pages for readers and for staff come with it, the configuration of nginx and
- of an HAProxy of its own before the program, and units for systemd. Nothing is
- started before an office has been made.
+ of an HAProxy of its own before the program, a search in all archives, and
+ units for systemd. Nothing is started before an office has been made.
 END
 chmod 644 "$root"/DEBIAN/{control,conffiles,md5sums}
 mkdir -p "$out"

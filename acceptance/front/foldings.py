@@ -4,10 +4,9 @@ import json
 import pathlib
 import sys
 
-TOP = pathlib.Path(__file__).resolve().parents[2]
-sys.path.insert(0, str(TOP / "front" / "search"))
-
-import folding  # noqa: E402
+sys.dont_write_bytecode = True
+from checks import Checks  # noqa: E402
+from searched import folding  # noqa: E402
 
 EXAMPLES = json.loads((pathlib.Path(__file__).parent / "folding.json").read_text("utf-8"))
 IN_A_PAGE = """import('/shared/folding.js').then(({ wordsOf, readTyped, placesOf }) => JSON.stringify({
@@ -37,3 +36,9 @@ def play(checks, page=None):
         for kind, found in examples.items():
             for (*given, wanted), is_now in zip(EXAMPLES[kind], found):
                 checks.same(f"{where}: {kind} {given!r}", is_now, wanted)
+
+
+if __name__ == "__main__":
+    checks = Checks()
+    play(checks)
+    sys.exit(checks.end())

@@ -223,7 +223,8 @@ class Office:
         text = re.sub(PORT, lambda found: f"{found[1]}{self.ports[found[2]]}", text)
         text = re.sub(LISTEN, lambda found: f"listen 127.0.0.1:{self.ports[found[1]]}", text)
         text = text.replace(DESK_NAME, "127.0.0.1")
-        for theirs, our in (("/usr/share/record-office/front", FRONT), ("/etc/record-office", self.folder), ("/run/record-office", self.folder)):
+        for theirs, our in (("/usr/share/record-office/front", FRONT), ("/etc/record-office", self.folder),
+                            ("/run/record-office-queue", self.folder), ("/run/record-office-search/search", self.folder / "answers")):
             text = text.replace(theirs, str(our))
         for old, new in self.changes:
             text = text.replace(old, new)

@@ -1,6 +1,7 @@
 """Plays all parts in a real browser: run.py PROGRAM FOLDER SHOTS [PART..]
 
-FOLDER is made anew and kept; SHOTS gets pictures of the pages. PART is one of pages, journeys, refusals, rules, restarts.
+FOLDER is made anew and kept; SHOTS gets pictures of the pages. PART is one of pages, refusals, rules, restarts, stall, search,
+journeys.
 The last line is `N passed, M failed`; the exit status is 0 where none failed."""
 
 import pathlib
@@ -13,7 +14,11 @@ import foldings  # noqa: E402
 import journeys  # noqa: E402
 import refusals  # noqa: E402
 import restarts  # noqa: E402
+import search_checks  # noqa: E402
+import search_pages  # noqa: E402
+import search_sessions  # noqa: E402
 import shapes  # noqa: E402
+import stall  # noqa: E402
 from asks import Asks  # noqa: E402
 from browser import Browser  # noqa: E402
 from checks import Checks  # noqa: E402
@@ -56,6 +61,10 @@ def offices(checks, program, folder, shots, parts):
     try:
         if {"pages", "rules", "restarts"} & set(parts):
             first_office(checks, browser, program, folder, shots, parts)
+        if "stall" in parts:
+            checks.part("stall: commands beside aids whose readers lag", stall.play, checks, program, folder / "stall")
+        if "search" in parts:
+            search(checks, program, folder / "search", browser, pictures(shots))
         if browser and "refusals" in parts:
             second_office(checks, browser, program, folder)
         if browser and "journeys" in parts:
@@ -93,6 +102,13 @@ def third_office(checks, browser, program, folder, shots):
         complaints(checks, [page])
 
 
+def search(checks, program, folder, browser, shot):
+    search_checks.play(checks, program, folder)
+    checks.part("search: random sessions", search_sessions.play, checks, program, folder / "sessions", 60, 7)
+    if browser:
+        checks.part("search: pages", search_pages.play, checks, program, folder / "pages", browser, shot)
+
+
 def office_without_pages(office, folder):
     asks = Asks(office)
     asks.call("POST", "/desk/import/archives", (refusals.TOP / "examples/archives.csv").read_bytes(), True)
@@ -104,7 +120,8 @@ def main(program, folder, shots, *parts):
     folder, shots = pathlib.Path(fresh(folder)).resolve(), pathlib.Path(fresh(shots)).resolve()
     folder.mkdir(parents=True)
     shots.mkdir(parents=True)
-    checks.part("offices", offices, checks, program, folder, shots, parts or ("pages", "rules", "restarts", "refusals", "journeys"))
+    every = ("pages", "rules", "restarts", "stall", "search", "refusals", "journeys")
+    checks.part("offices", offices, checks, program, folder, shots, parts or every)
     return checks.end()
 
 

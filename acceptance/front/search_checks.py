@@ -1,0 +1,275 @@
+#!/usr/bin/env python3
+"""The search in all archives where random sessions do not go: pairs of offices, hostile questions, kills, a damaged index.
+
+    search_checks.py PROGRAM FOLDER [PART..]
+
+PART is one of questions, pairs, bounds, hostile, kills, states."""
+
+import contextlib
+import json
+import os
+import pathlib
+import random
+import socket
+import sqlite3
+import sys
+import threading
+import time
+from urllib.parse import quote, urlencode
+
+sys.dont_write_bytecode = True
+from checks import Checks  # noqa: E402
+from office import TOP, fresh  # noqa: E402
+from searched import LOOKS, Asking, Searched, Unreached  # noqa: E402
+
+HEADER = "legacyId,parentId,identifier,title,levelOfDescription,publicationStatus,eventDates,scopeAndContent\n"
+QUICK = ("--every", ".2", "--rest", "0")
+WORDS = ["dock", "plans", "minute", "letters", "secret"]
+HOSTILE = ['"', '""', "*", "dock*", "AND", "OR NOT", "NEAR(dock plans)", "head:dock", "{head body}:dock", "^dock", "-dock", "dock + plans", "(", "')--",
+           "dock\0plans", "\0", "\u202edock", "\u05d3\u05d5\u05e7", "e\u0301\u0301\u0301", "\u0301", "\ufb01", "\U0001f4dc", "\ue000", "a" * 5000, "a " * 2000,
+           '"' * 999, "* " * 99, "\u2028", "1e309", "%", "dock\n", ";dock", "&q=dock", "a* b* c* d* e* f* g* h*", "\ufdfa", "\u0130"]
+RAW = ["q=%ff%fe", "q=%", "q", "=", "", "q=dock&q=plans", "in=0&from=x&to=-1&after=99999999999&q=dock", "&".join("x=1" for _ in range(50)),
+       "q=" + "%00" * 2000, "after=1-1&q=dock", "after=0-9999999999&q=dock", "after=2-1&q=dock", "from=1900&to=1800&q=dock", "in=999&q=dock",
+       "q=%ed%a0%80dock", "after=%D9%A1-1&q=dock"]
+
+
+def told(finder):
+    """An answer as bytes."""
+    return json.dumps([finder.state, finder.units, finder.more, finder.after]).encode()
+
+
+def pairs(checks, program, folder):
+    """Two offices that differ only in what is closed or draft: every answer is the same to the byte. And if a part was public in
+    one of them at the last round and not in the other, the answers are still the same, order included."""
+    for was_public in (False, True):
+        made = [pair_of(program, folder / f"pair{which}", which, was_public) for which in (0, 1)]
+        for asked, one in made[0].items():
+            checks.same(f"the same to the byte{' after it was public' * was_public}: {asked}", one, made[1][asked])
+        checks.check("something is found, and something has more", any(b'"unit"' in one for one in made[0].values()) and
+                     any(b", true," in one for one in made[0].values()))
+
+
+def pair_of(program, folder, which, was_public):
+    """All answers of an office whose hidden units have other texts, or other reasons to be hidden, in each of the two."""
+    chance = random.Random(5)
+    plan = [(n, chance.randint(1, n - 1) if n > 2 else "", chance.random() < .3, random.Random(n)) for n in range(1, 150)]
+    rows, hidden = HEADER, set()
+    for n, parent, hide, draw in plan:
+        if hide and n > 2 or parent in hidden:
+            hidden.add(n)
+            draw = draw if was_public else random.Random(2 * n + which)
+        text = [" ".join(draw.choice(WORDS) for _ in range(draw.randint(1, 6))) for _ in range(2)]
+        status = "Draft" if n in hidden and not was_public else "Published"
+        rows += f"{n},{parent},{n % 7},{text[0]},File,{status},{draw.choice(['1774-1893', '1850', ''])},{text[1]}\n"
+    office = Searched(fresh(folder), program).init()
+    (office.folder / "units.csv").write_text(rows)
+    office.take_in("a", office.folder / "units.csv")
+    with office:
+        if was_public and which:
+            office.round()
+        for n in sorted(n for n, parent, *_ in plan if n in hidden and parent not in hidden):
+            office.tell("/desk/status", {"unit": n, "status": "draft", "branch": False})
+        if not was_public or not which:
+            office.round()
+        return {f"{typed} {values}": told(office.find(typed, **values))
+                for typed in (*WORDS, "doc*", "dock plans", '"letters dock"', "1850", "file", "gb secret")
+                for values in ({}, {"top": 1}, {"first": 1800}, {"last": 1800, "top": 2})}
+
+
+def bounds(checks, program, folder):
+    """What one answer is bounded by, and what is asked of the office."""
+    office = Searched(fresh(folder / "bounds"), program).init()
+    rows = "".join(f"{n},{1 if n > 1 else ''},{n},dock letters {n},{'File' if n > 1 else 'Fonds'},Published,{1700 + n % 300},\n" for n in range(1, 420))
+    (office.folder / "units.csv").write_text(HEADER + rows)
+    office.take_in("a", office.folder / "units.csv")
+    with office:
+        office.round()
+        found = office.find("letters")
+        checks.same("the way to a unit", (found.units[0]["way"], found.units[1]["way"]), ([], [{"unit": 1, "head": "GB 0999 1 [Fonds] dock letters 1"}]))
+        checks.same("twenty are shown, by number", [unit["unit"] for unit in found.units], list(range(1, 21)))
+        checks.same("and there are more", (found.more, found.after), (True, (0, 20)))
+        checks.same("they go on", [unit["unit"] for unit in office.find("letters", after=found.after).units], list(range(21, 41)))
+        checks.same("to the end", (len(office.find("letters", after=(0, 410)).units), office.find("letters", after=(0, 410)).more), (9, False))
+        checks.same("years", [unit["unit"] for unit in office.find("letters", first=1750, last=1752).units], [50, 51, 52, 350, 351, 352])
+        for n in range(2, 400):
+            office.tell("/desk/status", {"unit": n, "status": "draft", "branch": False})
+        found = office.find("dock")
+        checks.same("it gives up after so many looks", (found.state, [unit["unit"] for unit in found.units], found.looked), ("late", [1], LOOKS))
+        office.round()
+        checks.same("and the next round mends that", [unit["unit"] for unit in office.find("dock").units], [1, *range(400, 420)][:20])
+        checks.same("the socket has no route of the desk", office.ask("/desk/issued"), None)
+        checks.same("and no other", [office.ask(path) for path in ("/public/orders", "/public/units/01", "/public/units/1/")], [None] * 3)
+        office.index.unlink()
+        paths = office.round(large=10)
+        checks.check("nobody waits for the aid of a large archive", "/public/aid/1" not in paths and "/public/aid/400" in paths, paths)
+        checks.same("nor in a round without changes", "/public/aid/1" in office.round(large=10), False)
+        checks.same("all is found in it", [unit["unit"] for unit in office.find("dock").units], [1, *range(400, 420)][:20])
+
+
+class FakeOffice(threading.Thread):
+    """Answers at a socket: 200 to whatever is asked, but what `statuses` says of some. heads: of each request."""
+
+    def __init__(self, path, statuses):
+        super().__init__(daemon=True)
+        self.statuses, self.heads, self.listener = statuses, [], socket.socket(socket.AF_UNIX)
+        self.listener.bind(str(path))
+        self.listener.listen()
+
+    def run(self):
+        while True:
+            with self.listener.accept()[0] as it:
+                while b"\r\n\r\n" in (head := it.recv(4096)):
+                    self.heads.append(head.decode())
+                    status = self.statuses.get(head.split()[1].decode(), 200)
+                    if status is None:
+                        break
+                    time.sleep(.05)
+                    it.sendall(f"HTTP/1.1 {status} x\r\nContent-Length: 5\r\n\r\nlines".encode())
+
+
+def questions(checks, folder):
+    """How the office is asked: rounds after everybody else, at rest for four fifths of the time; readers for so long only."""
+    folder.mkdir(parents=True, exist_ok=True)
+    (folder / "fake.sock").unlink(missing_ok=True)
+    fake = FakeOffice(folder / "fake.sock", {"/shut": 404, "/broken": 502, "/gone": None})
+    fake.start()
+    ask = Asking(folder / "fake.sock", 4)
+    began = time.monotonic()
+    checks.same("what is shown, and what is not", [ask("/one"), ask("/shut")], ["lines", None])
+    checks.check("a round rests", time.monotonic() - began > 4.5 * ask.busy > .4, (time.monotonic() - began, ask.busy))
+    checks.check("a round asks after everybody else", all("Record-Office-Round" in head for head in fake.heads), fake.heads)
+    for path in ("/broken", "/gone"):
+        checks.same(f"{path} is no answer", failure(ask, path), "Unreached")
+    reader = Asking(folder / "fake.sock")
+    reader.until = time.monotonic() + .3
+    checks.same("a reader's question", reader("/reader"), "lines")
+    checks.check("goes before rounds", "Record-Office-Round" not in fake.heads[-1], fake.heads[-1])
+    time.sleep(.3)
+    checks.same("a reader's time is over", failure(reader, "/late"), "Slow")
+
+
+def failure(ask, path):
+    try:
+        return ask(path)
+    except Unreached as lost:
+        return type(lost).__name__
+
+
+def hostile(checks, office):
+    """Whatever is typed, the answer is 200 and JSON, or the front's own refusal of what is too long."""
+    for text in HOSTILE:
+        status, body = patient(office, "q=" + quote(text.encode("utf-8", "replace")))
+        checks.check(f"legal: {text[:20]!r}", status in (200, 414) and (status == 414 or json.loads(body)["state"] == "done"), (status, body[:200]))
+    for raw in RAW:
+        status, body = patient(office, raw)
+        checks.check(f"legal: {raw[:40]!r}", status == 200 and json.loads(body)["state"] == "done", (status, body[:200]))
+    checks.same("100 kB", patient(office, "q=" + "a" * 100_000)[0], 414)
+    checks.check("too often", 429 in [office.found("q=")[0] for _ in range(200)])
+
+
+def patient(office, args):
+    """The answer; if nginx says that this address asks too often, it asks again."""
+    while True:
+        status, body = office.found(args)
+        if status != 429:
+            return status, body
+        time.sleep(.1)
+
+
+def units(office):
+    """The numbers that are found for a word, or None if the answer is not whole."""
+    status, body = patient(office, urlencode({"q": "dock"}))
+    answer = json.loads(body) if status == 200 else {}
+    return {unit["unit"] for unit in answer["units"]} if answer.get("state") == "done" else None
+
+
+def is_found(office, wanted, seconds=60):
+    end = time.time() + seconds
+    while time.time() < end:
+        if units(office) == wanted:
+            return True
+        time.sleep(.2)
+    return False
+
+
+def kills(checks, office, turns=12):
+    """kill -9 of service, rounds and program at random; the index damaged, cut, foreign or deleted, at rest and while it is used."""
+    chance, wanted = random.Random(3), units(office)
+    checks.check("something is found", wanted)
+    for turn in range(turns):
+        what = chance.choice(["service", "rounds", "program", "both", "delete", "damage", "cut", "foreign", "other"])
+        harm(office, what, chance)
+        if office.service.poll() is not None:
+            office.serve_search(*QUICK)
+        time.sleep(chance.random())
+        now = units(office)
+        checks.check(f"never anything else after {what}, turn {turn}", now is None or now <= wanted, now)
+        if turn % 3 == 2:
+            checks.check(f"found again after {what}, turn {turn}", is_found(office, wanted), (units(office), wanted))
+    checks.same("the index is private", oct(os.stat(office.index).st_mode & 0o777), "0o600")
+
+
+def harm(office, what, chance):
+    path = pathlib.Path(office.index)
+    if what in ("service", "both", "damage", "cut", "foreign", "other"):
+        office.kill_search()
+    if what == "rounds":
+        pid = office.service.pid
+        for child in pathlib.Path(f"/proc/{pid}/task/{pid}/children").read_text().split():
+            os.kill(int(child), 9)
+    if what in ("program", "both"):
+        office.kill_program()
+    if what == "delete":
+        path.unlink(missing_ok=True)
+    if what == "foreign":
+        path.write_bytes(b"SQLite format 3\0" + b"no database " * 999)
+    if what == "other" and path.exists():  # the index of another office: every text and number is another
+        with contextlib.suppress(sqlite3.Error), contextlib.closing(sqlite3.connect(path, isolation_level=None)) as db:
+            db.execute("UPDATE unit SET own = NULL, branch = NULL, parent = (parent * 7) % 30 + 1")
+            db.execute("UPDATE words SET head = body, body = head")
+    if what in ("damage", "cut") and path.exists():
+        data = bytearray(path.read_bytes())
+        for _ in range(40):
+            data[chance.randrange(len(data))] ^= 1 << chance.randrange(8)
+        path.write_bytes(data[:chance.randrange(len(data))] if what == "cut" else data)
+
+
+def states(checks, office):
+    """Without the office, and without the service."""
+    with office.without_program():
+        begun = time.time()
+        status, body = patient(office, "q=dock")
+        checks.check("while the office is away", json.loads(body)["state"] in ("late", "unreached") and time.time() - begun < 12, (status, body))
+    office.kill_search()
+    checks.same("without the service", patient(office, "q=dock")[0], 502)
+    checks.check("the pages are as they were", b"[Fonds]" in office.wait_for(office.public + "/public/fonds"))
+
+
+def with_service(checks, program, folder, parts):
+    office = Searched(fresh(folder / "served"), program).init()
+    office.take_in("catalogue", TOP / "examples/archives.csv")
+    with office:
+        office.serve_search(*QUICK)
+        end = time.time() + 60
+        while not units(office) and time.time() < end:
+            time.sleep(.2)
+        for part in (hostile, kills, states):
+            if part.__name__ in parts:
+                checks.part(f"search: {part.__name__}", part, checks, office)
+
+
+def play(checks, program, folder, parts=("questions", "pairs", "bounds", "hostile", "kills", "states")):
+    folder = pathlib.Path(folder)
+    if "questions" in parts:
+        checks.part("search: questions", questions, checks, folder)
+    for part in (pairs, bounds):
+        if part.__name__ in parts:
+            checks.part(f"search: {part.__name__}", part, checks, program, folder)
+    if {"hostile", "kills", "states"} & set(parts):
+        with_service(checks, program, folder, parts)
+
+
+if __name__ == "__main__":
+    checks = Checks()
+    play(checks, sys.argv[1], sys.argv[2], *([sys.argv[3:]] if sys.argv[3:] else []))
+    sys.exit(checks.end())

@@ -1,0 +1,142 @@
+"""The search in all archives in a real browser, with a service of its own."""
+
+import time
+import urllib.parse
+
+from catalogue import ODD, dock_company, many
+from office import TOP
+from searched import Searched
+
+BOXES = "document.querySelectorAll('form.find').length"
+TOLD = ".told"
+MARKS = "[...new Set([...document.querySelectorAll('.found mark')].map((mark) => mark.textContent.toLowerCase()))].sort().join()"
+FIELDS = "[...document.querySelectorAll('form.find :is(select, input)')].map((field) => field.value).join()"
+MADE = "document.querySelectorAll('.found :is(img, b, i, script, style, title, [onmouseover])').length"
+
+
+def office_of(program, folder):
+    office = Searched(folder / "office", program).init()
+    office.take_in("catalogue", TOP / "examples/archives.csv")
+    for name, lines in (("dock", dock_company()), ("many", many(45))):
+        (folder / f"{name}.csv").write_text("".join(lines))
+        office.take_in(name, folder / f"{name}.csv")
+    return office
+
+
+def play(checks, program, folder, browser, shot):
+    folder.mkdir(parents=True, exist_ok=True)
+    with office_of(program, folder) as office:
+        page = browser.page()
+        for part in (absent, box, results, more, filters, odd_texts, phone, away):
+            checks.part(f"search pages: {part.__name__}", part, checks, office, page, shot)
+
+
+
+def absent(checks, office, page, _):
+    page.open(office.public, "/")
+    page.see("Archives")
+    checks.same("no box without the service", page.js(BOXES), 0)
+    page.open(office.public, "/search?q=minutes")
+    page.see("The search does not answer just now.", TOLD)
+    office.serve_search("--every", ".3", "--rest", "0")
+    end = time.time() + 60
+    while b'"unit"' not in office.found("q=minutes")[1] and time.time() < end:
+        time.sleep(.6)
+    page.complaints()
+
+
+def box(checks, office, page, shot):
+    """By keyboard alone from the start page to what is found, and on to the unit."""
+    page.open(office.public, "/")
+    page.wait(f"{BOXES} === 1")
+    shot(page, "reader-start")
+    page.js("document.querySelector('main h1').focus()")
+    page.js("document.querySelector('form.find input').focus()")
+    page.type("minutes dock")
+    page.key("Enter")
+    page.see("3 units.", TOLD)
+    checks.check("the address has the question", page.js("location.href").endswith("/search?q=minutes+dock"), page.js("location.href"))
+    checks.same("and so has the field", page.js("document.querySelector('form.find input').value"), "minutes dock")
+    checks.check("the title", page.js("document.title").startswith("Search: minutes dock"), page.js("document.title"))
+    checks.same("the words are marked", page.js(MARKS), "dock,minutes")
+    checks.same("the result is announced", page.js(f"document.querySelector('{TOLD}').getAttribute('role')"), "status")
+    checks.same("the page begins at its heading", page.js("document.activeElement.tagName"), "H1")
+    checks.same("the box and its fields have names", page.js(
+        "[...document.querySelectorAll('form.find :is(select, input)')].every((field) => field.labels.length === 1)"), True)
+    shot(page, "reader-found")
+    for _ in range(12):
+        page.key("Tab")
+        if page.js("document.activeElement.closest('.hit') !== null"):
+            break
+    head = page.js("document.activeElement.textContent")
+    page.key("Enter")
+    page.wait(f"document.querySelector('main h1').textContent === {page.quoted(head)}")
+    checks.check("a hit leads to its unit", True)
+    page.js("history.back()")
+    page.see("3 units.", TOLD)
+    checks.check("and Back to what was found", True)
+
+
+def results(checks, office, page, _):
+    for typed, told in (("cafe", "1 unit."), ("CAFE\u0301", "1 unit."), ("zzz", "Nothing found."), ("", "Please type a word."), ("\u2018\u2019 -", "Please type a word."),
+                        ("\u201cdock company\u201d zzz", "Nothing found.")):
+        page.open(office.public, "/search?q=" + urllib.parse.quote(typed))
+        page.see(told, TOLD)
+        checks.check(f"{typed!r}: {told}", True)
+    page.open(office.public, "/search?q=cafe")
+    page.see("1 unit.", TOLD)
+    checks.same("whole letters are marked, with their accents", page.js(MARKS), "cafe\u0301,caf\u00e9")
+
+
+def more(checks, office, page, _):
+    page.open(office.public, "/search?q=unit")
+    page.see("20 units so far.", TOLD)
+    page.press("More")
+    page.see("40 units so far.", TOLD)
+    checks.same("the focus is at the first new one", page.js("[...document.querySelectorAll('.found .hit a')].indexOf(document.activeElement)"), 20)
+    numbers = page.js("[...document.querySelectorAll('.found .hit a')].map((a) => +a.href.split('/').pop())")
+    checks.check("none is shown twice", len(set(numbers)) == 40, numbers)
+
+
+def filters(checks, office, page, _):
+    page.open(office.public, "/search?q=company&in=1&from=1800&to=1810")
+    page.wait("document.querySelectorAll('.found li').length > 0")
+    page.wait("document.querySelectorAll('#find-in option').length > 2")
+    checks.same("the filters are filled in", page.js(FIELDS), "company,1,1800,1810")
+    page.open(office.public, "/search?q=company&from=1200&to=1300")
+    page.see("Nothing found.", TOLD)
+    checks.check("years are kept to", True)
+
+
+def odd_texts(checks, office, page, _):
+    """Nothing of the office becomes markup, whatever it looks like."""
+    for name, text in ODD.items():
+        if name == "long":
+            continue  # one word, longer than what may be typed
+        page.open(office.public, "/search?q=" + urllib.parse.quote('"' + text.replace('"', " ")[:150] + '"'))
+        page.wait("document.querySelector('.told').textContent")
+        shown = page.js("document.querySelector('main').textContent")
+        checks.check(f"odd text is found: {name}", text[:60] in shown, shown[:500])
+        checks.same(f"odd text is no markup: {name}", page.js(MADE), 0)
+    checks.same("each text has its own direction", page.js(
+        "[...document.querySelectorAll('.found .words:not(:has([dir]))')].every((text) => text.dir === 'auto' || text.tagName === 'BDI')"), True)
+
+
+def phone(checks, office, page, shot):
+    page.size(360, 740, 2, True)
+    page.open(office.public, "/search?q=minutes")
+    page.wait("document.querySelector('.found li')")
+    checks.check("no sideways scrolling on a phone", page.js("document.documentElement.scrollWidth <= innerWidth"))
+    shot(page, "reader-found-phone")
+    page.size(1200, 850)
+
+
+def away(checks, office, page, _):
+    checks.same("the browser complains of nothing", page.complaints(), [])
+    with office.without_program():
+        page.js("document.querySelector('form.find input').value = 'away'")
+        page.press("Search")
+        page.see("Please try again in a minute.", TOLD, 30)
+    checks.check("an office that is away is told", True)
+    page.press("Try again")
+    page.see("Nothing found.", TOLD, 60)

@@ -1,0 +1,297 @@
+#!/usr/bin/env python3
+"""Random offices and random sessions of commands, with the index at every degree of staleness:
+
+    search_sessions.py PROGRAM FOLDER [--steps N] [--seed N]
+
+After each step a random question is asked, and what is found is compared with all public pages, which are read by other code
+than the service's: nothing is found that is not public now, and nothing is missing that a round has seen. It prints how often
+what happened; an assertion that fails says which promise was broken."""
+
+import argparse
+import random
+import re
+import sys
+import unicodedata
+
+sys.dont_write_bytecode = True
+import searched  # noqa: E402
+from checks import Checks  # noqa: E402
+from office import fresh  # noqa: E402
+
+WORDS = ["dock", "Minutes", "minute", "letters", "caf\u00e9", "cafe\u0301", "\u05de\u05db\u05ea\u05d1", "Dock-gates", "x2", "plans", "\u0141\u00f3d\u017a", "O\u2019Brien"]
+ODD = ["closed until 2030-01-01", "Unit 1: GB 0999 A [Fonds] dock", "dock (from GB 0999 A)", "plans (from GB 0999)", "minute\nGB 0999 A [File] letters",
+       "] dock [", "3.1.3 Date(s): 1850", "Container 1: dock", "  Unit 2: plans", "\u202edock\u2028plans", "a\ue000b \0 dock"]
+COLUMNS = ["legacyId", "parentId", "identifier", "title", "levelOfDescription", "publicationStatus", "eventDates", "eventActors", "scopeAndContent", "physicalObjectName"]
+DATES = ["", "", "1774-1893", "1800", "about 1850 or 1860", "18th century", "12345"]
+KINDS = ["command"] * 12 + ["clean", "clean", "disturbed", "disturbed", "blink", "cut", "all"]
+
+
+class Unit:
+    """A public unit, read from its page and its finding aid: head, own values, numbers above from the top, years, lines of the
+    units right below."""
+
+    def __init__(self, head, values, above, years, units):
+        self.head, self.values, self.above, self.years, self.units = head, values, above, years, units
+
+    def __eq__(self, other):
+        return other is not None and vars(self) == vars(other)
+
+
+def tokens(text):
+    """The words of a text, by other code than the service's."""
+    plain = "".join(c for c in unicodedata.normalize("NFKD", text) if unicodedata.category(c) not in ("Mn", "Cf")).lower()
+    return re.findall(r"[^\W_]+", plain.replace("\u0142", "l"))
+
+
+def holds(words, phrase, begins):
+    spans = [words[k:k + len(phrase)] for k in range(len(words) - len(phrase) + 1)]
+    return any(span == phrase or begins and span[:-1] == phrase[:-1] and span[-1].startswith(phrase[-1]) for span in spans)
+
+
+def phrases_of(typed):
+    """The phrases of what the sessions type: words, phrases in quotation marks, and word*."""
+    return [(tokens(piece), piece.endswith("*")) for piece in re.findall(r'"[^"]*"|[^ "]+', typed)]
+
+
+class Session:
+    """office: a Searched office that is running."""
+
+    def __init__(self, office, seed):
+        self.office, self.random = office, random.Random(seed)
+        self.db, self.asking = searched.index.made(str(office.index), True), searched.Asking(office.queue)
+        self.reader = searched.Asking(office.queue)
+        self.day, self.rows, self.last, self.fetched, self.snap, self.doubts, self.told = 0, {}, ("s0", b""), {}, {}, set(), {}
+        self.by_parts = set()
+
+    # Commands
+
+    def text(self):
+        choice = self.random.choice
+        return choice(ODD) if self.random.random() < .25 else " ".join(choice(WORDS) for _ in range(self.random.randint(1, 3)))
+
+    def file(self, source, many):
+        lines, rows = [",".join(COLUMNS)], self.rows.get(source, 0)
+        for number in self.random.sample(range(1, rows + 1), min(rows, 2)) + list(range(rows + 1, rows + many + 1)):
+            parent = self.random.randint(1, number - 1) if number > 1 and self.random.random() < .85 else ""
+            some = [number, parent, self.random.choice(["", "A", "B", "1"]), self.text(), self.random.choice(["", "Fonds", "File", "[File"]),
+                    self.random.choice(["Published"] * 6 + ["Draft"]), self.random.choice(DATES), self.random.choice(["", self.text()]),
+                    self.random.choice(["", self.text(), self.text()]), self.random.choice(["", "", self.text()])]
+            lines.append(",".join('"' + str(value).replace('"', '""') + '"' for value in some))
+        self.rows[source] = rows + many
+        return "\n".join([*lines, ""]).encode()
+
+    def command(self):
+        """Numbers of units are taken from what is public now, and sometimes at random. Whether the command was done."""
+        some = [*self.now] or [1]
+        unit = self.random.choice(some) if self.random.random() < .8 else self.random.randint(1, 300)
+        kind = self.random.choice("import status status close close open move move remove day permit again".split())
+        if kind == "import" or len(some) < 12:
+            source = f"s{self.random.randint(0, 2)}"
+            self.last = (source, self.file(source, self.random.randint(1, 9)))
+            status, _ = self.office.tell(f"/desk/import/{source}", self.last[1])
+            self.rows[source] = self.rows[source] if status == 200 else 0  # a parent was removed: from the first row again
+            return status == 200
+        if kind == "again":  # a branch is removed, and the last file imported again: other numbers, and often the same bytes
+            self.office.tell("/desk/remove", {"unit": max(some)})
+            return self.office.tell(f"/desk/import/{self.last[0]}", self.last[1])[0] == 200
+        return self.office.tell(*self.order(kind, unit, some))[0] == 200
+
+    def order(self, kind, unit, some):
+        if kind == "day":
+            self.day += self.random.randint(1, 400)
+        date = f"{2024 + self.day // 336}-{1 + self.day // 28 % 12:02}-{1 + self.day % 28:02}"
+        soon = f"{2024 + self.day // 336 + self.random.randint(0, 2)}-12-31"
+        return {"status": ("/desk/status", {"unit": unit, "status": self.random.choice(["published", "published", "draft"]), "branch": self.random.random() < .5}),
+                "close": ("/desk/closure", {"unit": unit, "until": soon}), "open": ("/desk/closure", {"unit": unit, "until": None}),
+                "move": ("/desk/move", {"unit": unit, "parent": self.random.choice([None, *some, *some])}),
+                "remove": ("/desk/remove", {"unit": unit}) if len(some) > 25 else ("/desk/closure", {"unit": unit, "until": None}),
+                "day": ("/desk/day", {"day": date}), "permit": ("/desk/permit", {"ticket": 1, "unit": unit, "until": soon})}[kind]
+
+    # What is public now
+
+    def truth(self):
+        """Every public unit, by its number."""
+        found = {}
+        for line in self.office.ask("/public/fonds").split("\n")[:-1]:
+            top = int(line.split(" ")[0])
+            own = re.split(r"(?m)^ *(?=[A-Z]{2} )", self.office.ask(f"/public/aid/{top}"))[1:]
+            self.walk(found, top, (), iter([part.split("\n")[:-1] for part in own]))
+        return found
+
+    def walk(self, found, number, above, own):
+        head, *lines = self.office.ask(f"/public/units/{number}").split("\n")[:-1]
+        mine = next(own)
+        assert mine[0] == head, (number, mine[0], head)
+        values = [line.split(": ", 1)[1] for line in mine[1:]]
+        dates = [int(year) for line in mine[1:] if line.strip().startswith("3.1.3") for year in re.findall(r"\b\d{4}\b", line.split(": ", 1)[1])]
+        units = tuple(line for line in lines if line.startswith("  Unit "))
+        found[number] = Unit(head, tuple(values), above, (min(dates), max(dates)) if dates else None, units)
+        for line in units:
+            self.walk(found, int(line[7:line.index(":")]), (*above, number), own)
+
+    # Rounds
+
+    def round(self, kind):
+        """A disturbed round meets two commands, mostly between an aid and the pages that give its numbers. In a blink a unit is
+        closed just there, and open again at the next question: the aid is the same after it as before. `large` is small now and
+        then, so that archives are read by parts; what is below a unit that was shut while its page was read for that comes back
+        with the next round."""
+        for number in self.doubts:
+            searched.index.doubt(self.db, number)
+        self.doubts, left, was, last, shut, blinked = set(), self.random.randint(1, 12), self.now, "", [], set()
+
+        def ask(path):
+            nonlocal left, last
+            left, last, between = left - 1, path, path.startswith("/public/units") and last.startswith("/public/aid")
+            if shut:
+                self.office.tell("/desk/closure", {"unit": shut.pop(), "until": None})
+            if kind == "blink" and between and int(path[14:]) in self.now and self.now[int(path[14:])].units:
+                shut.append(int(path[14:]))
+                blinked.add(shut[0])
+                self.office.tell("/desk/closure", {"unit": shut[0], "until": "2999-12-31"})
+            if kind == "cut" and left == 0:
+                raise searched.Unreached
+            if kind == "disturbed" and (left == 0 or between and left > 0):
+                left = 0
+                self.command()
+                self.command()
+            text = self.asking(path)
+            if path.startswith("/public/units/") and text:
+                self.fetched[int(path[14:])] = tuple(line for line in text.split("\n") if line.startswith("  Unit "))
+            return text
+        sweep = searched.FOREVER if kind == "all" else self.random.choice([1, 3])
+        made, by_parts = searched.Round(self.db, ask, sweep, self.random.choice([1, 3, 2000])), set()
+        parts = made.parts
+        made.parts = lambda number, *rest: by_parts.add(number) or parts(number, *rest)
+        try:
+            made.run()
+        except searched.Unreached:
+            pass
+        self.by_parts |= by_parts
+        for number in shut:
+            self.office.tell("/desk/closure", {"unit": number, "until": None})
+        self.now = self.truth()
+        if kind in ("clean", "all"):
+            self.snap = {n: one for n, one in self.now.items() if all(self.fetched.get(a) == self.now[a].units for a in one.above)}
+        else:
+            self.snap = {n: one for n, one in self.snap.items() if was.get(n) == one == self.now.get(n) and not blinked & by_parts & {n, *one.above}}
+
+    # Questions
+
+    def question(self):
+        choice, chance = self.random.choice, self.random.random
+        typed = []
+        for _ in range(choice([1, 1, 2])):
+            word = choice([*WORDS, "doc*", "min*", "GB", '"dock minute"', '"letters plans"', "0999/A", '"from gb"', "1850", "until", "o'br*", "Lodz", "dock gates"])
+            typed.append(word.upper() if chance() < .3 else word)
+        year = choice([None, None, None, 1799, 1850, 1900])
+        return " ".join(typed), (choice([*self.now, 1]) if chance() < .3 else None), year, choice([None, year and year + 60])
+
+    def matches(self, one, number, typed, top, first, last):
+        """The group of a unit that is to be found: 0 if its head has all, else 1. None if it is none."""
+        head, *texts = [tokens(text) for text in (one.head, *one.values)]
+        phrases = phrases_of(typed)
+        if not all(any(holds(text, *phrase) for text in (head, *texts)) for phrase in phrases):
+            return None
+        if top is not None and top != (*one.above, number)[0]:
+            return None
+        if (first, last) != (None, None) and not (one.years and (first or 0) <= one.years[1] and one.years[0] <= (last or 9999)):
+            return None
+        return 0 if all(holds(head, *phrase) for phrase in phrases) else 1
+
+    def must_match(self, one, number, asked):
+        """Whether a unit must be found. Of one that was read by parts, a value that ends as if it came from above is not searched."""
+        if number in self.by_parts:
+            one = Unit(one.head, tuple(value for value in one.values if not re.search(r" \(from .*\)$", value)), one.above, one.years, one.units)
+        return self.matches(one, number, *asked) is not None
+
+    def answers(self, asked):
+        """All that is found, a few at a time."""
+        typed, top, first, last = asked
+        found, after = [], (0, 0)
+        for _ in range(500):
+            query = searched.Query(searched.read_typed(typed), top, first, last, after)
+            answer = searched.Finder(self.db, self.reader, query, self.random.randint(1, 6)).find()
+            self.doubts |= answer.doubts
+            numbers = [unit["unit"] for unit in found]
+            assert answer.state == "done" and not set(numbers) & {unit["unit"] for unit in answer.units}, (asked, answer.state, numbers)
+            found += answer.units
+            if not answer.more:
+                break
+            after = answer.after
+        return found
+
+    def compare(self, exactly=False):
+        asked = self.question()
+        top = asked[1]
+        found = self.answers(asked)
+        numbers = [unit["unit"] for unit in found]
+        now = {n: self.matches(one, n, *asked) for n, one in self.now.items() if self.matches(one, n, *asked) is not None}
+        wanted = {n for n in now if n in self.snap and self.must_match(self.snap[n], n, asked) and self.must_match(self.now[n], n, asked)
+                  and (top is None or self.snap[n].above == self.now[n].above)}
+        assert set(numbers) <= set(now), ("never shown", asked, set(numbers) - set(now))
+        assert wanted <= set(numbers), ("must be found", asked, [(n, vars(self.now[n]), vars(self.snap[n])) for n in wanted - set(numbers)])
+        there = [n for n in now if n in numbers or self.must_match(self.now[n], n, asked)]
+        assert not exactly or numbers == sorted(there, key=lambda n: (now[n], n)), ("all, in order", asked, now, numbers)
+        for unit in found:
+            self.look(unit, self.now[unit["unit"]])
+        self.count("hits", len(found))
+        self.count("questions", 1)
+        self.count("stale questions", self.snap != self.now)
+        self.count("new and not found yet", len(set(now) - set(numbers)))
+
+    def look(self, unit, one):
+        """Head, excerpt and way are those of now."""
+        assert "".join(unit["head"]) == one.head, (unit, one.head)
+        assert all("".join(line["text"]).strip("\u2026 ") in "\n".join(one.values) for line in unit["lines"]), (unit, one.values)
+        way = unit["way"]
+        assert way is None or [(step["unit"], step["head"]) for step in way] == [(a, self.now[a].head) for a in one.above], (unit, one.above)
+
+    def count(self, name, by):
+        self.told[name] = self.told.get(name, 0) + by
+
+    def play(self, steps):
+        self.office.tell("/desk/register", {"name": "A reader", "until": "2099-12-31"})
+        self.now = self.truth()
+        for _ in range(steps):
+            kind = self.random.choice(KINDS)
+            self.count(kind, 1)
+            if kind == "command":
+                self.count("commands done", self.command())
+                self.now = self.truth()
+            else:
+                self.round(kind)
+            self.compare(exactly=kind == "all")  # after a round that has looked at all pages nothing is missing
+            self.look_at_rows(kind)
+        return self.told
+
+    def look_at_rows(self, kind):
+        """The rows of the index after a round that nothing disturbed."""
+        rows = dict(self.db.execute("SELECT n, parent FROM unit"))
+        indexed = {n for n, in self.db.execute("SELECT rowid FROM words")}
+        assert kind not in ("clean", "all") or self.snap.keys() <= rows.keys(), ("rows", kind, self.snap.keys() - rows.keys())
+        assert kind != "all" or rows == {n: (None, *one.above)[-1] for n, one in self.now.items()}, ("rows", rows, self.now.keys())
+        assert kind != "all" or indexed == rows.keys(), ("words", indexed ^ rows.keys())
+
+
+def play(checks, program, folder, steps, seed):
+    with searched.Searched(fresh(folder), program).init() as office:
+        told = Session(office, seed).play(steps)
+    print(f"seed {seed}: {told}", flush=True)
+    checks.check(f"{steps} random steps", told["hits"])
+
+
+def main():
+    words = argparse.ArgumentParser(description=__doc__, formatter_class=argparse.RawDescriptionHelpFormatter)
+    words.add_argument("program")
+    words.add_argument("folder")
+    words.add_argument("--steps", type=int, default=1000)
+    words.add_argument("--seed", type=int, default=1)
+    words = words.parse_args()
+    checks = Checks()
+    checks.part("sessions", play, checks, words.program, words.folder, words.steps, words.seed)
+    return checks.end()
+
+
+if __name__ == "__main__":
+    sys.exit(main())

@@ -1,0 +1,92 @@
+"""An office with the search in all archives, and who asks it."""
+
+import http.client
+import json
+import os
+import pathlib
+import subprocess
+import sys
+import time
+
+from office import FRONT, Office
+
+SEARCH = pathlib.Path(os.environ.get("SEARCH_SERVICE") or FRONT / "search")  # mutation/search.py names copies of it
+sys.path.insert(0, str(SEARCH))
+
+import folding  # noqa: E402, F401
+import index  # noqa: E402
+from answers import LOOKS, Finder, Query  # noqa: E402, F401
+from asking import Asking, Unreached  # noqa: E402, F401
+from folding import read_typed  # noqa: E402
+from rounds import Round  # noqa: E402
+
+FOREVER = 10**6  # a round with this sweep looks at all pages
+PYTHON = "/usr/bin/python3"  # Debian's own, which has waitress
+
+
+class Searched(Office):
+    def __init__(self, folder, program, **values):
+        super().__init__(folder, program, changes=[("searches:2m rate=2r/s", "searches:2m rate=30r/s")], **values)
+        self.service, self.desk, self.public_ask = None, None, None
+        self.queue, self.index, self.listen = (self.folder / name for name in ("search.sock", "index.db", "answers.sock"))
+
+    def serve_search(self, *more):
+        """Begins the service; more: further words of its command line."""
+        with open(self.folder / "search.told", "a") as log:
+            words = [PYTHON, "-B", SEARCH / "service.py", "--queue", self.queue, "--index", self.index, "--listen", self.listen, *more]
+            self.service = subprocess.Popen([str(word) for word in words], stdout=log, stderr=log)
+
+    def kill_search(self):
+        self.service.kill()
+        self.service.wait()
+
+    def end(self):
+        if self.service:
+            self.kill_search()
+        super().end()
+
+    def ask(self, path):
+        """What the public sees at this path, or None."""
+        if self.public_ask is None:
+            self.public_ask = Asking(self.queue)
+        self.public_ask.until = time.monotonic() + 100
+        return self.public_ask(path)
+
+    def tell(self, path, body):
+        """A command by the desk's way into the queue. Its status and answer."""
+        if self.desk is None:
+            self.desk = http.client.HTTPConnection("127.0.0.1", self.ports["8092"], timeout=250)
+        data = body if isinstance(body, bytes) else json.dumps(body).encode()
+        for left in (True, False):
+            try:
+                self.desk.request("POST", path, data)
+                answer = self.desk.getresponse()
+                return answer.status, json.loads(answer.read())
+            except (ConnectionError, http.client.HTTPException):  # the kept connection was closed
+                self.desk.close()
+                if not left:
+                    raise
+
+    def round(self, sweep=FOREVER, **values):
+        """One round, without the service. What was asked for."""
+        ask, paths, db = Asking(self.queue), [], index.made(str(self.index), False)
+        try:
+            Round(db, lambda path: paths.append(path) or ask(path), sweep, **values).run()
+        finally:
+            db.close()
+        return paths
+
+    def find(self, typed, **values):
+        """One answer, without the service and nginx."""
+        db = index.opened(str(self.index))
+        try:
+            return Finder(db, Asking(self.queue), Query(read_typed(typed), **values)).find()
+        finally:
+            db.close()
+
+    def found(self, args):
+        """The service's answer by nginx: status and bytes."""
+        front = http.client.HTTPConnection("127.0.0.1", self.ports["8080"], timeout=60)
+        front.request("GET", f"/public/search?{args}")
+        answer = front.getresponse()
+        return answer.status, answer.read()

@@ -1,0 +1,240 @@
+"""A round reads what the public sees: the list of fonds, then the finding aid of each. An aid whose bytes are those of the last
+round is not looked at. An aid has no numbers, but the page of a unit has those of the units right below, in the aid's order. So
+of a changed aid the pages of those units are read whose branch changed and that have units below. If the two do not agree, a
+command came in between; that part is left as it was, and read again in the next round.
+
+Nobody should wait for the aid of a large archive. So an archive is read by parts, unless it is known to be small: its page, and
+the aid of each unit right below; and so is each of these that is known to be large. Of what is read so, a value that ends as if
+it were found above is not searched, since only an aid could say that it is the unit's own."""
+
+import argparse
+import os
+import select
+import socket
+import sys
+import time
+
+import index
+from asking import Asking, Unreached
+from texts import Node, Page, digest, read_aid, read_fonds
+
+LARGE = 2000  # units; an aid with more is read by parts
+SWEEP = 20  # pages that each round reads whatever has changed
+
+
+class Round:
+    """One round. ask: how the office is asked."""
+
+    def __init__(self, db, ask, sweep=SWEEP, large=LARGE):
+        self.db, self.ask, self.sweep, self.large = db, ask, sweep, large
+
+    def run(self):
+        tops = [number for number, _ in read_fonds(self.ask("/public/fonds") or "")]
+        self.db.execute("UPDATE round SET done = 0, tops = ?", (len(tops),))
+        self.look_around()
+        for pos, number in enumerate(tops):
+            self.archive(number, pos)
+            self.db.execute("UPDATE round SET done = done + 1")
+        index.forget_gone(self.db, tops)
+        self.db.execute("UPDATE round SET finished = finished + 1")
+
+    def look_around(self):
+        """A branch that was removed and imported again has other numbers and may have the same bytes. So each round reads a few
+        pages more, until it has been around all units that have some below."""
+        swept = self.db.execute("SELECT swept FROM round").fetchone()[0]
+        some = [n for n, in self.db.execute("SELECT DISTINCT parent FROM unit WHERE parent IS NOT NULL ORDER BY parent <= ?, parent LIMIT ?",
+                                            (swept, self.sweep))]
+        for number in some:
+            page = self.page(number)
+            if page is None or [n for n, _ in page.units] != index.below(self.db, number):
+                index.doubt(self.db, number)
+        self.db.execute("UPDATE round SET swept = ?", (some[-1] if some else 0,))
+
+    def archive(self, number, pos):
+        size = self.size(number)
+        if size is None or size > self.large:
+            self.parts(number, number, None, pos)
+        else:
+            self.aid(number, number, None, pos)
+
+    def part(self, number, top, parent, pos):
+        """A unit right below one that is read by parts. How many units it has."""
+        return (self.parts if (self.size(number) or 0) > self.large else self.aid)(number, top, parent, pos)
+
+    def parts(self, number, top, parent, pos):
+        """The page of a unit, and the aids of the units right below it. How many units it has."""
+        page = self.page(number)
+        if page is None:
+            return 0
+        node = Node(page.head)
+        node.lines = page.own_lines()
+        node.close()
+        now = {n for n, _ in page.units}
+        with index.whole(self.db):
+            index.put(self.db, top, number, parent, pos, node, None)
+            for lost in index.below(self.db, number):
+                if lost not in now:
+                    index.lose(self.db, lost)
+        size = 1 + sum(self.part(n, top, number, place) for place, (n, _) in enumerate(page.units))
+        self.note(number, None, size)
+        return size
+
+    def aid(self, number, top, parent, pos):
+        """The finding aid of a unit. How many units it has."""
+        text = self.ask(f"/public/aid/{number}")
+        if text is None:
+            return 0
+        seen = digest(text.encode())
+        if self.is_known(number, top, parent, seen):
+            self.db.execute("UPDATE unit SET pos = ? WHERE n = ? AND pos <> ?", (pos, number, pos))
+            return self.size(number)
+        node = read_aid(text)
+        sure = Aid(self, number, top).take(node, parent, pos)
+        self.note(number, seen if sure else None, node.size)
+        return node.size
+
+    def is_known(self, number, top, parent, seen):
+        return self.db.execute("SELECT 1 FROM part JOIN unit USING (n) WHERE n = ? AND digest = ? AND top = ? AND parent IS ? AND NOT gone",
+                               (number, seen, top, parent)).fetchone()
+
+    def page(self, number):
+        text = self.ask(f"/public/units/{number}")
+        return text and Page(text)
+
+    def size(self, number):
+        """How many units were there when its aid, or its parts, were read last. None: never."""
+        found = self.db.execute("SELECT size FROM part WHERE n = ?", (number,)).fetchone()
+        return found and found[0]
+
+    def note(self, number, seen, size):
+        self.db.execute("INSERT OR REPLACE INTO part VALUES (?, ?, ?)", (number, seen, size))
+
+
+class Aid:
+    """The units of a changed aid get their numbers. old: the units that the index has there, by number; below: the numbers
+    below each; changed: what is to be written; kept: the units of branches that are as they were; places: those that only
+    have another place among their siblings."""
+
+    def __init__(self, round_, number, top):
+        self.round, self.db, self.number, self.top = round_, round_.db, number, top
+        self.old, self.below, self.changed, self.kept, self.places = {}, {}, [], set(), []
+        for n, *rest in index.branch(self.db, number):
+            self.old[n] = rest
+            self.below.setdefault(rest[1], []).append(n)
+
+    def take(self, node, parent, pos):
+        """Whether all units of the aid got their numbers."""
+        sure = self.assign(self.number, parent, pos, node)
+        found = self.kept | {number for number, *_ in self.changed}
+        with index.whole(self.db):
+            for one in self.changed:
+                index.put(self.db, self.top, *one)
+            self.db.executemany("UPDATE unit SET pos = ? WHERE n = ?", self.places)
+            self.db.executemany("UPDATE unit SET gone = 0 WHERE n = ?", [(n,) for n in self.kept if self.old[n][4]])
+            if sure:
+                self.db.executemany("UPDATE unit SET gone = 1 WHERE n = ?", [(n,) for n in self.old if n not in found])
+        return sure
+
+    def assign(self, number, parent, pos, node):
+        """Whether all of the branch got its numbers."""
+        if self.is_kept(number, parent, pos, node):
+            return True
+        sure = not node.units or self.assign_below(number, node)
+        self.changed.append((number, parent, pos, node, node.branch if sure else None))
+        return sure
+
+    def assign_below(self, number, node):
+        page = self.round.page(number)
+        if page is None or [head for _, head in page.units] != [unit.head for unit in node.units]:
+            return False
+        return all([self.assign(n, number, pos, unit) for pos, ((n, _), unit) in enumerate(zip(page.units, node.units))])
+
+    def is_kept(self, number, parent, pos, node):
+        """Whether a branch is as the index has it. Then all its numbers stay."""
+        old = self.old.get(number)
+        if old is None or (old[1], old[3]) != (parent, node.branch):
+            return False
+        found, rest = [], [number]
+        while rest and len(found) <= node.size:
+            found.append(rest.pop())
+            rest += self.below.get(found[-1], [])
+        if len(found) != node.size or any(self.old[n][0] != self.top for n in found):
+            return False
+        self.kept.update(found)
+        if old[2] != pos:
+            self.places.append((pos, number))
+        return True
+
+
+class Keeper:
+    """Round after round, in a process of its own. Through `told` the answers say which units they have found otherwise than the
+    index has them, and 0 if they could not read the index."""
+
+    def __init__(self, path, ask, told, every):
+        self.path, self.ask, self.told, self.every = path, ask, told, every
+        self.damaged, self.doubts, self.parent = True, set(), os.getppid()
+
+    def keep(self):
+        """After a failure whose cause may be the index, the index is checked, and begun anew if it is damaged."""
+        while self.is_wanted():
+            try:
+                self.listen(0)
+                self.round()
+                pause = min(5, self.every)
+                self.listen(pause)
+                self.listen(max(0, self.every - pause), 1)  # an answer that has found the index late does not wait so long
+            except Unreached:
+                time.sleep(min(5, self.every))
+            except Exception as broken:  # noqa: BLE001 - a damaged index may break anything
+                print(f"round: {type(broken).__name__} {broken}", flush=True)
+                self.damaged = True
+                time.sleep(min(5, self.every))
+
+    def is_wanted(self):
+        """Whether the service that began it is still there."""
+        return os.getppid() == self.parent
+
+    def listen(self, seconds, enough=None):
+        """Hears what the answers say for so many seconds, or until something was heard."""
+        end = time.monotonic() + seconds
+        while enough is None or len(self.doubts) < enough and not self.damaged:
+            if not select.select([self.told], [], [], max(0, end - time.monotonic()))[0]:
+                return
+            message = self.told.recv(64)
+            if not message:
+                sys.exit("the service is gone")
+            self.hear(int(message))
+
+    def hear(self, number):
+        if number:
+            self.doubts.add(number)
+        else:
+            self.damaged = True
+
+    def round(self):
+        check, self.damaged = self.damaged, False
+        db = index.made(self.path, check)
+        try:
+            doubts, self.doubts = self.doubts, set()
+            for number in doubts:
+                index.doubt(db, number)
+            Round(db, self.asked).run()
+        finally:
+            db.close()
+
+    def asked(self, path):
+        if not self.is_wanted():
+            sys.exit("the service is gone")
+        return self.ask(path)
+
+
+def main():
+    words = argparse.ArgumentParser(description="Begun by service.py: makes rounds until that ends.")
+    for name, kind in (("queue", str), ("index", str), ("told", int), ("every", float), ("rest", float)):
+        words.add_argument(f"--{name}", type=kind, required=True)
+    given = words.parse_args()
+    Keeper(given.index, Asking(given.queue, given.rest), socket.socket(fileno=given.told), given.every).keep()
+
+
+if __name__ == "__main__":
+    main()
