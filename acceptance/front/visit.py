@@ -119,7 +119,7 @@ class Visit:
                                    ("minutes", "2 units, number 2: GB 0999 HUL/1 [Series] Minutes", 2),
                                    ("MINUT plan", "1 unit: GB 0999 HUL [Fonds]", 2),
                                    ("\u201cfirst volume\u201d", "1 unit: GB 0999 HUL/1/1 [File] Board, first volume", 1),
-                                   ("HUL/1/1", "1 unit: GB 0999 HUL/1/1 [File]", 2),
+                                   ("HUL/1/1", "1 unit: GB 0999 HUL/1/1 [File]", 1),
                                    ("ISTANBUL file", "1 unit: GB 0999 HUL/X12 [Series]", None),
                                    (".*", "No unit of this finding aid has \u201c.*\u201d.", 0)):
             page.fill("Search in this finding aid", words)
