@@ -69,7 +69,11 @@ class Visit:
             self.checks.check(f"odd text stands as it is: {name}", seen.count(text) >= 3, seen)
             made = page.js("document.querySelectorAll('main :is(img, b, i, script, style, title, [onmouseover])').length")
             self.checks.same(f"odd text is no markup: {name}", made, 0)
-            if name in ("markup", "override", "long", "closed"):
+            if name == "hebrew":
+                side = page.js("(() => { const dd = document.querySelector('[data-element=\"3.3.1\"] dd'); const text = document.createRange();"
+                               "text.selectNodeContents(dd); return text.getBoundingClientRect().right - dd.getBoundingClientRect().right; })()")
+                self.checks.check("Hebrew begins at the right side", abs(side) < 2, side)
+            if name in ("markup", "override", "long", "closed", "hebrew"):
                 self.shot(page, f"reader-odd-{name}")
         self.checks.check("no odd text ran", page.js("document.title !== 'broken'"))
         page = self.at(f"/unit/{top}")

@@ -56,7 +56,7 @@ function inBlocks(rows) {
 function places(rows, bar) {
   return {
     place() {
-      const top = bar.getBoundingClientRect().bottom;
+      const top = Math.max(0, bar.getBoundingClientRect().bottom);
       const seen = [8, 24, 48].map((below) => document.elementFromPoint(innerWidth / 2, top + below)?.closest('[data-depth]'));
       const at = rows.indexOf(seen.find(Boolean));
       return at < 0 ? { row: null } : { row: at, above: rows[at].getBoundingClientRect().top };

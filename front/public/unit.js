@@ -80,7 +80,7 @@ window.addEventListener('beforeprint', () => {
 function entry({ number, name, text, mark }) {
   return el('div', { 'data-element': number },
     el('dt', {}, name, ' ', el('span', { class: 'number' }, number)),
-    el('dd', { dir: 'auto' }, marked(text, mark)));
+    mark === '' ? words(text, 'dd') : el('dd', {}, marked(text, mark))); // the first stands at the side where its writing begins
 }
 
 /** The text unchanged; the mark of a text that was found above is less prominent. */
