@@ -2,6 +2,7 @@
 
 import { count, el, table, words, link } from '../shared/dom.js';
 import { dayField, textField } from '../shared/fields.js';
+import { folded } from '../shared/folding.js';
 import { commandForm } from '../shared/form.js';
 import { numberOf } from '../shared/numbers.js';
 import { deskWords } from '../shared/refusals.js';
@@ -11,7 +12,6 @@ import { lookAtNewestTicket } from './looks.js';
 import { knownReaders, newestTicket, readCards, readerLink } from './names.js';
 import { card, said } from './parts.js';
 
-const PLAIN = { ł: 'l', ø: 'o', đ: 'd', ð: 'd', þ: 'th', ß: 'ss', æ: 'ae', œ: 'oe', ı: 'i' };
 const SHOWN = 50; // the most readers that are listed
 const MOST = 20000; // the most cards that are asked for before somebody must say to go on
 
@@ -75,9 +75,6 @@ function matching(who) {
   return [...knownReaders()].filter(([, name]) => parts.every((part) => folded(name).includes(part)))
     .sort((a, b) => a[1].localeCompare(b[1]) || a[0] - b[0]);
 }
-
-/** Letters without accents. For some letters, which have no separate accent, PLAIN has the replacement. */
-const folded = (text) => text.normalize('NFD').replace(/\p{M}/gu, '').toLowerCase().replace(/[łøđðþßæœı]/g, (letter) => PLAIN[letter]);
 
 function registerForm() {
   return commandForm({
