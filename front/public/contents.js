@@ -1,5 +1,5 @@
-// The units right below a unit: in pages of a hundred, with a filter. The unit's finding aid gives dates and extent, and what is
-// further down: a tree that opens a level at a time.
+// The units right below a unit: in pages of a hundred, with a filter. The unit's finding aid gives dates and extent, and
+// what is further down: a tree that opens a level at a time.
 
 import { count, el, link, words } from '../shared/dom.js';
 import { textField } from '../shared/fields.js';
@@ -20,7 +20,8 @@ const large = new Set(); // units whose finding aids were that large
 export function contentsOf(number, units) {
   if (units.length === 0) return { section: null, look() {} };
   const { from = 0, filter = '' } = history.state ?? {};
-  const state = { number, units, from, filter, tree: null, heads: units.map(({ rest }) => wordsOf(rest).map(({ word }) => word)) };
+  const state = { number, units, from, filter, tree: null };
+  state.heads = units.map(({ rest }) => wordsOf(rest).map(({ word }) => word));
   state.list = el('ul', { class: 'units' });
   state.told = el('p', { class: 'told', role: 'status' });
   state.turns = el('p', { class: 'buttons no-print' });
@@ -55,7 +56,7 @@ function show(state) {
   const page = all.slice(state.from, state.from + SHOWN);
   state.list.replaceChildren(...page.map((unit) => item(state, unit)));
   state.told.textContent = toldOf(state, all.length, page.length);
-  state.turns.replaceChildren(...(all.length > SHOWN ? [turnButton(state, 'Previous 100', -SHOWN, all.length), turnButton(state, 'Next 100', SHOWN, all.length)] : []));
+  state.turns.replaceChildren(...(all.length > SHOWN ? turnButtons(state, all.length) : []));
 }
 
 function toldOf({ units, from }, found, shown) {
@@ -63,6 +64,10 @@ function toldOf({ units, from }, found, shown) {
   const many = found < units.length ? `${found.toLocaleString('en-GB')} of ${count(units.length, 'unit', 'units')}` : '';
   if (found <= SHOWN) return many && `${many}.`;
   return `${(from + 1).toLocaleString('en-GB')} to ${(from + shown).toLocaleString('en-GB')} of ${many || count(found, 'unit', 'units')}.`;
+}
+
+function turnButtons(state, many) {
+  return [turnButton(state, 'Previous 100', -SHOWN, many), turnButton(state, 'Next 100', SHOWN, many)];
 }
 
 function turnButton(state, text, by, many) {
@@ -103,7 +108,8 @@ function level(aidOf, nodes) {
   const items = nodes.slice(0, SHOWN).map((node) => el('li', {},
     link(addressOfLine(aidOf, node.way, node.head), headLine(node.head)), further(aidOf, node)));
   const more = nodes.length - SHOWN;
-  return [el('ul', { class: 'units' }, items), ...(more > 0 ? [el('p', {}, `And ${more.toLocaleString('en-GB')} more: open the unit to see them.`)] : [])];
+  const rest = more > 0 ? [el('p', {}, `And ${more.toLocaleString('en-GB')} more: open the unit to see them.`)] : [];
+  return [el('ul', { class: 'units' }, items), ...rest];
 }
 
 /** Asks for dates and extent, unless that makes the office write a large finding aid once more. */

@@ -14,7 +14,8 @@ const OF_THE_TICKET = new Set([2, 4, 7, 23]); // refusals that every further ord
 /** A button that opens the form. containers: { number, text } each; unit: { number, head }, on whose page it is. */
 export function orderBox(containers, unit) {
   const [{ number, text }] = containers;
-  const which = containers.length > 1 ? count(containers.length, 'container', 'containers') : [`container ${number}, `, words(text)];
+  const which = containers.length > 1
+    ? count(containers.length, 'container', 'containers') : [`container ${number}, `, words(text)];
   const box = el('details', { class: 'order no-print' }, el('summary', {}, 'Order ', el('span', { class: 'unseen' }, which)));
   box.addEventListener('toggle', () => open(box, containers, unit));
   return box;
@@ -38,7 +39,7 @@ function orderForm(containers, unit) {
     shown: comeTo,
     focus: toTicket,
     explain: (answer) => (answer.kind === 'none' ? ['No container is chosen.', 'Choose at least one.'] : readerWords(answer)),
-    help: (answer) => answer.results?.length > 1 && el('ul', {}, answer.results.map(oneOfSeveral)),
+    help: ({ results = [] }) => new Set(results.map(({ answer }) => answer)).size > 1 && el('ul', {}, results.map(oneOfSeveral)),
     harmless: true,
   });
 }
@@ -50,9 +51,11 @@ function choices(containers) {
     containers.map((container) => checkField(nameOf(container), words(container.text))));
 }
 
-const chosen = (containers, values) => (containers.length === 1 ? containers : containers.filter((one) => nameOf(one) in values));
+function chosen(containers, values) {
+  return containers.length === 1 ? containers : containers.filter((one) => nameOf(one) in values);
+}
 
-/** One order after the other. Once the ticket or the connection stands in the way, the others are not tried and told the same. */
+/** One order after the other. Once the ticket or the connection stands in the way, the others are told the same untried. */
 async function orderEach(containers, ticket) {
   const results = [];
   let answer = { ok: true };

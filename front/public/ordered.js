@@ -20,13 +20,14 @@ export function listNote(orders, unit) {
 
 function keptNote(orders) {
   keepAll([...kept(), ...orders]);
-  return el('p', {}, 'It stands in the ', link('/ordered', 'list of what was ordered in this tab'), ', which is gone when you close the tab.');
+  return el('p', {}, 'It stands in the ', link('/ordered', 'list of what was ordered in this tab'),
+    ', which is gone when you close the tab.');
 }
 
 export function orderedPage() {
   const orders = kept();
-  const list = orders.length > 0 ? [listOf(orders), forget()] : el('p', {}, 'Nothing is kept here. When you have ordered something, you can '
-    + 'have a list kept in this tab until you close it.');
+  const list = orders.length > 0 ? [listOf(orders), forget()] : el('p', {},
+    'Nothing is kept here. When you have ordered something, you can have a list kept in this tab until you close it.');
   return { title: 'Ordered in this tab', content: [el('h1', {}, 'Ordered in this tab'), list,
     el('p', { class: 'quiet' }, 'Only the desk can show all orders of a ticket, and cancel one.')] };
 }

@@ -1,5 +1,6 @@
-// From a line of a finding aid to the page of its unit. A finding aid has no numbers of units. But the k-th unit below another
-// in an aid is the k-th unit that the other's page lists. So the way to a line leads to its unit, and its head line is compared.
+// From a line of a finding aid to the page of its unit. A finding aid has no numbers of units. But the k-th unit below
+// another in an aid is the k-th unit that the other's page lists. So the way to a line leads to its unit, and its head line
+// is compared.
 
 import { el, link } from '../shared/dom.js';
 import { keep } from '../shared/router.js';

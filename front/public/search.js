@@ -10,7 +10,10 @@ const MARKED = 500; // hits whose words are marked at once; those of others are 
 const AROUND = 70; // characters of a line that are shown on each side of a word that was found
 const ASCII = /^[\0-\x7f]*$/;
 
-/** lines: { row, text, isHead } each, row being its element. Gives the bar to put above them, and what to call once they are shown. */
+/**
+ * lines: { row, text, isHead } each, row being its element. Gives the bar to put above them, and what to call once they are
+ * shown.
+ */
 export function aidSearch(lines, typed) {
   const state = { units: unitsOf(lines), hits: [], at: -1, typed: '' };
   const field = textField('q', 'Search in this finding aid', { type: 'search', required: false, maxlength: 200 });
@@ -68,7 +71,8 @@ function find(state, typed) {
   for (const hit of state.hits) leave(hit);
   const phrases = readTyped(typed).map(({ words }) => ({ words, begins: true }));
   state.typed = typed;
-  state.hits = phrases.length === 0 ? [] : state.units.filter((lines) => hasAll(lines, phrases)).map((lines) => hitIn(lines, phrases));
+  const units = phrases.length === 0 ? [] : state.units.filter((lines) => hasAll(lines, phrases));
+  state.hits = units.map((lines) => hitIn(lines, phrases));
   state.hits.slice(0, MARKED).forEach(mark);
   state.at = -1;
   state.previous.hidden = state.next.hidden = state.hits.length < 2;

@@ -22,7 +22,8 @@ export async function unitPage(number) {
   return { title: nameOf(page.head), shown: () => { way.look(); contents?.look(); }, content: [
     way.nav,
     headLine(page.head, 'h1'),
-    isClosed ? closed(page.head) : [kept(number, page), tools(number), description(page), contents.section, await citation(number, page)],
+    isClosed ? closed(page.head) : [
+      kept(number, page), tools(number), description(page), contents.section, await citation(number, page)],
   ] };
 }
 
@@ -80,7 +81,7 @@ window.addEventListener('beforeprint', () => {
 function entry({ number, name, text, mark }) {
   return el('div', { 'data-element': number },
     el('dt', {}, name, ' ', el('span', { class: 'number' }, number)),
-    mark === '' ? words(text, 'dd') : el('dd', {}, marked(text, mark))); // the first stands at the side where its writing begins
+    mark === '' ? words(text, 'dd') : el('dd', {}, marked(text, mark)));
 }
 
 /** The text unchanged; the mark of a text that was found above is less prominent. */
