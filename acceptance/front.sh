@@ -30,14 +30,14 @@ if [ ${#missing[@]} -gt 0 ]; then
     echo "0 passed, ${#missing[@]} failed"
     exit 1
 fi
-parts=(pages rules restarts refusals)
+parts=(looks pages rules restarts refusals)
 if ! has chromium chromium fonts-liberation; then
     echo "left out the pages, their refusals and the page of another site: chromium is not here and cannot be installed"
     if [ -n "${CI:-}" ]; then
         echo "0 passed, 1 failed"
         exit 1
     fi
-    parts=(rules restarts)
+    parts=(looks rules restarts)
 fi
 room=$(mktemp -d)
 trap 'rm -rf "$room"' EXIT

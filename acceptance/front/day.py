@@ -31,7 +31,7 @@ class Day:
     def imports(self):
         self.takes_in("bad.csv", BAD_FILE, "old")
         page = self.page
-        page.see("Row 3: the unit above (parentId) is neither in the office from this source nor in a row further up.")
+        page.see("Row 3 (3 in the spreadsheet), legacyId 2, “Orphan”: the unit above (parentId) is neither in the office from this source")
         self.checks.check("a bad file is refused by row and cause", "nothing of it was used" in page.text())
         self.shot(page, "desk-import-refused")
         archives = (catalogue_file("archives.csv")).read_text()
@@ -43,6 +43,7 @@ class Day:
         self.checks.same("the counts of an import", page.text(".outcome tbody").split("\t"), [rows, "0", "0", "0"])
         self.checks.check("remarks in words", self.remarks(page), page.text(".outcome"))
         self.checks.check("the warning about known units", "keeps its status, its place and its closure" in page.text())
+        self.checks.same("the new draft", page.js("document.querySelector('.drafts tbody td').innerText"), f"unit {self.unit('letters')}")
         self.takes_in("dock.csv", "".join(catalogue.dock_company()), "catalogue")
         page.wait("document.querySelector('.outcome tbody')")
         self.checks.same("the same file changes nothing", page.text(".outcome tbody").split("\t"), ["0", "0", rows, "0"])
@@ -58,6 +59,9 @@ class Day:
         path.write_text(text)
         page.fill("Source", source)
         page.file(path)
+        page.wait("document.querySelector('.seen-in-file .note, .seen-in-file table')")
+        if page.js("document.querySelector('#confirmed')"):
+            page.choose("Take it in all the same")
         page.press("Take the file in")
 
     # Readers

@@ -1,6 +1,6 @@
 """Plays all parts in a real browser: run.py PROGRAM FOLDER SHOTS [PART..]
 
-FOLDER is made anew and kept; SHOTS gets pictures of the pages. PART is one of pages, refusals, rules, restarts.
+FOLDER is made anew and kept; SHOTS gets pictures of the pages. PART is one of looks, pages, refusals, rules, restarts.
 The last line is `N passed, M failed`; the exit status is 0 where none failed."""
 
 import pathlib
@@ -9,6 +9,7 @@ import signal
 import sys
 
 sys.dont_write_bytecode = True
+import looks  # noqa: E402
 import refusals  # noqa: E402
 import restarts  # noqa: E402
 import shapes  # noqa: E402
@@ -43,6 +44,13 @@ def pages(checks, office, browser, folder, shot):
     complaints(checks, (hall, desk))
 
 
+def looks_at_files(checks, office, browser):
+    page = browser and browser.page(SIGNED_IN)
+    if page:
+        page.open(office.staff, "/import")
+    looks.play(checks, office.program, page)
+
+
 def complaints(checks, seen):
     checks.same("the browser complains of nothing", [said for page in seen for said in page.complaints()], [])
 
@@ -51,6 +59,8 @@ def two_offices(checks, program, folder, shots, parts):
     browser = Browser(folder / "profile") if shutil.which("chromium") else None
     try:
         with Office(folder / "first", program).init() as office:
+            if "looks" in parts:
+                checks.part("looks", looks_at_files, checks, office, browser)
             if browser and "pages" in parts:
                 pages(checks, office, browser, folder, pictures(shots))
             else:
@@ -80,7 +90,7 @@ def main(program, folder, shots, *parts):
     folder, shots = pathlib.Path(fresh(folder)).resolve(), pathlib.Path(fresh(shots)).resolve()
     folder.mkdir(parents=True)
     shots.mkdir(parents=True)
-    checks.part("offices", two_offices, checks, program, folder, shots, parts or ("pages", "rules", "restarts", "refusals"))
+    checks.part("offices", two_offices, checks, program, folder, shots, parts or ("looks", "pages", "rules", "restarts", "refusals"))
     return checks.end()
 
 

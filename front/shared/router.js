@@ -31,7 +31,7 @@ async function turnTo(main, pages, site) {
   const mine = ++turn;
   const place = history.state?.place ?? 0;
   const slow = setTimeout(() => main.replaceChildren(waiting()), 400);
-  const page = await pageAt(pages, location.hash);
+  const page = await pageOrFailure(pages, location.hash);
   clearTimeout(slow);
   if (mine !== turn) return;
   main.replaceChildren(...[page.content].flat(3).filter(Boolean));
@@ -41,6 +41,18 @@ async function turnTo(main, pages, site) {
   target?.focus({ preventScroll: true });
   window.scrollTo(0, place);
   page.shown?.();
+}
+
+/** A page that fails is a mistake in these pages; the console has it, and the window says what to do. */
+async function pageOrFailure(pages, hash) {
+  try {
+    return await pageAt(pages, hash);
+  } catch (mistake) {
+    console.warn(mistake);
+    return { title: 'This page failed', content: [el('h1', {}, 'This page failed'),
+      el('p', {}, 'There is a mistake in it, and it cannot be shown. Load it again. If it fails again, tell whoever runs the office: ',
+        el('code', {}, String(mistake)))] };
+  }
 }
 
 function pageAt(pages, hash) {
