@@ -33,7 +33,9 @@ def on_page(page, data):
 
 def by_program(program, data):
     """The refusal of `preview` as (row, cause), or None."""
-    done = subprocess.run([program, "preview", "--country", "GB", "--repo", "0999"], input=data, capture_output=True, check=False)
+    done = subprocess.run(
+        [program, "preview", "--country", "GB", "--repo", "0999"], input=data, capture_output=True, check=False
+    )
     told = done.stderr.decode().split()
     return (int(told[4]), int(told[6])) if told else None
 
@@ -57,7 +59,9 @@ def play(checks, program, page=None):
 
 def labels(checks):
     """The names of elements are those of the table in docs/RULES.md."""
-    rows = [line.strip("| ").split(" | ") for line in (TOP / "docs/RULES.md").read_text().splitlines() if line.startswith("| 3.")]
+    rows = [
+        line.strip("| ").split(" | ") for line in (TOP / "docs/RULES.md").read_text().splitlines() if line.startswith("| 3.")
+    ]
     wanted = {row[2]: row[1] for row in rows if "," not in row[2]}
     checks.same("the elements' names", {name: RULES["elements"][name] for name in wanted}, wanted)
 

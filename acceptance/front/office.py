@@ -100,7 +100,7 @@ class Office:
         self.running = True
         self.keeper = threading.Thread(target=self._keep, daemon=True)
         self.keeper.start()
-        self._run("haproxy", "-f", "haproxy.cfg")
+        self._begin_queue()
         self._run("nginx", "-p", str(self.folder), "-c", str(self.folder / "main.conf"))
         self.wait_for(self.public + "/public/fonds")
         return self
@@ -150,10 +150,26 @@ class Office:
         finally:
             self.waiting.set()
 
+    @contextlib.contextmanager
+    def without_queue(self):
+        """A context in which the queue before the program is away."""
+        self.queue.terminate()
+        self.queue.wait(20)
+        try:
+            yield
+        finally:
+            self._begin_queue()
+            self.wait_for(self.public + "/public/fonds")
+
+    def _begin_queue(self):
+        self.queue = self._run("haproxy", "-f", "haproxy.cfg")
+
     def _run(self, *words):
         log = open(self.folder / f"{words[0]}.told", "w")
         path = os.environ["PATH"] + ":/usr/sbin:/usr/local/sbin"
-        self.processes.append(subprocess.Popen(words, cwd=self.folder, stdout=log, stderr=log, env={**os.environ, "PATH": path}))
+        process = subprocess.Popen(words, cwd=self.folder, stdout=log, stderr=log, env={**os.environ, "PATH": path})
+        self.processes.append(process)
+        return process
 
     def _keep(self):
         """Starts the program again whenever it ends, as a service manager does."""

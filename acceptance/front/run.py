@@ -17,6 +17,7 @@ from asks import Asks  # noqa: E402
 from browser import Browser  # noqa: E402
 from checks import Checks  # noqa: E402
 from day import Day  # noqa: E402
+from first_year import FirstYear  # noqa: E402
 from office import SIGNED_IN, Office, fresh  # noqa: E402
 from rules import Rules  # noqa: E402
 from visit import Visit  # noqa: E402
@@ -40,6 +41,7 @@ def pages(checks, office, browser, folder, shot):
     checks.part("day: imports", day.imports)
     visit.play()
     day.play()
+    FirstYear(checks, asks, desk, day, shot, folder).play()
     shapes.play(checks, visit, day, shot)
     complaints(checks, (hall, desk))
 

@@ -1,7 +1,8 @@
 // The number of the newest unit. No question shows drafts, so units are asked for by a command that is always refused and
 // changes nothing: to put a unit below itself. Refusal 20 means that there is such a unit, refusal 1 that there is none.
 
-import { move } from '../shared/routes.js';
+import { fonds, move } from '../shared/routes.js';
+import { readFonds } from '../shared/texts.js';
 
 const MOST = 100_000_000;
 
@@ -11,12 +12,18 @@ async function isUnit(number) {
   return answer.kind === 'refused' && [1, 20].includes(answer.code) ? answer.code === 20 : null;
 }
 
-/** The highest number from `low` on that can be reached by doubled steps; null if the office does not answer. */
-export async function newestUnit(low = 0) {
-  for (let last = low; ;) {
+let known = 0; // the newest unit when this page last knew it
+
+/** The highest number that can be reached from what is known; null if the office does not answer. */
+export async function newestUnit() {
+  const tops = await fonds();
+  if (!tops.ok) return null;
+  let last = Math.max(known, ...readFonds(tops.value).map(({ number }) => Number(number ?? 0)));
+  for (;;) {
     last = await endOfRow(last);
     const beyond = last === null ? null : await nextAfter(last);
     if (beyond === null) return null;
+    known = last;
     if (beyond === 0) return last;
     last = beyond;
   }
@@ -43,9 +50,9 @@ async function endOfRow(number) {
   return low;
 }
 
-/** A unit after a gap (removed units leave gaps), 0 if there is none at a doubled distance. */
+/** A unit after a gap (removed units leave gaps), 0 if there is none at a distance of 1, 4, 16 and so on. */
 async function nextAfter(number) {
-  for (let step = 1; number + step <= MOST; step *= 2) {
+  for (let step = 1; number + step <= MOST; step *= 4) {
     const there = await isUnit(number + step);
     if (there !== false) return there === null ? null : number + step;
   }
@@ -53,10 +60,13 @@ async function nextAfter(number) {
 }
 
 /**
- * The first of the `count` units that were added after `before` was the newest, or null if that is not certain. Numbers
- * only grow, and new units have numbers without a gap: the last of them is the newest unit.
+ * The first of the `added` units that came after `before` was the newest, or null if that is not certain. Numbers only grow,
+ * and new units have numbers without a gap. So what is found where nothing was before is new, and the last there is the last.
  */
-export async function firstOfNew(before, count) {
-  const last = await newestUnit(before);
-  return last !== null && last - count >= before ? last - count + 1 : null;
+export async function firstOfNew(before, added) {
+  const found = await nextAfter(before);
+  const last = found ? await endOfRow(found) : null;
+  if (last === null || last - added < before) return null;
+  known = last;
+  return last - added + 1;
 }

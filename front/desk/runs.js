@@ -9,6 +9,7 @@ import { go } from '../shared/router.js';
 import { fetchRun, slip } from '../shared/routes.js';
 import { lookAtNewestRun } from './looks.js';
 import { card, lookUp, runLink } from './parts.js';
+import { forgetWaiting } from './waiting.js';
 
 const LATEST = 8; // the most runs that are listed
 
@@ -34,7 +35,7 @@ function runForm() {
   return commandForm({
     key: 'run', button: 'Begin a run',
     send: fetchRun,
-    done: ({ run, taken }) => { go(`#/runs/${run}`); return el('p', {}, runLink(run), ` fetches ${taken}.`); },
+    done: ({ run, taken }) => { forgetWaiting(); go(`#/runs/${run}`); return el('p', {}, runLink(run), ` fetches ${taken}.`); },
     explain: (answer) => deskWords(answer, 'run'),
     look: lookAtNewestRun,
   });

@@ -22,8 +22,12 @@ GARBLED = re.compile("[\u00c2\u00c3][\u0080-\u00bf]|\u00e2\u20ac|\ufffd")
 ROUNDED = re.compile(r"[0-9]+([.,][0-9]+)?[Ee]\+[0-9]+")
 LINE_END = re.compile("\r\n|\n|\r")
 FIRST_BYTES = (
-    (b"PK\x03\x04", "workbook", {}), (b"\xd0\xcf\x11\xe0", "workbook", {}), (b"\xff\xfe", "utf16", {}), (b"\xfe\xff", "utf16", {}),
-    (b"%PDF", "other_kind", {"kind": "a PDF"}), (b"{\\rtf", "other_kind", {"kind": "a document of a word processor"}),
+    (b"PK\x03\x04", "workbook", {}),
+    (b"\xd0\xcf\x11\xe0", "workbook", {}),
+    (b"\xff\xfe", "utf16", {}),
+    (b"\xfe\xff", "utf16", {}),
+    (b"%PDF", "other_kind", {"kind": "a PDF"}),
+    (b"{\\rtf", "other_kind", {"kind": "a document of a word processor"}),
 )
 
 
@@ -114,11 +118,13 @@ class Look:
             return True
         if text.lower().startswith("sep="):
             seen.say("sep_line", line=LINE_END.split(text)[0])
-        elif found := next((mark for mark in self.rules["separators"] if names_units(records(text, mark, 1)[0][0].fields)), None):
+        elif found := next(
+            (mark for mark in self.rules["separators"] if names_units(records(text, mark, 1)[0][0].fields)), None
+        ):
             seen.say("separator", separator=self.rules["separators"][found])
         elif names_units(header):
             seen.say("spelling", found=next(name for name in header if folded(name) == "legacyid"), column="legacyId")
-        elif (row := self.later_header(text)):
+        elif row := self.later_header(text):
             seen.say("title_line", sheet=row.sheet, lines=row.sheet - 1)
         else:
             seen.say("no_legacy_id", header=header)
@@ -180,9 +186,14 @@ class Look:
             look_at_units(reader, "publicationStatus" in header, self.limits["depth"], seen)
         look_at_texts(filled, header, self.read, seen)
         drafts = sum(unit.is_draft for unit in reader.units.values())
-        seen.counts = {"rows": sum(any(row.fields) for row in filled), "units": len(reader.units), "drafts": drafts, "translations": reader.translations,
-                       "tops": sum(not unit.parent for unit in reader.units.values()),
-                       "containers": len({box for unit in reader.units.values() for box in unit.boxes})}
+        seen.counts = {
+            "rows": sum(any(row.fields) for row in filled),
+            "units": len(reader.units),
+            "drafts": drafts,
+            "translations": reader.translations,
+            "tops": sum(not unit.parent for unit in reader.units.values()),
+            "containers": len({box for unit in reader.units.values() for box in unit.boxes}),
+        }
 
     def say_fault(self, reader, seen):
         cause, row, column = reader.faults[0]
@@ -220,8 +231,13 @@ class Reader:
         elif is_translation:
             self.translations += 1
         if not first and legacy:
-            self.units[legacy] = Unit(row, legacy, *(self.value(row, name) for name in ("parentId", "identifier", "title", "culture")),
-                                      self.value(row, "publicationStatus"), self.boxes(row))
+            self.units[legacy] = Unit(
+                row,
+                legacy,
+                *(self.value(row, name) for name in ("parentId", "identifier", "title", "culture")),
+                self.value(row, "publicationStatus"),
+                self.boxes(row),
+            )
 
     def cause(self, row, first, is_translation):
         """The lowest cause of a refusal that the file itself shows, and the column if it matters."""
@@ -240,8 +256,15 @@ class Reader:
         return (10, long) if long else (0, None)
 
     def long_column(self, row):
-        return next((name for name in self.read if len(self.value(row, name)) * 4 > self.limits["field"]
-                     and len(self.value(row, name).encode()) > self.limits["field"]), None)
+        return next(
+            (
+                name
+                for name in self.read
+                if len(self.value(row, name)) * 4 > self.limits["field"]
+                and len(self.value(row, name).encode()) > self.limits["field"]
+            ),
+            None,
+        )
 
     def boxes(self, row):
         """The containers of a row: name, location and kind of each entry that has a name."""
@@ -305,14 +328,16 @@ def look_at_numbers(units, seen):
 
 
 def look_at_codes(units, seen):
-    again = [unit for unit in units.values() if unit.parent in units and repeats(unit.identifier, units[unit.parent].identifier)]
+    again = [
+        unit for unit in units.values() if unit.parent in units and repeats(unit.identifier, units[unit.parent].identifier)
+    ]
     if again:
         seen.say("full_codes", **first_of(again), code=f"{units[again[0].parent].identifier}/{again[0].identifier}")
 
 
 def repeats(identifier, above):
     """Whether an identifier begins with that of the unit above, and goes on after a mark such as `/`."""
-    return bool(above) and identifier.startswith(above) and re.match("[^0-9A-Za-z]", identifier[len(above):]) is not None
+    return bool(above) and identifier.startswith(above) and re.match("[^0-9A-Za-z]", identifier[len(above) :]) is not None
 
 
 def look_at_boxes(units, seen):
@@ -379,7 +404,7 @@ def place_of(data, start):
     begin = max(before.rfind(b"\n"), before.rfind(b"\r")) + 1
     begin = max(begin, start - 20)
     ends = [end for end in (data.find(b"\n", start), data.find(b"\r", start), start + 20, len(data)) if end >= 0]
-    return {"line": line, "near": "".join(map(windows, data[begin:min(ends)])).strip(BLANK)}
+    return {"line": line, "near": "".join(map(windows, data[begin : min(ends)])).strip(BLANK)}
 
 
 def windows(byte):
@@ -444,8 +469,11 @@ def read_rules():
 
 def main(arguments=None):
     """Prints the advice for each file; 1 if the office would refuse one or somebody should look first, else 0."""
-    parser = argparse.ArgumentParser(prog="record-office-look", description="Look at CSV files of descriptions before an office "
-                                     "imports them: what kind of file each is, what it would empty, and what is odd in it.")
+    parser = argparse.ArgumentParser(
+        prog="record-office-look",
+        description="Look at CSV files of descriptions before an office "
+        "imports them: what kind of file each is, what it would empty, and what is odd in it.",
+    )
     parser.add_argument("files", metavar="FILE", nargs="+", type=pathlib.Path)
     rules = read_rules()
     status = 0
@@ -465,7 +493,9 @@ def main(arguments=None):
 def show(path, seen, rules):
     """Prints what was seen of a file, the gravest first, and returns the levels."""
     print(f"{path}:")
-    told = sorted((words(rules, name, values) for name, values in seen.advice), key=lambda one: ("stop", "ask", "note").index(one[0]))
+    told = sorted(
+        (words(rules, name, values) for name, values in seen.advice), key=lambda one: ("stop", "ask", "note").index(one[0])
+    )
     marks = {"stop": "refused: ", "ask": "look first: ", "note": "note: "}
     for level, says, todo in told:
         print(f"  {marks[level]}{says}{' ' + todo if todo else ''}")
