@@ -14,7 +14,8 @@ export function dayOfThisComputer() {
 }
 
 /** When something was read, by the clock of this computer. */
-export const asOf = (moment = new Date()) => `As of ${moment.toLocaleTimeString('en-GB', { hour: '2-digit', minute: '2-digit' })}.`;
+export const asOf = (moment = new Date()) =>
+  `As of ${moment.toLocaleTimeString('en-GB', { hour: '2-digit', minute: '2-digit' })}.`;
 
 /** The newest run as { run, day, lines }; run is 0 if there was none; null if the office does not answer. */
 export async function newestRun() {

@@ -57,10 +57,15 @@ function draftTable(drafts) {
   return el('div', { class: 'drafts' },
     el('p', {}, el('strong', {}, `${count(drafts.length, 'new unit is a draft', 'new units are drafts')}.`),
       ' The public sees a draft when it is published, with all that is above it.'),
-    table('New drafts, in the order of the file', ['Unit', 'legacyId', 'Title', 'Publish it'], drafts.slice(0, SHOWN).map(({ number, unit }) =>
-      [el('span', { class: 'whole' }, unitLink(number)), unit ? words(unit.legacy) : '', unit ? words(unit.title || '-') : 'not shown to the public',
-        [publishForm(number, false), publishForm(number, true)]])),
-    rest.length > 0 && el('p', {}, `And ${rest.length.toLocaleString('en-GB')} more: ${rest[0].number} to ${rest.at(-1).number}.`));
+    table('New drafts, in the order of the file', ['Unit', 'legacyId', 'Title', 'Publish it'], drafts.slice(0, SHOWN).map(draftCells)),
+    rest.length > 0
+      && el('p', {}, `And ${rest.length.toLocaleString('en-GB')} more: ${rest[0].number} to ${rest.at(-1).number}.`));
+}
+
+function draftCells({ number, unit }) {
+  const link = el('span', { class: 'whole' }, unitLink(number));
+  const forms = [publishForm(number, false), publishForm(number, true)];
+  return unit ? [link, words(unit.legacy), words(unit.title || '-'), forms] : [link, '', 'not shown to the public', forms];
 }
 
 function publishForm(number, branch) {

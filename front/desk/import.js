@@ -14,14 +14,16 @@ import { fileReader } from './seen.js';
 const SHOWN = 200; // the most remarks that are listed
 
 const BESIDE = [
-  ['A column that is missing is blank.', 'Every unit in the file loses what the office has there. (AtoM’s own update leaves blank cells alone.)'],
+  ['A column that is missing is blank.',
+    'Every unit in the file loses what the office has there. (AtoM’s own update leaves blank cells alone.)'],
   ['A known unit keeps its status, its place and its closure.',
     'A unit is known by its source and its legacyId. To publish, move or close it, use its page under Units.'],
   ['Only “Published” publishes.', 'Without it a new unit is a draft, and the public sees nothing of it.'],
   ['AtoM’s template and AtoM’s export are two sources.', 'The export numbers the units anew.'],
-  ['A file of translations alone replaces the texts', 'of units that the office has in another language. “007” and “7” are two units.'],
-  ['The same name, location and kind is one container,', 'whatever the archive: make names unique first. One that has moved is a new container; '
-    + 'cancel the orders for the old one and place them again.'],
+  ['A file of translations alone replaces the texts', 'of units that the office has in another language.'],
+  ['“007” and “7” are two units.', 'Keep legacyId as text in the spreadsheet.'],
+  ['The same name, location and kind is one container,', 'whatever the archive: make names unique first. '
+    + 'One that has moved is a new container; cancel the orders for the old one and place them again.'],
 ];
 
 export function importPage() {
@@ -30,12 +32,15 @@ export function importPage() {
     el('p', {}, 'Takes in a CSV file of archival descriptions as AtoM exports it.'),
     el('div', { class: 'beside-form' },
       card('Take in a file', importForm()),
-      card('Good to know', el('ul', { class: 'known' }, BESIDE.map(([first, rest]) => el('li', {}, el('strong', {}, first), ` ${rest}`))))),
+      card('Good to know', el('ul', { class: 'known' },
+        BESIDE.map(([first, rest]) => el('li', {}, el('strong', {}, first), ` ${rest}`))))),
   ] };
 }
 
 function importForm() {
-  const file = fileField('file', 'File', { accept: '.csv,text/csv', hint: 'CSV in UTF-8, at most 8 MiB and 20,000 rows. It is read here before it is sent.' });
+  const file = fileField('file', 'File', {
+    accept: '.csv,text/csv', hint: 'CSV in UTF-8, at most 8 MiB and 20,000 rows. It is read here before it is sent.',
+  });
   const reader = fileReader(file.querySelector('input'));
   const form = commandForm({
     key: 'import',

@@ -67,7 +67,8 @@ export async function readCards(newest, tell) {
   const unknown = [];
   for (let ticket = newest; ticket >= 1; ticket -= 1) if (!readers.has(ticket)) unknown.push(ticket);
   let done = 0;
-  const whole = await askEach(unknown, readCard, (ticket, answer) => (answer.kind === 'silent' ? false : tell(++done, unknown.length)));
+  const whole = await askEach(unknown, readCard, (ticket, answer) =>
+    (answer.kind === 'silent' ? false : tell(++done, unknown.length)));
   if (unknown.length > 0) saveNames();
   return whole;
 }

@@ -50,9 +50,9 @@ async function endOfRow(number) {
   return low;
 }
 
-/** A unit after a gap (removed units leave gaps), 0 if there is none at a distance of 1, 4, 16 and so on. */
+/** A unit after a gap (removed units leave gaps), 0 if there is none at a distance of 1, 2, 4, 8 and so on. */
 async function nextAfter(number) {
-  for (let step = 1; number + step <= MOST; step *= 4) {
+  for (let step = 1; number + step <= MOST; step *= 2) {
     const there = await isUnit(number + step);
     if (there !== false) return there === null ? null : number + step;
   }

@@ -35,7 +35,7 @@ function callSlip(line, name, run, day) {
   const location = name === undefined ? null : locationIn(line.place, name);
   return el('section', { class: 'call-slip' },
     location === null ? words(line.place, 'p', { class: 'from-where' })
-      : [words(location || '-', 'p', { class: 'from-where' }), words(name, 'p', { class: 'what' })],
+      : [words(location || '-', 'p', { class: 'from-where' }), el('p', { class: 'what' }, words(name), el('small', {}, ` container ${line.container}`))],
     el('p', {}, readerWords(line.ticket, 'strong'), `, ticket ${line.ticket}`),
     el('p', { class: 'quiet' }, `Order ${line.order}, run ${run}, ${day}`),
     el('div', { class: 'codes-of' }, barcode(boxCode(line.container)), barcode(ticketCode(line.ticket))));
@@ -52,13 +52,15 @@ export async function ticketPage(ticket) {
 
 export async function labelPage(container) {
   const answer = await queue(container);
-  if (!answer.ok) return { title: `Container ${container}`, content: [el('h1', {}, `Container ${container}`), problem(answer)] };
-  return toPrint(`Label of container ${container}`, 'Print the label', link(`#/counter/${container}`, 'Back to the container'), [
-    words(answer.value.name, 'p', { class: 'what' }), el('p', { class: 'quiet' }, `Container ${container}`), barcode(boxCode(container))]);
+  const title = `Container ${container}`;
+  if (!answer.ok) return { title, content: [el('h1', {}, title), problem(answer)] };
+  return toPrint(`Label of container ${container}`, 'Print the label', link(`#/counter/${container}`, 'Back to the container'),
+    [words(answer.value.name, 'p', { class: 'what' }), el('p', { class: 'quiet' }, title), barcode(boxCode(container))]);
 }
 
 function toPrint(title, button, back, content) {
   const print = printButton(button);
-  return { title, focus: print, content: [el('h1', { class: 'no-print' }, title), el('p', { class: 'buttons no-print' }, print, back),
+  return { title, focus: print, content: [
+    el('h1', { class: 'no-print' }, title), el('p', { class: 'buttons no-print' }, print, back),
     el('div', { class: 'call-slips' }, el('section', { class: 'call-slip' }, content))] };
 }

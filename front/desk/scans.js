@@ -29,10 +29,11 @@ function scanField(kind, name, label, options) {
   return row;
 }
 
+/** Only the first field of a form that is wrong is told: the others come later. */
 function tellWrong(kind, input, told) {
+  if (input.form.querySelector('input:invalid') !== input) return;
   input.setAttribute('aria-invalid', 'true');
   told.textContent = wrongWords(kind, input.value);
-  if (input.form.querySelector('input:invalid') !== input) return;
   input.focus();
   input.select();
 }

@@ -8,7 +8,9 @@ import { deskWords } from '../shared/refusals.js';
 import { aboutRow, adviceWords, longColumn, look, readRules } from './look/look.js';
 
 const LEVELS = { stop: 'refused', ask: 'warns', note: 'quiet-note' };
-const COUNTS = { rows: 'Rows', units: 'Units', drafts: 'Drafts', translations: 'Translations', tops: 'Top units', containers: 'Containers' };
+const COUNTS = {
+  rows: 'Rows', units: 'Units', drafts: 'Drafts', translations: 'Translations', tops: 'Top units', containers: 'Containers',
+};
 const UNREAD = { ok: false, kind: 'unread here' };
 const STOPPED = { ok: false, kind: 'stopped' };
 const UNCONFIRMED = { ok: false, kind: 'unconfirmed' };
@@ -22,7 +24,8 @@ const WORDS = {
 /** Reads the file of an input whenever one is chosen. */
 export function fileReader(input) {
   const reader = {
-    panel: el('div', { class: 'seen-in-file', role: 'status' }), seen: null, rules: null, advice: [], newest: null, reading: Promise.resolve(),
+    panel: el('div', { class: 'seen-in-file', role: 'status' }), reading: Promise.resolve(),
+    seen: null, rules: null, advice: [], newest: null,
     objection: (file) => objectionTo(reader, file),
     words: (answer) => WORDS[answer.kind] ?? refusalOfRow(reader, answer),
     hasDrafts: () => reader.seen?.counts?.drafts > 0,
@@ -61,7 +64,8 @@ function panelParts({ advice, seen }) {
 
 function noteOf(level, advice) {
   if (advice.length === 0) return null;
-  return note(LEVELS[level], advice.map(({ name, says, todo }) => el('p', { 'data-advice': name }, el('strong', {}, says), ' ', todo)));
+  const told = ({ name, says, todo }) => el('p', { 'data-advice': name }, el('strong', {}, says), ' ', todo);
+  return note(LEVELS[level], advice.map(told));
 }
 
 function confirmation() {
@@ -70,8 +74,8 @@ function confirmation() {
 }
 
 function countTable(counts) {
-  const names = Object.keys(COUNTS);
-  return [table('What the file has', names.map((name) => COUNTS[name]), [names.map((name) => counts[name].toLocaleString('en-GB'))]),
+  const row = Object.keys(COUNTS).map((name) => counts[name].toLocaleString('en-GB'));
+  return [table('What the file has', Object.values(COUNTS), [row]),
     el('p', { class: 'hint' }, 'Which of its units are new, only the office knows: it tells it after the import.')];
 }
 

@@ -20,7 +20,8 @@ export async function unitsPage(number) {
   });
   const look = lookUp(field, 'Open the unit', (typed) => go(`#/units/${typed}`));
   if (!number) return { title: 'Units', focus: field.querySelector('input'), content: [el('h1', {}, 'Units'), look, await tops()] };
-  const view = { number, head: el('div', {}), page: el('div', { role: 'region', 'aria-label': 'What the public sees', tabindex: 0 }) };
+  const page = el('div', { role: 'region', 'aria-label': 'What the public sees', tabindex: 0 });
+  const view = { number, head: el('div', {}), page };
   await show(view);
   return { title: `Unit ${number}`, content: [
     el('h1', {}, `Unit ${number}`), view.head,
@@ -36,7 +37,8 @@ export async function unitsPage(number) {
 async function show(view) {
   const answer = await askUnit(view.number);
   view.head.replaceChildren(answer.ok ? headLine(readPage(answer.value).head, 'p') : nothing(answer));
-  view.page.replaceChildren(answer.ok ? el('pre', { class: 'page' }, pageLines(answer.value)) : el('p', { class: 'quiet' }, 'Nothing.'));
+  view.page.replaceChildren(answer.ok
+    ? el('pre', { class: 'page' }, pageLines(answer.value)) : el('p', { class: 'quiet' }, 'Nothing.'));
 }
 
 /** The page to the letter, where the units right below are links to their pages here. */

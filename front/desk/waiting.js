@@ -22,7 +22,8 @@ export function waitingList() {
   const told = el('p', { class: 'told', role: 'status' });
   const list = el('div', {});
   const view = { told, list, buttons: [] };
-  const button = (text, all) => el('button', { type: 'button', class: 'plain', click: () => gather(view, Infinity, all) }, text);
+  const button = (text, all) =>
+    el('button', { type: 'button', class: 'plain', click: () => gather(view, Infinity, all) }, text);
   view.buttons = [button('Show what waits now', false), button('Read every card again', true)];
   if (last) showGathered(view, last);
   else gather(view, FEW, false);
@@ -43,7 +44,8 @@ async function gatherNow(view, most, all) {
   const [newest, run] = [await newestTicket(), await newestRun()];
   if (newest === null || run === null) return tell('The office did not answer. Try again in a minute.');
   const tickets = ticketsToRead(newest, all ? null : run.day);
-  if (tickets.length > most) return tell(`There are ${tickets.length.toLocaleString('en-GB')} cards to ask for, which takes a while.`);
+  const many = tickets.length.toLocaleString('en-GB');
+  if (tickets.length > most) return tell(`There are ${many} cards to ask for, which takes a while.`);
   if (!await readThese(tickets, view, run)) return tell('The office stopped answering. Try again in a minute.');
   const orders = waitingOrders();
   last = { orders, places: await placesOf(orders), run, moment: new Date(), skipped: newest - tickets.length };
@@ -88,26 +90,28 @@ async function placesOf(orders) {
 
 function showGathered(view, { orders, places, run, moment, skipped }) {
   const few = orders.length === 0 ? 'No order is waiting.' : `${count(orders.length, 'order waits', 'orders wait')}.`;
-  const old = skipped > 0 ? ` ${count(skipped, 'expired ticket', 'expired tickets')} without an order ${skipped === 1 ? 'was' : 'were'} not read again.` : '';
-  view.told.textContent = `${few} ${asOf(moment)}${old}`;
+  const old = ` Not read again: ${count(skipped, 'expired ticket', 'expired tickets')} without an order.`;
+  view.told.textContent = `${few} ${asOf(moment)}${skipped > 0 ? old : ''}`;
   showOrders(view, orders, places, run);
 }
 
 function showOrders(view, orders, places, run) {
-  view.list.replaceChildren(...(orders.length === 0 ? [] : [table('Orders that wait, the oldest first',
-    ['Order', 'Container', 'Reader', 'Where it is'], orders.map((order) => [String(order.order), boxLink(order.container),
-      readerLink(order.ticket), whereFor(order, places.get(order.container), run)])), el('p', {}, printButton('Print this list'))]));
+  const rows = orders.map((order) => [String(order.order), boxLink(order.container), readerLink(order.ticket),
+    whereFor(order, places.get(order.container), run)]);
+  view.list.replaceChildren(...(rows.length === 0 ? [] : [
+    table('Orders that wait, the oldest first', ['Order', 'Container', 'Reader', 'Where it is'], rows),
+    el('p', {}, printButton('Print this list'))]));
 }
 
 function whereFor(order, box, run) {
   if (!box) return '…';
-  const isFirst = box.waiting[0]?.order === order.order;
   if (box.place === 'out') return 'out with another reader';
-  if (box.place === 'desk') return isFirst ? 'at the desk, ready if it is open to this reader' : 'at the desk, for another reader first';
-  if (!isFirst) return 'on its shelf, for another reader first';
-  return wasPassedOver(order, run)
-    ? ['on its shelf: ', runLink(run.run), ' passed it over. Probably it is not open to this reader: closed, a draft, or no longer in any unit']
-    : 'on its shelf: a run fetches it if it is open to this reader';
+  const where = box.place === 'desk' ? 'at the desk' : 'on its shelf';
+  if (box.waiting[0]?.order !== order.order) return `${where}, for another reader first`;
+  if (box.place === 'desk') return 'at the desk, ready if it is open to this reader';
+  if (!wasPassedOver(order, run)) return 'on its shelf: a run fetches it if it is open to this reader';
+  return ['on its shelf: ', runLink(run.run), ' passed it over. Probably it is not open to this reader: closed, a draft, or no '
+    + 'longer in any unit'];
 }
 
 /** A run takes the oldest orders that it can: what is older than one of them, and still on its shelf, it could not take. */

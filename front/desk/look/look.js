@@ -5,8 +5,9 @@ import { decode, records, trimmed } from './records.js';
 const GARBLED = /[\u00c2\u00c3][\u0080-\u00bf]|\u00e2\u20ac|\ufffd/;
 const ROUNDED = /^[0-9]+([.,][0-9]+)?[Ee]\+[0-9]+$/;
 const FIRST_BYTES = [
-  [[0x50, 0x4b, 3, 4], 'workbook', {}], [[0xd0, 0xcf, 0x11, 0xe0], 'workbook', {}], [[0xff, 0xfe], 'utf16', {}], [[0xfe, 0xff], 'utf16', {}],
-  [bytesOf('%PDF'), 'other_kind', { kind: 'a PDF' }], [bytesOf('{\\rtf'), 'other_kind', { kind: 'a document of a word processor' }],
+  [[0x50, 0x4b, 3, 4], 'workbook', {}], [[0xd0, 0xcf, 0x11, 0xe0], 'workbook', {}],
+  [[0xff, 0xfe], 'utf16', {}], [[0xfe, 0xff], 'utf16', {}], [bytesOf('%PDF'), 'other_kind', { kind: 'a PDF' }],
+  [bytesOf('{\\rtf'), 'other_kind', { kind: 'a document of a word processor' }],
 ];
 
 /** The rules that record-office-look has too. */
@@ -20,7 +21,9 @@ export async function readRules() {
  * are null if the rows cannot be read.
  */
 export function look(bytes, rules) {
-  const seen = { advice: [], counts: null, rows: null, reader: null, say: (name, values = {}) => { seen.advice.push([name, values]); return null; } };
+  const advice = [];
+  const say = (name, values = {}) => { advice.push([name, values]); return null; };
+  const seen = { advice, say, counts: null, rows: null, reader: null };
   const text = textOf(bytes, seen);
   if (text === null) return seen;
   const { rows, isOpen } = records(text);
@@ -38,7 +41,8 @@ export function look(bytes, rules) {
 /** The text of the file; null if it has none, and that is said. */
 function textOf(bytes, seen) {
   if (bytes.length === 0) return seen.say('empty');
-  for (const [first, name, values] of FIRST_BYTES) if (first.every((byte, place) => bytes[place] === byte)) return seen.say(name, values);
+  const kind = FIRST_BYTES.find(([first]) => first.every((byte, place) => bytes[place] === byte));
+  if (kind) return seen.say(...kind.slice(1));
   if (bytes.subarray(0, 2).includes(0)) return seen.say('utf16');
   const { text, wrong } = decode(bytes);
   if (wrong) return seen.say('not_utf8', wrong);
@@ -54,7 +58,7 @@ function hasHeader(text, rows, rules, seen) {
   const later = laterHeader(text, rules);
   if (text.toLowerCase().startsWith('sep=')) seen.say('sep_line', { line: text.split(/\r\n|\n|\r/)[0] });
   else if (mark) seen.say('separator', { separator: rules.separators[mark] });
-  else if (namesUnits(header)) seen.say('spelling', { found: header.find((name) => folded(name) === 'legacyid'), column: 'legacyId' });
+  else if (namesUnits(header)) seen.say('spelling', { found: header.find(meansLegacyId), column: 'legacyId' });
   else if (later) seen.say('title_line', { sheet: later.sheet, lines: later.sheet - 1 });
   else seen.say('no_legacy_id', { header });
   return false;
@@ -81,7 +85,8 @@ function lookAtColumns(header, rules, seen) {
   const unread = [...new Set(header)].filter((name) => name !== '' && !read.includes(name));
   const meant = unread.map((name) => [name, meantBy(name, missing, rules)]);
   for (const [found, column] of meant) if (column) seen.say('similar', { found, column });
-  const emptied = Object.entries(rules.elements).filter(([name]) => missing.includes(name)).map(([name, label]) => `${label} (${name})`);
+  const emptied = Object.entries(rules.elements).filter(([name]) => missing.includes(name))
+    .map(([name, label]) => `${label} (${name})`);
   if (emptied.length > 0) seen.say('emptied', { columns: emptied });
   if (missing.includes('parentId')) seen.say('no_parents');
   if (missing.includes('publicationStatus')) seen.say('no_status');
@@ -116,8 +121,9 @@ function lookAtRows(rows, rules, seen) {
   seen.rows = rows;
   seen.reader = reader;
   seen.counts = {
-    rows: filled.filter(isFilled).length, units: units.length, drafts: units.filter(isDraft).length, translations: reader.translations,
-    tops: units.filter((unit) => unit.parent === '').length, containers: new Set(units.flatMap((unit) => unit.boxes.map(keyOf))).size,
+    rows: filled.filter(isFilled).length, units: units.length, drafts: units.filter(isDraft).length,
+    translations: reader.translations, tops: units.filter((unit) => unit.parent === '').length,
+    containers: new Set(units.flatMap((unit) => unit.boxes.map(keyOf))).size,
   };
 }
 
@@ -135,7 +141,8 @@ function sayFault(reader, rules, seen) {
 /** Which unit a row is about: its column if it matters, its legacyId and title. */
 export function aboutRow(reader, row, column) {
   const [legacy, title] = [valueIn(reader, row, 'legacyId'), valueIn(reader, row, 'title')];
-  return (column ? `, column ${column}` : '') + (legacy ? `, legacyId ${legacy}` : '') + (title ? `, “${firstOf(title, 60)}”` : '');
+  const parts = [column && `column ${column}`, legacy && `legacyId ${legacy}`, title && `“${firstOf(title, 60)}”`];
+  return parts.filter(Boolean).map((part) => `, ${part}`).join('');
 }
 
 /** The first letters of a text, without cutting one in two. */
@@ -200,14 +207,16 @@ export const isDraft = (unit) => unit.status.toLowerCase() !== 'published';
 function lookAtUnits(units, translations, hasStatus, depth, seen) {
   const all = [...units.values()];
   if (hasStatus && all.length > 0 && all.every(isDraft)) seen.say('all_drafts');
-  const odd = new Set(all.map((unit) => unit.status).filter((status) => !['published', 'draft', ''].includes(status.toLowerCase())));
+  const isOdd = (status) => !['published', 'draft', ''].includes(status.toLowerCase());
+  const odd = new Set(all.map((unit) => unit.status).filter(isOdd));
   if (odd.size > 0) seen.say('odd_status', { words: [...odd].map((one) => `“${one}”`) });
   lookAtParents(units, seen);
   lookAtDepths(units, depth, seen);
   lookAtNumbers(units, seen);
   lookAtCodes(units, seen);
   const cultures = [...new Set(all.map((unit) => unit.culture))];
-  if (cultures.length === 1 && translations === 0 && !['', 'en'].includes(cultures[0])) seen.say('one_language', { culture: cultures[0] });
+  const isOther = cultures.length === 1 && translations === 0 && !['', 'en'].includes(cultures[0]);
+  if (isOther) seen.say('one_language', { culture: cultures[0] });
   lookAtBoxes(units, seen);
 }
 
@@ -247,7 +256,8 @@ function lookAtCodes(units, seen) {
 }
 
 /** Whether an identifier begins with that of the unit above, and goes on after a mark such as `/`. */
-const repeats = (identifier, above) => Boolean(above) && identifier.startsWith(above) && /^[^0-9A-Za-z]/.test(identifier.slice(above.length));
+const repeats = (identifier, above) =>
+  Boolean(above) && identifier.startsWith(above) && /^[^0-9A-Za-z]/.test(identifier.slice(above.length));
 
 function lookAtBoxes(units, seen) {
   const tops = new Map();
@@ -260,7 +270,8 @@ function lookAtBoxes(units, seen) {
     }
   }
   const groups = groupedBy([...boxes.values()], ({ box }) => keyOf(box.map(withoutCase))).filter((group) => group.length > 1);
-  if (groups.length > 0) seen.say('boxes_alike', { boxes: groups.map((group) => group.map(({ box }) => `“${shownBox(box)}”`).join(' / ')) });
+  const named = (group) => group.map(({ box }) => `“${shownBox(box)}”`).join(' / ');
+  if (groups.length > 0) seen.say('boxes_alike', { boxes: groups.map(named) });
   const shared = [...boxes.values()].filter(({ archives }) => archives.size > 1);
   if (shared.length > 0) seen.say('boxes_shared', { boxes: shared.map(({ box }) => shownBox(box)) });
 }
@@ -291,7 +302,8 @@ const folded = (name) => name.toLowerCase().replace(/[^a-z0-9]/g, '');
 /** A text without case, and with one space for several. */
 const withoutCase = (text) => text.toLowerCase().split(/[ \t\r\n\u00a0]+/).filter(Boolean).join(' ');
 
-const namesUnits = (fields) => fields.some((name) => folded(name) === 'legacyid');
+const meansLegacyId = (name) => folded(name) === 'legacyid';
+const namesUnits = (fields) => fields.some(meansLegacyId);
 const withoutZeros = (number) => (/^[0-9]+$/.test(number) ? number.replace(/^0+/, '') : number);
 const firstRow = (units) => ({ rows: units.length, row: units[0].row.number, sheet: units[0].row.sheet });
 const keyOf = (box) => JSON.stringify(box);
