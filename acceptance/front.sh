@@ -39,6 +39,7 @@ if ! has chromium chromium fonts-liberation; then
     fi
     parts=(looks rules restarts)
 fi
+has zbarimg zbar-tools || echo "left out that zbarimg reads the barcodes: it is not here and cannot be installed"
 room=$(mktemp -d)
 trap 'rm -rf "$room"' EXIT
 python3 "$here/front/run.py" "$program" "$room/offices" "$here/front/out" "${parts[@]}"

@@ -39,6 +39,7 @@ class FirstYear:
         for part in (
             self.bad_files,
             self.emptying,
+            self.same_boxes,
             self.drafts,
             self.asked,
             self.slips,
@@ -90,6 +91,15 @@ class FirstYear:
         self.checks.same("the box to tick has the focus", page.js("document.activeElement.id"), "confirmed")
         self.shot(page, "desk-import-emptying")
         self.checks.same("nothing was emptied", self.asks.text(f"/public/units/{fonds}"), before)
+
+    def same_boxes(self):
+        """Containers that another archive in the office names too."""
+        box = {"physicalObjectName": "Box 2", "physicalObjectLocation": "Strongroom 1"}
+        page = self.chosen("boxes.csv", files.whole(files.unit("1", title="Another archive", **box)).encode())
+        page.press("Do other archives in the office name these containers?")
+        page.see("1 name is in other archives too.", ".seen-in-file")
+        page.see("Box 2: GB 0999 HUL [Fonds] Hull Dock Company", ".same-boxes")
+        self.checks.check("a container of another archive is told", True)
 
     def drafts(self):
         """An import with drafts: their numbers, and publishing from the report."""

@@ -13,6 +13,7 @@ import looks  # noqa: E402
 import refusals  # noqa: E402
 import restarts  # noqa: E402
 import shapes  # noqa: E402
+import sign_out  # noqa: E402
 from asks import Asks  # noqa: E402
 from browser import Browser  # noqa: E402
 from checks import Checks  # noqa: E402
@@ -69,6 +70,8 @@ def two_offices(checks, program, folder, shots, parts):
                 office_without_pages(office, folder)
             if "rules" in parts:
                 Rules(checks, Asks(office), browser and browser.page(SIGNED_IN)).play()
+                if browser:
+                    checks.part("rules: signing out", sign_out.play, checks, office, browser)
             if "restarts" in parts:
                 restarts.play(checks, Asks(office))
         if browser and "refusals" in parts:

@@ -6,7 +6,7 @@ import { commandForm } from '../shared/form.js';
 import { numberOf } from '../shared/numbers.js';
 import { go } from '../shared/router.js';
 import { register } from '../shared/routes.js';
-import { askIfPast, sureOrStayed } from './days.js';
+import { asOf, askIfPast, sureOrStayed } from './days.js';
 import { lookAtNewestTicket } from './looks.js';
 import { knownReaders, newestTicket, readCards, readerLink } from './names.js';
 import { card, notDone, said } from './parts.js';
@@ -58,7 +58,7 @@ async function findByName(form, who, told, found) {
     return goesOn() && done < MOST;
   });
   const known = knownReaders().size.toLocaleString('en-GB');
-  if (goesOn()) show(whole ? '' : `The newest ${known} cards were searched. Choose Find again to search older ones.`);
+  if (goesOn()) show(whole ? asOf() : `The newest ${known} cards were searched. Choose Find again to search older ones.`);
 }
 
 function showFound(who, told, found, end) {

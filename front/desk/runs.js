@@ -19,7 +19,7 @@ export async function runsPage() {
     el('h1', {}, 'Runs'),
     el('div', { class: 'cards' },
       card('Fetch from the shelves', el('p', {}, 'A run fetches the containers that readers have waited for longest, as many as one run takes. '
-        + 'Its slip says where they are.'), runForm()),
+        + 'It leaves what is not open to its reader: closed, a draft, or no longer in any unit. Its slip says where they are.'), runForm()),
       card('Slips', latest(newest), lookUp(numberField('run', 'Run'), 'Show the slip', (number) => go(`#/runs/${number}`)))),
   ] };
 }

@@ -6,6 +6,7 @@ import { note } from '../shared/form.js';
 import { LARGEST_FILE } from '../shared/routes.js';
 import { deskWords } from '../shared/refusals.js';
 import { aboutRow, adviceWords, longColumn, look, readRules } from './look/look.js';
+import { sameBoxes } from './same_boxes.js';
 
 const LEVELS = { stop: 'refused', ask: 'warns', note: 'quiet-note' };
 const COUNTS = {
@@ -59,7 +60,8 @@ function tooLarge() {
 function panelParts({ advice, seen }) {
   const asks = advice.some(({ level }) => level === 'ask') && !advice.some(({ level }) => level === 'stop');
   const parts = Object.keys(LEVELS).map((level) => noteOf(level, advice.filter((one) => one.level === level)));
-  return [...parts, asks && confirmation(), seen.counts && countTable(seen.counts)].flat().filter(Boolean);
+  return [...parts, asks && confirmation(), seen.counts && countTable(seen.counts),
+    seen.counts?.containers > 0 && sameBoxes([...seen.reader.units.values()])].flat().filter(Boolean);
 }
 
 function noteOf(level, advice) {

@@ -22,7 +22,7 @@ export async function slipPage(run) {
     beside(lines),
     el('details', { class: 'no-print' }, el('summary', {}, 'The slip as the program writes it'),
       el('pre', { class: 'slip', tabindex: 0, role: 'region', 'aria-label': 'The slip' }, answer.value)),
-    el('div', { class: 'no-print' }, waitingList()),
+    el('div', { class: 'no-print still-waits' }, waitingList()),
     back(),
   ] };
 }

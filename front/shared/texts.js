@@ -92,6 +92,12 @@ export function containersOfAid(text) {
   return found;
 }
 
+/** The names of the containers of a finding aid. */
+export function namesInAid(text) {
+  return new Set(readAid(text).filter((line) => !line.isHead)
+    .flatMap((line) => numbered(line.text, 'Container ', ': ')?.rest ?? []));
+}
+
 /** Whether a head line ends like that of a closed unit. A title may end like that too, so this proves nothing about the unit. */
 export function endsAsClosed(head) {
   return /\] closed until \d{4}-\d\d-\d\d$/.test(head);

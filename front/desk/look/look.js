@@ -307,7 +307,7 @@ const namesUnits = (fields) => fields.some(meansLegacyId);
 const withoutZeros = (number) => (/^[0-9]+$/.test(number) ? number.replace(/^0+/, '') : number);
 const firstRow = (units) => ({ rows: units.length, row: units[0].row.number, sheet: units[0].row.sheet });
 const keyOf = (box) => JSON.stringify(box);
-export const shownBox = (box) => box.filter(Boolean).join(', ');
+const shownBox = (box) => box.filter(Boolean).join(', ');
 function bytesOf(text) { return [...text].map((letter) => letter.charCodeAt(0)); }
 
 const counted = (number, one) => `${number.toLocaleString('en-GB')} ${one}${number === 1 ? '' : 's'}`;
