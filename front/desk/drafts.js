@@ -14,10 +14,17 @@ import { heldContainer, unitLink } from './parts.js';
 const SHOWN = 200; // the most drafts that are listed
 const CHECKED = 200; // the most units that are checked against what the public sees
 
-export async function newDrafts(added, reader) {
-  const units = [...(reader.seen?.reader?.units.values() ?? [])];
+/** The list as soon as it is known; null if there are no new drafts. */
+export function newDrafts(added, { seen, newest }) {
+  const units = [...(seen?.reader?.units.values() ?? [])];
   if (added === 0 || !units.some(isDraft)) return null;
-  const first = reader.newest === null ? null : await firstOfNew(reader.newest, added);
+  const place = el('div', {}, el('p', { class: 'waiting' }, 'Looking for the numbers of the new drafts …'));
+  listOf(units, added, newest).then((list) => place.replaceChildren(...[list].filter(Boolean)));
+  return place;
+}
+
+async function listOf(units, added, newest) {
+  const first = newest === null ? null : await firstOfNew(newest, added);
   const drafts = first === null ? null : await draftsOf(units, first, added);
   if (drafts === null) return el('p', {}, 'The file has new drafts, but their numbers cannot be told for certain.');
   return drafts.length === 0 ? null : draftTable(drafts);

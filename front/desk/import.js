@@ -71,12 +71,12 @@ async function send({ source, file }, reader) {
   return importFile(source, file);
 }
 
-async function report(value, { source, file }, reader) {
+function report(value, { source, file }, reader) {
   return [
     el('p', {}, el('strong', {}, el('bdi', {}, file.name), ` was taken in from the source ${source}.`)),
     table('Rows', ['New units', 'Changed', 'Unchanged', 'Translations, passed over'],
       [[value.new, value.changed, value.same, value.translations].map(String)]),
-    await newDrafts(value.new, reader),
+    newDrafts(value.new, reader),
     remarks(value.remarks),
   ];
 }

@@ -58,7 +58,7 @@ function opened({ day }) {
 async function whichDay() {
   const newest = await newestRun();
   if (!newest?.day) return el('p', { class: 'quiet' }, 'These pages cannot know which day is open: there has been no run yet.');
-  return el('p', { class: 'quiet' }, runLink(newest.run), ` is of ${newest.day}: this day is open, or a later one.`);
+  return el('p', { class: 'quiet' }, 'The newest is ', runLink(newest.run), ` of ${newest.day}: this day is open, or a later one.`);
 }
 
 /** This browser knows the days that were opened in it. */
