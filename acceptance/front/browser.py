@@ -24,7 +24,7 @@ class Browser:
                                         pass_fds=(out, into), stdout=subprocess.DEVNULL, stderr=subprocess.DEVNULL)
         os.close(out)
         os.close(into)
-        self.rest, self.last, self.events, self.answer = b"", 0, [], None
+        self.rest, self.last, self.events, self.answer, self.on_event = b"", 0, [], None, None
 
     def call(self, method, session=None, **params):
         self.last += 1
@@ -44,6 +44,8 @@ class Browser:
 
     def _event(self, got):
         self.events.append(got)
+        if self.on_event:
+            self.on_event(got)
         if got["method"] == "Fetch.requestPaused" and self.answer:
             self.last += 1
             status, body = self.answer

@@ -100,7 +100,7 @@ class Office:
         self.running = True
         self.keeper = threading.Thread(target=self._keep, daemon=True)
         self.keeper.start()
-        self._run("haproxy", "-f", "haproxy.cfg")
+        self._begin_queue()
         self.nginx = self._run("nginx", "-p", str(self.folder), "-c", str(self.folder / "main.conf"))
         self.wait_for(self.public + "/public/fonds")
         return self
@@ -185,6 +185,20 @@ class Office:
             yield
         finally:
             self.waiting.set()
+
+    @contextlib.contextmanager
+    def without_queue(self):
+        """A context in which the queue before the program is away."""
+        self.queue.terminate()
+        self.queue.wait(20)
+        try:
+            yield
+        finally:
+            self._begin_queue()
+            self.wait_for(self.public + "/public/fonds")
+
+    def _begin_queue(self):
+        self.queue = self._run("haproxy", "-f", "haproxy.cfg")
 
     def _run(self, *words):
         log = open(self.folder / f"{words[0]}.told", "w")

@@ -4,6 +4,7 @@ import base64
 import json
 import socket
 import threading
+import time
 from http.server import BaseHTTPRequestHandler, ThreadingHTTPServer
 
 from office import PASSWORD, SIGNED_IN
@@ -35,7 +36,9 @@ class Rules:
         self.public, self.staff = (asks.office.ports[name] for name in ("8080", "8081"))
 
     def play(self):
-        for part in (self.odd_paths, self.readers_limits, self.password, self.other_sites, self.other_names, self.heads, self.questions_of_heads, self.no_page, self.limit_of_orders, self.orders_from_elsewhere, *([self.foreign_page] if self.page else [])):
+        for part in (self.odd_paths, self.readers_limits, self.password, self.staffs_limits, self.other_sites, self.other_names,
+                     self.heads, self.questions_of_heads, self.no_page, self.limit_of_orders, self.orders_from_elsewhere,
+                     *([self.foreign_page] if self.page else [])):
             self.checks.part(f"rules: {part.__name__}", part)
 
     def state(self):
@@ -72,6 +75,28 @@ class Rules:
                               f"Authorization: Basic {wrong}\r\nConnection: close\r\n\r\n")
         self.checks.same("a wrong password", status(got), 401)
         self.checks.same("the right password", self.asks.get("/desk/issued", True), (200, "[]"))
+        self.guesses(wrong)
+        status_, page = self.asks.get("/sign-out", True)
+        self.checks.check("signing out refuses the right password", status_ == 401 and "You have signed out" in page, (status_, page))
+
+    def guesses(self, wrong):
+        """A wrong password is answered late, and one address has a limited number of them at a time."""
+        request = (f"GET /desk/issued HTTP/1.1\r\nHost: 127.0.0.1:{self.staff}\r\nAuthorization: Basic {wrong}\r\nConnection: close\r\n\r\n")
+        answers, began = [], time.time()
+        clients = [threading.Thread(target=lambda: answers.append((status(raw(self.staff, request)), time.time() - began))) for _ in range(80)]
+        for client in clients:
+            client.start()
+        for client in clients:
+            client.join()
+        self.checks.check("60 guesses take five seconds", sum(one == 401 for one, _ in answers) <= 60
+                          and all(took > 4.5 for one, took in answers if one == 401), sorted(answers)[:3])
+        self.checks.same("and more are turned away", {one for one, _ in answers}, {401, 429})
+
+    def staffs_limits(self):
+        """A command has up to 64 KiB, and a file 8 MiB."""
+        for path, size, wanted in (("/desk/cancel", 60_000, 409), ("/desk/cancel", 70_000, 413), ("/desk/import/x", 70_000, 409)):
+            body = b'{"order":1000}'.ljust(size)
+            self.checks.same(f"{size} bytes to {path}", self.asks.call("POST", path, body, True)[0], wanted)
 
     def other_sites(self):
         own = f"http://127.0.0.1:{self.staff}"

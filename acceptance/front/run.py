@@ -1,7 +1,7 @@
 """Plays all parts in a real browser: run.py PROGRAM FOLDER SHOTS [PART..]
 
-FOLDER is made anew and kept; SHOTS gets pictures of the pages. PART is one of pages, refusals, rules, restarts, stall, search,
-journeys.
+FOLDER is made anew and kept; SHOTS gets pictures of the pages. PART is one of looks, pages, rules, restarts, stall, search,
+refusals, journeys.
 The last line is `N passed, M failed`; the exit status is 0 where none failed."""
 
 import pathlib
@@ -12,17 +12,20 @@ import sys
 sys.dont_write_bytecode = True
 import foldings  # noqa: E402
 import journeys  # noqa: E402
+import looks  # noqa: E402
 import refusals  # noqa: E402
 import restarts  # noqa: E402
 import search_checks  # noqa: E402
 import search_pages  # noqa: E402
 import search_sessions  # noqa: E402
 import shapes  # noqa: E402
+import sign_out  # noqa: E402
 import stall  # noqa: E402
 from asks import Asks  # noqa: E402
 from browser import Browser  # noqa: E402
 from checks import Checks  # noqa: E402
 from day import Day  # noqa: E402
+from first_year import FirstYear  # noqa: E402
 from office import SIGNED_IN, Office, fresh  # noqa: E402
 from rules import Rules  # noqa: E402
 from visit import Visit  # noqa: E402
@@ -48,8 +51,16 @@ def pages(checks, office, browser, folder, shot):
     checks.part("day: imports", day.imports)
     visit.play()
     day.play()
+    FirstYear(checks, asks, desk, day, shot, folder).play()
     shapes.play(checks, visit, day, shot)
     complaints(checks, (hall, desk))
+
+
+def looks_at_files(checks, office, browser):
+    page = browser and browser.page(SIGNED_IN)
+    if page:
+        page.open(office.staff, "/import")
+    looks.play(checks, office.program, page)
 
 
 def complaints(checks, seen):
@@ -59,7 +70,7 @@ def complaints(checks, seen):
 def offices(checks, program, folder, shots, parts):
     browser = Browser(folder / "profile") if shutil.which("chromium") else None
     try:
-        if {"pages", "rules", "restarts"} & set(parts):
+        if {"looks", "pages", "rules", "restarts"} & set(parts):
             first_office(checks, browser, program, folder, shots, parts)
         if "stall" in parts:
             checks.part("stall: commands beside aids whose readers lag", stall.play, checks, program, folder / "stall")
@@ -76,12 +87,16 @@ def offices(checks, program, folder, shots, parts):
 
 def first_office(checks, browser, program, folder, shots, parts):
     with Office(folder / "first", program).init() as office:
+        if "looks" in parts:
+            checks.part("looks", looks_at_files, checks, office, browser)
         if browser and "pages" in parts:
             pages(checks, office, browser, folder, pictures(shots))
         else:
             office_without_pages(office, folder)
         if "rules" in parts:
             Rules(checks, Asks(office), browser and browser.page(SIGNED_IN)).play()
+            if browser:
+                checks.part("rules: signing out", sign_out.play, checks, office, browser)
         if "restarts" in parts:
             restarts.play(checks, Asks(office))
 
@@ -120,7 +135,7 @@ def main(program, folder, shots, *parts):
     folder, shots = pathlib.Path(fresh(folder)).resolve(), pathlib.Path(fresh(shots)).resolve()
     folder.mkdir(parents=True)
     shots.mkdir(parents=True)
-    every = ("pages", "rules", "restarts", "stall", "search", "refusals", "journeys")
+    every = ("looks", "pages", "rules", "restarts", "stall", "search", "refusals", "journeys")
     checks.part("offices", offices, checks, program, folder, shots, parts or every)
     return checks.end()
 

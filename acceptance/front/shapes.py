@@ -34,7 +34,7 @@ CONTRAST = """(() => {
 def play(checks, visit, day, shot):
     fonds, plans, odd = day.unit("fonds"), day.unit("plans"), day.unit("board") + 1
     readers = ["/", f"/unit/{fonds}", f"/unit/{plans}", f"/unit/{odd}", f"/aid/{fonds}", "/help", "/unit/999"]
-    staff = ["/", "/counter", "/counter/1", "/readers", "/readers/1", "/orders", "/runs", "/runs/1", "/out", "/units",
+    staff = ["/", "/counter", "/counter/1", "/readers", "/readers/1", "/orders", "/runs", "/runs/1", "/runs/1/slips", "/readers/1/ticket", "/out", "/units",
              f"/units/{plans}", "/import"]
     for part, at, hashes in (("shapes: readers", visit, readers), ("shapes: staff", day, staff)):
         checks.part(part, all_of, checks, at, hashes, shot)

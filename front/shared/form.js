@@ -69,6 +69,7 @@ function isRepeat(state, values) {
 
 function begin(state) {
   state.missed = false;
+  for (const input of state.form.querySelectorAll('[aria-invalid]')) input.removeAttribute('aria-invalid');
   shut(state, true);
   state.outcome.replaceChildren();
 }
@@ -98,7 +99,7 @@ function shut(state, isShut) {
 async function succeed(state, value, values) {
   state.form.reset();
   state.parts.focus?.(state.form, null);
-  const shown = await state.parts.done(value, values);
+  const shown = await whatWasDone(state, value, values);
   if (!shown) return;
   state.outcome.replaceChildren(note('done', [shown, missed(state)]));
   comeIntoView(state);
@@ -110,6 +111,16 @@ function comeIntoView(state) {
   state.outcome.scrollIntoView({ block: 'nearest' });
 }
 
+/** A page that fails after its command must not hide that it was done. */
+async function whatWasDone(state, value, values) {
+  try {
+    return await state.parts.done(value, values);
+  } catch (mistake) {
+    console.warn(mistake);
+    return el('p', {}, el('strong', {}, 'It was done, but this page cannot show it.'), ' Load the page again.');
+  }
+}
+
 const missed = (state) => state.missed
   && el('p', {}, 'A number was typed or scanned while the office was busy. It was not taken: please do it again.');
 
@@ -118,7 +129,15 @@ function fail(state, answer, values) {
     refusal(state.parts, answer), state.parts.help?.(answer, values, () => sendAgain(state)), missed(state)]));
   if (state.parts.focus) state.parts.focus(state.form, answer);
   else selectFirst(state.form);
+  if (['refused', 'unread'].includes(answer.kind)) markWrong(document.activeElement, state.form);
   comeIntoView(state);
+}
+
+/** The field that has the focus after a refusal is marked as wrong until somebody changes it. */
+function markWrong(input, form) {
+  if (!form.contains(input) || !['text', 'date'].includes(input.type)) return;
+  input.setAttribute('aria-invalid', 'true');
+  input.addEventListener('input', () => input.removeAttribute('aria-invalid'), { once: true });
 }
 
 /** For somebody who has removed the cause of a refusal and sends the same values on purpose. */

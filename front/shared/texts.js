@@ -92,6 +92,12 @@ export function containersOfAid(text) {
   return found;
 }
 
+/** The names of the containers of a finding aid. */
+export function namesInAid(text) {
+  return new Set(readAid(text).filter((line) => !line.isHead)
+    .flatMap((line) => numbered(line.text, 'Container ', ': ')?.rest ?? []));
+}
+
 /**
  * The day at the end of a head line that ends like that of a closed unit, or null. A title may end like that too, so this
  * proves nothing about the unit.
@@ -130,12 +136,23 @@ export function treeOfAid(text) {
 const DATES = '3.1.3 Date(s): ';
 const EXTENT = '3.1.5 Extent and medium of the unit of description: ';
 
-/** The lines of a slip. Each ends with three numbers, whatever comes before them. */
+/** The lines of a slip. Each ends with three numbers, whatever comes before them: the location and the container's name. */
 export function readSlip(text) {
   return linesOf(text).slice(1).flatMap((line) => {
     const found = / +([0-9]+) +([0-9]+) +([0-9]+)$/.exec(line);
-    return found ? [{ container: found[1], order: found[2], ticket: found[3] }] : [];
+    return found ? [{ place: line.slice(0, found.index), container: found[1], order: found[2], ticket: found[3] }] : [];
   });
+}
+
+/** A slip whole: its day, and its lines. */
+export function readRun(text) {
+  return { day: /^Run [0-9]+ {2}(\S+)/.exec(text)?.[1] ?? null, lines: readSlip(text) };
+}
+
+/** The location in a line of a slip, by the name of its container; null if the line does not end with this name. */
+export function locationIn(place, name) {
+  const printed = name.replace(/\r\n|\r|\n/g, ' ').trimEnd();
+  return place.endsWith(printed) ? place.slice(0, place.length - printed.length).trimEnd() : null;
 }
 
 function readLine(page, line) {
