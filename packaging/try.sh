@@ -83,7 +83,7 @@ boot() {
     for _ in $(seq 30); do
         sleep 1
         booted=$(pgrep -f '^/lib/systemd/systemd$' | while read -r one; do
-            [ "$(readlink "/proc/$one/root")" != / ] || [ "$(readlink "/proc/$one/ns/pid")" = "$(readlink /proc/self/ns/pid)" ] || echo "$one"
+            ! grep -qs "/${group##*/}/" "/proc/$one/cgroup" || echo "$one"
         done | head -1)
         [ -z "$booted" ] || return 0
     done

@@ -3,7 +3,7 @@
 
     search_checks.py PROGRAM FOLDER [PART..]
 
-PART is one of questions, pairs, bounds, hostile, kills, states."""
+PART is one of questions, pairs, bounds, files, hostile, kills, states."""
 
 import contextlib
 import json
@@ -20,7 +20,7 @@ from urllib.parse import quote, urlencode
 sys.dont_write_bytecode = True
 from checks import Checks  # noqa: E402
 from office import TOP, fresh  # noqa: E402
-from searched import LOOKS, Asking, Searched, Unreached  # noqa: E402
+from searched import LOOKS, Asking, Searched, Unreached, index  # noqa: E402
 
 HEADER = "legacyId,parentId,identifier,title,levelOfDescription,publicationStatus,eventDates,scopeAndContent\n"
 QUICK = ("--every", ".2", "--rest", "0")
@@ -82,17 +82,26 @@ def bounds(checks, program, folder):
     rows = "".join(f"{n},{1 if n > 1 else ''},{n},dock letters {n},{'File' if n > 1 else 'Fonds'},Published,{1700 + n % 300},\n" for n in range(1, 420))
     (office.folder / "units.csv").write_text(HEADER + rows)
     office.take_in("a", office.folder / "units.csv")
+    (office.folder / "long.csv").write_text(HEADER + f"1,,L,Long,Fonds,Published,,dock letters {'word ' * 100}lighthouse keepers {'word ' * 100}\n")
+    office.take_in("b", office.folder / "long.csv")
     with office:
         office.round()
+        before, mark, after = office.find("lighthouse").units[0]["lines"][0]["text"]
+        checks.check("an excerpt is short, and has what was found", (before[:6], mark, after[:9], after[-2:]) ==
+                     ("… word", "lighthouse", " keepers ", " …") and len(before + after) < 250, (before, mark, after))
         found = office.find("letters")
         checks.same("the way to a unit", (found.units[0]["way"], found.units[1]["way"]), ([], [{"unit": 1, "head": "GB 0999 1 [Fonds] dock letters 1"}]))
         checks.same("twenty are shown, by number", [unit["unit"] for unit in found.units], list(range(1, 21)))
         checks.same("and there are more", (found.more, found.after), (True, (0, 20)))
         checks.same("they go on", [unit["unit"] for unit in office.find("letters", after=found.after).units], list(range(21, 41)))
-        checks.same("to the end", (len(office.find("letters", after=(0, 410)).units), office.find("letters", after=(0, 410)).more), (9, False))
+        last = office.find("letters", after=(0, 410))
+        checks.same("to the end", ([unit["unit"] for unit in last.units], last.more), (list(range(411, 421)), False))
         checks.same("years", [unit["unit"] for unit in office.find("letters", first=1750, last=1752).units], [50, 51, 52, 350, 351, 352])
         for n in range(2, 400):
             office.tell("/desk/status", {"unit": n, "status": "draft", "branch": False})
+        office.tell("/desk/status", {"unit": 420, "status": "draft", "branch": False})
+        last = office.find("letters", after=(0, 399))
+        checks.same("no more is told but what was verified", (len(last.units), last.more, last.after), (20, False, (0, 419)))
         found = office.find("dock")
         checks.same("it gives up after so many looks", (found.state, [unit["unit"] for unit in found.units], found.looked), ("late", [1], LOOKS))
         office.round()
@@ -104,6 +113,55 @@ def bounds(checks, program, folder):
         checks.check("nobody waits for the aid of a large archive", "/public/aid/1" not in paths and "/public/aid/400" in paths, paths)
         checks.same("nor in a round without changes", "/public/aid/1" in office.round(large=10), False)
         checks.same("all is found in it", [unit["unit"] for unit in office.find("dock").units], [1, *range(400, 420)][:20])
+
+
+def files(checks, program, folder):
+    """Whatever became of the index, it is made anew, and a round finds everything. And numbers that changed below equal bytes."""
+    office = Searched(fresh(folder / "files"), program).init()
+    (office.folder / "units.csv").write_text(HEADER + "1,,A,Dock,Fonds,Published,,\n2,1,1,dock letters,File,Published,,\n")
+    office.take_in("a", office.folder / "units.csv")
+    with office:
+        office.round()
+        checks.same("what is found", numbers(office, "dock"), [1, 2])
+        for name, harmed in HARMS.items():
+            harmed(office.index)
+            index.made(str(office.index), True).close()
+            checks.check(f"an index that is {name} is begun anew", numbers(office, "dock") in ([], [1, 2]))
+            office.round()
+            checks.same(f"and all is found after one that was {name}", numbers(office, "dock"), [1, 2])
+        office.round()  # by now the aid is read as one, and known
+        before = office.ask("/public/aid/1")
+        office.tell("/desk/remove", {"unit": 2})
+        office.tell("/desk/import/a", (office.folder / "units.csv").read_bytes())
+        checks.same("the same bytes", office.ask("/public/aid/1"), before)
+        found = office.find("letters")
+        checks.same("a number that is gone is not found, and doubted", (found.units, found.doubts), ([], {2}))
+        office.round(sweep=20)
+        checks.same("the new number is found", numbers(office, "letters"), [3])
+
+
+def numbers(office, typed):
+    return [unit["unit"] for unit in office.find(typed).units]
+
+
+def with_sql(*statements):
+    """Does these statements to a file."""
+    def harmed(path):
+        with contextlib.closing(sqlite3.connect(path, isolation_level=None)) as db:
+            for statement in statements:
+                db.execute(statement)
+    return harmed
+
+
+DAMAGED_WORDS = with_sql("UPDATE words_data SET block = zeroblob(9) WHERE id > 10")  # neither answers nor rounds see it
+HARMS = {
+    "deleted": pathlib.Path.unlink,
+    "no database": lambda path: path.write_bytes(b"dock letters " * 999),
+    "empty": lambda path: path.write_bytes(b""),
+    "of another version": with_sql("PRAGMA user_version = 77", "DELETE FROM unit", "DROP TABLE part"),
+    "damaged in its words": DAMAGED_WORDS,
+    "another program's": lambda path: path.unlink() or with_sql("CREATE TABLE unit(n)")(path),
+}
 
 
 class FakeOffice(threading.Thread):
@@ -206,6 +264,8 @@ def kills(checks, office, turns=12):
         checks.check(f"never anything else after {what}, turn {turn}", now is None or now <= wanted, now)
         if turn % 3 == 2:
             checks.check(f"found again after {what}, turn {turn}", is_found(office, wanted), (units(office), wanted))
+    DAMAGED_WORDS(office.index)
+    checks.check("found again after words were damaged", is_found(office, wanted, 180), units(office))
     checks.same("the index is private", oct(os.stat(office.index).st_mode & 0o777), "0o600")
 
 
@@ -258,11 +318,11 @@ def with_service(checks, program, folder, parts):
                 checks.part(f"search: {part.__name__}", part, checks, office)
 
 
-def play(checks, program, folder, parts=("questions", "pairs", "bounds", "hostile", "kills", "states")):
+def play(checks, program, folder, parts=("questions", "pairs", "bounds", "files", "hostile", "kills", "states")):
     folder = pathlib.Path(folder)
     if "questions" in parts:
         checks.part("search: questions", questions, checks, folder)
-    for part in (pairs, bounds):
+    for part in (pairs, bounds, files):
         if part.__name__ in parts:
             checks.part(f"search: {part.__name__}", part, checks, program, folder)
     if {"hostile", "kills", "states"} & set(parts):

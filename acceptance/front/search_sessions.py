@@ -184,8 +184,8 @@ class Session:
         for _ in range(choice([1, 1, 2])):
             word = choice([*WORDS, "doc*", "min*", "GB", '"dock minute"', '"letters plans"', "0999/A", '"from gb"', "1850", "until", "o'br*", "Lodz", "dock gates"])
             typed.append(word.upper() if chance() < .3 else word)
-        year = choice([None, None, None, 1799, 1850, 1900])
-        return " ".join(typed), (choice([*self.now, 1]) if chance() < .3 else None), year, choice([None, year and year + 60])
+        years = choice([(None, None)] * 3 + [(1799, None), (1850, 1910), (None, 1850), (1900, 1960)])
+        return " ".join(typed), (choice([*self.now, 1]) if chance() < .3 else None), *years
 
     def matches(self, one, number, typed, top, first, last):
         """The group of a unit that is to be found: 0 if its head has all, else 1. None if it is none."""

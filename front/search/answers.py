@@ -28,7 +28,8 @@ class Query:
         """Whether the span from the least to the greatest year of a unit meets the years that are asked for."""
         if self.first is None and self.last is None:
             return True
-        return years[0] is not None and (self.first is None or self.first <= years[1]) and (self.last is None or years[0] <= self.last)
+        begins, ends = years
+        return begins is not None and (self.first is None or self.first <= ends) and (self.last is None or begins <= self.last)
 
     def holds(self, head, lines):
         """Whether each phrase occurs in the head or in a value."""
@@ -135,9 +136,10 @@ def shortened(text, phrases):
     """The text in pieces, from a little before the first mark on."""
     places = folding.places_of(phrases, text)
     begin = max(0, places[0][0] - BEFORE) if places else 0
-    begin = text.find(" ", begin, places[0][0]) + 1 if begin and " " in text[begin:places[0][0]] else begin
+    if begin and " " in text[begin:places[0][0]]:
+        begin = text.index(" ", begin) + 1
     end = begin + WIDTH
-    pieces = marked(text[begin:end], [(max(a, begin) - begin, min(b, end) - begin) for a, b in places if a < end])
+    pieces = marked(text[begin:end], [(first - begin, min(last, end) - begin) for first, last in places if first < end])
     if begin:
         pieces[0] = "… " + pieces[0]
     if end < len(text):

@@ -9,8 +9,8 @@ from texts import may_be_from_above, value_of, years_of
 
 VERSION = 1
 BETWEEN = " \ue000 "  # a word that no text has, between two values: no phrase reaches from one into the next
-# unit.own and unit.branch are digests; odd has the own lines that look as if they were found above; gone is set within a round.
-# part: a finding aid that was read as one, or a large unit whose parts were (then without digest), and how many units it has.
+# unit: own and branch are digests; odd has the own lines that look as if they were found above; gone is set within a round.
+# part: a finding aid that was read as one, or a large unit whose parts were (then without digest); size: its units.
 TABLES = """
 CREATE TABLE round(finished INTEGER NOT NULL, done INTEGER NOT NULL, tops INTEGER NOT NULL, swept INTEGER NOT NULL);
 INSERT INTO round VALUES (0, 0, 0, 0);
@@ -21,8 +21,10 @@ CREATE INDEX unit_top ON unit(top);
 CREATE INDEX unit_parent ON unit(parent, pos);
 CREATE VIRTUAL TABLE words USING fts5(head, body, tokenize = 'ascii', columnsize = 0);
 """
-ABOVE = "WITH RECURSIVE above(n) AS (SELECT ? UNION SELECT parent FROM unit JOIN above USING (n) WHERE parent IS NOT NULL) "
-LOST = "WITH RECURSIVE lost(n) AS (SELECT n FROM unit WHERE gone UNION SELECT unit.n FROM unit JOIN lost ON unit.parent = lost.n) "
+ABOVE = ("WITH RECURSIVE above(n) AS (SELECT ? "
+         "UNION SELECT parent FROM unit JOIN above USING (n) WHERE parent IS NOT NULL) ")
+LOST = ("WITH RECURSIVE lost(n) AS (SELECT n FROM unit WHERE gone "
+        "UNION SELECT unit.n FROM unit JOIN lost ON unit.parent = lost.n) ")
 BELOW = "WITH RECURSIVE below(n) AS (SELECT ? UNION SELECT unit.n FROM unit JOIN below ON unit.parent = below.n) "
 
 
@@ -71,7 +73,8 @@ def whole(db):
 def put(db, top, number, parent, pos, node, branch):
     """A unit as the office shows it. Its words are written again only if they have changed. If it was elsewhere up to now, what
     was above it there is looked at again, even if it does not change: the list of fonds may have been older than the move."""
-    own, *before, gone = db.execute("SELECT own, top, parent, gone FROM unit WHERE n = ?", (number,)).fetchone() or (None, top, parent, 0)
+    found = db.execute("SELECT own, top, parent, gone FROM unit WHERE n = ?", (number,)).fetchone()
+    own, *before, gone = found or (None, top, parent, 0)
     if before != [top, parent] and not gone:
         look_again_above(db, number)
     odd = "\n".join(line for line in node.lines if may_be_from_above(line, node.head)) or None
@@ -101,14 +104,21 @@ def doubt(db, number):
         db.execute(ABOVE + "UPDATE unit SET branch = NULL WHERE n IN above", (number,))
 
 
-def lose(db, number):
-    """A unit is no longer where it was, with all below it."""
-    db.execute(BELOW + "UPDATE unit SET gone = 1 WHERE n IN below", (number,))
+def lose(db, numbers):
+    """Units are no longer where they were. What is below them goes with them at the end of the round, unless it has moved."""
+    db.executemany("UPDATE unit SET gone = 1 WHERE n = ?", [(number,) for number in numbers])
 
 
 def branch(db, number):
     """A unit and all below it at the last round: (n, top, parent, pos, branch, gone) of each."""
-    return db.execute(BELOW + "SELECT n, top, parent, pos, branch, gone FROM unit WHERE n IN below ORDER BY parent, pos", (number,))
+    wanted = "SELECT n, top, parent, pos, branch, gone FROM unit WHERE n IN below ORDER BY parent, pos"
+    return db.execute(BELOW + wanted, (number,))
+
+
+def next_with_units(db, after, many):
+    """So many units that have some below, in turn: those that come after a number, then from the first on."""
+    return [n for n, in db.execute("SELECT DISTINCT parent FROM unit WHERE parent IS NOT NULL ORDER BY parent <= ?, parent LIMIT ?",
+                                   (after, many))]
 
 
 def below(db, number):
@@ -123,7 +133,7 @@ def forget_gone(db, tops):
         db.execute("DELETE FROM now")
         db.executemany("INSERT OR IGNORE INTO now VALUES (?)", ((top,) for top in tops))
         db.execute("UPDATE unit SET gone = 1 WHERE top NOT IN now")
-        db.execute(LOST + "UPDATE unit SET gone = 1 WHERE n IN lost")  # a part that was not sure may have left some below
+        db.execute(LOST + "UPDATE unit SET gone = 1 WHERE n IN lost")
         db.execute("DELETE FROM words WHERE rowid IN (SELECT n FROM unit WHERE gone)")
         db.execute("DELETE FROM unit WHERE gone")
         db.execute("DELETE FROM part WHERE n NOT IN (SELECT n FROM unit)")
@@ -138,11 +148,11 @@ def propose(db, phrases, after, top=None, first=None, last=None):
     for limit, value in (("unit.top = ?", top), ("unit.last >= ?", first), ("unit.first <= ?", last)):
         if value is not None:
             limits, values = f"{limits} AND {limit}", [*values, value]
+    statement = ("SELECT words.rowid FROM words JOIN unit ON unit.n = words.rowid "
+                 f"WHERE words MATCH ? AND words.rowid > ?{limits} ORDER BY words.rowid")
     for group, match in enumerate((in_head, f"({wanted}) NOT {in_head}")):
         if after[0] <= group:
-            rows = db.execute(f"SELECT words.rowid FROM words JOIN unit ON unit.n = words.rowid WHERE words MATCH ? AND words.rowid > ?{limits} "
-                              "ORDER BY words.rowid", [match, after[1] if after[0] == group else 0, *values])
-            for number, in rows:
+            for number, in db.execute(statement, [match, after[1] if after[0] == group else 0, *values]):
                 yield group, number
 
 

@@ -20,6 +20,7 @@ from texts import Node, Page, digest, read_aid, read_fonds
 
 LARGE = 2000  # units; an aid with more is read by parts
 SWEEP = 20  # pages that each round reads whatever has changed
+CHECKED = 60  # so many rounds after a check of the index comes the next: damage need not show in answers or rounds
 
 
 class Round:
@@ -42,8 +43,7 @@ class Round:
         """A branch that was removed and imported again has other numbers and may have the same bytes. So each round reads a few
         pages more, until it has been around all units that have some below."""
         swept = self.db.execute("SELECT swept FROM round").fetchone()[0]
-        some = [n for n, in self.db.execute("SELECT DISTINCT parent FROM unit WHERE parent IS NOT NULL ORDER BY parent <= ?, parent LIMIT ?",
-                                            (swept, self.sweep))]
+        some = index.next_with_units(self.db, swept, self.sweep)
         for number in some:
             page = self.page(number)
             if page is None or [n for n, _ in page.units] != index.below(self.db, number):
@@ -72,9 +72,7 @@ class Round:
         now = {n for n, _ in page.units}
         with index.whole(self.db):
             index.put(self.db, top, number, parent, pos, node, None)
-            for lost in index.below(self.db, number):
-                if lost not in now:
-                    index.lose(self.db, lost)
+            index.lose(self.db, [n for n in index.below(self.db, number) if n not in now])
         size = 1 + sum(self.part(n, top, number, place) for place, (n, _) in enumerate(page.units))
         self.note(number, None, size)
         return size
@@ -94,8 +92,9 @@ class Round:
         return node.size
 
     def is_known(self, number, top, parent, seen):
-        return self.db.execute("SELECT 1 FROM part JOIN unit USING (n) WHERE n = ? AND digest = ? AND top = ? AND parent IS ? AND NOT gone",
-                               (number, seen, top, parent)).fetchone()
+        """Whether the index has this aid, and its unit at this place."""
+        return self.db.execute("SELECT 1 FROM part JOIN unit USING (n) WHERE n = ? AND digest = ? AND top = ? AND parent IS ? "
+                               "AND NOT gone", (number, seen, top, parent)).fetchone()
 
     def page(self, number):
         text = self.ask(f"/public/units/{number}")
@@ -118,9 +117,14 @@ class Aid:
     def __init__(self, round_, number, top):
         self.round, self.db, self.number, self.top = round_, round_.db, number, top
         self.old, self.below, self.changed, self.kept, self.places = {}, {}, [], set(), []
+        self.remember(number)
+
+    def remember(self, number):
+        """What the index has of a unit and of all below it."""
         for n, *rest in index.branch(self.db, number):
-            self.old[n] = rest
-            self.below.setdefault(rest[1], []).append(n)
+            if n not in self.old:
+                self.old[n] = rest
+                self.below.setdefault(rest[1], []).append(n)
 
     def take(self, node, parent, pos):
         """Whether all units of the aid got their numbers."""
@@ -132,11 +136,13 @@ class Aid:
             self.db.executemany("UPDATE unit SET pos = ? WHERE n = ?", self.places)
             self.db.executemany("UPDATE unit SET gone = 0 WHERE n = ?", [(n,) for n in self.kept if self.old[n][4]])
             if sure:
-                self.db.executemany("UPDATE unit SET gone = 1 WHERE n = ?", [(n,) for n in self.old if n not in found])
+                index.lose(self.db, self.old.keys() - found)
         return sure
 
     def assign(self, number, parent, pos, node):
-        """Whether all of the branch got its numbers."""
+        """Whether all of the branch got its numbers. A unit that was elsewhere may leave some behind that are below it no more."""
+        if number not in self.old:
+            self.remember(number)
         if self.is_kept(number, parent, pos, node):
             return True
         sure = not node.units or self.assign_below(number, node)
@@ -147,7 +153,8 @@ class Aid:
         page = self.round.page(number)
         if page is None or [head for _, head in page.units] != [unit.head for unit in node.units]:
             return False
-        return all([self.assign(n, number, pos, unit) for pos, ((n, _), unit) in enumerate(zip(page.units, node.units))])
+        pairs = enumerate(zip(page.units, node.units))
+        return all([self.assign(n, number, pos, unit) for pos, ((n, _), unit) in pairs])
 
     def is_kept(self, number, parent, pos, node):
         """Whether a branch is as the index has it. Then all its numbers stay."""
@@ -172,7 +179,7 @@ class Keeper:
 
     def __init__(self, path, ask, told, every):
         self.path, self.ask, self.told, self.every = path, ask, told, every
-        self.damaged, self.doubts, self.parent = True, set(), os.getppid()
+        self.damaged, self.unchecked, self.doubts, self.parent = True, 0, set(), os.getppid()
 
     def keep(self):
         """After a failure whose cause may be the index, the index is checked, and begun anew if it is damaged."""
@@ -212,7 +219,8 @@ class Keeper:
             self.damaged = True
 
     def round(self):
-        check, self.damaged = self.damaged, False
+        check = self.damaged or self.unchecked == CHECKED
+        self.damaged, self.unchecked = False, 0 if check else self.unchecked + 1
         db = index.made(self.path, check)
         try:
             doubts, self.doubts = self.doubts, set()

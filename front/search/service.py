@@ -37,13 +37,14 @@ class Rounds(threading.Thread):
     def run(self):
         while True:
             here = pathlib.Path(__file__).resolve().parent
-            status = subprocess.run([sys.executable, "-B", "-E", "-s", here / "rounds.py", *self.words], pass_fds=[self.told.fileno()], check=False).returncode
-            print(f"rounds ended with {status}", flush=True)
+            words = [sys.executable, "-B", "-E", "-s", here / "rounds.py", *self.words]
+            done = subprocess.run(words, pass_fds=[self.told.fileno()], check=False)
+            print(f"rounds ended with {done.returncode}", flush=True)
             time.sleep(5)
 
     def say(self, number):
-        """That a unit is otherwise than the index has it, or (0) that the index cannot be read. If nobody listens for long, what
-        is more than the socket holds is lost, and found again by a later answer."""
+        """That a unit is otherwise than the index has it, or (0) that the index cannot be read. If nobody listens for long, what is
+        more than the socket holds is lost, and found again by a later answer."""
         try:
             self.tell.send(b"%d" % number)
         except OSError:
@@ -101,7 +102,8 @@ def whole_number(text):
 def members(text):
     """The last value of each name of a query string."""
     try:
-        found = parse_qs(text.encode("latin-1").decode("utf-8", "replace"), keep_blank_values=True, max_num_fields=8, errors="replace")
+        text = text.encode("latin-1").decode("utf-8", "replace")
+        found = parse_qs(text, keep_blank_values=True, max_num_fields=8, errors="replace")
     except ValueError:
         return {}
     return {name: values[-1] for name, values in found.items()}

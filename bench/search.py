@@ -1,0 +1,156 @@
+#!/usr/bin/env python3
+"""Measures the search in all archives over a large office:
+
+    bench/search.py PROGRAM FOLDER [--units N] [--fonds N] [--rest TIMES]
+
+The office has N units in fonds of so many. It prints rows of markdown: how long a first round, a round without changes and one
+after a change take, what a desk command and a reader's page wait beside them, how large index and memory are, and how long
+questions take, without nginx and the service. With --rest 0, rounds ask without a pause."""
+
+import argparse
+import http.client
+import json
+import multiprocessing
+import pathlib
+import random
+import resource
+import sys
+import time
+
+sys.dont_write_bytecode = True
+sys.path.insert(0, str(pathlib.Path(__file__).resolve().parent.parent / "acceptance" / "front"))
+
+import searched  # noqa: E402
+from office import fresh  # noqa: E402
+
+SYLLABLES = (("har", "doc", "min", "let", "sto", "bri"), ("a", "e", "o", "u"), ("ter", "kin", "ham", "ley", "mond", "sby", "wick", "ton"))
+WORDS = [a + b + c for a in SYLLABLES[0] for b in SYLLABLES[1] for c in SYLLABLES[2]]
+HEADER = "legacyId,parentId,identifier,title,levelOfDescription,publicationStatus,eventDates,eventActors,scopeAndContent,physicalObjectName\n"
+QUESTIONS = 60
+
+
+def rows(units, fonds):
+    """Of each fonds a hundredth are series, a tenth files, the rest items. Words are as uneven as in real texts."""
+    chance = random.Random(1)
+
+    def text(many):
+        return " ".join(WORDS[min(int(chance.paretovariate(0.6)) - 1, len(WORDS) - 1)] for _ in range(many))
+
+    series = file = 0
+    for number in range(1, units + 1):
+        place = (number - 1) % fonds
+        if place == 0:
+            level, parent, top = "Fonds", "", number
+        elif place % 100 == 1:
+            level, parent, series = "Series", top, number
+        elif place % 10 == 2:
+            level, parent, file = "File", series, number
+        else:
+            level, parent = "Item", file if file > series else series
+        creator = text(3) if place % 7 == 0 else ""
+        yield (f"{number},{parent},{place},{text(4)} n{number},{level},Published,{1600 + number % 350}-{1620 + number % 350},"
+               f"{creator},{text(25)},Box {number // 9}\n")
+
+
+def probe(port, path, body, stop, out):
+    """How long each of many small requests waits, one every 20 ms."""
+    connection, waits = http.client.HTTPConnection("127.0.0.1", port, timeout=200), []
+    while not stop.is_set():
+        began = time.perf_counter()
+        try:
+            connection.request("POST" if body else "GET", path, body)
+            connection.getresponse().read()
+            waits.append(time.perf_counter() - began)
+        except OSError:
+            connection.close()
+        time.sleep(0.02)
+    out.put(waits)
+
+
+def spread(values):
+    """p50, p99 and the most, in milliseconds."""
+    values = sorted(values)
+    return " / ".join(f"{value * 1000:.1f}" for value in (values[len(values) // 2], values[int(len(values) * 0.99)], values[-1]))
+
+
+def beside(office, work):
+    """Does the work while a clerk and a reader ask: how long it took, and what each of the two waited."""
+    stop, probes = multiprocessing.Event(), []
+    for port, path, body in (("8092", "/desk/renew", json.dumps({"ticket": 1, "until": "2099-12-31"})), ("8091", "/public/units/2", None)):
+        out = multiprocessing.Queue()
+        process = multiprocessing.Process(target=probe, args=(office.ports[port], path, body, stop, out))
+        process.start()
+        probes.append((process, out))
+    began = time.perf_counter()
+    work()
+    took = time.perf_counter() - began
+    stop.set()
+    waits = [spread(out.get()) for _, out in probes]
+    for process, _ in probes:
+        process.join()
+    return took, waits
+
+
+def aid(ask, number):
+    """The size of a finding aid in MB, and how long it takes in milliseconds."""
+    began = time.perf_counter()
+    size = len(ask(f"/public/aid/{number}"))
+    return f"{size / 1e6:.1f} MB, {(time.perf_counter() - began) * 1000:.0f} ms"
+
+
+def rounds(office, ask, db, units):
+    """Prints a row for each kind of round."""
+    def row(name, work):
+        ask.asked, ask.busy = 0, 0
+        took, (desk, reader) = beside(office, work)
+        print(f"| {name} | {took:.2f} | {ask.asked} | {ask.busy:.2f} | {desk} | {reader} |", flush=True)
+    print("| | s | requests | s in the office | a desk command waits, ms: p50 / p99 / most | a page waits, ms |\n|---|---|---|---|---|---|")
+    row("nothing, for five seconds", lambda: time.sleep(5))
+    row("first round", lambda: searched.Round(db, ask).run())
+    row("second round", lambda: searched.Round(db, ask).run())
+    row("round without changes", lambda: searched.Round(db, ask).run())
+    office.tell("/desk/closure", {"unit": units - 1, "until": "2090-01-01"})
+    row("round after one change", lambda: searched.Round(db, ask).run())
+    size = sum(path.stat().st_size for path in office.folder.glob("index.db*"))
+    print(f"\nindex {size / 1e6:.0f} MB; memory of the rounds {resource.getrusage(resource.RUSAGE_SELF).ru_maxrss / 1024:.0f} MB\n", flush=True)
+
+
+def questions(office, db, units):
+    """Prints a row for each kind of question."""
+    chance, ask = random.Random(2), searched.Asking(office.queue)
+    kinds = {"rare word": lambda: f"n{chance.randrange(units)}", "word of nearly all units": lambda: WORDS[0],
+             "two common words": lambda: " ".join(chance.sample(WORDS[:40], 2)), "begin*": lambda: WORDS[chance.randrange(99)][:3] + "*",
+             "b*": lambda: "b*", "nothing found": lambda: "zzz"}
+    print("| a question, ms: p50 / p99 / most | | requests of each |\n|---|---|---|")
+    for name, typed in kinds.items():
+        times, ask.asked = [], 0
+        for _ in range(QUESTIONS):
+            began = time.perf_counter()
+            searched.Finder(db, ask, searched.Query(searched.read_typed(typed()))).find()
+            times.append(time.perf_counter() - began)
+        print(f"| {name} | {spread(times)} | {ask.asked / QUESTIONS:.0f} |", flush=True)
+
+
+def main():
+    words = argparse.ArgumentParser(description=__doc__, formatter_class=argparse.RawDescriptionHelpFormatter)
+    words.add_argument("program")
+    words.add_argument("folder")
+    words.add_argument("--units", type=int, default=20_000)
+    words.add_argument("--fonds", type=int, default=2_000, help="units of a fonds")
+    words.add_argument("--rest", type=float, default=0)
+    words = words.parse_args()
+    office = searched.Searched(fresh(words.folder), words.program).init()
+    lines = list(rows(words.units, words.fonds))
+    for at in range(0, words.units, 20_000):
+        (office.folder / "part.csv").write_text(HEADER + "".join(lines[at:at + 20_000]))
+        office.take_in("a", office.folder / "part.csv")
+    with office:
+        office.tell("/desk/register", {"name": "A reader", "until": "2099-12-31"})
+        ask, db = searched.Asking(office.queue, words.rest), searched.index.made(str(office.index), True)
+        print(f"{words.units} units in fonds of {words.fonds}; one aid: {aid(searched.Asking(office.queue), 1)}")
+        rounds(office, ask, db, words.units)
+        questions(office, db, words.units)
+
+
+if __name__ == "__main__":
+    main()
