@@ -83,12 +83,12 @@ class Rules:
         """A wrong password is answered late, and one address has a limited number of them at a time."""
         request = (f"GET /desk/issued HTTP/1.1\r\nHost: 127.0.0.1:{self.staff}\r\nAuthorization: Basic {wrong}\r\nConnection: close\r\n\r\n")
         answers, began = [], time.time()
-        clients = [threading.Thread(target=lambda: answers.append((status(raw(self.staff, request)), time.time() - began))) for _ in range(80)]
+        clients = [threading.Thread(target=lambda: answers.append((status(raw(self.staff, request)), time.time() - began))) for _ in range(140)]
         for client in clients:
             client.start()
         for client in clients:
             client.join()
-        self.checks.check("60 guesses take five seconds", sum(one == 401 for one, _ in answers) <= 60
+        self.checks.check("100 guesses take five seconds", sum(one == 401 for one, _ in answers) <= 100
                           and all(took > 4.5 for one, took in answers if one == 401), sorted(answers)[:3])
         self.checks.same("and more are turned away", {one for one, _ in answers}, {401, 429})
 

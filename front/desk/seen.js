@@ -4,7 +4,7 @@
 import { el, table } from '../shared/dom.js';
 import { note } from '../shared/form.js';
 import { LARGEST_FILE } from '../shared/routes.js';
-import { deskWords } from '../shared/refusals.js';
+import { DESK, deskWords } from '../shared/refusals.js';
 import { aboutRow, adviceWords, longColumn, look, readRules } from './look/look.js';
 import { sameBoxes } from './same_boxes.js';
 
@@ -100,7 +100,7 @@ function focusAfter(form, answer, reader) {
 /** The refusal of a file by row and cause: the row of both counts, its unit, the column, and what to do. */
 function refusalOfRow({ seen, rules }, answer) {
   if (answer.code !== 22 || !rules) return null;
-  const [means] = deskWords(answer);
+  const [means] = DESK[answer.code];
   const [cause, todo] = rules.causes[answer.cause] ?? [`cause ${answer.cause}`, ''];
   const row = seen?.rows?.[answer.row - 1];
   if (!row) return [`${means} ${cause[0].toUpperCase()}${cause.slice(1)}.`, todo];
