@@ -30,7 +30,7 @@ class Journeys:
             self.page.size(*shape)
             self.checks.part(f"journey: {name}", self.order, name, ticket, self.tap if name == "phone" else self.by_keys)
         self.page.size(1280, 850)
-        for part in (self.several, self.each_line, self.changed, self.series, self.tree, self.without_container, self.copied, self.long_aid):
+        for part in (self.several, self.not_taken, self.each_line, self.changed, self.series, self.tree, self.without_container, self.copied, self.long_aid):
             self.checks.part(f"journey: {part.__name__}", part)
 
     def at(self, address):
@@ -151,6 +151,20 @@ class Journeys:
         page.fill("Number of your reader\u2019s ticket", "4711")
         page.insist("Order these containers", "There is no reader\u2019s ticket with this number.")
         self.checks.same("both orders stand", len(self.asks.text("/desk/readers/1", True).split('"order"')) - 1, 2)
+
+    def not_taken(self):
+        """What a reader is told when the front takes no order: from this address, or so soon."""
+        page = self.at(f"/unit/{self.unit()}")
+        page.press_starting("Order")
+        for status, body, words in ((403, b'{"error":"not from here"}', "Orders are not taken from here. Please order in the reading room."),
+                                    (429, b'{"error":"too many"}', "This one was not passed on. Please wait a minute and try again.")):
+            page.choose("Carton 77a")
+            page.fill("Number of your reader\u2019s ticket", "1")
+            page.answer_with("*/public/orders", status, body)
+            page.insist("Order these containers", words)
+            page.answer_with(None, 0, b"")
+            page.choose("Carton 77a")
+            self.checks.check(f"{status} in words", True)
 
     def each_line(self):
         """Lines of a finding aid lead to their units: the first thirty, and each of the last twenty."""
