@@ -43,6 +43,7 @@ class Day:
         self.checks.same("the counts of an import", page.text(".outcome tbody").split("\t"), [rows, "0", "0", "0"])
         self.checks.check("remarks in words", self.remarks(page), page.text(".outcome"))
         self.checks.check("the warning about known units", "keeps its status, its place and its closure" in page.text())
+        page.wait("document.querySelector('.drafts')")
         self.checks.same("the new draft", page.js("document.querySelector('.drafts tbody td').innerText"), f"unit {self.unit('letters')}")
         self.takes_in("dock.csv", "".join(catalogue.dock_company()), "catalogue")
         page.wait("document.querySelector('.outcome tbody')")
