@@ -39,10 +39,10 @@ if [ ${#missing[@]} -gt 0 ]; then
     echo "0 passed, ${#missing[@]} failed"
     exit 1
 fi
-parts=(pages rules restarts stall search refusals)
+parts=(looks pages rules restarts stall search refusals journeys)
 if ! has chromium chromium fonts-liberation; then
     echo "left out the pages, their refusals and the page of another site: chromium is not here and cannot be installed"
-    parts=(rules restarts stall search)
+    parts=(looks rules restarts stall search)
 fi
 has_waitress || install python3 python3-waitress
 if ! has_waitress; then
@@ -53,6 +53,7 @@ if [ -n "${CI:-}" ] && [[ ! " ${parts[*]} " =~ \ pages\ .*\ search\  ]]; then
     echo "0 passed, 1 failed"
     exit 1
 fi
+has zbarimg zbar-tools || echo "left out that zbarimg reads the barcodes: it is not here and cannot be installed"
 room=$(mktemp -d)
 trap 'rm -rf "$room"' EXIT
 python3 "$here/front/run.py" "$program" "$room/offices" "$here/front/out" "${parts[@]}"

@@ -32,6 +32,7 @@ needed_libc() {
 place 755 usr/bin "$program"
 [ "$(basename "$program")" = record_office ] || mv "$root/usr/bin/$(basename "$program")" "$root/usr/bin/record_office"
 strip --strip-unneeded --remove-section=.comment "$root/usr/bin/record_office"
+place 755 usr/bin "$top/front/look/record_office_look.py" && mv "$root"/usr/bin/{record_office_look.py,record-office-look}
 for part in public desk shared; do
     (cd "$top/front" && find "$part" -type f ! -name '.*') | while read -r file; do
         place 644 "usr/share/record-office/front/$(dirname "$file")" "$top/front/$file"
@@ -46,7 +47,7 @@ for file in "$top"/front/server/*; do
     esac
 done
 place 644 lib/systemd/system "$top"/packaging/*.service
-place 644 usr/share/man/man1 "$top/packaging/record_office.1"
+place 644 usr/share/man/man1 "$top/packaging/record_office.1" "$top/packaging/record-office-look.1"
 place 644 usr/share/doc/record-office "$top/packaging/copyright" "$top/docs/OPERATING.md" "$top/docs/RULES.md" "$top/CHANGELOG.md"
 place 644 usr/share/doc/record-office/examples "$top/examples/archives.csv" "$top/examples/fonds.csv"
 place 644 usr/share/lintian/overrides "$top/packaging/lintian-overrides"
@@ -58,7 +59,7 @@ mv "$root/usr/share/lintian/overrides/lintian-overrides" "$root/usr/share/lintia
     gzip -9n changelog changelog.Debian OPERATING.md RULES.md
 )
 if [ -d "$top/docs/pictures" ]; then place 644 usr/share/doc/record-office/pictures "$top"/docs/pictures/*.png; fi
-gzip -9n "$root/usr/share/man/man1/record_office.1"
+gzip -9n "$root"/usr/share/man/man1/*.1
 
 install -d -m 755 "$root/DEBIAN"
 install -m 755 "$top"/packaging/{postinst,prerm,postrm} "$root/DEBIAN"
@@ -70,8 +71,8 @@ Version: $version-1
 Architecture: $arch
 Maintainer: $maintainer
 Installed-Size: $(du -sk --exclude=DEBIAN "$root" | cut -f1)
-Depends: adduser, libc6 (>= $(needed_libc "$program"))
-Recommends: haproxy (>= 2.4), nginx (>= 1.19.4), openssl, python3, python3-waitress, sqlite3
+Depends: adduser, libc6 (>= $(needed_libc "$program")), python3 (>= 3.9)
+Recommends: haproxy (>= 2.4), nginx (>= 1.19.4), openssl, python3-waitress, sqlite3
 Section: database
 Priority: optional
 Description: public side of a record office: catalogue and reading room

@@ -41,6 +41,7 @@ after() {
     same 'another name is turned away' "$(status -H 'Host: other.example.org' -u desk:quiet-paper $desk/desk/issued)" 421
     same 'another site is turned away' "$(status -H 'Origin: http://other.example.org' -u desk:quiet-paper -d '' $desk/desk/run)" 403
     same 'readers do not reach the desk' "$(status $readers/desk/issued)" 404
+    is 'a file is looked at' record-office-look /root/archives.csv
     same 'an import at the desk' "$(status -u desk:quiet-paper --data-binary @/root/archives.csv $desk/desk/import/archives)" 200
     is 'an archive of the second file is told' sh -c "curl -s $readers/public/fonds | grep -q 'Hull Dock Company'"
     is 'and its units are found, within two rounds' sh -c \

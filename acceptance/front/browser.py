@@ -24,7 +24,7 @@ class Browser:
                                         pass_fds=(out, into), stdout=subprocess.DEVNULL, stderr=subprocess.DEVNULL)
         os.close(out)
         os.close(into)
-        self.rest, self.last, self.events, self.answer = b"", 0, [], None
+        self.rest, self.last, self.events, self.answer, self.on_event = b"", 0, [], None, None
 
     def call(self, method, session=None, **params):
         self.last += 1
@@ -44,6 +44,8 @@ class Browser:
 
     def _event(self, got):
         self.events.append(got)
+        if self.on_event:
+            self.on_event(got)
         if got["method"] == "Fetch.requestPaused" and self.answer:
             self.last += 1
             status, body = self.answer
@@ -109,14 +111,32 @@ class Page:
                 if not any(word in str(lost) for word in ("context", "navigated", "Cannot read properties of null")):
                     raise
             time.sleep(0.03)
-        raise AssertionError(f"not within {seconds} s: {condition}\n--- the page shows:\n{self.text()}")
+        raise AssertionError(f"not within {seconds} s: {condition}\n--- the page shows:\n{self.text()[:2000]}")
 
     def open(self, site, hash_, condition="document.querySelector('main h1')"):
         """Loads a page of the site again: the text after `?` differs each time, and nothing reads it."""
         self.opened += 1
+        self.visit(f"{site}/?{self.opened}#{hash_}", condition)
+
+    def visit(self, address, condition="document.querySelector('main h1')"):
+        """Loads the page of this address, even if it is shown already."""
         self.call("Page.bringToFront")
-        self.call("Page.navigate", url=f"{site}/?{self.opened}#{hash_}")
-        self.wait(f"location.search === '?{self.opened}' && document.readyState === 'complete' && {condition}")
+        self.js("window.isLeft = true")
+        self.call("Page.navigate", url=address)
+        self.arrive(condition)
+
+    def reload(self, condition="document.querySelector('main h1')"):
+        self.js("window.isLeft = true")
+        self.call("Page.reload")
+        self.arrive(condition)
+
+    def arrive(self, condition):
+        self.wait(f"!window.isLeft && document.readyState === 'complete' && {condition}")
+
+    def turn(self, address, condition="true"):
+        """To another page of the readers' site, as a link does it."""
+        self.js(f"import('/shared/router.js').then((router) => router.go({json.dumps(address)}))")
+        self.wait(condition)
 
     def go(self, hash_, condition="true"):
         """To another page of the same site, by its address alone."""
@@ -141,6 +161,15 @@ class Page:
 
     def press(self, button, card=None):
         self.js(f"({PRESS})({json.dumps(button)}, {json.dumps(card)})")
+
+    def insist(self, button, words, seconds=30):
+        """Presses a button again and again until the page says this: forms pass over what looks like a second click."""
+        end = time.time() + seconds
+        while words not in self.text():
+            if time.time() > end:
+                raise AssertionError(f"{button} does not lead to: {words}")
+            self.press(button)
+            time.sleep(0.1)
 
     def press_starting(self, words):
         self.js(f"[...document.querySelectorAll('summary, button, a')].find((one) => one.textContent.startsWith({json.dumps(words)})).click()")

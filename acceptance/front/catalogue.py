@@ -72,3 +72,34 @@ def many(count):
     for number in range(1, count + 1):
         yield row(legacyId=str(number), identifier=f"M{number}", title=f"Unit {number}", levelOfDescription="Fonds", publicationStatus="Published",
                   physicalObjectName=f"Carton {number}", physicalObjectLocation="Strongroom 9")
+
+
+def harbour():
+    """A fonds with a series of 120 files, one of which is in two cartons and has a word with a combining accent; and a fonds
+    without containers."""
+    yield ",".join(COLUMNS) + "\n"
+    yield row(legacyId="top", identifier="HAR", title="Harbour Board", levelOfDescription="Fonds", publicationStatus="Published",
+              eventDates="1800-1950", extentAndMedium="30 metres", eventActors="Harbour Board", archivalHistory="Kept at the harbour until 1950.")
+    yield row(legacyId="letters", parentId="top", identifier="1", title="Letters", levelOfDescription="Series", publicationStatus="Published",
+              eventDates="1850-1899", extentAndMedium="120 files")
+    yield row(legacyId="plans", parentId="top", identifier="2", title="Plans of caf\u00e9s", levelOfDescription="Series", publicationStatus="Published",
+              eventDates="1860", extentAndMedium="40 sheets")
+    yield row(legacyId="lists", parentId="letters", identifier="lists", title="Lists", levelOfDescription="Subseries", publicationStatus="Published")
+    for number in range(1, 121):
+        wanted = number == 77
+        yield row(legacyId=f"file {number}", parentId="letters", identifier=str(number), levelOfDescription="File", publicationStatus="Published",
+                  title="Logbook of the Cafe\u0301 Zum Anker" if wanted else f"Letters of captain {number}",
+                  eventDates=str(1800 + number), extentAndMedium="1 bundle",
+                  scopeAndContent="Guests, sailors and debts. " * 20 if wanted else "Ships, cargoes and the duties that were paid on them.",
+                  physicalObjectName="Carton 77a|Carton 77b" if wanted else f"Carton {number}", physicalObjectLocation="Strongroom 2|Strongroom 2")
+    yield row(legacyId="bare", identifier="BAR", title="Photographs", levelOfDescription="Fonds", publicationStatus="Published", eventDates="1900-1910")
+
+
+def long_aid(units):
+    """The text of a finding aid, as the program would write it, of a unit with so many others right below it."""
+    yield "GB 0999 HAR [Fonds] Harbour Board\n"
+    for number in range(1, units + 1):
+        yield f"  GB 0999 HAR/{number} [File] Letters of captain {number}\n    3.1.3 Date(s): {1700 + number % 250}\n"
+        yield "    3.1.5 Extent and medium of the unit of description: 1 bundle\n"
+        yield f"    3.3.1 Scope and content: {'Ships, cargoes and the duties that were paid on them. ' * (number % 5 + 1)}\n"
+        yield f"    Container {number}: Carton {number}\n"

@@ -31,7 +31,7 @@ class Day:
     def imports(self):
         self.takes_in("bad.csv", BAD_FILE, "old")
         page = self.page
-        page.see("Row 3: the unit above (parentId) is neither in the office from this source nor in a row further up.")
+        page.see("Row 3 (3 in the spreadsheet), legacyId 2, “Orphan”: the unit above (parentId) is neither in the office from this source")
         self.checks.check("a bad file is refused by row and cause", "nothing of it was used" in page.text())
         self.shot(page, "desk-import-refused")
         archives = (catalogue_file("archives.csv")).read_text()
@@ -43,6 +43,8 @@ class Day:
         self.checks.same("the counts of an import", page.text(".outcome tbody").split("\t"), [rows, "0", "0", "0"])
         self.checks.check("remarks in words", self.remarks(page), page.text(".outcome"))
         self.checks.check("the warning about known units", "keeps its status, its place and its closure" in page.text())
+        page.wait("document.querySelector('.drafts')")
+        self.checks.same("the new draft", page.js("document.querySelector('.drafts tbody td').innerText"), f"unit {self.unit('letters')}")
         self.takes_in("dock.csv", "".join(catalogue.dock_company()), "catalogue")
         page.wait("document.querySelector('.outcome tbody')")
         self.checks.same("the same file changes nothing", page.text(".outcome tbody").split("\t"), ["0", "0", rows, "0"])
@@ -58,6 +60,9 @@ class Day:
         path.write_text(text)
         page.fill("Source", source)
         page.file(path)
+        page.wait("document.querySelector('.seen-in-file .note, .seen-in-file table')")
+        if page.js("document.querySelector('#confirmed') !== null"):
+            page.choose("Take it in all the same")
         page.press("Take the file in")
 
     # Readers
@@ -130,6 +135,7 @@ class Day:
         page.press("Begin a run")
         page.wait("location.hash === '#/runs/1'")
         page.wait("document.querySelector('.slip')")
+        page.see("What to fetch, and for whom")
         slip = self.asks.text("/desk/runs/1", True)
         self.checks.same("the slip to the letter", page.js("document.querySelector('.slip').textContent"), slip)
         self.checks.check("an odd location stands on it as it is", ODD["markup"] in slip)
@@ -195,7 +201,7 @@ class Day:
         page.see("2 orders wait.")
         page.see("out with another reader")
         page.see("Ben O'Neill, ticket 2")
-        self.checks.check("what waits is gathered from the cards", "at the desk, ready for this reader" in page.text())
+        self.checks.check("what waits is gathered from the cards", "at the desk, ready if it is open to this reader" in page.text())
         self.shot(page, "desk-waiting")
         page = self.at(f"/counter/{self.container('Box 1')}")
         page.see("It is out with Ann <b>Smith</b>, ticket 1")
@@ -248,6 +254,11 @@ class Day:
         line = next(line for line in self.asks.text("/public/fonds").splitlines() if line.endswith("Hull Dock Company") and "HUL" in line)
         return int(line.split(" ", 1)[0]) + {"fonds": 0, "minutes": 1, "plans": 2, "letters": 3, "board": 4}[title]
 
+    def unit_of(self, title):
+        """The number of a unit right below the dock company, by its title."""
+        line = next(line for line in self.asks.text(f"/public/units/{self.unit('fonds')}").splitlines() if line.endswith(f"] {title}"))
+        return int(line.split()[1].rstrip(":"))
+
     def permits(self):
         minutes, box = str(self.unit("minutes")), self.container("Box 1")
         page = self.at(f"/units/{minutes}")
@@ -257,8 +268,8 @@ class Day:
         closed = self.asks.text(f"/public/units/{minutes}")
         self.checks.same("what the public sees is shown anew, to the letter", page.js("document.querySelector('pre.page').textContent"), closed)
         hall = self.visit.at(f"/unit/{minutes}")
-        hall.see("closed until 2030-01-01", "h1")
-        hall.see("A closed unit can be seen from the day on that is named here.")
+        hall.see("closed until 1 January 2030", "h1")
+        hall.see("This unit is closed until 1 January 2030.")
         self.shot(hall, "reader-closed")
         page = self.at("/readers/1")
         page.fill("Container", box, "Order a container")
@@ -266,9 +277,9 @@ class Day:
         page.see("The container is not open to this reader today")
         page = self.at(f"/units/{minutes}")
         page.fill("Ticket", "1", "Permits")
-        page.fill("Last day of the permit", "2024-06-30", "Permits")
+        page.fill("Last day of the permit", "2030-06-30", "Permits")
         page.press("Give a permit", "Permits")
-        page.see("Permit for Ann <b>Smith</b>, ticket 1 until 2024-06-30.")
+        page.see("Permit for Ann <b>Smith</b>, ticket 1 until 2030-06-30.")
         page.press("Who has a permit for it?")
         page.see("1 permit.")
         self.shot(page, "desk-unit")

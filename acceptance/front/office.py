@@ -100,8 +100,8 @@ class Office:
         self.running = True
         self.keeper = threading.Thread(target=self._keep, daemon=True)
         self.keeper.start()
-        self._run("haproxy", "-f", "haproxy.cfg")
-        self._run("nginx", "-p", str(self.folder), "-c", str(self.folder / "main.conf"))
+        self._begin_queue()
+        self.nginx = self._run("nginx", "-p", str(self.folder), "-c", str(self.folder / "main.conf"))
         self.wait_for(self.public + "/public/fonds")
         return self
 
@@ -140,6 +140,42 @@ class Office:
         self.serving.kill()
 
     @contextlib.contextmanager
+    def changed(self, name, old, new):
+        """A context in which nginx has another text in one of its files."""
+        path = self.folder / name
+        before = path.read_text()
+        assert old in before, f"{old} is not in {name}"
+        path.write_text(before.replace(old, new))
+        self.reload()
+        try:
+            yield
+        finally:
+            path.write_text(before)
+            self.reload()
+
+    def reload(self):
+        """nginx reads its files anew; ends when no worker takes requests by the old ones any more."""
+        old = self.workers()
+        self.nginx.send_signal(signal.SIGHUP)
+        self.until(lambda: self.workers() and not self.workers() & old)
+
+    def workers(self):
+        """The workers of nginx that take requests."""
+        own = pathlib.Path(f"/proc/{self.nginx.pid}/task/{self.nginx.pid}/children").read_text().split()
+        titles = {}
+        for worker in own:
+            with contextlib.suppress(OSError):
+                titles[worker] = pathlib.Path(f"/proc/{worker}/cmdline").read_text()
+        return {worker for worker, title in titles.items() if title and "shutting down" not in title}
+
+    def until(self, holds, seconds=20):
+        end = time.time() + seconds
+        while not holds():
+            if time.time() > end:
+                raise AssertionError(f"not within {seconds} s")
+            time.sleep(0.05)
+
+    @contextlib.contextmanager
     def without_program(self):
         """A context in which the program is away and its port is closed."""
         self.waiting.clear()
@@ -150,10 +186,26 @@ class Office:
         finally:
             self.waiting.set()
 
+    @contextlib.contextmanager
+    def without_queue(self):
+        """A context in which the queue before the program is away."""
+        self.queue.terminate()
+        self.queue.wait(20)
+        try:
+            yield
+        finally:
+            self._begin_queue()
+            self.wait_for(self.public + "/public/fonds")
+
+    def _begin_queue(self):
+        self.queue = self._run("haproxy", "-f", "haproxy.cfg")
+
     def _run(self, *words):
         log = open(self.folder / f"{words[0]}.told", "w")
         path = os.environ["PATH"] + ":/usr/sbin:/usr/local/sbin"
-        self.processes.append(subprocess.Popen(words, cwd=self.folder, stdout=log, stderr=log, env={**os.environ, "PATH": path}))
+        process = subprocess.Popen(words, cwd=self.folder, stdout=log, stderr=log, env={**os.environ, "PATH": path})
+        self.processes.append(process)
+        return process
 
     def _keep(self):
         """Starts the program again whenever it ends, as a service manager does."""

@@ -5,6 +5,7 @@ The office of this part has 2 seats, 3 orders a ticket and day, one container in
 import re
 
 import catalogue
+from looks import RULES
 from office import TOP
 
 SETTINGS = ("--country", "GB", "--repo", "0999", "--seats", "2", "--daily", "3", "--hands", "1", "--run", "2", "--day", "2024-03-01")
@@ -40,8 +41,7 @@ class Refusals:
             whole = all(re.fullmatch(r"[A-Z“].*[.]", text, re.S) for text in (means, todo))
             self.checks.check(f"{number} {self.names[int(number)]} says what it means and what to do", whole, (means, todo))
         self.checks.same("no two say the same", len({means for means, _ in table.values()}), 28)
-        causes = self.page.js(module + ".then((told) => Object.keys(told.CAUSES))")
-        self.checks.same("each cause of a bad file has its words", [int(one) for one in causes], list(range(1, 13)))
+        self.checks.same("each cause of a bad file has its words", [int(one) for one in RULES["causes"]], list(range(1, 13)))
 
     def readers_words(self):
         """A reader never sees the number of a refusal."""
@@ -63,10 +63,10 @@ class Refusals:
             self.page.press(f"Open {fields['The new day']}", "dialog")
         self.sees(code, more)
 
-    def sees(self, code, more=""):
-        self.page.wait("document.querySelector('.note.refused strong')")
+    def sees(self, code, more="", note=".note.refused"):
+        self.page.wait(f"document.querySelector('{note} strong')")
         means, todo = self.page.js(f"import('/shared/refusals.js').then((told) => told.DESK[{code}])")
-        seen = " ".join(self.page.text(".note.refused").split())
+        seen = " ".join(self.page.text(note).split())
         if more:
             means, todo = more
         if self.checks.check(f"{code} {self.names[code]} is told at the desk", means in seen and todo in seen, seen):
@@ -126,8 +126,11 @@ class Refusals:
         self.page.open(self.site, "/import")
         (self.folder / "bad.csv").write_text(catalogue.BAD_FILE)
         self.page.file(self.folder / "bad.csv")
+        self.page.see("In 1 row, the parent is not in this file")
+        self.page.choose("Take it in all the same")
         self.page.press("Take the file in")
-        self.sees(22, ("The file was not taken in, and nothing of it was used. Row 3:", "Correct the file at this place"))
+        self.page.see("nothing of it was used")
+        self.sees(22, ("The file was not taken in, and nothing of it was used. Row 3 (3 in the spreadsheet), legacyId 2", RULES["causes"]["11"][1]), ".outcome .note.refused")
 
     def rest(self):
         self.meets(18, "/", "Open a new day", {"The new day": "2024-03-01"}, "Open the day")

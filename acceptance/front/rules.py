@@ -4,6 +4,7 @@ import base64
 import json
 import socket
 import threading
+import time
 from http.server import BaseHTTPRequestHandler, ThreadingHTTPServer
 
 from office import PASSWORD, SIGNED_IN
@@ -35,7 +36,9 @@ class Rules:
         self.public, self.staff = (asks.office.ports[name] for name in ("8080", "8081"))
 
     def play(self):
-        for part in (self.odd_paths, self.readers_limits, self.password, self.other_sites, self.other_names, self.heads, *([self.foreign_page] if self.page else [])):
+        for part in (self.odd_paths, self.readers_limits, self.password, self.staffs_limits, self.other_sites, self.other_names,
+                     self.heads, self.questions_of_heads, self.no_page, self.limit_of_orders, self.orders_from_elsewhere,
+                     *([self.foreign_page] if self.page else [])):
             self.checks.part(f"rules: {part.__name__}", part)
 
     def state(self):
@@ -72,6 +75,28 @@ class Rules:
                               f"Authorization: Basic {wrong}\r\nConnection: close\r\n\r\n")
         self.checks.same("a wrong password", status(got), 401)
         self.checks.same("the right password", self.asks.get("/desk/issued", True), (200, "[]"))
+        self.guesses(wrong)
+        status_, page = self.asks.get("/sign-out", True)
+        self.checks.check("signing out refuses the right password", status_ == 401 and "You have signed out" in page, (status_, page))
+
+    def guesses(self, wrong):
+        """A wrong password is answered late, and one address has a limited number of them at a time."""
+        request = (f"GET /desk/issued HTTP/1.1\r\nHost: 127.0.0.1:{self.staff}\r\nAuthorization: Basic {wrong}\r\nConnection: close\r\n\r\n")
+        answers, began = [], time.time()
+        clients = [threading.Thread(target=lambda: answers.append((status(raw(self.staff, request)), time.time() - began))) for _ in range(140)]
+        for client in clients:
+            client.start()
+        for client in clients:
+            client.join()
+        self.checks.check("100 guesses take five seconds", sum(one == 401 for one, _ in answers) <= 100
+                          and all(took > 4.5 for one, took in answers if one == 401), sorted(answers)[:3])
+        self.checks.same("and more are turned away", {one for one, _ in answers}, {401, 429})
+
+    def staffs_limits(self):
+        """A command has up to 64 KiB, and a file 8 MiB."""
+        for path, size, wanted in (("/desk/cancel", 60_000, 409), ("/desk/cancel", 70_000, 413), ("/desk/import/x", 70_000, 409)):
+            body = b'{"order":1000}'.ljust(size)
+            self.checks.same(f"{size} bytes to {path}", self.asks.call("POST", path, body, True)[0], wanted)
 
     def other_sites(self):
         own = f"http://127.0.0.1:{self.staff}"
@@ -98,6 +123,45 @@ class Rules:
             strict = all(part in policy for part in ("default-src 'none'", "script-src 'self'", "require-trusted-types-for 'script'"))
             strict = strict and "unsafe" not in policy and "x-content-type-options: nosniff" in head
             self.checks.check(f"a strict policy at {path}", strict, head)
+
+    def questions_of_heads(self):
+        """HEAD: the head of the answer to GET, and the connection goes on."""
+        for path in ("/public/fonds", "/public/units/1", "/public/aid/1", "/", "/unit/1", "/robots.txt", "/public/units/999999"):
+            wanted = self.asks.get(path)[0]
+            got = raw(self.public, f"HEAD {path} HTTP/1.1\r\nHost: x\r\n\r\nHEAD {path} HTTP/1.1\r\nHost: x\r\nConnection: close\r\n\r\n")
+            heads = got.decode().split("\r\n\r\n")
+            self.checks.same(f"HEAD {path}", ([int(head.split()[1]) for head in heads[:-1]], heads[-1]), ([wanted, wanted], ""))
+        self.checks.same("an order is no question", self.asks.call("HEAD", "/public/orders", None, False)[0], 405)
+
+    def no_page(self):
+        """What is no page says so in words, with 404; pages' addresses are the same file."""
+        page = self.asks.text("/")
+        for path in ("/unit/1", "/aid/1", "/help", "/unit/4711"):
+            self.checks.same(f"{path} is a page", self.asks.get(path), (200, page))
+        for path in ("/no/such/page", "/unit/x", "/unit/", "/shared/none.js", "/.well-known/x"):
+            self.checks.same(f"{path} is none", self.asks.get(path), (404, page))
+        self.checks.check("robots are told", "User-agent: *" in self.asks.text("/robots.txt"))
+
+    def order(self):
+        return self.asks.post("/public/orders", {"ticket": 999, "container": 1}, desk=False)
+
+    def limit_of_orders(self):
+        """A dozen orders at once from one address, then a few a minute; pages go on, and so does the desk."""
+        got = [self.order()[0] for _ in range(20)]
+        self.checks.check("orders end in 429", got[0] in (409, 429) and got[-1] == 429 and 409 not in got[got.index(429):], got)
+        self.checks.check("at most a dozen orders are taken at once", got.count(409) <= 12, got)
+        self.checks.same("pages are not held up by orders", self.asks.get("/public/fonds")[0], 200)
+        self.checks.same("the desk orders on", self.asks.post("/public/orders", {"ticket": 999, "container": 1})[0], 409)
+
+    def orders_from_elsewhere(self):
+        """Orders from listed addresses alone."""
+        office = self.asks.office
+        with office.changed("orders-from.conf", "default 1;", "default 0; 192.0.2.0/24 1;"):
+            self.checks.same("no order from elsewhere", self.order(), (403, '{"error":"not from here"}'))
+            self.checks.same("pages from elsewhere", self.asks.get("/public/fonds")[0], 200)
+            self.checks.same("the desk's orders are not asked where from", self.asks.post("/public/orders", {"ticket": 999, "container": 1})[0], 409)
+        with office.changed("orders-from.conf", "default 1;", "default 0; 127.0.0.1 1;"):
+            self.checks.check("orders from a listed address", self.order()[0] in (409, 429))
 
     def foreign_page(self):
         """A page of another site, open in the browser of a member of staff who is signed in."""

@@ -34,7 +34,7 @@ CONTRAST = """(() => {
 def play(checks, visit, day, shot):
     fonds, plans, odd = day.unit("fonds"), day.unit("plans"), day.unit("board") + 1
     readers = ["/", f"/unit/{fonds}", f"/unit/{plans}", f"/unit/{odd}", f"/aid/{fonds}", "/help", "/unit/999"]
-    staff = ["/", "/counter", "/counter/1", "/readers", "/readers/1", "/orders", "/runs", "/runs/1", "/out", "/units",
+    staff = ["/", "/counter", "/counter/1", "/readers", "/readers/1", "/orders", "/runs", "/runs/1", "/runs/1/slips", "/readers/1/ticket", "/out", "/units",
              f"/units/{plans}", "/import"]
     for part, at, hashes in (("shapes: readers", visit, readers), ("shapes: staff", day, staff)):
         checks.part(part, all_of, checks, at, hashes, shot)
@@ -52,6 +52,16 @@ def all_of(checks, at, hashes, shot):
             if width == 320:
                 shot(page, f"phone-{at.name}{hash_.replace('/', '-')}")
         parts(checks, page, hash_)
+        if at.name == "reader":
+            in_the_dark(checks, page, hash_)
+
+
+def in_the_dark(checks, page, hash_):
+    """A reader whose system is dark gets dark pages, and every text still has contrast."""
+    page.call("Emulation.setEmulatedMedia", features=[{"name": "prefers-color-scheme", "value": "dark"}])
+    checks.check(f"dark: {hash_}", page.js("getComputedStyle(document.body).backgroundColor") == "rgb(26, 25, 22)")
+    checks.same(f"every text has contrast in the dark: {hash_}", page.js(CONTRAST), [])
+    page.call("Emulation.setEmulatedMedia", features=[])
 
 
 def parts(checks, page, hash_):

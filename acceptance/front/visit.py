@@ -1,19 +1,23 @@
 """A reader's visit: every text of the program stands on the pages to the letter, and nothing of it is markup."""
 
-import time
-
 from catalogue import ODD
 
 # Each gives back what the page shows as the program would have written it.
-FONDS = """[...document.querySelectorAll('main ul.units a')].map((a) => `${a.hash.slice(7)} ${a.textContent}\\n`).join('')"""
-UNIT = """(() => {
-  const text = (node) => node.textContent;
+LETTERS = """const text = (node) => { const copy = node.cloneNode(true);
+  copy.querySelectorAll('time').forEach((day) => day.replaceWith(day.dateTime)); return copy.textContent; };"""
+FONDS = """(() => { %s
+  return [...document.querySelectorAll('main ul.units a')].map((a) => `${a.pathname.slice(6)} ${text(a)}\\n`).join(''); })()""" % LETTERS
+UNIT = """(() => { %s
   const element = (entry) => `  ${entry.dataset.element} ${entry.querySelector('dt').firstChild.data}: ${text(entry.querySelector('dd'))}\\n`;
-  const own = [...document.querySelectorAll('main [data-element]')].filter((one) => !['3.1.1', '3.1.2', '3.1.4'].includes(one.dataset.element));
-  const boxes = [...document.querySelectorAll('main ul.containers li > p:first-child')].map((line) => `  ${text(line.firstChild)}: ${text(line).slice(text(line.firstChild).length + 1)}\\n`);
-  const units = [...document.querySelectorAll('main ul.units a')].map((a) => `  Unit ${a.hash.slice(7)}: ${text(a)}\\n`);
-  return text(document.querySelector('main h1')) + '\\n' + own.map(element).join('') + boxes.join('') + units.join('');
-})()"""
+  const elements = [...document.querySelectorAll('main [data-element]')].sort((a, b) => (a.dataset.element < b.dataset.element ? -1 : 1));
+  const boxes = [...document.querySelectorAll('main ul.containers li')].map((line) => `  ${text(line.firstChild)}: ${text(line).slice(text(line.firstChild).length + 1)}\\n`);
+  const units = [...document.querySelectorAll('main ul.units a')].map((a) => `  Unit ${a.pathname.slice(6)}: ${text(a)}\\n`);
+  return text(document.querySelector('main h1')) + '\\n' + elements.map(element).join('') + boxes.join('') + units.join('');
+})()""" % LETTERS
+HEAD = "(() => { %s return text(document.querySelector('main h1')); })()" % LETTERS
+PRELOADED = """[...document.querySelectorAll('link[rel=modulepreload]')].map((one) => one.getAttribute('href')).sort().join(' ')"""
+LOADED = """[...new Set(performance.getEntriesByType('resource').map((one) => new URL(one.name).pathname)
+  .filter((path) => path.endsWith('.js') && path !== '/main.js'))].sort().join(' ')"""
 AID = """[...document.querySelectorAll('.aid [data-depth]')].map((row) => '  '.repeat(row.dataset.depth) + row.textContent + '\\n').join('')"""
 
 
@@ -24,12 +28,13 @@ class Visit:
         self.checks, self.asks, self.page, self.shot = checks, asks, page, shot
         self.site = asks.office.public
 
-    def at(self, hash_):
-        self.page.open(self.site, hash_)
+    def at(self, address):
+        self.page.visit(self.site + address)
         return self.page
 
     def play(self):
-        for part in (self.fonds, self.every_unit, self.hostile, self.way, self.aids, self.search, self.missing, self.keyboard):
+        for part in (self.fonds, self.every_unit, self.hostile, self.way, self.aids, self.search, self.missing, self.addresses,
+                     self.keyboard):
             self.checks.part(f"visit: {part.__name__}", part)
 
     def fonds(self):
@@ -42,10 +47,9 @@ class Visit:
         page = self.at("/")
         for number in range(1, 70):
             status, text = self.asks.get(f"/public/units/{number}")
-            page.go(f"#/unit/{number}", f"document.title.length > 16 && !document.querySelector('main .waiting')")
-            page.wait("document.querySelector('main h1')")
+            page.turn(f"/unit/{number}", "document.querySelector('main h1')")
             if status == 200:
-                page.wait(f"document.querySelector('main h1').textContent === {page.quoted(text.split(chr(10))[0])}")
+                page.wait(f"{HEAD} === {page.quoted(text.split(chr(10))[0])}")
                 self.checks.same(f"the page of unit {number} to the letter", page.js(UNIT), text)
             else:
                 page.see("Not found")
@@ -58,15 +62,18 @@ class Visit:
         """Odd titles and values: the page has their letters, and no element that came from them."""
         top = self.number_of("Hull Dock Company", "HUL")
         page = self.at(f"/unit/{top}")
-        links = dict(page.js("[...document.querySelectorAll('main ul.units a')].map((a) => [a.textContent, a.hash])"))
+        links = dict(page.js("(() => { %s return [...document.querySelectorAll('main ul.units a')].map((a) => [text(a), a.pathname]); })()" % LETTERS))
         for name, text in ODD.items():
-            hash_ = next(hash_ for line, hash_ in links.items() if line.endswith(f"] {text}"))
-            page = self.at(hash_[1:])
+            page = self.at(next(address for line, address in links.items() if line.endswith(f"] {text}")))
             seen = page.js("document.querySelector('main').textContent")
             self.checks.check(f"odd text stands as it is: {name}", seen.count(text) >= 3, seen)
             made = page.js("document.querySelectorAll('main :is(img, b, i, script, style, title, [onmouseover])').length")
             self.checks.same(f"odd text is no markup: {name}", made, 0)
-            if name in ("markup", "override", "long", "closed"):
+            if name == "hebrew":
+                side = page.js("(() => { const dd = document.querySelector('[data-element=\"3.3.1\"] dd'); const text = document.createRange();"
+                               "text.selectNodeContents(dd); return text.getBoundingClientRect().right - dd.getBoundingClientRect().right; })()")
+                self.checks.check("Hebrew begins at the right side", abs(side) < 2, side)
+            if name in ("markup", "override", "long", "closed", "hebrew"):
                 self.shot(page, f"reader-odd-{name}")
         self.checks.check("no odd text ran", page.js("document.title !== 'broken'"))
         page = self.at(f"/unit/{top}")
@@ -77,20 +84,20 @@ class Visit:
         return line.split(" ", 1)[0]
 
     def way(self):
-        """The way down to a unit: searched from the tops if the unit was opened directly, and kept on the way down."""
+        """The units above a unit: searched for from the tops if the unit was opened directly, and kept on the way down."""
         top = self.number_of("Hull Dock Company", "HUL")
         series = int(top) + 1
         page = self.at(f"/unit/{int(top) + 4}")
         page.see("Weekly meetings (from GB 0999 HUL) and yearly accounts.")
         page.wait("document.querySelectorAll('nav.way li').length === 3")
-        way = page.js("[...document.querySelectorAll('nav.way a')].map((a) => [a.hash, a.textContent])")
-        self.checks.same("the way down to a unit that was come to directly", way, [
-            ["#/", "Archives"], [f"#/unit/{top}", "GB 0999 HUL [Fonds] Hull Dock Company"],
-            [f"#/unit/{series}", "GB 0999 HUL/1 [Series] Minutes"]])
+        way = page.js("[...document.querySelectorAll('nav.way a')].map((a) => [a.pathname, a.textContent])")
+        self.checks.same("the units above a unit that was opened directly", way, [
+            ["/", "Archives"], [f"/unit/{top}", "GB 0999 HUL [Fonds] Hull Dock Company"],
+            [f"/unit/{series}", "GB 0999 HUL/1 [Series] Minutes"]])
         self.shot(page, "reader-file")
         page.press("GB 0999 HUL/1 [Series] Minutes")
         page.see("Box 1")
-        self.checks.same("what is found above is marked", page.text("[data-element='3.2.1'] .from").strip(), "(from GB 0999 HUL)")
+        self.checks.same("what is found above is marked", page.js("document.querySelector('[data-element=\"3.2.1\"] .from').textContent").strip(), "(from GB 0999 HUL)")
         self.shot(page, "reader-series")
         page.js("history.back()")
         page.see("Weekly meetings")
@@ -112,21 +119,21 @@ class Visit:
         top = self.number_of("Hull Dock Company", "HUL")
         page = self.at(f"/aid/{top}")
         text = self.asks.text(f"/public/aid/{top}")
-        page.fill("Search in this finding aid", "minutes")
-        page.key_in("Search in this finding aid", "Enter")
-        wanted = text.lower().count("minutes")
-        page.see(f"{wanted} places. This is number 1", ".search")
-        self.checks.same("every place is marked", page.js("document.querySelectorAll('mark').length"), wanted)
-        page.key_in("Search in this finding aid", "Enter")
-        page.see(f"{wanted} places. This is number 2", ".search")
-        self.checks.check("Enter goes on to the next place", True)
-        self.shot(page, "reader-search", full=False)
-        for words, many in (("<b>", text.count("<b>")), ("[Series]", text.count("[Series]")), (".*", text.count(".*"))):
+        for words, told, marks in (("minutes", "2 units, number 1: GB 0999 HUL [Fonds] Hull Dock Company 3.3.1 Scope", 2),
+                                   ("minutes", "2 units, number 2: GB 0999 HUL/1 [Series] Minutes", 2),
+                                   ("MINUT plan", "1 unit: GB 0999 HUL [Fonds]", 2),
+                                   ("\u201cfirst volume\u201d", "1 unit: GB 0999 HUL/1/1 [File] Board, first volume", 1),
+                                   ("HUL/1/1", "1 unit: GB 0999 HUL/1/1 [File]", 1),
+                                   ("ISTANBUL file", "1 unit: GB 0999 HUL/X12 [Series]", None),
+                                   (".*", "No unit of this finding aid has \u201c.*\u201d.", 0)):
             page.fill("Search in this finding aid", words)
             page.key_in("Search in this finding aid", "Enter")
-            page.wait(f"document.querySelectorAll('mark').length === {many}")
+            page.see(told, ".told")
+            is_now = page.js("document.querySelectorAll('.aid mark').length")
+            self.checks.check(f"marks for {words}: {marks}", marks in (None, is_now), is_now)
             self.checks.same(f"marking leaves every letter: {words}", page.js(AID), text)
-        page.see("“.*” is not in this finding aid.", ".search")
+            self.shot(page, "reader-search", full=False) if words == "minutes" else None
+        self.checks.same("the words stand in the address", page.js("location.search"), "?q=.*")
 
     def missing(self):
         page = self.at("/unit/999")
@@ -138,12 +145,34 @@ class Visit:
         page.see("How to order")
         self.shot(page, "reader-help")
         page.answer_with("*/public/fonds", 502, b'{"error":"not answered"}')
-        page.go("#/")
+        page.turn("/")
         page.see("The office did not answer. Try again in a minute.")
         page.answer_with(None, 0, b"")
         page.press("Try again")
         page.see("GB 0999 HUL [Fonds] Hull Dock Company")
         self.checks.check("what was not answered can be asked for again", True)
+
+    def addresses(self):
+        """Pages have addresses of their own and names of their own; addresses of former days lead to them."""
+        top = self.number_of("Hull Dock Company", "HUL")
+        page = self.page
+        for old, new in ((f"/?1#/unit/{top}", f"/unit/{top}"), (f"/?2#/aid/{top}", f"/aid/{top}"), ("/?3#/help", "/help"), ("/index.html", "/index.html")):
+            page = self.at(old)
+            self.checks.same(f"{old} leads to its page", page.js("location.pathname + location.hash"), new)
+        page = self.at("/")
+        page.js(f"location.hash = '#/unit/{top}'")
+        page.see("GB 0999 HUL [Fonds]", "h1")
+        self.checks.same("an old address typed in later too", page.js("location.pathname + location.hash"), f"/unit/{top}")
+        self.checks.same("a unit's title", page.js("document.title"), "Hull Dock Company, GB 0999 HUL \u2013 Finding aids")
+        page = self.at(f"/aid/{top}")
+        self.checks.same("a finding aid's title", page.js("document.title"), "Finding aid: Hull Dock Company, GB 0999 HUL \u2013 Finding aids")
+        page.js("document.querySelector('header nav a').click()")
+        page.see("Archives", "h1")
+        self.checks.same("a link needs no other file", page.js("location.pathname + performance.getEntriesByType('navigation').length"), "/1")
+        page.js("history.back()")
+        page.see("Finding aid", "h1")
+        self.checks.same("and Back goes back", page.js("location.pathname"), f"/aid/{top}")
+        self.checks.same("each module is asked for at once", page.js(PRELOADED), page.js(LOADED))
 
     def keyboard(self):
         """From the top of the page by Tab and Enter alone to a unit, and to its order form."""
@@ -154,7 +183,7 @@ class Visit:
         self.checks.same("it goes to the heading", page.js("document.activeElement.tagName"), "H1")
         self.tab_to(page, "GB 0999 HUL [Fonds] Hull Dock Company")
         page.key("Enter")
-        page.see("Right below it")
+        page.see("Contents:")
         self.checks.same("a new page begins at its heading", page.js("document.activeElement.tagName"), "H1")
         self.tab_to(page, "GB 0999 HUL/1 [Series] Minutes")
         page.key("Enter")
@@ -188,14 +217,12 @@ class Visit:
             page.press("Order this container")
             page.see(words)
             self.checks.check(f"an order by ticket {ticket.strip()}", True)
-            self.shot(page, "reader-ordered") if "number 2" in words else None
-            time.sleep(0.65)
+        self.shot(page, "reader-ordered")
+        self.checks.same("an order taken has the focus", page.js("document.activeElement.className"), "outcome")
+        self.checks.check("it says what happens next", "at their next run to the strongrooms" in page.text(".outcome"))
         page.answer_with("*/public/orders", 504, b'{"error":"not answered"}')
         page.fill("Number of your reader’s ticket", "2")
-        page.press("Order this container")
-        page.see("We cannot tell whether your order was taken. Please send it once more")
+        page.insist("Order this container", "We cannot tell whether your order was taken. Please send it once more")
         page.answer_with(None, 0, b"")
-        time.sleep(0.65)
-        page.press("Order this container")
-        page.see("You have ordered this container already.")
+        page.insist("Order this container", "You have ordered this container already.")
         self.checks.check("an order of which nothing is known is given once more and not taken twice", True)

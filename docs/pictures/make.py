@@ -15,7 +15,8 @@ from browser import Browser  # noqa: E402
 from office import SIGNED_IN, Office  # noqa: E402
 
 WIDTH, HEIGHT = 860, 600
-SHOTS = [("readers-unit", False, "/unit/2"), ("desk-readers", True, "/readers"), ("desk-counter", True, "/counter"), ("desk-runs", True, "/runs/1")]
+PHONE = 390, 844
+DESK = [("desk-readers", "/readers"), ("desk-counter", "/counter"), ("desk-runs", "/runs/1")]
 
 
 def file_of_the_document():
@@ -44,12 +45,26 @@ def begin_the_day(office):
 
 
 def shoot(office, browser):
-    for name, desk, place in SHOTS:
-        page = browser.page(SIGNED_IN if desk else None)
+    for name, place in DESK:
+        page = browser.page(SIGNED_IN)
         page.size(WIDTH, HEIGHT)
-        page.open(office.staff if desk else office.public, place)
-        page.shot(HERE / f"{name}.png", full=not desk)
-        print(f"{name}.png: {(HERE / f'{name}.png').stat().st_size} bytes")
+        page.open(office.staff, place)
+        keep(page, name)
+    page = browser.page()
+    page.size(WIDTH, HEIGHT)
+    page.visit(office.public + "/unit/2")
+    page.press_starting("Order")
+    keep(page, "readers-unit", full=True)
+    page.size(*PHONE)
+    page.visit(office.public + "/aid/1?q=minutes")
+    page.see("unit", ".told")
+    keep(page, "readers-phone")
+
+
+def keep(page, name, full=False):
+    path = HERE / f"{name}.png"
+    page.shot(path, full)
+    print(f"{path.name}: {path.stat().st_size} bytes")
 
 
 def main(program):

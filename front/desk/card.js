@@ -6,9 +6,11 @@ import { commandForm, note } from '../shared/form.js';
 import { numberOf } from '../shared/numbers.js';
 import { deskWords } from '../shared/refusals.js';
 import * as routes from '../shared/routes.js';
+import { askIfPast } from './days.js';
 import { lookAtPermits, lookAtReader } from './looks.js';
 import { boxLink } from './names.js';
-import { card, heldContainer, problem, said, unitLink } from './parts.js';
+import { card, heldContainer, notDone, problem, said, unitLink } from './parts.js';
+import { boxField, boxOf } from './scans.js';
 
 const PERMIT = 'A permit opens a closed unit to this reader, with the closed units above and below it. It does not open drafts.';
 
@@ -45,7 +47,8 @@ async function after(view, ...sentence) {
 
 function readerParts(view, { until, seat, orders }) {
   return [
-    el('p', {}, `Ticket good until ${until}. `, seat === null ? 'No seat.' : `Seat ${seat}.`),
+    el('p', {}, `Ticket good until ${until}. `, seat === null ? 'No seat. ' : `Seat ${seat}. `,
+      el('a', { href: `#/readers/${view.ticket}/ticket`, class: 'no-print' }, 'The ticket to print')),
     orders.length > 0 ? orderTable(view, orders) : el('p', { class: 'quiet' }, 'No order is waiting, and nothing is out.'),
   ];
 }
@@ -77,7 +80,7 @@ function rowForm(view, { key, button, what, send, sentence, look }) {
 
 function command(view, button, send, done, more = {}) {
   return commandForm({
-    key: `${button} ${view.ticket}`, button, send, explain: deskWords, look: () => lookAtReader(view.ticket),
+    key: `${button} ${view.ticket}`, button, send, explain: notDone, look: () => lookAtReader(view.ticket),
     done: (value, values) => after(view, ...done(value, values)), ...more,
   });
 }
@@ -87,18 +90,19 @@ const seatForm = (view) => command(view, 'Give a seat', () => routes.takeSeat(vi
 const leaveForm = (view) => command(view, 'Free the seat', () => routes.leaveSeat(view.ticket),
   ({ seat }) => [`Seat ${seat} is free.`], { kind: 'plain' });
 
-const orderForm = (view) => command(view, 'Order', ({ container }) => routes.order(view.ticket, numberOf(container)),
-  ({ order }, { container }) => [`Order ${order} for `, boxLink(numberOf(container)), '.'],
-  { fields: [numberField('container', 'Container')] });
+const orderForm = (view) => command(view, 'Order', ({ container }) => routes.order(view.ticket, boxOf(container)),
+  ({ order }, { container }) => [`Order ${order} for `, boxLink(boxOf(container)), '.'], { fields: [boxField()] });
 
 const renewForm = (view) => command(view, 'Renew', ({ until }) => routes.renew(view.ticket, until),
-  (value, { until }) => [`Good until ${until}.`], { fields: [dayField('until', 'New last day')] });
+  (value, { until }) => [`Good until ${until}.`], {
+    fields: [dayField('until', 'New last day')], before: ({ until }) => askIfPast(until, 'The ticket then has expired.') });
 
 const permitForm = (view) => command(view, 'Give a permit', ({ unit, until }) => routes.permit(view.ticket, numberOf(unit), until),
   (value) => ['Permit for ', unitLink(value.unit), ` until ${value.until}.`], {
     fields: [numberField('unit', 'Unit'),
       dayField('until', 'Last day of the permit', { hint: 'If there is a permit already, the later day counts.' })],
-    explain: (answer) => deskWords(answer, 'permit'), look: () => lookAtPermits(view.ticket),
+    before: ({ until }) => askIfPast(until, 'A permit that ends on a past day opens nothing.'),
+    explain: (answer) => notDone(answer, 'permit'), look: () => lookAtPermits(view.ticket),
   });
 
 function permitTable(view, permits) {

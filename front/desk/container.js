@@ -1,21 +1,20 @@
 // A container: where it is, who waits for it, and what can be done with it next.
 
 import { el, link, table, words } from '../shared/dom.js';
-import { numberField } from '../shared/fields.js';
 import { commandForm } from '../shared/form.js';
-import { numberOf } from '../shared/numbers.js';
 import { deskWords } from '../shared/refusals.js';
 import { giveBack, issue, issued, order, queue } from '../shared/routes.js';
 import { lookAtContainer, lookAtReader } from './looks.js';
 import { readerLink } from './names.js';
 import { card, problem, said } from './parts.js';
+import { ticketField, ticketOf } from './scans.js';
 
 export async function containerPage(number) {
   const view = { number, told: el('div', { role: 'status' }), panel: el('div', { class: 'panel' }) };
   await show(view);
   return { title: `Container ${number}`, content: [
     el('h1', {}, `Container ${number}`),
-    el('p', { class: 'no-print' }, link('#/counter', 'Back to the counter')),
+    el('p', { class: 'no-print' }, link('#/counter', 'Back to the counter'), ' ', link(`#/counter/${number}/label`, 'A label to print')),
     view.told, view.panel,
     card('Order it for a reader', orderForm(view)),
   ] };
@@ -52,7 +51,7 @@ function next(view, box) {
   if (box.place === 'out') return returnForm(view);
   if (box.waiting.length === 0) return el('p', { class: 'quiet' }, 'Nobody is waiting for it.');
   if (box.place === 'desk') return issueForm(view, box.waiting[0].ticket);
-  return el('p', {}, 'A ', link('#/runs', 'run'), ' fetches it.');
+  return el('p', {}, 'A ', link('#/runs', 'run'), ' fetches it if it is open to the first who waits.');
 }
 
 function after(view, sentence) {
@@ -80,9 +79,9 @@ function returnForm(view) {
 
 function orderForm(view) {
   return commandForm({
-    key: `order of container ${view.number}`, fields: [numberField('ticket', 'Ticket')], button: 'Order', kind: 'plain',
-    send: ({ ticket }) => order(numberOf(ticket), view.number),
-    done: async (value, { ticket }) => { await show(view); return said(`Order ${value.order} for `, readerLink(numberOf(ticket)), '.'); },
-    explain: deskWords, look: ({ ticket }) => lookAtReader(numberOf(ticket)),
+    key: `order of container ${view.number}`, fields: [ticketField()], button: 'Order', kind: 'plain',
+    send: ({ ticket }) => order(ticketOf(ticket), view.number),
+    done: async (value, { ticket }) => { await show(view); return said(`Order ${value.order} for `, readerLink(ticketOf(ticket)), '.'); },
+    explain: deskWords, look: ({ ticket }) => lookAtReader(ticketOf(ticket)),
   });
 }

@@ -2,9 +2,7 @@
 // or a barcode reader that sends Enter is enough.
 
 import { el } from '../shared/dom.js';
-import { numberField } from '../shared/fields.js';
 import { commandForm, note } from '../shared/form.js';
-import { numberOf } from '../shared/numbers.js';
 import { deskWords } from '../shared/refusals.js';
 import { go } from '../shared/router.js';
 import { giveBack, issue, leaveSeat, queue, takeSeat } from '../shared/routes.js';
@@ -12,46 +10,47 @@ import { lookAtContainer, lookAtReader } from './looks.js';
 import { boxLink, readerLink } from './names.js';
 import { card, lookUp, problem, said } from './parts.js';
 import { showReader } from './reader_at_counter.js';
+import { boxField, boxOf, ticketField, ticketOf } from './scans.js';
 
 const KEPT = 12; // the most containers that are listed after they came back
 const UNKNOWN_SEAT = 'The office did not say whether the seat was given. Press the button again, which does no harm: nobody gets two seats.';
 
 export function counterPage() {
-  const ticket = numberField('ticket', 'Ticket', { hint: 'Scan or type, then Enter.' });
+  const ticket = ticketField({ hint: 'Scan or type, then Enter.' });
   const counter = el('div', { class: 'cards counter' },
     card('Issue', issueForm(ticket)),
     card('Take back', returnForm()),
     card('A reader arrives', seatForm()),
     card('A reader leaves', leaveForm()),
-    card('Where is a container?', lookUp(numberField('container', 'Container'), 'Look it up', (number) => go(`#/counter/${number}`))));
+    card('Where is a container?', lookUp(boxField(), 'Look it up', (number) => go(`#/counter/${number}`))));
   const input = ticket.querySelector('input');
   counter.addEventListener('keydown', (event) => digitsGoTo(event));
   return { title: 'Counter', focus: input, content: [el('h1', {}, 'Counter'), counter] };
 }
 
-/** What a barcode reader sends while a button or a link has the focus goes to the first field of the same card. */
+/** What a barcode reader sends (a letter or a digit first) while a button or a link has the focus goes to the first field of the same card. */
 function digitsGoTo(event) {
   const isPressed = event.target.closest('button, a') !== null;
-  if (!isPressed || !/^[0-9]$/.test(event.key) || event.ctrlKey || event.altKey || event.metaKey) return;
+  if (!isPressed || !/^[0-9BT]$/i.test(event.key) || event.ctrlKey || event.altKey || event.metaKey) return;
   const input = event.target.closest('.card')?.querySelector('input');
   input?.focus();
   input?.select();
 }
 
 function issueForm(ticketRow) {
-  const containerRow = numberField('container', 'Container', { hint: 'Scan or type, then Enter to issue.' });
+  const containerRow = boxField({ hint: 'Scan or type, then Enter to issue.' });
   const about = el('div', { class: 'about', role: 'status' });
   const form = commandForm({
     key: 'issue', fields: [ticketRow, about, containerRow], button: 'Issue',
-    send: ({ ticket, container }) => issue(numberOf(container), numberOf(ticket)),
+    send: ({ ticket, container }) => issue(boxOf(container), ticketOf(ticket)),
     done: (value, { ticket, container }) => {
       showReader(about, null);
-      return issued(value, numberOf(ticket), numberOf(container));
+      return issued(value, ticketOf(ticket), boxOf(container));
     },
     explain: deskWords,
     help: (answer, { ticket }, again) => (answer.code === 10
-      ? seatButton(numberOf(ticket), again) : readerOf(answer, numberOf(ticket))),
-    look: ({ container }) => lookAtContainer(numberOf(container)),
+      ? seatButton(ticketOf(ticket), again) : readerOf(answer, ticketOf(ticket))),
+    look: ({ container }) => lookAtContainer(boxOf(container)),
     focus: focusOfIssue,
   });
   moveOn(ticketRow.querySelector('input'), containerRow.querySelector('input'), (number) => showReader(about, number));
@@ -61,13 +60,13 @@ function issueForm(ticketRow) {
 /** Enter in the ticket's field goes on to the container's and sends nothing. */
 function moveOn(input, next, then) {
   input.addEventListener('keydown', (event) => {
-    if (event.key !== 'Enter' || numberOf(input.value) === null) return;
+    if (event.key !== 'Enter' || ticketOf(input.value) === null) return;
     event.preventDefault();
     if (event.repeat || input.readOnly) return;
     next.focus();
     next.select();
   });
-  input.addEventListener('change', () => then(numberOf(input.value)));
+  input.addEventListener('change', () => then(ticketOf(input.value)));
 }
 
 /** After a refusal the focus is on the field that must be changed. */
@@ -116,11 +115,11 @@ function returnForm() {
   const list = el('ul', { class: 'back', 'aria-label': 'Taken back just now' });
   const form = commandForm({
     key: 'return', button: 'Take back',
-    fields: [numberField('container', 'Container', { hint: 'Scan or type, then Enter. One after the other.' })],
-    send: ({ container }) => giveBack(numberOf(container)),
-    done: (value, { container }) => cameBack(list, numberOf(container), value.order),
+    fields: [boxField({ hint: 'Scan or type, then Enter. One after the other.' })],
+    send: ({ container }) => giveBack(boxOf(container)),
+    done: (value, { container }) => cameBack(list, boxOf(container), value.order),
     explain: deskWords,
-    look: ({ container }) => lookAtContainer(numberOf(container)),
+    look: ({ container }) => lookAtContainer(boxOf(container)),
     focus: (shown) => { shown.elements.container.focus(); shown.elements.container.select(); },
   });
   return [form, list];
@@ -142,20 +141,20 @@ function whereNext(answer) {
 
 function seatForm() {
   return commandForm({
-    key: 'seat', fields: [numberField('ticket', 'Ticket')], button: 'Give a seat', kind: 'plain',
-    send: ({ ticket }) => takeSeat(numberOf(ticket)),
-    done: ({ seat: number }, { ticket }) => said(`Seat ${number} for `, readerLink(numberOf(ticket)), '.'),
-    explain: deskWords, look: ({ ticket }) => lookAtReader(numberOf(ticket)),
+    key: 'seat', fields: [ticketField()], button: 'Give a seat', kind: 'plain',
+    send: ({ ticket }) => takeSeat(ticketOf(ticket)),
+    done: ({ seat: number }, { ticket }) => said(`Seat ${number} for `, readerLink(ticketOf(ticket)), '.'),
+    explain: deskWords, look: ({ ticket }) => lookAtReader(ticketOf(ticket)),
   });
 }
 
 function leaveForm() {
   return commandForm({
-    key: 'leave', fields: [numberField('ticket', 'Ticket')], button: 'Free the seat', kind: 'plain',
-    send: ({ ticket }) => leaveSeat(numberOf(ticket)),
-    done: ({ seat: number }, { ticket }) => said(`Seat ${number} is free. `, readerLink(numberOf(ticket)), ' has left.'),
+    key: 'leave', fields: [ticketField()], button: 'Free the seat', kind: 'plain',
+    send: ({ ticket }) => leaveSeat(ticketOf(ticket)),
+    done: ({ seat: number }, { ticket }) => said(`Seat ${number} is free. `, readerLink(ticketOf(ticket)), ' has left.'),
     explain: deskWords,
-    help: (answer, { ticket }) => (answer.code === 11 ? el('p', {}, 'What is out: ', readerLink(numberOf(ticket)), '.') : null),
-    look: ({ ticket }) => lookAtReader(numberOf(ticket)),
+    help: (answer, { ticket }) => (answer.code === 11 ? el('p', {}, 'What is out: ', readerLink(ticketOf(ticket)), '.') : null),
+    look: ({ ticket }) => lookAtReader(ticketOf(ticket)),
   });
 }

@@ -1,51 +1,82 @@
-// The import of a file of descriptions.
+// The import of a file of descriptions: it is read here first, and sent when nothing in it would be refused or lost unseen.
 
 import { el, table } from '../shared/dom.js';
 import { fileField, textField } from '../shared/fields.js';
 import { commandForm } from '../shared/form.js';
 import { deskWords, remarkWords } from '../shared/refusals.js';
 import { importFile, LARGEST_FILE } from '../shared/routes.js';
+import { newDrafts } from './drafts.js';
 import { onceMore } from './looks.js';
+import { newestUnit } from './newest_unit.js';
 import { card, heldContainer } from './parts.js';
+import { fileReader } from './seen.js';
 
 const SHOWN = 200; // the most remarks that are listed
+
+const BESIDE = [
+  ['A column that is missing is blank.',
+    'Every unit in the file loses what the office has there. (AtoM’s own update leaves blank cells alone.)'],
+  ['A known unit keeps its status, its place and its closure.',
+    'A unit is known by its source and its legacyId. To publish, move or close it, use its page under Units.'],
+  ['Only “Published” publishes.', 'Without it a new unit is a draft, and the public sees nothing of it.'],
+  ['AtoM’s template and AtoM’s export are two sources.', 'The export numbers the units anew.'],
+  ['A file of translations alone replaces the texts', 'of units that the office has in another language.'],
+  ['“007” and “7” are two units.', 'Keep legacyId as text in the spreadsheet.'],
+  ['The same name, location and kind is one container,', 'whatever the archive: make names unique first. '
+    + 'One that has moved is a new container; cancel the orders for the old one and place them again.'],
+];
 
 export function importPage() {
   return { title: 'Import', content: [
     el('h1', {}, 'Import'),
     el('p', {}, 'Takes in a CSV file of archival descriptions as AtoM exports it.'),
-    el('div', { class: 'note warns' },
-      el('p', {}, el('strong', {}, 'A unit that is known already keeps its status, its place and its closure.'),
-        ' Its description is replaced by what the file says. A unit is known by its source and its legacyId: '
-        + 'to publish, move or close it, use its page under Units.')),
-    card('Take in a file', importForm()),
+    el('div', { class: 'beside-form' },
+      card('Take in a file', importForm()),
+      card('Good to know', el('ul', { class: 'known' },
+        BESIDE.map(([first, rest]) => el('li', {}, el('strong', {}, first), ` ${rest}`))))),
   ] };
 }
 
 function importForm() {
-  return commandForm({
+  const file = fileField('file', 'File', {
+    accept: '.csv,text/csv', hint: 'CSV in UTF-8, at most 8 MiB and 20,000 rows. It is read here before it is sent.',
+  });
+  const reader = fileReader(file.querySelector('input'));
+  const form = commandForm({
     key: 'import',
     fields: [
       textField('source', 'Source', {
         value: 'catalogue', maxlength: 64, pattern: '(?!\\.{1,2}$)[A-Za-z0-9._\\-]+', title: 'Plain letters, digits, dots, low lines or hyphens',
         hint: 'Always the same name for files of the same catalogue. Under another name every unit would come in a second time.',
       }),
-      fileField('file', 'File', { accept: '.csv,text/csv', hint: 'CSV in UTF-8, at most 8 MiB and 20,000 rows.' }),
+      file, reader.panel,
     ],
     button: 'Take the file in',
-    send: ({ source, file }) => (file.size > LARGEST_FILE ? { ok: false, kind: 'large' } : importFile(source, file)),
-    done: report,
-    explain: (answer) => deskWords(answer, 'import'),
+    before: (values) => reader.objection(values.file),
+    send: (values) => send(values, reader),
+    done: (value, values) => report(value, values, reader),
+    explain: (answer) => reader.words(answer) ?? deskWords(answer, 'import'),
     help: heldContainer,
+    focus: (shown, answer) => reader.focus(shown, answer),
     look: onceMore('what is in already is told as “unchanged”. Choose the same file and the same source.'),
   });
+  form.addEventListener('reset', () => reader.clear());
+  return form;
 }
 
-function report(value, { source, file }) {
+/** The number of the newest unit is looked up first, so that the new ones can be told afterwards. */
+async function send({ source, file }, reader) {
+  if (file.size > LARGEST_FILE) return { ok: false, kind: 'large' };
+  reader.newest = reader.hasDrafts() ? await newestUnit() : null;
+  return importFile(source, file);
+}
+
+function report(value, { source, file }, reader) {
   return [
     el('p', {}, el('strong', {}, el('bdi', {}, file.name), ` was taken in from the source ${source}.`)),
     table('Rows', ['New units', 'Changed', 'Unchanged', 'Translations, passed over'],
       [[value.new, value.changed, value.same, value.translations].map(String)]),
+    newDrafts(value.new, reader),
     remarks(value.remarks),
   ];
 }

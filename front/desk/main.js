@@ -9,9 +9,11 @@ import { cardPage } from './card.js';
 import { ordersPage } from './orders.js';
 import { runsPage } from './runs.js';
 import { slipPage } from './slip.js';
+import { callSlipsPage, labelPage, ticketPage } from './prints.js';
 import { outPage } from './out.js';
 import { unitsPage } from './units.js';
 import { importPage } from './import.js';
+import { forgetNames } from './names.js';
 
 const NUMBER = '([1-9][0-9]{0,9})';
 const at = (path) => new RegExp(`^#/${path}$`);
@@ -20,12 +22,18 @@ start([
   [/^#?\/?$/, todayPage],
   [at('counter'), counterPage],
   [at(`counter/${NUMBER}`), containerPage],
+  [at(`counter/${NUMBER}/label`), labelPage],
   [at('readers'), readersPage],
   [at(`readers/${NUMBER}`), cardPage],
+  [at(`readers/${NUMBER}/ticket`), ticketPage],
   [at('orders'), ordersPage],
   [at('runs'), runsPage],
   [at(`runs/${NUMBER}`), slipPage],
+  [at(`runs/${NUMBER}/slips`), callSlipsPage],
   [at('out'), outPage],
   [at(`units(?:/${NUMBER})?`), unitsPage],
   [at('import'), importPage],
 ], 'The desk');
+
+/** Who signs out leaves no names in the tab. */
+document.querySelector('a[href="/sign-out"]').addEventListener('click', forgetNames);

@@ -9,6 +9,7 @@ import { cancel, order } from '../shared/routes.js';
 import { lookAtReader, onceMore } from './looks.js';
 import { boxLink, readerLink } from './names.js';
 import { card, said } from './parts.js';
+import { boxField, boxOf, ticketField, ticketOf } from './scans.js';
 import { waitingList } from './waiting.js';
 
 export function ordersPage() {
@@ -21,13 +22,13 @@ export function ordersPage() {
 
 function placeForm() {
   return commandForm({
-    key: 'order', fields: [numberField('ticket', 'Ticket'), numberField('container', 'Container')],
+    key: 'order', fields: [ticketField(), boxField()],
     button: 'Order',
-    send: ({ ticket, container }) => order(numberOf(ticket), numberOf(container)),
+    send: ({ ticket, container }) => order(ticketOf(ticket), boxOf(container)),
     done: (value, { ticket, container }) =>
-      said(`Order ${value.order}: `, boxLink(numberOf(container)), ' for ', readerLink(numberOf(ticket)), '.'),
+      said(`Order ${value.order}: `, boxLink(boxOf(container)), ' for ', readerLink(ticketOf(ticket)), '.'),
     explain: deskWords,
-    look: ({ ticket }) => lookAtReader(numberOf(ticket)),
+    look: ({ ticket }) => lookAtReader(ticketOf(ticket)),
   });
 }
 

@@ -5,6 +5,7 @@ import { commandForm } from '../shared/form.js';
 import { deskWords } from '../shared/refusals.js';
 import { issued, reshelve } from '../shared/routes.js';
 import { onceMore } from './looks.js';
+import { asOf } from './days.js';
 import { boxLink, readerLink } from './names.js';
 import { card, problem } from './parts.js';
 
@@ -12,6 +13,7 @@ export async function outPage() {
   const answer = await issued();
   return { title: 'Out now', content: [
     el('h1', {}, 'Out now'),
+    el('p', { class: 'quiet' }, asOf()),
     answer.ok ? outTable(answer.value) : problem(answer),
     card('Reshelve', el('p', {}, 'Every container at the desk that nobody is waiting for goes back to its shelf. You get a list of them.'),
       reshelveForm()),

@@ -4,12 +4,16 @@ import { el, link } from '../shared/dom.js';
 import { note } from '../shared/form.js';
 import { numberOf } from '../shared/numbers.js';
 import { deskWords } from '../shared/refusals.js';
+import { STAYED } from './sure.js';
 
 const containerLink = (container) => link(`#/counter/${container}`, `container ${container}`);
 export const runLink = (run) => link(`#/runs/${run}`, `run ${run}`);
 export const unitLink = (unit) => link(`#/units/${unit}`, `unit ${unit}`);
 
 export const said = (...children) => el('p', {}, el('strong', {}, ...children));
+
+/** What a refusal means, or that somebody decided not to go on. */
+export const notDone = (answer, command) => (answer === STAYED ? ['Nothing was done.', ''] : deskWords(answer, command));
 
 let last = 0;
 
@@ -36,7 +40,7 @@ export function lookUp(field, button, then) {
     el('p', { class: 'buttons' }, el('button', { type: 'submit', class: 'plain' }, button)));
   form.addEventListener('submit', (event) => {
     event.preventDefault();
-    then(numberOf(form.querySelector('input').value));
+    then(numberOf(form.querySelector('input').value.replace(/^\s*[BT]/i, '')));
   });
   return form;
 }

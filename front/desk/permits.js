@@ -2,25 +2,26 @@
 
 import { askEach } from '../shared/asking.js';
 import { count, el, table } from '../shared/dom.js';
-import { dayField, numberField } from '../shared/fields.js';
+import { dayField } from '../shared/fields.js';
 import { commandForm } from '../shared/form.js';
-import { numberOf } from '../shared/numbers.js';
-import { deskWords } from '../shared/refusals.js';
 import { permit, permits } from '../shared/routes.js';
+import { askIfPast } from './days.js';
 import { lookAtPermits } from './looks.js';
 import { newestTicket, readerLink } from './names.js';
-import { said } from './parts.js';
+import { notDone, said } from './parts.js';
+import { ticketField, ticketOf } from './scans.js';
 
 export function permitForm(unit) {
   return commandForm({
     key: `permit for ${unit}`,
-    fields: [numberField('ticket', 'Ticket'),
+    fields: [ticketField(),
       dayField('until', 'Last day of the permit', { hint: 'It opens what is closed here to that reader, and no draft.' })],
     button: 'Give a permit', kind: 'plain',
-    send: ({ ticket, until }) => permit(numberOf(ticket), unit, until),
+    before: ({ until }) => askIfPast(until, 'A permit that ends on a past day opens nothing.'),
+    send: ({ ticket, until }) => permit(ticketOf(ticket), unit, until),
     done: (value) => said('Permit for ', readerLink(value.ticket), ` until ${value.until}.`),
-    explain: (answer) => deskWords(answer, 'permit'),
-    look: ({ ticket }) => lookAtPermits(numberOf(ticket)),
+    explain: (answer) => notDone(answer, 'permit'),
+    look: ({ ticket }) => lookAtPermits(ticketOf(ticket)),
   });
 }
 

@@ -2,17 +2,18 @@
 
 import { count, el, table, words, link } from '../shared/dom.js';
 import { dayField, textField } from '../shared/fields.js';
+import { folded } from '../shared/folding.js';
 import { commandForm } from '../shared/form.js';
 import { numberOf } from '../shared/numbers.js';
-import { deskWords } from '../shared/refusals.js';
 import { go } from '../shared/router.js';
 import { register } from '../shared/routes.js';
+import { asOf, askIfPast, sureOrStayed } from './days.js';
 import { lookAtNewestTicket } from './looks.js';
 import { knownReaders, newestTicket, readCards, readerLink } from './names.js';
-import { card, said } from './parts.js';
+import { card, notDone, said } from './parts.js';
 
-const PLAIN = { ł: 'l', ø: 'o', đ: 'd', ð: 'd', þ: 'th', ß: 'ss', æ: 'ae', œ: 'oe', ı: 'i' };
 const SHOWN = 50; // the most readers that are listed
+const LOOKED_AT = 400; // the most cards that are read before a reader is registered
 const MOST = 20000; // the most cards that are asked for before somebody must say to go on
 
 export function readersPage() {
@@ -57,7 +58,7 @@ async function findByName(form, who, told, found) {
     return goesOn() && done < MOST;
   });
   const known = knownReaders().size.toLocaleString('en-GB');
-  if (goesOn()) show(whole ? '' : `The newest ${known} cards were searched. Choose Find again to search older ones.`);
+  if (goesOn()) show(whole ? asOf() : `The newest ${known} cards were searched. Choose Find again to search older ones.`);
 }
 
 function showFound(who, told, found, end) {
@@ -76,9 +77,6 @@ function matching(who) {
     .sort((a, b) => a[1].localeCompare(b[1]) || a[0] - b[0]);
 }
 
-/** Letters without accents. For some letters, which have no separate accent, PLAIN has the replacement. */
-const folded = (text) => text.normalize('NFD').replace(/\p{M}/gu, '').toLowerCase().replace(/[łøđðþßæœı]/g, (letter) => PLAIN[letter]);
-
 function registerForm() {
   return commandForm({
     key: 'register',
@@ -87,9 +85,28 @@ function registerForm() {
       dayField('until', 'Last day of the ticket', { hint: 'The ticket is good on that day too.' }),
     ],
     button: 'Register',
-    send: ({ name, until }) => register(name, until),
+    before: askFirst,
+    send: ({ name, until }) => register(oneSpaced(name), until),
     done: ({ ticket }, { until }) => said('Registered: ', readerLink(ticket), `, good until ${until}.`),
-    explain: deskWords,
+    explain: notDone,
     look: lookAtNewestTicket,
   });
+}
+
+/** A name without spaces around it, and with one space between its parts. */
+const oneSpaced = (name) => name.trim().replace(/\s+/g, ' ');
+
+/** Asks about a last day that is past, and about a reader who has a ticket already. */
+async function askFirst({ name, until }) {
+  return await askIfPast(until, 'Such a ticket has expired already.') ?? askIfKnown(oneSpaced(name));
+}
+
+async function askIfKnown(name) {
+  const newest = await newestTicket();
+  if (newest !== null) await readCards(newest, (done) => done < LOOKED_AT);
+  const same = [...knownReaders()].filter(([, known]) => folded(known) === folded(name)).map(([ticket]) => ticket);
+  if (name === '' || same.length === 0) return null;
+  return sureOrStayed('There is a reader of this name', 'Register another reader of this name', [
+    el('ul', {}, same.slice(0, SHOWN).map((ticket) => el('li', {}, readerLink(ticket)))),
+    el('p', {}, 'A reader who has a ticket keeps it: renew it on the reader’s card.')]);
 }

@@ -9,6 +9,7 @@ import { go } from '../shared/router.js';
 import { fetchRun, slip } from '../shared/routes.js';
 import { lookAtNewestRun } from './looks.js';
 import { card, lookUp, runLink } from './parts.js';
+import { forgetWaiting } from './waiting.js';
 
 const LATEST = 8; // the most runs that are listed
 
@@ -18,7 +19,7 @@ export async function runsPage() {
     el('h1', {}, 'Runs'),
     el('div', { class: 'cards' },
       card('Fetch from the shelves', el('p', {}, 'A run fetches the containers that readers have waited for longest, as many as one run takes. '
-        + 'Its slip says where they are.'), runForm()),
+        + 'It leaves what is not open to its reader: closed, a draft, or no longer in any unit. Its slip says where they are.'), runForm()),
       card('Slips', latest(newest), lookUp(numberField('run', 'Run'), 'Show the slip', (number) => go(`#/runs/${number}`)))),
   ] };
 }
@@ -34,7 +35,7 @@ function runForm() {
   return commandForm({
     key: 'run', button: 'Begin a run',
     send: fetchRun,
-    done: ({ run, taken }) => { go(`#/runs/${run}`); return el('p', {}, runLink(run), ` fetches ${taken}.`); },
+    done: ({ run, taken }) => { forgetWaiting(); go(`#/runs/${run}`); return el('p', {}, runLink(run), ` fetches ${taken}.`); },
     explain: (answer) => deskWords(answer, 'run'),
     look: lookAtNewestRun,
   });

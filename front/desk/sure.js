@@ -10,7 +10,7 @@ export function isSure({ title, content, stay, go, kind = '' }) {
   const keep = el('button', { value: 'stay', class: 'plain', autofocus: true }, stay);
   const leave = el('button', { value: 'go', class: kind, click: stopSecondClick }, go);
   const dialog = el('dialog', { 'aria-labelledby': 'question' },
-    el('h2', { id: 'question' }, title), content, el('form', { method: 'dialog', class: 'buttons' }, keep, leave));
+    el('h2', { id: 'question' }, title), el('div', { class: 'about-it' }, content), el('form', { method: 'dialog', class: 'buttons' }, keep, leave));
   return new Promise((resolve) => {
     dialog.addEventListener('close', () => { dialog.remove(); resolve(dialog.returnValue === 'go'); });
     document.body.append(dialog);

@@ -6,7 +6,8 @@ import { commandForm } from '../shared/form.js';
 import { deskWords } from '../shared/refusals.js';
 import { issued, openDay } from '../shared/routes.js';
 import { onceMore } from './looks.js';
-import { card, problem, said } from './parts.js';
+import { asOf, dayOfThisComputer, newestRun } from './days.js';
+import { card, problem, runLink, said } from './parts.js';
 import { isSure, STAYED } from './sure.js';
 
 const KEPT = 'last day opened here';
@@ -15,7 +16,7 @@ export async function todayPage() {
   return { title: 'Today', content: [
     el('h1', {}, 'Today'),
     el('div', { class: 'cards' },
-      card('Open a new day', lastDay(), dayForm()),
+      card('Open a new day', await whichDay(), lastDay(), dayForm()),
       card('Still out', await stillOut()),
       card('The course of a day', course())),
   ] };
@@ -47,20 +48,20 @@ async function askFirst(day) {
   return await isSure(question) ? null : STAYED;
 }
 
-/** The day by the clock of this computer, as a suggestion: the office itself reads no clock. */
-function dayOfThisComputer() {
-  const now = new Date();
-  const two = (number) => String(number).padStart(2, '0');
-  return `${now.getFullYear()}-${two(now.getMonth() + 1)}-${two(now.getDate())}`;
-}
-
 function opened({ day }) {
   localStorage.setItem(KEPT, day);
   document.querySelector('.last-day')?.replaceWith(lastDay());
   return said(`${day} is open.`);
 }
 
-/** The program does not say which day is open; this browser knows only the days that were opened in it. */
+/** The program does not say which day is open; the newest run shows that no earlier day is. */
+async function whichDay() {
+  const newest = await newestRun();
+  if (!newest?.day) return el('p', { class: 'quiet' }, 'These pages cannot know which day is open: there has been no run yet.');
+  return el('p', { class: 'quiet' }, 'The newest is ', runLink(newest.run), ` of ${newest.day}: this day is open, or a later one.`);
+}
+
+/** This browser knows the days that were opened in it. */
 function lastDay() {
   const day = localStorage.getItem(KEPT);
   return el('p', { class: 'last-day quiet' },
@@ -71,7 +72,8 @@ async function stillOut() {
   const answer = await issued();
   if (!answer.ok) return problem(answer);
   const number = answer.value.length;
-  return el('p', {}, number === 0 ? 'Nothing is out.' : link('#/out', `${count(number, 'container is', 'containers are')} out.`));
+  return [el('p', {}, number === 0 ? 'Nothing is out.' : link('#/out', `${count(number, 'container is', 'containers are')} out.`)),
+    el('p', { class: 'quiet' }, asOf())];
 }
 
 function course() {

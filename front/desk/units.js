@@ -4,13 +4,13 @@ import { count, el, link } from '../shared/dom.js';
 import { checkField, choiceField, dayField, numberField } from '../shared/fields.js';
 import { commandForm } from '../shared/form.js';
 import { numberOf } from '../shared/numbers.js';
-import { deskWords } from '../shared/refusals.js';
 import { go } from '../shared/router.js';
 import { headLine } from '../shared/heads.js';
 import { fonds, move, setClosure, setStatus, unit as askUnit } from '../shared/routes.js';
 import { readFonds, readPage } from '../shared/texts.js';
+import { askIfPast } from './days.js';
 import { lookAtUnit } from './looks.js';
-import { card, heldContainer, lookUp, problem, said, unitLink } from './parts.js';
+import { card, heldContainer, lookUp, notDone, problem, said, unitLink } from './parts.js';
 import { permitForm, permitList } from './permits.js';
 import { removeForm } from './removal.js';
 
@@ -20,23 +20,34 @@ export async function unitsPage(number) {
   });
   const look = lookUp(field, 'Open the unit', (typed) => go(`#/units/${typed}`));
   if (!number) return { title: 'Units', focus: field.querySelector('input'), content: [el('h1', {}, 'Units'), look, await tops()] };
-  const view = { number, page: el('div', { role: 'region', 'aria-label': 'What the public sees', tabindex: 0 }) };
+  const page = el('div', { role: 'region', 'aria-label': 'What the public sees', tabindex: 0 });
+  const view = { number, head: el('div', {}), page };
   await show(view);
   return { title: `Unit ${number}`, content: [
-    el('h1', {}, `Unit ${number}`),
-    el('h2', {}, 'What the public sees'), view.page,
+    el('h1', {}, `Unit ${number}`), view.head,
     el('div', { class: 'cards' },
       card('Status', statusForm(view)), card('Closure', closureForm(view), endForm(view)), card('Move', moveForm(view), topForm(view)),
-      card('Permits', permitForm(number), permitList(number)),
       card('Remove', removeForm(number, () => show(view))),
+      card('Permits', permitForm(number), permitList(number)),
       card('Another unit', look)),
+    el('h2', {}, 'What the public sees'), view.page,
   ] };
 }
 
 async function show(view) {
   const answer = await askUnit(view.number);
-  view.page.replaceChildren(...(answer.ok
-    ? [el('pre', { class: 'page' }, answer.value), unitList(readPage(answer.value).units)] : [nothing(answer)]).filter(Boolean));
+  view.head.replaceChildren(answer.ok ? headLine(readPage(answer.value).head, 'p') : nothing(answer));
+  view.page.replaceChildren(answer.ok
+    ? el('pre', { class: 'page' }, pageLines(answer.value)) : el('p', { class: 'quiet' }, 'Nothing.'));
+}
+
+/** The page to the letter, where the units right below are links to their pages here. */
+function pageLines(text) {
+  const units = readPage(text).units;
+  const list = units.map(({ number, rest }) => `  Unit ${number}: ${rest}\n`).join('');
+  if (!text.endsWith(list)) return text;
+  return [text.slice(0, text.length - list.length), ...units.flatMap(({ number, rest }) =>
+    [`  Unit ${number}: `, link(`#/units/${number}`, rest), '\n'])];
 }
 
 /** Units that the public sees, as links to their pages here. */
@@ -59,7 +70,7 @@ function nothing(answer) {
 
 function change(view, parts) {
   return commandForm({
-    ...parts, key: `${parts.button} ${view.number}`, explain: deskWords, help: heldContainer, look: () => lookAtUnit(view.number),
+    ...parts, key: `${parts.button} ${view.number}`, explain: notDone, help: heldContainer, look: () => lookAtUnit(view.number),
     done: async (value, values) => { await show(view); return said(...parts.done(value, values)); },
   });
 }
@@ -77,6 +88,7 @@ function closureForm(view) {
   return change(view, {
     fields: [dayField('until', 'Closed until', { hint: 'It opens on that day.' })],
     button: 'Set the closure',
+    before: ({ until }) => askIfPast(until, 'A unit that is closed until a past day is open.'),
     send: ({ until }) => setClosure(view.number, until),
     done: (value, { until }) => [`Closed until ${until}.`],
   });

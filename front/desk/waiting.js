@@ -1,54 +1,83 @@
-// Every order that waits, gathered from the readers' cards, with the place of its container.
+// Every order that waits, gathered from the readers' cards, with the place of its container and, as far as it can be known,
+// why no run has fetched it. What was read is kept in this page.
 
 import { count, el, printButton, table } from '../shared/dom.js';
 import { askEach } from '../shared/asking.js';
-import { queue, reader } from '../shared/routes.js';
-import { boxLink, newestTicket, readerLink } from './names.js';
-import { card } from './parts.js';
+import { queue } from '../shared/routes.js';
+import { asOf, newestRun } from './days.js';
+import { boxLink, knownCards, newestTicket, readCard, readerLink } from './names.js';
+import { card, runLink } from './parts.js';
 
 const FEW = 200; // up to so many cards are asked for without a press of the button
+const PAUSE = 500; // milliseconds between two looks at a list that still grows
+
+let last = null; // what was gathered last: { orders, places, run, moment, skipped }
+
+/** After a run the list is gathered again when it is next shown. */
+export function forgetWaiting() {
+  last = null;
+}
 
 export function waitingList() {
   const told = el('p', { class: 'told', role: 'status' });
   const list = el('div', {});
-  const ask = el('button', { type: 'button', class: 'plain', click: () => gather(told, list, ask, Infinity) }, 'Show what waits now');
-  gather(told, list, ask, FEW);
-  return card('What waits', el('p', { class: 'quiet' }, 'Gathered from the readers’ cards. It is as of the moment when it is asked for.'),
-    el('p', { class: 'buttons no-print' }, ask), told, list);
+  const view = { told, list, buttons: [] };
+  const button = (text, all) =>
+    el('button', { type: 'button', class: 'plain', click: () => gather(view, Infinity, all) }, text);
+  view.buttons = [button('Show what waits now', false), button('Read every card again', true)];
+  if (last) showGathered(view, last);
+  else gather(view, FEW, false);
+  return card('What waits', el('p', { class: 'quiet' }, 'Gathered from the readers’ cards.'),
+    el('p', { class: 'buttons no-print' }, view.buttons), told, list);
 }
 
-async function gather(told, list, ask, most) {
-  if (ask.getAttribute('aria-disabled') === 'true') return;
-  ask.setAttribute('aria-disabled', 'true');
-  await gatherNow(told, list, most);
-  ask.removeAttribute('aria-disabled');
+async function gather(view, most, all) {
+  if (view.buttons[0].getAttribute('aria-disabled') === 'true') return;
+  for (const button of view.buttons) button.setAttribute('aria-disabled', 'true');
+  await gatherNow(view, most, all);
+  for (const button of view.buttons) button.removeAttribute('aria-disabled');
 }
 
-async function gatherNow(told, list, most) {
-  told.textContent = 'Asking the office …';
-  const newest = await newestTicket();
-  if (newest === null) { told.textContent = 'The office did not answer. Try again in a minute.'; return; }
-  if (newest > most) { told.textContent = `There are ${newest.toLocaleString('en-GB')} cards to ask for, which takes a while.`; return; }
-  const orders = await waitingOrders(newest, told);
-  if (orders === null) { told.textContent = 'The office stopped answering. Try again in a minute.'; return; }
-  const places = await placesOf(orders);
-  told.textContent = orders.length === 0 ? 'No order is waiting.' : `${count(orders.length, 'order waits', 'orders wait')}.`;
-  list.replaceChildren(...(orders.length === 0 ? [] : [waitingTable(orders, places), el('p', {}, printButton('Print this list'))]));
+async function gatherNow(view, most, all) {
+  const tell = (text) => { view.told.textContent = text; };
+  tell('Asking the office …');
+  const [newest, run] = [await newestTicket(), await newestRun()];
+  if (newest === null || run === null) return tell('The office did not answer. Try again in a minute.');
+  const tickets = ticketsToRead(newest, all ? null : run.day);
+  const many = tickets.length.toLocaleString('en-GB');
+  if (tickets.length > most) return tell(`There are ${many} cards to ask for, which takes a while.`);
+  if (!await readThese(tickets, view, run)) return tell('The office stopped answering. Try again in a minute.');
+  const orders = waitingOrders();
+  last = { orders, places: await placesOf(orders), run, moment: new Date(), skipped: newest - tickets.length };
+  return showGathered(view, last);
 }
 
-/** null if a card was not answered: an incomplete list would mislead. */
-async function waitingOrders(newest, told) {
-  const orders = [];
+/** The cards that can have changed: a ticket that had expired before the newest run, and has no order, can place none. */
+function ticketsToRead(newest, day) {
+  const isQuiet = (known) => known && day && known.until < day && known.orders.length === 0;
+  return Array.from({ length: newest }, (_, place) => place + 1).filter((ticket) => !isQuiet(knownCards().get(ticket)));
+}
+
+/** Reads the cards and shows what is found as it comes; false if a card was not answered: an incomplete list would mislead. */
+async function readThese(tickets, view, run) {
   let done = 0;
-  const tickets = Array.from({ length: newest }, (_, place) => place + 1);
-  const whole = await askEach(tickets, reader, (ticket, answer) => {
+  let shown = performance.now();
+  return askEach(tickets, readCard, (ticket, answer) => {
     if (!answer.ok) return false;
     done += 1;
-    if (done % 200 === 0) told.textContent = `${done.toLocaleString('en-GB')} of ${newest.toLocaleString('en-GB')} cards read …`;
-    for (const order of answer.value.orders) if (order.state === 'waiting') orders.push({ ...order, ticket });
-    return told.isConnected || done < 10;
+    if (performance.now() - shown > PAUSE) {
+      shown = performance.now();
+      view.told.textContent = `${done.toLocaleString('en-GB')} of ${tickets.length.toLocaleString('en-GB')} cards read …`;
+      showOrders(view, waitingOrders(), new Map(), run);
+    }
+    return view.told.isConnected || done < 10;
   });
-  return whole ? orders.sort((a, b) => a.order - b.order) : null;
+}
+
+function waitingOrders() {
+  const found = [...knownCards()].flatMap(([ticket, { orders }]) => orders.filter(({ state }) => state === 'waiting')
+    .map((order) => ({ ...order, ticket })));
+  return found.sort((a, b) => a.order - b.order);
 }
 
 async function placesOf(orders) {
@@ -59,15 +88,31 @@ async function placesOf(orders) {
   return places;
 }
 
-function waitingTable(orders, places) {
-  return table('Orders that wait, the oldest first', ['Order', 'Container', 'Reader', 'Where it is'], orders.map((order) =>
-    [String(order.order), boxLink(order.container), readerLink(order.ticket), whereFor(order, places.get(order.container))]));
+function showGathered(view, { orders, places, run, moment, skipped }) {
+  const few = orders.length === 0 ? 'No order is waiting.' : `${count(orders.length, 'order waits', 'orders wait')}.`;
+  const old = ` Not read again: ${count(skipped, 'expired ticket', 'expired tickets')} without an order.`;
+  view.told.textContent = `${few} ${asOf(moment)}${skipped > 0 ? old : ''}`;
+  showOrders(view, orders, places, run);
 }
 
-function whereFor(order, box) {
-  if (!box) return 'not known';
-  const isFirst = box.waiting[0]?.order === order.order;
-  if (box.place === 'out') return 'out with another reader';
-  if (box.place === 'desk') return isFirst ? 'at the desk, ready for this reader' : 'at the desk, for another reader first';
-  return isFirst ? 'on its shelf, to be fetched by a run' : 'on its shelf, for another reader first';
+function showOrders(view, orders, places, run) {
+  const rows = orders.map((order) => [String(order.order), boxLink(order.container), readerLink(order.ticket),
+    whereFor(order, places.get(order.container), run)]);
+  view.list.replaceChildren(...(rows.length === 0 ? [] : [
+    table('Orders that wait, the oldest first', ['Order', 'Container', 'Reader', 'Where it is'], rows),
+    el('p', {}, printButton('Print this list'))]));
 }
+
+function whereFor(order, box, run) {
+  if (!box) return '…';
+  if (box.place === 'out') return 'out with another reader';
+  const where = box.place === 'desk' ? 'at the desk' : 'on its shelf';
+  if (box.waiting[0]?.order !== order.order) return `${where}, for another reader first`;
+  if (box.place === 'desk') return 'at the desk, ready if it is open to this reader';
+  if (!wasPassedOver(order, run)) return 'on its shelf: a run fetches it if it is open to this reader';
+  return ['on its shelf: ', runLink(run.run), ' passed it over. Probably it is not open to this reader: closed, a draft, or no '
+    + 'longer in any unit'];
+}
+
+/** A run takes the oldest orders that it can: what is older than one of them, and still on its shelf, it could not take. */
+const wasPassedOver = (order, run) => run.lines.some((line) => Number(line.order) > order.order);

@@ -8,9 +8,6 @@ import { go } from '../shared/router.js';
 import { fonds } from '../shared/routes.js';
 import { readFonds, readHead } from '../shared/texts.js';
 
-/** Addresses of this site stand after a #, or are paths: as those in its header. */
-const BEFORE = document.querySelector('header nav a').getAttribute('href').startsWith('#') ? '#' : '';
-
 let answers = null; // whether the service answers, once that was asked
 
 /** A page that has the box below its heading, if the service answers. */
@@ -55,7 +52,7 @@ function box(fields) {
   form.addEventListener('submit', (event) => {
     event.preventDefault();
     const given = [...new FormData(form)].filter(([, value]) => value.trim() !== '');
-    go(`${BEFORE}/search?${new URLSearchParams(given)}`);
+    go(`/search?${new URLSearchParams(given)}`);
   });
   return form;
 }
@@ -121,7 +118,7 @@ function item({ unit, way, head, lines }) {
   return el('li', {},
     way?.length ? el('p', { class: 'way' }, el('span', { class: 'unseen' }, 'In: '),
       way.map((step, place) => [place ? ' › ' : null, words(titleOf(step.head))])) : null,
-    el('p', { class: 'hit' }, link(`${BEFORE}/unit/${unit}`, markedHead(head))),
+    el('p', { class: 'hit' }, link(`/unit/${unit}`, markedHead(head))),
     lines.map(excerpt));
 }
 

@@ -11,8 +11,8 @@ export function trouble(answer, title) {
 function missing() {
   return { title: 'Not found', content: [
     el('h1', {}, 'Not found'),
-    el('p', {}, 'Nothing is shown under this number. There may be no such unit, or it may not be open to the public.'),
-    el('p', {}, link('#/', 'All archives')),
+    el('p', {}, 'Nothing is shown under this number. There may be no such unit, or it may not be published.'),
+    el('p', {}, 'Look for it in the ', link('/', 'list of all archives'), ', or ask at the desk.'),
   ] };
 }
 

@@ -35,6 +35,11 @@ export function choiceField(name, legend, choices) {
     choices.map(([value, label]) => choice(name, value, label)));
 }
 
+/** A list of which one is always chosen. choices: [value, label] pairs. */
+export function selectField(name, label, choices) {
+  return field(label, undefined, el('select', { name }, choices.map(([value, text]) => el('option', { value }, text))));
+}
+
 function choice(name, value, label) {
   const id = `field-${++last}`;
   return el('p', { class: 'check' },

@@ -29,6 +29,11 @@ export function fold(word) {
   return word.normalize('NFKD').replace(DROPPED, '').toLowerCase().replace(OWN_LETTERS, (letter) => LETTERS[letter]);
 }
 
+/** A text with its words folded, and the kinds of apostrophes and hyphens as one each; all else stays. For parts of names. */
+export function folded(text) {
+  return text.replace(WORD, fold).replace(/[\u2018\u2019\u02bc`\u00b4]/g, "'").replace(/[\u2010-\u2015\u2212]/g, '-');
+}
+
 /** The words of a text, in order: each folded, with its place in the text. */
 export function wordsOf(text) {
   const found = [];

@@ -10,7 +10,7 @@ const PAUSE = 600; // milliseconds after an answer in which a repeated command c
 /**
  * key: a name that only this form has; fields: rows of fields.js; button: its words; kind: its class;
  * before(values): promises null to go on, or an answer that ends it; send(values): promises an answer of routes.js;
- * done(value, values): promises what to show if it was done;
+ * done(value, values): promises what to show if it was done; shown(outcome): called when that is shown;
  * explain(answer): two sentences if it was not; help(answer, values, again): more to show then; `again` sends the same;
  * look(values): promises what shows whether it was done, or null if that cannot be read now;
  * focus(form, answer): what gets the focus after an answer (null after success);
@@ -69,6 +69,7 @@ function isRepeat(state, values) {
 
 function begin(state) {
   state.missed = false;
+  for (const input of state.form.querySelectorAll('[aria-invalid]')) input.removeAttribute('aria-invalid');
   shut(state, true);
   state.outcome.replaceChildren();
 }
@@ -98,8 +99,26 @@ function shut(state, isShut) {
 async function succeed(state, value, values) {
   state.form.reset();
   state.parts.focus?.(state.form, null);
-  const shown = await state.parts.done(value, values);
-  if (shown) state.outcome.replaceChildren(note('done', [shown, missed(state)]));
+  const shown = await whatWasDone(state, value, values);
+  if (!shown) return;
+  state.outcome.replaceChildren(note('done', [shown, missed(state)]));
+  comeIntoView(state);
+  state.parts.shown?.(state.outcome);
+}
+
+/** An outcome is seen, also where its form ends below the window. */
+function comeIntoView(state) {
+  state.outcome.scrollIntoView({ block: 'nearest' });
+}
+
+/** A page that fails after its command must not hide that it was done. */
+async function whatWasDone(state, value, values) {
+  try {
+    return await state.parts.done(value, values);
+  } catch (mistake) {
+    console.warn(mistake);
+    return el('p', {}, el('strong', {}, 'It was done, but this page cannot show it.'), ' Load the page again.');
+  }
 }
 
 const missed = (state) => state.missed
@@ -110,6 +129,15 @@ function fail(state, answer, values) {
     refusal(state.parts, answer), state.parts.help?.(answer, values, () => sendAgain(state)), missed(state)]));
   if (state.parts.focus) state.parts.focus(state.form, answer);
   else selectFirst(state.form);
+  if (['refused', 'unread'].includes(answer.kind)) markWrong(document.activeElement, state.form);
+  comeIntoView(state);
+}
+
+/** The field that has the focus after a refusal is marked as wrong until somebody changes it. */
+function markWrong(input, form) {
+  if (!form.contains(input) || !['text', 'date'].includes(input.type)) return;
+  input.setAttribute('aria-invalid', 'true');
+  input.addEventListener('input', () => input.removeAttribute('aria-invalid'), { once: true });
 }
 
 /** For somebody who has removed the cause of a refusal and sends the same values on purpose. */

@@ -68,21 +68,6 @@ const READER = {
   23: ['The office can take no more orders.', 'Please tell the desk.'],
 };
 
-export const CAUSES = {
-  1: 'it is not text in UTF-8',
-  2: 'it is empty',
-  3: 'the header has no column legacyId',
-  4: 'the header names a column twice that is read',
-  5: 'the row has more or fewer fields than the header',
-  6: 'legacyId is blank',
-  7: 'another row further up has the same legacyId, and this row is no translation of it',
-  8: 'qubitParentSlug is filled in, but parentId is blank',
-  9: 'the file has more than 20,000 rows below the header',
-  10: 'a field has more than 65,535 bytes',
-  11: 'the unit above (parentId) is neither in the office from this source nor in a row further up',
-  12: 'the unit would lie deeper than 64 levels',
-};
-
 const REMARKS = {
   1: 'its level of description normally stands above the level of the unit that it is put below',
   2: 'it is a top unit and lacks one of the six essentials: reference code, title, creator, dates, extent, level',
@@ -104,6 +89,8 @@ const READER_OTHERS = {
   ...OTHERS,
   unread: ['The office could not read the order.', 'Please check the number of your ticket.'],
   barred: ['The order was not let through.', 'Please load this page again.'],
+  elsewhere: ['Orders are not taken from here.', 'Please order in the reading room.'],
+  often: ['Too many requests came from here in a short time. This one was not passed on.', 'Please wait a minute and try again.'],
   uncertain: ['We cannot tell whether your order was taken.',
     'Please send it once more: if it was taken, you will be told that you have ordered this container already.'],
 };
@@ -128,7 +115,5 @@ export function remarkWords(kind) {
 
 function detail(answer) {
   if (answer.code === 21) return ` It is container ${answer.container}.`;
-  if (answer.code !== 22) return '';
-  const cause = CAUSES[answer.cause] ?? `cause ${answer.cause}`;
-  return answer.row === 0 ? ` The file: ${cause}.` : ` Row ${answer.row}: ${cause}.`;
+  return answer.code === 22 && answer.row > 0 ? ` It is row ${answer.row}.` : '';
 }

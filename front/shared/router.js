@@ -1,58 +1,79 @@
-// Shows the page that the address names after its #, and takes care of the title, the focus and the back button.
+// Shows the page that the address names, and takes care of the title, the focus, the place on the page and the back button.
 
+import { byHash } from './addresses.js';
 import { el } from './dom.js';
 
-/** pages: [pattern, page]; a page gets what the pattern matched and promises { title, content, focus, shown }. */
-export function start(pages, site) {
-  const main = document.querySelector('main');
-  const show = () => turnTo(main, pages, site);
-  window.addEventListener('hashchange', show);
-  window.addEventListener('scroll', keepPlace, { passive: true });
-  document.querySelector('.skip').addEventListener('click', (event) => skip(event, main));
-  history.scrollRestoration = 'manual';
-  return show();
-}
-
-/** Shows a page, even if it is already shown. */
-export function go(hash) {
-  if (location.hash === hash) showAgain();
-  else location.hash = hash;
-}
-
-export function showAgain() {
-  window.dispatchEvent(new HashChangeEvent('hashchange'));
-}
-
+const site = { pages: [], name: '', addresses: byHash, main: null };
+let shown = null; // the page that is shown
 let turn = 0;
 let later = 0;
 
-async function turnTo(main, pages, site) {
+/**
+ * pages: [pattern, page]; a page gets what the pattern matched and promises { title, content, focus, shown, place, restore }.
+ * place(): what to keep in the history besides how far the page was scrolled; restore(kept): whether it went back there.
+ */
+export function start(pages, name, addresses = byHash) {
+  Object.assign(site, { pages, name, addresses, main: document.querySelector('main') });
+  addresses.listen(showAgain, (address) => pages.some(([pattern]) => pattern.test(address)));
+  window.addEventListener('scroll', keepPlaceSoon, { passive: true });
+  window.addEventListener('pagehide', keepPlace);
+  document.addEventListener('click', keepPlace, true); // before a link that was clicked leads away
+  document.querySelector('.skip').addEventListener('click', skip);
+  history.scrollRestoration = 'manual';
+  return showAgain();
+}
+
+/** Shows the page of this address, even if it is already shown. */
+export async function go(address) {
+  if (!site.addresses.turn(address)) await showAgain();
+}
+
+/** Keeps something in the history entry of the page that is shown; with an address, that of the entry is changed too. */
+export function keep(members, address = undefined) {
+  history.replaceState({ ...history.state, ...members }, '', address);
+}
+
+export async function showAgain() {
   clearTimeout(later);
   const mine = ++turn;
-  const place = history.state?.place ?? 0;
-  const slow = setTimeout(() => main.replaceChildren(waiting()), 400);
-  const page = await pageAt(pages, location.hash);
+  const kept = history.state;
+  shown = null;
+  const slow = setTimeout(() => site.main.replaceChildren(waiting()), 400);
+  const page = await pageOrFailure(site.addresses.here());
   clearTimeout(slow);
   if (mine !== turn) return;
-  main.replaceChildren(...[page.content].flat(3).filter(Boolean));
-  document.title = page.title ? `${page.title} – ${site}` : site;
+  shown = page;
+  site.main.replaceChildren(...[page.content].flat(Infinity).filter(Boolean));
+  document.title = page.title ? `${page.title} – ${site.name}` : site.name;
   markCurrent();
-  const target = page.focus ?? (mine > 1 ? heading(main) : null);
+  const target = page.focus ?? (mine > 1 ? heading() : null);
   target?.focus({ preventScroll: true });
-  window.scrollTo(0, place);
+  if (!(kept && page.restore?.(kept))) window.scrollTo(0, kept?.place ?? 0);
   page.shown?.();
 }
 
-function pageAt(pages, hash) {
-  for (const [pattern, page] of pages) {
-    const found = pattern.exec(hash);
+/** A page that fails is a mistake in these pages; the console has it, and the window says what to do. */
+async function pageOrFailure(address) {
+  try {
+    return await pageAt(address);
+  } catch (mistake) {
+    console.warn(mistake);
+    return { title: 'This page failed', content: [el('h1', {}, 'This page failed'),
+      el('p', {}, 'There is a mistake in it, and it cannot be shown. Load it again. If it fails again, tell whoever runs the office: ',
+        el('code', {}, String(mistake)))] };
+  }
+}
+
+function pageAt(address) {
+  for (const [pattern, page] of site.pages) {
+    const found = pattern.exec(address);
     if (found) return page(...found.slice(1));
   }
   return { title: 'No such page', content: [el('h1', {}, 'No such page'), el('p', {}, 'Please choose one from the list at the top.')] };
 }
 
-function heading(main) {
-  const first = main.querySelector('h1') ?? main;
+function heading() {
+  const first = site.main.querySelector('h1') ?? site.main;
   first.tabIndex = -1;
   return first;
 }
@@ -62,20 +83,24 @@ function waiting() {
 }
 
 function markCurrent() {
-  const here = location.hash.split('/')[1] ?? '';
+  const here = site.addresses.section(location);
   for (const item of document.querySelectorAll('header nav a')) {
-    if ((item.hash.split('/')[1] ?? '') === here) item.setAttribute('aria-current', 'page');
+    if (site.addresses.section(item) === here) item.setAttribute('aria-current', 'page');
     else item.removeAttribute('aria-current');
   }
 }
 
-/** The position on the page is kept in the history entry, for when the reader comes back. */
-function keepPlace() {
+/** The place on the page is kept in the history entry, for when the reader comes back. */
+function keepPlaceSoon() {
   clearTimeout(later);
-  later = setTimeout(() => history.replaceState({ place: Math.round(window.scrollY) }, ''), 150);
+  later = setTimeout(keepPlace, 150);
 }
 
-function skip(event, main) {
+function keepPlace() {
+  if (shown) keep({ place: Math.round(window.scrollY), ...shown.place?.() });
+}
+
+function skip(event) {
   event.preventDefault();
-  heading(main).focus();
+  heading().focus();
 }

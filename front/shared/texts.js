@@ -92,17 +92,67 @@ export function containersOfAid(text) {
   return found;
 }
 
-/** Whether a head line ends like that of a closed unit. A title may end like that too, so this proves nothing about the unit. */
-export function endsAsClosed(head) {
-  return /\] closed until \d{4}-\d\d-\d\d$/.test(head);
+/** The names of the containers of a finding aid. */
+export function namesInAid(text) {
+  return new Set(readAid(text).filter((line) => !line.isHead)
+    .flatMap((line) => numbered(line.text, 'Container ', ': ')?.rest ?? []));
 }
 
-/** The lines of a slip. Each ends with three numbers, whatever comes before them. */
+/**
+ * The day at the end of a head line that ends like that of a closed unit, or null. A title may end like that too, so this
+ * proves nothing about the unit.
+ */
+export function dayOfClosure(head) {
+  return /\] closed until (\d{4}-\d\d-\d\d)$/.exec(head)?.[1] ?? null;
+}
+
+/** The ways to the units of a finding aid: for each head line, the places among their siblings of the units down to it. */
+export function waysOfAid(lines) {
+  const counts = [];
+  return lines.map(({ depth, isHead }) => {
+    if (!isHead) return null;
+    counts.length = depth + 1;
+    counts[depth] = (counts[depth] ?? 0) + 1;
+    return counts.slice(1);
+  });
+}
+
+/** The units of a finding aid as a tree, from its own unit down: { head, way, dates, extent, below } each. */
+export function treeOfAid(text) {
+  const lines = readAid(text);
+  const ways = waysOfAid(lines);
+  const path = [];
+  lines.forEach(({ text: line, depth, isHead }, at) => {
+    if (isHead) {
+      path.length = depth;
+      path.push({ head: line, way: ways[at], dates: '', extent: '', below: [] });
+      path.at(-2)?.below.push(path.at(-1));
+    } else if (line.startsWith(DATES)) path.at(-1).dates = line.slice(DATES.length);
+    else if (line.startsWith(EXTENT)) path.at(-1).extent = line.slice(EXTENT.length);
+  });
+  return path[0];
+}
+
+const DATES = '3.1.3 Date(s): ';
+const EXTENT = '3.1.5 Extent and medium of the unit of description: ';
+
+/** The lines of a slip. Each ends with three numbers, whatever comes before them: the location and the container's name. */
 export function readSlip(text) {
   return linesOf(text).slice(1).flatMap((line) => {
     const found = / +([0-9]+) +([0-9]+) +([0-9]+)$/.exec(line);
-    return found ? [{ container: found[1], order: found[2], ticket: found[3] }] : [];
+    return found ? [{ place: line.slice(0, found.index), container: found[1], order: found[2], ticket: found[3] }] : [];
   });
+}
+
+/** A slip whole: its day, and its lines. */
+export function readRun(text) {
+  return { day: /^Run [0-9]+ {2}(\S+)/.exec(text)?.[1] ?? null, lines: readSlip(text) };
+}
+
+/** The location in a line of a slip, by the name of its container; null if the line does not end with this name. */
+export function locationIn(place, name) {
+  const printed = name.replace(/\r\n|\r|\n/g, ' ').trimEnd();
+  return place.endsWith(printed) ? place.slice(0, place.length - printed.length).trimEnd() : null;
 }
 
 function readLine(page, line) {

@@ -1,0 +1,327 @@
+"""What a small office stumbles over in its first year, at the desk: files that are looked at before they are sent, drafts that
+are published from the report of their import, call slips, wrong scans, duplicate names, days that are past, a queue that is
+away, a page that fails."""
+
+import json
+import pathlib
+import shutil
+import subprocess
+import time
+
+import files
+from catalogue import ODD
+
+FAR = "2030-12-31"
+EMPTYING = b"legacyId,title\r\n1,Hull Dock Company\r\n"
+PATTERNS = {
+    "nnnwwnwnn": "0",
+    "wnnwnnnnw": "1",
+    "nnwwnnnnw": "2",
+    "wnwwnnnnn": "3",
+    "nnnwwnnnw": "4",
+    "wnnwwnnnn": "5",
+    "nnwwwnnnn": "6",
+    "nnnwnnwnw": "7",
+    "wnnwnnwnn": "8",
+    "nnwwnnwnn": "9",
+    "nnwnnwnnw": "B",
+    "nnnnwnwwn": "T",
+    "nwnnwnwnn": "*",
+}
+
+
+class FirstYear:
+    def __init__(self, checks, asks, page, day, shot, folder):
+        self.checks, self.asks, self.page, self.day, self.shot, self.folder = checks, asks, page, day, shot, folder
+        self.at = day.at
+
+    def play(self):
+        for part in (
+            self.bad_files,
+            self.emptying,
+            self.same_boxes,
+            self.drafts,
+            self.asked,
+            self.slips,
+            self.scans,
+            self.passed_over,
+            self.fails,
+            self.queue_away,
+        ):
+            self.checks.part(f"first year: {part.__name__}", part)
+
+    def chosen(self, name, data):
+        page = self.at("/import")
+        path = self.folder / name
+        path.write_bytes(data)
+        page.file(path)
+        page.wait("document.querySelector('.seen-in-file .note, .seen-in-file table')")
+        return page
+
+    def bad_files(self):
+        """A file that the office would refuse is not sent, and the page says what to do."""
+        page = None
+        for name in (
+            "an Excel workbook",
+            "semicolons, as a European Excel saves it",
+            "Windows-1252",
+            "a title above the header",
+            "LegacyId",
+            "a column twice",
+            "an empty line, and a row with a field too many",
+        ):
+            file = next(one for one in files.FILES if one.name == name)
+            page = self.chosen("file.csv", file.data)
+            for told in file.advice.values():
+                page.see(told, ".seen-in-file .note.refused")
+            page.press("Take the file in")
+            page.see("The file was not sent: the office would refuse it.", ".outcome")
+        self.shot(page, "desk-import-stopped")
+        self.checks.same("nothing of bad files came to the office", self.asks.get("/public/units/200")[0], 404)
+
+    def emptying(self):
+        """A header that would empty the units of an office is not sent before somebody has agreed."""
+        fonds = self.day.unit("fonds")
+        before = self.asks.text(f"/public/units/{fonds}")
+        page = self.chosen("few.csv", EMPTYING)
+        page.see("will be emptied", ".seen-in-file")
+        page.see("Scope and content (scopeAndContent)", ".seen-in-file")
+        page.press("Take the file in")
+        page.see("The file was not sent.", ".outcome")
+        self.checks.same("the box to tick has the focus", page.js("document.activeElement.id"), "confirmed")
+        self.shot(page, "desk-import-emptying")
+        self.checks.same("nothing was emptied", self.asks.text(f"/public/units/{fonds}"), before)
+
+    def same_boxes(self):
+        """Containers that another archive in the office names too."""
+        box = {"physicalObjectName": "Box 2", "physicalObjectLocation": "Strongroom 1"}
+        page = self.chosen("boxes.csv", files.whole(files.unit("1", title="Another archive", **box)).encode())
+        page.press("Do other archives in the office name these containers?")
+        page.see("1 name is in other archives too.", ".seen-in-file")
+        page.see("Box 2: GB 0999 HUL [Fonds] Hull Dock Company", ".same-boxes")
+        self.checks.check("a container of another archive is told", True)
+
+    def drafts(self):
+        """An import with drafts: their numbers, and publishing from the report."""
+        rows = (
+            files.unit("1", identifier="PRT", title="Port office"),
+            files.unit("2", "1", "Diaries", publicationStatus="Draft"),
+            files.unit("3", "2", "Diary of 1801", publicationStatus="Draft"),
+            files.unit("4", "1", "Accounts"),
+        )
+        page = self.chosen("port.csv", files.whole(*rows).encode())
+        self.checks.same(
+            "the counts of the file",
+            page.js("document.querySelector('.seen-in-file tbody').innerText.split('\\t')"),
+            ["4", "4", "2", "0", "1", "0"],
+        )
+        page.fill("Source", "port")
+        page.press("Take the file in")
+        page.see("2 new units are drafts.", ".outcome")
+        self.shot(page, "desk-import-drafts")
+        told = page.js(
+            "[...document.querySelectorAll('.drafts tbody tr')].map((row) => [...row.cells].slice(0, 3).map((cell) => cell.innerText))"
+        )
+        top = int(next(line for line in self.asks.text("/public/fonds").splitlines() if "PRT" in line).split(" ", 1)[0])
+        self.checks.same(
+            "the drafts by number", told, [[f"unit {top + 1}", "2", "Diaries"], [f"unit {top + 2}", "3", "Diary of 1801"]]
+        )
+        page.press(f"Publish with all below unit {top + 1}")
+        page.see("2 units were set to published.", ".drafts")
+        self.checks.check("both are public", "Diary of 1801" in self.asks.text(f"/public/aid/{top}"))
+        self.more_drafts(rows, top)
+
+    def more_drafts(self, rows, top):
+        """A file with known rows too, after units were removed: the numbers are told, the rows are not guessed."""
+        self.asks.done("/desk/remove", unit=top + 3)
+        page = self.chosen("port.csv", files.whole(*rows, files.unit("5", "1", "Maps", publicationStatus="Draft")).encode())
+        page.fill("Source", "port")
+        page.press("Take the file in")
+        page.see("1 new unit is a draft.", ".outcome")
+        cells = page.js("[...document.querySelector('.drafts tbody tr').cells].slice(0, 3).map((cell) => cell.innerText)")
+        self.checks.same("a draft among known rows", cells, [f"unit {top + 5}", "", "not shown to the public"])
+
+    def asked(self):
+        """A name that is known, and days that are past, are asked about."""
+        page = self.at("/readers")
+        for name, until, question in (
+            (" ANN  <b>smith</b> ", FAR, "There is a reader of this name"),
+            ("Dora", "2001-01-01", "2001-01-01 is past"),
+        ):
+            page.fill("Name", name, "Register a reader")
+            page.fill("Last day of the ticket", until, "Register a reader")
+            page.press("Register", "Register a reader")
+            page.see(question, "dialog")
+            page.press("Go back", "dialog")
+            page.see("Nothing was done.")
+            time.sleep(0.65)
+        self.checks.check("a known name and a past day are asked about", True)
+        page.fill("Name", "  Eva   Blank ", "Register a reader")
+        page.fill("Last day of the ticket", FAR, "Register a reader")
+        page.press("Register", "Register a reader")
+        page.see("Registered: Eva Blank, ticket", ".outcome")
+        page = self.at(f"/units/{self.day.unit('plans')}")
+        page.fill("Closed until", "2001-01-01", "Closure")
+        page.press("Set the closure", "Closure")
+        page.see("A unit that is closed until a past day is open.", "dialog")
+        page.press("Go back", "dialog")
+        page.see("Nothing was done.")
+        self.checks.check("a closure in the past is asked about", True)
+        places = page.js(
+            "[...document.querySelectorAll('.card, h2, pre.page')].map((one) => [one.innerText.split('\\n')[0], one.getBoundingClientRect().top])"
+        )
+        below = next(top for words, top in places if words == "What the public sees")
+        self.checks.check(
+            "what can be done stands above what the public sees",
+            all(top < below for words, top in places if words in ("Status", "Closure", "Move", "Remove")),
+            places,
+        )
+
+    # Slips and scans
+
+    def slips(self):
+        """A run's call slips: one for each order, with codes that a barcode reader reads."""
+        box, roll = self.day.container("Box 2"), self.day.container("Roll 7")
+        self.orders = [
+            self.asks.done("/public/orders", ticket=ticket, container=int(container))["order"]
+            for ticket, container in ((1, box), (2, roll))
+        ]
+        page = self.at("/runs")
+        page.press("Begin a run")
+        page.see("Call slips to cut")
+        page.see("What waits")
+        run = page.js("location.hash").split("/")[-1]
+        page.press("Call slips to cut")
+        page.wait("document.querySelectorAll('.call-slip').length === 2")
+        page.see("Ann <b>Smith</b>, ticket 1", ".call-slips")
+        told = page.text(".call-slips")
+        self.checks.check(
+            "location, container, order and day stand on a slip",
+            all(
+                part in told
+                for part in ("Strongroom 1", "Box 2", "Plan chest", f"Order {self.orders[0]}, run {run}, 2024-03-0")
+            ),
+            told,
+        )
+        bars = page.js(
+            "import('/barcode.js').then((codes) => ['T1', 'B20', 'T3456789'].map((code) => [code, codes.widthsOf(code)]))"
+        )
+        self.checks.same(
+            "the codes by the table of Code 39", [decoded(widths) for _, widths in bars], [f"*{code}*" for code, _ in bars]
+        )
+        self.shot(page, "desk-call-slips")
+        self.shot(page, "desk-call-slips-printed", printed=True)
+        self.read_codes(page, {f"T{ticket}" for ticket in (1, 2)} | {f"B{container}" for container in (box, roll)})
+        for hash_, code in (("/readers/1/ticket", "T1"), (f"/counter/{box}/label", f"B{box}")):
+            page = self.at(hash_)
+            page.see(code, ".code")
+        self.checks.check("tickets and labels have their codes", True)
+
+    def read_codes(self, page, wanted):
+        """Where zbarimg is installed, it reads the codes off the picture."""
+        if not shutil.which("zbarimg"):
+            return
+        page.size(1200, 850, 3)
+        path = pathlib.Path(self.folder) / "codes.png"
+        page.shot(path)
+        page.size(1200, 850)
+        done = subprocess.run(
+            ["zbarimg", "-q", "--raw", "-Sdisable", "-Scode39.enable", path], capture_output=True, text=True, check=False
+        )
+        self.checks.same("zbarimg reads the codes", set(done.stdout.split()), wanted)
+
+    def scans(self):
+        """The code of a container is not taken for a ticket, nor the other way round."""
+        box = self.day.container("Box 2")
+        page = self.at("/counter")
+        scan(page, f"B{box}")
+        page.see("This is the code of a container. Scan a ticket.", ".wrong")
+        self.checks.same("the field is marked", page.js("document.querySelector('[aria-invalid=true]').name"), "ticket")
+        scan(page, "T0001")
+        page.wait("document.activeElement.name === 'container'")
+        self.checks.same("the mark ends", page.js("document.querySelectorAll('[aria-invalid=true]').length"), 0)
+        page.see("Ready at the desk: Box 2", ".about")
+        scan(page, "T1")
+        page.see("This is the code of a ticket. Scan a container.", "form.command")
+        self.shot(page, "desk-wrong-scan", full=False)
+        self.checks.same("nothing was issued", json.loads(self.asks.text("/desk/issued", True)), [])
+        self.asks.done("/desk/seat", ticket=1)
+        scan(page, f"B{box}")
+        page.see("Issued: Box 2, container")
+        page.js("[...document.querySelectorAll('.card')][1].querySelector('input').focus()")
+        time.sleep(0.65)
+        scan(page, f"b{box}")
+        page.see("Back: Box 2, container", ".back")
+        self.checks.check("a day's round by codes", True)
+        self.asks.done("/desk/leave", ticket=1)
+
+    def passed_over(self):
+        """After a run the desk says why an order still waits."""
+        closed, open_ = self.day.container(ODD["accents"]), self.day.container(ODD["quotes"])
+        unit = self.day.unit_of(ODD["accents"])
+        waits = self.asks.done("/public/orders", ticket=3, container=int(closed))["order"]
+        page = self.at("/orders")
+        page.see("on its shelf: a run fetches it if it is open to this reader")
+        page.see("As of ", ".told")
+        self.asks.done("/desk/closure", unit=unit, until="2031-01-01")
+        self.asks.done("/public/orders", ticket=3, container=int(open_))
+        self.asks.done("/desk/run")
+        page.press("Show what waits now")
+        page.see("passed it over. Probably it is not open to this reader")
+        self.shot(page, "desk-passed-over")
+        page.go("#/out")
+        page.see("Nothing is out.")
+        page.go("#/orders")
+        page.see("passed it over")
+        self.checks.check("an order that a run passed over is told, also later", True)
+        self.asks.done("/desk/cancel", order=waits)
+        self.asks.done("/desk/closure", unit=unit, until=None)
+
+    # What goes wrong
+
+    def fails(self):
+        """A page that fails says what to do, and not “Waiting” for ever."""
+        page = self.at("/readers")
+        page.answer_with("*/desk/issued", 200, b'{"no":"list"}')
+        page.go("#/out")
+        page.see("Load it again. If it fails again, tell whoever runs the office")
+        page.answer_with(None, 0, b"")
+        self.checks.check("a page that fails says what to do", True)
+        self.shot(page, "desk-page-failed", full=False)
+
+    def queue_away(self):
+        """With HAProxy away nothing is sent: the form stays open."""
+        office, page = self.asks.office, self.at("/readers")
+        with office.without_queue():
+            self.checks.same(
+                "what was not sent is told",
+                self.asks.post("/desk/register", {"name": "No", "until": FAR}),
+                (503, '{"error":"not reached"}'),
+            )
+            page.go("#/counter")
+            page.fill("Ticket", "1", "A reader arrives")
+            page.press("Give a seat")
+            page.see("Your request was not passed on, and nothing was changed.")
+        self.checks.same("the form is open", page.js("document.querySelectorAll('form [aria-disabled=true]').length"), 0)
+
+
+def decoded(widths):
+    """What the bars and spaces of Code 39 say: nine for each character, and a narrow space after each."""
+    kinds = "".join("w" if width > 1 else "n" for width in widths)
+    return "".join(PATTERNS.get(kinds[place : place + 9], "?") for place in range(0, len(kinds), 10))
+
+
+def scan(page, code):
+    """Sends what a barcode reader sends for a code with a letter."""
+    for letter in code:
+        key = "Digit" + letter if letter.isdigit() else "Key" + letter.upper()
+        for kind in ("keyDown", "keyUp"):
+            page.call(
+                "Input.dispatchKeyEvent",
+                type=kind,
+                key=letter,
+                code=key,
+                windowsVirtualKeyCode=ord(letter.upper()),
+                **({"text": letter} if kind == "keyDown" else {}),
+            )
+    page.key("Enter")

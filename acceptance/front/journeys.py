@@ -1,0 +1,306 @@
+"""Journeys of a reader: from the list of archives to a unit, its order and back; by keyboard alone on a desk's screen and at
+200 %, and by thumb on a phone. And what a long finding aid and a wide series take."""
+
+import pathlib
+import time
+
+import catalogue
+
+SETTINGS = ("--country", "GB", "--repo", "0999", "--seats", "4", "--daily", "50", "--hands", "2", "--run", "20", "--day", "2024-03-01")
+MORE_ORDERS = (("rate=6r/m", "rate=600r/m"),)
+SHAPES = {"desk": (1280, 850, 1, False), "phone": (390, 844, 2, True), "200": (640, 425, 2, False)}
+
+UNITS = 20000  # of the long finding aid
+
+INSIDE = """((selector) => { const box = document.querySelector(selector).getBoundingClientRect();
+  return box.height > 0 && box.top >= 0 && box.bottom <= innerHeight + 1; })"""
+FIRST_ROW = """(() => { const under = document.querySelector('.search.bar').getBoundingClientRect().bottom;
+  return [...document.querySelectorAll('.aid [data-depth]')].findIndex((row) => row.getBoundingClientRect().bottom > under + 8); })()"""
+
+
+class Journeys:
+    def __init__(self, checks, asks, page, shot):
+        self.checks, self.asks, self.page, self.shot = checks, asks, page, shot
+        self.site = asks.office.public
+
+    def play(self):
+        self.asks.done("/desk/register", name="Ann", until="2030-01-01")
+        for ticket, (name, shape) in enumerate(SHAPES.items(), 2):
+            self.asks.done("/desk/register", name=name, until="2030-01-01")
+            self.page.size(*shape)
+            self.checks.part(f"journey: {name}", self.order, name, ticket, self.tap if name == "phone" else self.by_keys)
+        self.page.size(1280, 850)
+        for part in (self.several, self.not_taken, self.each_line, self.changed, self.series, self.tree, self.without_container, self.copied, self.long_aid):
+            self.checks.part(f"journey: {part.__name__}", part)
+
+    def at(self, address):
+        self.page.visit(self.site + address)
+        return self.page
+
+    # Ways to use a page
+
+    def by_keys(self, words):
+        """Tab to what begins with these words, which must then be in the window, and Enter."""
+        page = self.page
+        for _ in range(80):
+            page.key("Tab")
+            if page.js("(document.activeElement.labels?.[0] ?? document.activeElement).textContent.replace(/\\s+/g, ' ').trim()").startswith(words):
+                self.is_in_sight(words)
+                return page.key("Enter") if page.js("document.activeElement.tagName !== 'INPUT'") else None
+        raise AssertionError(f"Tab does not come to {words}")
+
+    def is_in_sight(self, words):
+        seen = self.page.js("(() => { const box = document.activeElement.getBoundingClientRect();"
+                            "const top = document.elementFromPoint(box.left + Math.min(box.width, 20) / 2, box.top + Math.min(box.height, 20) / 2);"
+                            "return document.activeElement.contains(top); })()")
+        self.checks.check(f"what has the focus is seen: {words}", seen)
+
+    def tap(self, words):
+        """A thumb on what begins with these words: nothing may lie over it, and it is large enough."""
+        box = self.page.js("((words) => { const text = (one) => (one.labels?.[0] ?? one).textContent.replace(/\\s+/g, ' ').trim();"
+                           "const one = [...document.querySelectorAll('a, button, summary, input')].find((it) => it.offsetParent && text(it).startsWith(words));"
+                           "one.scrollIntoView({ block: 'nearest' }); const { left, top, width, height } = one.getBoundingClientRect();"
+                           "const [x, y] = [left + Math.min(width, 60) / 2, top + height / 2];"
+                           "return { x, y, height, free: one.contains(document.elementFromPoint(x, y)) }; })" + f"({self.page.quoted(words)})")
+        self.checks.check(f"a thumb meets {words}", box["free"] and box["height"] >= 24, box)
+        for kind in ("mousePressed", "mouseReleased"):
+            self.page.call("Input.dispatchMouseEvent", type=kind, button="left", clickCount=1, x=box["x"], y=box["y"])
+
+    def is_inside(self, what, selector):
+        self.checks.check(f"in the window: {what}", self.page.js(f"{INSIDE}({self.page.quoted(selector)})"), selector)
+
+    # Journeys
+
+    def order(self, name, ticket, use):
+        """Archives, finding aid, search, unit, order, and back."""
+        page = self.at("/")
+        use("GB 0999 HAR [Fonds] Harbour Board")
+        page.see("Contents: 2 units")
+        use("Finding aid")
+        page.see("Finding aid: Harbour Board", "h1")
+        use("Search in this finding aid")
+        page.type("cafe logb")
+        page.key("Enter")
+        page.see("1 unit: GB 0999 HAR/1/77 [File] Logbook of the", ".told")
+        self.checks.same(f"whole letters are marked: {name}", page.js("[...document.querySelectorAll('.aid mark')].map((one) => one.textContent)"),
+                         ["Logbook", "Cafe\u0301"])
+        self.is_inside(f"the search, {name}", ".search.bar")
+        self.is_inside(f"the hit, {name}", ".aid .here")
+        self.shot(page, f"journey-{name}-aid", full=False)
+        row = page.js(FIRST_ROW)
+        use("Open this unit")
+        page.see("Cafe\u0301", "h1")
+        self.checks.same(f"its own address, {name}", page.js("location.pathname"), f"/unit/{self.unit()}")
+        if name != "200":
+            self.is_inside(f"the order button, {name}", "details.order summary")
+        self.shot(page, f"journey-{name}-unit", full=False)
+        use("Order")
+        page.wait("document.activeElement.name === 'container-77'")
+        page.js("document.activeElement.click()")
+        use("Number of your reader\u2019s ticket")
+        page.type(str(ticket))
+        page.key("Enter")
+        page.see("Ordered. Your order has the number", ".outcome")
+        page.wait("document.activeElement.className === 'outcome'")
+        self.is_inside(f"the answer, {name}", ".outcome")
+        self.checks.check(f"what happens next, {name}", "next run to the strongrooms" in page.text(".outcome"))
+        self.shot(page, f"journey-{name}-ordered", full=False)
+        page.js("history.back()")
+        page.wait("document.querySelector('.search input')?.value === 'cafe logb'")
+        page.see("1 unit: GB 0999 HAR/1/77", ".told")
+        page.wait(f"{FIRST_ROW} === {row}")
+        self.checks.check(f"Back leads to the same place, {name}", True)
+
+    def unit(self):
+        """The number of the file that is searched for."""
+        lines = self.asks.text(f"/public/units/{int(self.top()) + 1}").splitlines()
+        return next(line for line in lines if "Logbook" in line).split()[1].rstrip(":")
+
+    def top(self):
+        return next(line for line in self.asks.text("/public/fonds").splitlines() if "HAR" in line).split()[0]
+
+    def several(self):
+        """Several containers with one ticket: all, none chosen, and one that is refused beside one that is not."""
+        page = self.at(f"/unit/{self.unit()}")
+        page.press_starting("Order")
+        page.fill("Number of your reader\u2019s ticket", "1")
+        page.press("Order these containers")
+        page.see("No container is chosen. Choose at least one.")
+        page.choose("Carton 77a")
+        page.insist("Order these containers", "Ordered. Your order has the number")
+        page.choose("Carton 77a")
+        page.choose("Carton 77b")
+        page.fill("Number of your reader\u2019s ticket", "1")
+        page.insist("Order these containers", "Ordered: 1 of 2 containers, with ticket 1.")
+        self.checks.same("no list is kept unasked", page.js("sessionStorage.length"), 0)
+        page.press("Keep a list of my orders in this tab")
+        page.press("list of what was ordered in this tab")
+        page.see("Carton 77b, order", "ul.units")
+        self.checks.same("the list has what was ordered since", page.js("document.querySelectorAll('ul.units li').length"), 1)
+        page.press("Forget this list")
+        self.checks.same("the list is gone", page.js("sessionStorage.length"), 0)
+        page.js("history.back()")
+        page.see("Cafe\u0301", "h1")
+        page.press_starting("Order")
+        page.choose("Carton 77a")
+        page.choose("Carton 77b")
+        page.fill("Number of your reader\u2019s ticket", "1")
+        page.insist("Order these containers", "You have ordered this container already.")
+        self.checks.check("the other is explained", "Carton 77b: not ordered. You have ordered this container already." in page.text(".outcome"))
+        self.shot(page, "journey-several")
+        page.fill("Number of your reader\u2019s ticket", "4711")
+        page.insist("Order these containers", "There is no reader\u2019s ticket with this number.")
+        self.checks.same("both orders stand", len(self.asks.text("/desk/readers/1", True).split('"order"')) - 1, 2)
+
+    def not_taken(self):
+        """What a reader is told when the front takes no order: from this address, or so soon."""
+        page = self.at(f"/unit/{self.unit()}")
+        page.press_starting("Order")
+        for status, body, words in ((403, b'{"error":"not from here"}', "Orders are not taken from here. Please order in the reading room."),
+                                    (429, b'{"error":"too many"}', "This one was not passed on. Please wait a minute and try again.")):
+            page.choose("Carton 77a")
+            page.fill("Number of your reader\u2019s ticket", "1")
+            page.answer_with("*/public/orders", status, body)
+            page.insist("Order these containers", words)
+            page.answer_with(None, 0, b"")
+            page.choose("Carton 77a")
+            self.checks.check(f"{status} in words", True)
+
+    def each_line(self):
+        """Lines of a finding aid lead to their units: the first thirty, and each of the last twenty."""
+        page = self.at(f"/aid/{self.top()}")
+        links = page.js("[...document.querySelectorAll('.aid .unit a')].map((a) => [a.getAttribute('href'), a.textContent])")
+        wrong = []
+        for address, head in links[:30] + links[-20:]:
+            page.turn(address)
+            if page.js("document.querySelector('h1').textContent") != head or not page.js("location.pathname").startswith("/unit/"):
+                wrong.append((address, head))
+        self.checks.same("each line leads to its unit", wrong, [])
+        page.js("history.back()")
+        page.wait("location.pathname.startsWith('/unit/')")
+
+    def changed(self):
+        page = self.at(f"/aid/{self.top()}/1.2?head=other")
+        page.see("This finding aid has changed", "h1")
+        page = self.at(f"/aid/{self.top()}/9.9")
+        page.see("This finding aid has changed", "h1")
+        self.checks.check("a line that has changed leads nowhere", "Open the finding aid again" in page.text())
+
+    def series(self):
+        """A series of 121 units: by pages, with a filter, with dates and extent; Back keeps both."""
+        page = self.at(f"/unit/{int(self.top()) + 1}")
+        page.see("1 to 100 of 121 units.")
+        page.wait("document.querySelector('ul.units .facts')")
+        self.checks.same("dates and extent", page.js("document.querySelector('ul.units li:nth-child(3) .facts').textContent"), "1802 \u00b7 1 bundle")
+        page.press("Next 100")
+        page.see("101 to 121 of 121 units.")
+        self.checks.check("the focus goes along", page.js("document.activeElement === document.querySelector('ul.units a')"))
+        page.press("Next 100")
+        page.see("101 to 121 of 121 units.")
+        page.fill("Show only units with", "CAFE ank")
+        page.js("document.activeElement.dispatchEvent(new Event('input', { bubbles: true }))")
+        page.see("1 of 121 units.")
+        self.shot(page, "journey-series", full=False)
+        page.js("document.querySelector('ul.units a').click()")
+        page.see("Cafe\u0301", "h1")
+        beside = page.js("[...document.querySelectorAll('nav.beside a')].map((a) => a.textContent)")
+        self.checks.same("the units beside it", beside, ["Previous: GB 0999 HAR/1/76 [File] Letters of captain 76", "Next: GB 0999 HAR/1/78 [File] Letters of captain 78"])
+        page.press_starting("Cite this unit")
+        self.checks.same("how to cite it", page.text(".citation"), "Record office, GB 0999 HAR/1/77, Logbook of the Cafe\u0301 Zum Anker, 1877, "
+                         f"{self.site}/unit/{self.unit()}")
+        page.js("history.back()")
+        page.see("1 of 121 units.")
+        self.checks.same("Back keeps the filter", page.js("document.querySelector('.filter input').value"), "CAFE ank")
+        page.fill("Show only units with", "nothing")
+        page.js("document.activeElement.dispatchEvent(new Event('input', { bubbles: true }))")
+        page.see("No unit here has these words.")
+
+    def tree(self):
+        """The branch below a unit opens a level at a time, without one more question to the office."""
+        page = self.at(f"/unit/{self.top()}")
+        page.wait("document.querySelector('details.branch')")
+        asked = "performance.getEntriesByType('resource').filter((one) => one.name.includes('/public/')).length"
+        before = page.js(asked)
+        page.press_starting("121 units")
+        page.wait("document.querySelectorAll('details.branch li').length === 100")
+        self.checks.same("no question for a level", page.js(asked), before)
+        self.checks.check("the rest is told", "And 21 more: open the unit to see them." in page.text("details.branch"))
+        self.shot(page, "journey-tree", full=False)
+        page.js("document.querySelectorAll('details.branch a')[77].click()")
+        page.see("Cafe\u0301", "h1")
+        self.checks.same("a line of the tree leads to its unit", page.js("location.pathname"), f"/unit/{self.unit()}")
+
+    def without_container(self):
+        page = self.at(f"/unit/{self.top()}")
+        self.checks.check("a unit with contents and without container", "cannot be ordered as one. Look in its contents" in page.text(".kept"))
+        bare = next(line for line in self.asks.text("/public/fonds").splitlines() if "BAR" in line).split()[0]
+        page = self.at(f"/unit/{bare}")
+        self.checks.check("a unit without either", "cannot be ordered here. Please ask at the desk." in page.text(".kept"))
+        page = self.at(f"/unit/{self.unit()}")
+        areas = page.js("[...document.querySelectorAll('section.area h2')].map((one) => one.textContent)")
+        self.checks.same("own values stand open", areas, ["Identity statement", "Content and structure"])
+        self.checks.same("others are folded", page.js("document.querySelector('details.above').open"), False)
+        origin = page.js("[...document.querySelectorAll('details.above .from')].map((one) => one.textContent.trim())")
+        self.checks.same("others have their origin", origin, ["(from GB 0999 HAR)"] * 2)
+
+    def copied(self):
+        """A link with words shows what was found, and so does a reload."""
+        page = self.at(f"/aid/{self.top()}?q=CAF%C3%89")
+        page.see("2 units, number 1: GB 0999 HAR/1/77", ".told")
+        page.press("Next")
+        page.see("2 units, number 2: GB 0999 HAR/2 [Series] Plans of caf\u00e9s", ".told")
+        page.reload()
+        page.see("2 units, number 2: GB 0999 HAR/2", ".told")
+        page.fill("Search in this finding aid", "nobody wrote this")
+        page.key_in("Search in this finding aid", "Enter")
+        page.see("No unit of this finding aid has \u201cnobody wrote this\u201d.", ".told")
+        self.checks.same("no marks are left", page.js("document.querySelectorAll('.aid mark').length"), 0)
+
+    def long_aid(self):
+        """A finding aid of 20,000 units: a search, Back to the same line, and one part of it printed."""
+        page, text = self.page, "".join(catalogue.long_aid(UNITS))
+        self.at("/")
+        page.answer_with("*/public/aid/*", 200, text.encode())
+        page.turn(f"/aid/{self.top()}")
+        page.wait("document.querySelectorAll('.aid .unit').length === %d" % (UNITS + 1))
+        page.js("document.querySelectorAll('.aid [data-depth]')[60004].scrollIntoView()")
+        page.wait("history.state?.row > 50000")
+        page.js("new Promise((done) => requestAnimationFrame(() => requestAnimationFrame(done)))")
+        page.js("window.dispatchEvent(new Event('scroll'))")
+        row = self.settled_row()
+        page.js("document.querySelector('header nav a').click()")
+        page.see("Archives", "h1")
+        page.js("history.back()")
+        page.wait("document.querySelectorAll('.aid .unit').length === %d" % (UNITS + 1))
+        self.checks.same("Back leads to the same line of a long aid", self.settled_row(), row)
+        began = time.time()
+        page.fill("Search in this finding aid", "captain 15000")
+        page.key_in("Search in this finding aid", "Enter")
+        page.see("1 unit: GB 0999 HAR/15000 [File]", ".told")
+        print(f"searched in {UNITS} units: {time.time() - began:.1f} s", flush=True)
+        self.is_inside("the hit in a long aid", ".aid .here")
+        parts = page.js("document.querySelectorAll('.print option').length")
+        page.js("(() => { const list = document.querySelector('.print select'); list.value = '7'; list.dispatchEvent(new Event('change')); })()")
+        self.checks.check("the part that is printed", 1 < parts and page.js("document.querySelectorAll('.block.printed').length") == 10, parts)
+        began = time.time()
+        self.shot(page, "journey-part-printed", printed=True)
+        print(f"printed one of {parts} parts of {UNITS} units: {time.time() - began:.1f} s", flush=True)
+        page.answer_with(None, 0, b"")
+
+    def settled_row(self):
+        """The line at the top of the window, once it stays the same."""
+        last, end = -1, time.time() + 30
+        while time.time() < end:
+            row = self.page.js("document.elementFromPoint(innerWidth / 2, document.querySelector('.search.bar').getBoundingClientRect().bottom + 8)"
+                               "?.closest('[data-depth]')?.textContent ?? null")
+            if row is not None and row == last:
+                return row
+            last = row
+            self.page.js("new Promise((done) => requestAnimationFrame(() => requestAnimationFrame(done)))")
+        raise AssertionError("the page does not come to rest")
+
+
+def catalogue_in(folder):
+    path = pathlib.Path(folder) / "harbour.csv"
+    path.write_text("".join(catalogue.harbour()))
+    return path

@@ -1,0 +1,58 @@
+"""Signing in and out in a browser that asks for the password itself."""
+
+import json
+import os
+
+from office import PASSWORD
+
+
+class SignedIn:
+    """A page whose browser is asked for the desk's password: it gives it, or does not."""
+
+    def __init__(self, browser):
+        self.browser, self.asked, self.gives = browser, 0, True
+        self.page = browser.page()
+        browser.on_event = self.answer
+        self.page.call("Fetch.enable", handleAuthRequests=True, patterns=[{"urlPattern": "*"}])
+
+    def answer(self, event):
+        if event.get("sessionId") != self.page.session:
+            return
+        params = event["params"]
+        if event["method"] == "Fetch.requestPaused":
+            self.send("Fetch.continueRequest", requestId=params["requestId"])
+        if event["method"] == "Fetch.authRequired":
+            self.asked += 1
+            name, password = PASSWORD
+            given = {"response": "ProvideCredentials", "username": name, "password": password}
+            self.send(
+                "Fetch.continueWithAuth",
+                requestId=params["requestId"],
+                authChallengeResponse=given if self.gives else {"response": "CancelAuth"},
+            )
+
+    def send(self, method, **params):
+        """Sends a message of which no answer is awaited: the browser waits for it."""
+        self.browser.last += 1
+        message = {"id": self.browser.last, "method": method, "params": params, "sessionId": self.page.session}
+        os.write(self.browser.write, json.dumps(message).encode() + b"\0")
+
+    def opens(self, url, words):
+        self.page.call("Page.navigate", url=url)
+        self.page.see(words, "body")
+
+    def end(self):
+        self.page.call("Fetch.disable")
+        self.browser.on_event = None
+
+
+def play(checks, office, browser):
+    signed = SignedIn(browser)
+    signed.opens(f"{office.staff}/#/out", "Reshelve")
+    checks.same("the browser asks for the password once", signed.asked, 1)
+    signed.gives = False
+    signed.opens(f"{office.staff}/sign-out", "You have signed out")
+    asked = signed.asked
+    signed.opens(f"{office.staff}/?again", "401")
+    checks.check("after signing out it asks again", signed.asked > asked, signed.asked)
+    signed.end()

@@ -1,0 +1,106 @@
+// Reads a CSV file as the program does: records by commas, quotation marks and line ends, and no record for an empty line.
+
+const BLANK = /^[ \t\r\n]+|[ \t\r\n]+$/g;
+
+export const trimmed = (text) => text.replace(BLANK, '');
+
+/**
+ * { rows, isOpen }: the records of a text, at most so many, and whether a quotation mark is open at its end. A row is
+ * { number, sheet, fields }: its number as the office counts it, and as a spreadsheet does, which counts empty lines too.
+ */
+export function records(text, separator = ',', most = Infinity) {
+  const rows = [];
+  const at = { text, separator, place: 0, isOpen: false };
+  for (let sheet = 1; at.place < text.length && rows.length < most; sheet += 1) {
+    const fields = nextRecord(at);
+    if (fields) rows.push({ number: rows.length + 1, sheet, fields: fields.map(trimmed) });
+  }
+  return { rows, isOpen: at.isOpen };
+}
+
+/** The fields of the record that begins at a place, or null for an empty line. */
+function nextRecord(at) {
+  if (isEnd(at)) { passEnd(at); return null; }
+  const fields = [];
+  for (;;) {
+    fields.push(nextField(at));
+    if (at.text[at.place] !== at.separator) break;
+    at.place += 1;
+  }
+  passEnd(at);
+  return fields;
+}
+
+function nextField(at) {
+  return at.text[at.place] === '"' ? quotedField(at) : plainField(at);
+}
+
+function plainField(at) {
+  const begin = at.place;
+  while (at.place < at.text.length && at.text[at.place] !== at.separator && !isEnd(at)) at.place += 1;
+  return at.text.slice(begin, at.place);
+}
+
+/** What follows a closing quotation mark, up to the separator, belongs to the field. */
+function quotedField(at) {
+  let field = '';
+  for (;;) {
+    const begin = at.place + 1;
+    const end = at.text.indexOf('"', begin);
+    at.isOpen = end < 0;
+    if (at.isOpen) { at.place = at.text.length; return field + at.text.slice(begin); }
+    field += at.text.slice(begin, end);
+    at.place = end + 1;
+    if (at.text[at.place] !== '"') return field + plainField(at);
+    field += '"';
+  }
+}
+
+const isEnd = (at) => at.text[at.place] === '\n' || at.text[at.place] === '\r';
+
+function passEnd(at) {
+  if (at.text[at.place] === '\r' && at.text[at.place + 1] === '\n') at.place += 1;
+  at.place += 1;
+}
+
+/** The text of bytes in UTF-8, or { line, near } of the first byte that does not fit, as Windows-1252 shows it. */
+export function decode(bytes) {
+  if (isText(bytes, bytes.length, false)) return { text: new TextDecoder('utf-8').decode(bytes) };
+  return { wrong: placeOf(bytes, firstWrong(bytes)) };
+}
+
+function isText(bytes, end, mayGoOn) {
+  try {
+    new TextDecoder('utf-8', { fatal: true }).decode(bytes.subarray(0, end), { stream: mayGoOn });
+    return true;
+  } catch {
+    return false;
+  }
+}
+
+/** Where the first character that is wrong begins. */
+function firstWrong(bytes) {
+  let good = 0;
+  let bad = bytes.length + 1; // the whole may end within a character
+  while (bad - good > 1) {
+    const middle = Math.floor((good + bad) / 2);
+    if (isText(bytes, middle, true)) good = middle;
+    else bad = middle;
+  }
+  for (let start = Math.min(bad - 1, bytes.length); ; start -= 1) if (isText(bytes, start, false)) return start;
+}
+
+function placeOf(bytes, start) {
+  const isEndOf = (byte) => byte === 10 || byte === 13;
+  let line = 1;
+  let begin = 0;
+  for (let place = 0; place < start; place += 1) {
+    if (!isEndOf(bytes[place])) continue;
+    begin = place + 1;
+    if (bytes[place] === 10 || bytes[place + 1] !== 10 || place + 1 >= start) line += 1;
+  }
+  let end = start;
+  while (end < Math.min(start + 20, bytes.length) && !isEndOf(bytes[end])) end += 1;
+  const near = new TextDecoder('windows-1252').decode(bytes.subarray(Math.max(begin, start - 20), end));
+  return { line, near: trimmed(near) };
+}

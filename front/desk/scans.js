@@ -1,0 +1,45 @@
+// What a barcode reader sends: a number, or the code on a ticket or a label, which has a letter before its number. A code of
+// the other kind is not taken.
+
+import { el } from '../shared/dom.js';
+import { numberField } from '../shared/fields.js';
+import { numberOf } from '../shared/numbers.js';
+
+const TICKET = { letter: 'T', name: 'ticket', other: 'B', wrong: 'This is the code of a container. Scan a ticket.' };
+const BOX = { letter: 'B', name: 'container', other: 'T', wrong: 'This is the code of a ticket. Scan a container.' };
+
+export const ticketCode = (ticket) => `${TICKET.letter}${ticket}`;
+export const boxCode = (container) => `${BOX.letter}${container}`;
+
+export const ticketOf = (typed) => numberOf(typed.replace(/^\s*T/i, ''));
+export const boxOf = (typed) => numberOf(typed.replace(/^\s*B/i, ''));
+
+export const ticketField = (options) => scanField(TICKET, 'ticket', 'Ticket', options);
+export const boxField = (options) => scanField(BOX, 'container', 'Container', options);
+
+function scanField(kind, name, label, options) {
+  const row = numberField(name, label, options);
+  const input = row.querySelector('input');
+  const told = el('span', { class: 'wrong', role: 'alert' });
+  row.append(told);
+  input.pattern = `\\s*[${kind.letter}${kind.letter.toLowerCase()}]?0*[1-9][0-9]{0,9}\\s*`;
+  input.removeAttribute('title');
+  input.addEventListener('invalid', (event) => { event.preventDefault(); tellWrong(kind, input, told); });
+  input.addEventListener('input', () => { told.textContent = ''; input.removeAttribute('aria-invalid'); });
+  return row;
+}
+
+/** Only the first field of a form that is wrong is told: the others come later. */
+function tellWrong(kind, input, told) {
+  if (input.form.querySelector('input:invalid') !== input) return;
+  input.setAttribute('aria-invalid', 'true');
+  told.textContent = wrongWords(kind, input.value);
+  input.focus();
+  input.select();
+}
+
+function wrongWords(kind, typed) {
+  if (typed.trim() === '') return `Scan or type the number of a ${kind.name}.`;
+  if (typed.trim().toUpperCase().startsWith(kind.other)) return kind.wrong;
+  return `A ${kind.name}’s number has digits alone. Its code has the letter ${kind.letter} before them.`;
+}
