@@ -72,7 +72,8 @@ install >"$room/install" 2>&1 && is "apt installs the package, with nginx and HA
     is "apt installs the package, with nginx and HAProxy, on a clean root" 1
 }
 
-# systemd as the first process of its own namespaces, in a control group of its own, with only loopback as network
+# systemd as the first process of its own namespaces, in a control group of its own, with only loopback as network. This machine
+# may run other such systems: `booted` is the child of the process that was begun here, and it has the root that was made here.
 boot() {
     mkdir "$group"
     setsid bash -c "echo \$\$ >'$group/cgroup.procs'; exec unshare -mpfCn --kill-child bash -c '
@@ -80,12 +81,11 @@ boot() {
         mount -t proc proc proc; mount -t sysfs -o ro sysfs sys; mount -t tmpfs none run; mount -t tmpfs none tmp; mount --rbind /dev dev
         mount -t cgroup2 none sys/fs/cgroup; ip link set lo up
         pivot_root . mnt; umount -l /mnt; exec env container=other /lib/systemd/systemd'" <"/dev/null" >"$room/boot" 2>&1 &
+    local began=$!
     for _ in $(seq 30); do
         sleep 1
-        booted=$(pgrep -f '^/lib/systemd/systemd$' | while read -r one; do
-            [ "$(readlink "/proc/$one/root")" != / ] || [ "$(readlink "/proc/$one/ns/pid")" = "$(readlink /proc/self/ns/pid)" ] || echo "$one"
-        done | head -1)
-        [ -z "$booted" ] || return 0
+        booted=$(cat "/proc/$began/task/$began/children" 2>/dev/null | xargs)
+        [ -z "$booted" ] || [ "$(cat "/proc/$booted/comm")" != systemd ] || [ ! "/proc/$booted/root/root" -ef "$root/root" ] || return 0
     done
     return 1
 }
