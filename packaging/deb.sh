@@ -24,6 +24,9 @@ place() {
     install -m "$mode" "$@" "$folder"
 }
 
+# own FILE ..: files that the operator edits. postinst copies each to /etc/record-office once; no upgrade asks about them.
+own() { place 644 usr/share/record-office/own "$@"; }
+
 # The version of the C library that the program needs: the highest that its symbols name.
 needed_libc() {
     objdump -T "$1" | grep -o 'GLIBC_[0-9.]*' | cut -d_ -f2 | sort -Vu | tail -1
@@ -39,13 +42,23 @@ for part in public desk shared; do
 done
 for file in "$top"/front/server/*; do
     case ${file##*/} in
-    nginx.conf) place 644 etc/nginx/sites-available "$file" && mv "$root"/etc/nginx/sites-available/{nginx.conf,record-office} ;;
+    nginx.conf) place 644 usr/share/record-office "$file" && mv "$root"/usr/share/record-office/{nginx.conf,site} ;;
     tls.conf) place 644 usr/share/doc/record-office/examples "$file" ;;
+    orders-from.conf) own "$file" ;;
     *) place 644 etc/record-office "$file" ;;
     esac
 done
-place 644 lib/systemd/system "$top"/packaging/*.service
+place 644 lib/systemd/system "$top"/packaging/*.service "$top"/packaging/*.timer
+place 755 usr/sbin "$top"/packaging/tools/record-office-*
+place 644 usr/share/record-office/tools "$top"/packaging/tools/*.py
+own "$top/packaging/backup.conf"
+words=usr/share/record-office/front/public/office.json
+if [ -e "$root/$words" ]; then
+    own "$root/$words"
+    ln -sf /etc/record-office/office.json "$root/$words"
+fi
 place 644 usr/share/man/man1 "$top/packaging/record_office.1"
+place 644 usr/share/man/man8 "$top"/packaging/*.8
 place 644 usr/share/doc/record-office "$top/packaging/copyright" "$top/docs/OPERATING.md" "$top/docs/RULES.md" "$top/CHANGELOG.md"
 place 644 usr/share/doc/record-office/examples "$top/examples/archives.csv" "$top/examples/fonds.csv"
 place 644 usr/share/lintian/overrides "$top/packaging/lintian-overrides"
@@ -57,7 +70,7 @@ mv "$root/usr/share/lintian/overrides/lintian-overrides" "$root/usr/share/lintia
     gzip -9n changelog changelog.Debian OPERATING.md RULES.md
 )
 if [ -d "$top/docs/pictures" ]; then place 644 usr/share/doc/record-office/pictures "$top"/docs/pictures/*.png; fi
-gzip -9n "$root/usr/share/man/man1/record_office.1"
+gzip -9n "$root"/usr/share/man/man*/*
 
 install -d -m 755 "$root/DEBIAN"
 install -m 755 "$top"/packaging/{postinst,prerm,postrm} "$root/DEBIAN"
@@ -69,8 +82,8 @@ Version: $version-1
 Architecture: $arch
 Maintainer: $maintainer
 Installed-Size: $(du -sk --exclude=DEBIAN "$root" | cut -f1)
-Depends: adduser, libc6 (>= $(needed_libc "$program"))
-Recommends: haproxy (>= 2.4), nginx (>= 1.19.4), openssl, sqlite3
+Depends: adduser, libc6 (>= $(needed_libc "$program")), python3, sqlite3
+Recommends: haproxy (>= 2.4), nginx (>= 1.19.4), openssl
 Section: database
 Priority: optional
 Description: public side of a record office: catalogue and reading room

@@ -57,8 +57,14 @@ mkdir "$root"
 tar -C "$root" -xf "$tar" --exclude='./dev/*'
 cp /etc/resolv.conf "$root/etc/resolv.conf"
 cp "$deb" "$root/root/record-office.deb"
-cp "$here/try_inside.sh" "$root/root"
+cp "$here"/{try_inside.sh,try_busy.py} "$root/root"
 cp "$here/../examples/archives.csv" "$root/root"
+# A next version, in which each file that the package brings to /etc has changed.
+mkdir "$room/next"
+cp -r "$here/../front" "$here/../packaging" "$here/../docs" "$here/../examples" "$here/../CHANGELOG.md" "$room/next"
+sed -i '0,/^## \[\([0-9.]*\)\]/s//## [\1.1]/' "$room/next/CHANGELOG.md"
+for file in "$room"/next/front/server/*.{conf,cfg} "$room/next/packaging/backup.conf"; do echo '# of the next version' >>"$file"; done
+cp "$("$room/next/packaging/deb.sh" "$1" "$room/next")" "$root/root/next.deb"
 mkdir -p "$root/root/top/crates/record_office/out"
 cp -r "$here/../front" "$here/../packaging" "$root/root/top"
 cp "$1" "$root/root/top/crates/record_office/out/record_office"

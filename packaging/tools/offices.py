@@ -1,0 +1,93 @@
+"""What record-office-backup and record-office-restore share: the office of a folder, its user, its unit, and the check of a file."""
+
+import argparse
+import fcntl
+import os
+import pathlib
+import pwd
+import subprocess
+import sys
+
+FOLDER = pathlib.Path("/var/lib/record-office")
+
+
+class Trouble(Exception):
+    """Why a tool ends, in words for its user."""
+
+
+class Office:
+    """The office NAME, or that of the package if there is no name: its folder, its units and the user that it belongs to."""
+
+    def __init__(self, name=None):
+        self.name = name
+        self.folder = FOLDER.with_name(f"{FOLDER.name}-{name}") if name else FOLDER
+        self.unit = f"record-office@{name}.service" if name else "record-office.service"
+        self.copies = pathlib.Path("/var/backups") / self.folder.name
+        self.store = self.folder / "office.db"
+        if not self.folder.is_dir():
+            raise Trouble(f"there is no folder {self.folder}")
+        self.owner = pwd.getpwuid(self.folder.stat().st_uid)
+
+    def as_owner(self, *words):
+        """Runs a command as the user of the office, in the folder of the office, and returns what it printed."""
+        done = subprocess.run(["runuser", "-u", self.owner.pw_name, "--", *map(str, words)], cwd=self.folder, text=True, capture_output=True)
+        said = (done.stdout + done.stderr).strip()
+        if done.returncode:
+            raise Trouble(f"{' '.join(map(str, words))}: {said or done.returncode}")
+        return said
+
+    def make_folder(self, path):
+        """Makes a folder that only the user of the office can read."""
+        subprocess.run(["install", "-d", "-o", self.owner.pw_name, "-g", str(self.owner.pw_gid), "-m", "700", path], check=True)
+
+    def check(self, path):
+        """Checks that a file is a sound office. Leaves no log beside it."""
+        try:
+            self.as_owner("record_office", "check", "--store", path)
+        finally:
+            log_of(path).unlink(missing_ok=True)
+
+    def lock(self):
+        """Makes sure that no other of these tools works on this office until this one ends."""
+        self.locked = os.open(self.folder, os.O_RDONLY)
+        try:
+            fcntl.flock(self.locked, fcntl.LOCK_EX | fcntl.LOCK_NB)
+        except BlockingIOError:
+            raise Trouble(f"a backup or a restore of {self.folder} is running") from None
+
+    def state(self):
+        """The state of the unit, such as `active` or `inactive`."""
+        return self.shown("ActiveState")
+
+    def process(self):
+        """The number of the process that serves; 0 if there is none."""
+        return int(self.shown("MainPID") or 0)
+
+    def shown(self, what):
+        return subprocess.run(["systemctl", "show", "-p", what, "--value", self.unit], text=True, capture_output=True).stdout.strip()
+
+    def tell_systemd(self, verb):
+        if subprocess.run(["systemctl", verb, self.unit]).returncode:
+            raise Trouble(f"systemctl {verb} {self.unit} failed")
+
+
+def log_of(store):
+    """The newest changes of an office are in this file beside it."""
+    return store.with_name(store.name + "-wal")
+
+
+def arguments(text):
+    """The words that both tools take. `text` is the tool's own description."""
+    words = argparse.ArgumentParser(description=text, formatter_class=argparse.RawDescriptionHelpFormatter)
+    words.add_argument("--office", metavar="NAME", help="another office than that of the package: record-office@NAME")
+    return words
+
+
+def run(main):
+    """Runs the tool. What went wrong is printed on standard error, and the status is 1."""
+    if os.geteuid() != 0:
+        sys.exit("run this as root")
+    try:
+        main()
+    except (Trouble, OSError, subprocess.CalledProcessError) as wrong:
+        sys.exit(f"{pathlib.Path(sys.argv[0]).name}: {wrong}")
