@@ -51,13 +51,15 @@ done
 place 644 lib/systemd/system "$top"/packaging/*.service "$top"/packaging/*.timer
 place 755 usr/sbin "$top"/packaging/tools/record-office-*
 place 644 usr/share/record-office/tools "$top"/packaging/tools/*.py
+place 755 usr/bin "$top/packaging/lists/record-office-lists"
+place 644 usr/share/record-office/lists "$top/packaging/lists/lists.sql"
 own "$top/packaging/backup.conf"
 words=usr/share/record-office/front/public/office.json
 if [ -e "$root/$words" ]; then
     own "$root/$words"
     ln -sf /etc/record-office/office.json "$root/$words"
 fi
-place 644 usr/share/man/man1 "$top/packaging/record_office.1"
+place 644 usr/share/man/man1 "$top"/packaging/*.1
 place 644 usr/share/man/man8 "$top"/packaging/*.8
 place 644 usr/share/doc/record-office "$top/packaging/copyright" "$top/docs/OPERATING.md" "$top/docs/RULES.md" "$top/CHANGELOG.md"
 place 644 usr/share/doc/record-office/examples "$top/examples/archives.csv" "$top/examples/fonds.csv"

@@ -73,6 +73,9 @@ backups() {
     same 'each reader who got a ticket is in it' "$(query 'SELECT count(*) FROM reader')" $((before + $(sed -n 's/registrations \([0-9]*\) .*/\1/p' /tmp/busy)))
     is 'the copies are the same' cmp "$copies/office-$today.db" "/srv/other/office-$today.db"
     is 'by the command too' cmp "$copies/office-$today.db" /srv/by-command.db
+    same 'the staff see the lists' "$(status -u desk:quiet-paper $desk/lists/) $(status $desk/lists/drafts.csv) $(status $readers/lists/)" '200 401 404'
+    is 'of that night' sh -c "curl -s -u desk:quiet-paper $desk/lists/drafts.html | grep -q 'As of the copy of $today'"
+    same 'as pages and as CSV' "$(curl -s -o /dev/null -w '%{content_type}' -u desk:quiet-paper $desk/lists/drafts.csv)" 'text/csv; charset=utf-8'
     echo 'COPY_FOLDER=/srv/none' >/etc/record-office/backup.conf
     fails 'a folder that is not there' 'there is no folder /srv/none'
     echo 'COPY_COMMAND=false' >/etc/record-office/backup.conf

@@ -23,6 +23,7 @@ class Office:
         self.folder = FOLDER.with_name(f"{FOLDER.name}-{name}") if name else FOLDER
         self.unit = f"record-office@{name}.service" if name else "record-office.service"
         self.copies = pathlib.Path("/var/backups") / self.folder.name
+        self.lists = pathlib.Path("/var/cache") / self.folder.name / "lists"
         self.store = self.folder / "office.db"
         if not self.folder.is_dir():
             raise Trouble(f"there is no folder {self.folder}")
