@@ -3,14 +3,20 @@
 #
 #     packaging/deb.sh PROGRAM [OUT]
 #
-# OUT is the folder for the package, by default packaging/out. DEBFULLNAME and DEBEMAIL name the maintainer.
+# OUT is the folder for the package, by default packaging/out. DEBFULLNAME and DEBEMAIL name the maintainer. Two packages from one
+# program and one tree are equal byte for byte: all files have the day of the version, and nothing depends on where it is made.
 set -euo pipefail
+umask 022
+export LC_ALL=C.UTF-8 TZ=UTC
 top=$(cd "$(dirname "$0")/.." && pwd)
 [ $# -ge 1 ] && [ -x "$1" ] || { echo "usage: packaging/deb.sh PROGRAM [OUT]" >&2; exit 2; }
 program=$1
 out=${2:-$top/packaging/out}
 maintainer="${DEBFULLNAME:-Record Office} <${DEBEMAIL:-office@record-office.invalid}>"
 version=$(sed -n 's/^## \[\([0-9.]*\)\].*/\1/p' "$top/CHANGELOG.md" | head -1)
+day=$(sed -n 's/^## \[[0-9.]*\] - \([0-9-]*\)$/\1/p' "$top/CHANGELOG.md" | head -1)
+SOURCE_DATE_EPOCH=$(date -d "$day 12:00" +%s)
+export SOURCE_DATE_EPOCH
 arch=$(dpkg --print-architecture)
 root=$(mktemp -d)
 trap 'rm -rf "$root"' EXIT
@@ -83,7 +89,7 @@ Package: record-office
 Version: $version-1
 Architecture: $arch
 Maintainer: $maintainer
-Installed-Size: $(du -sk --exclude=DEBIAN "$root" | cut -f1)
+Installed-Size: $(find "$root" -path "$root/DEBIAN" -prune -o -type f -printf '%s\n' | awk '{ sum += int(($1 + 1023) / 1024) } END { print sum }')
 Depends: adduser, libc6 (>= $(needed_libc "$program")), python3, sqlite3
 Recommends: haproxy (>= 2.4), nginx (>= 1.19.4), openssl
 Section: database
@@ -98,6 +104,7 @@ Description: public side of a record office: catalogue and reading room
  started before an office has been made.
 END
 chmod 644 "$root"/DEBIAN/{control,conffiles,md5sums}
+find "$root" -exec touch --no-dereference --date "@$SOURCE_DATE_EPOCH" {} +
 mkdir -p "$out"
-dpkg-deb --root-owner-group --build "$root" "$out/record-office_$version-1_$arch.deb" >/dev/null
+dpkg-deb --root-owner-group -Zgzip --build "$root" "$out/record-office_$version-1_$arch.deb" >/dev/null
 echo "$out/record-office_$version-1_$arch.deb"

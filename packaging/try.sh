@@ -46,10 +46,19 @@ lintian --fail-on error,warning "$deb" >"$room/lintian" 2>&1 && is "lintian find
     is "lintian finds no error and no warning" 1
 }
 
+mkdir "$room/copy"
+cp -r "$here/../front" "$here/../packaging" "$here/../docs" "$here/../examples" "$here/../CHANGELOG.md" "$room/copy"
+again=$(umask 077 && cd / && LC_ALL=C TZ=Asia/Tokyo "$room/copy/packaging/deb.sh" "$(realpath "$1")" "$room/copy/out")
 how=0
-said=$(LC_ALL=C.UTF-8 MANWIDTH=80 man --warnings -l -Tutf8 "$here/record_office.1" 2>&1 >/dev/null) || how=$?
-[ -z "$said" ] || how=1
-is "man finds nothing wrong with the manual page${said:+: $said}" "$how"
+cmp "$deb" "$again" || how=1
+is "another build of the package is equal byte for byte" "$how"
+
+for page in "$here"/*.[18]; do
+    how=0
+    said=$(cd "$here" && LC_ALL=C.UTF-8 MANWIDTH=80 man --warnings -l -Tutf8 "$page" 2>&1 >/dev/null) || how=$?
+    [ -z "$said" ] || how=1
+    is "man finds nothing wrong with ${page##*/}${said:+: $said}" "$how"
+done
 
 [ -s "$tar" ] || mmdebstrap --quiet --variant=minbase --include=systemd-sysv,dbus,curl,iproute2,ca-certificates bookworm "$tar"
 root=$room/root
@@ -60,8 +69,7 @@ cp "$deb" "$root/root/record-office.deb"
 cp "$here"/{try_inside.sh,try_busy.py} "$root/root"
 cp "$here/../examples/archives.csv" "$root/root"
 # A next version, in which each file that the package brings to /etc has changed.
-mkdir "$room/next"
-cp -r "$here/../front" "$here/../packaging" "$here/../docs" "$here/../examples" "$here/../CHANGELOG.md" "$room/next"
+mv "$room/copy" "$room/next"
 sed -i '0,/^## \[\([0-9.]*\)\]/s//## [\1.1]/' "$room/next/CHANGELOG.md"
 for file in "$room"/next/front/server/*.{conf,cfg} "$room/next/packaging/backup.conf"; do echo '# of the next version' >>"$file"; done
 cp "$("$room/next/packaging/deb.sh" "$1" "$room/next")" "$root/root/next.deb"

@@ -1,4 +1,4 @@
-"""What record-office-backup and record-office-restore share: the office of a folder, its user, its unit, and the check of a file."""
+"""What record-office-backup and record-office-restore share: the office, its user, its unit, and the check of a file."""
 
 import argparse
 import fcntl
@@ -9,6 +9,9 @@ import subprocess
 import sys
 
 FOLDER = pathlib.Path("/var/lib/record-office")
+COPIES = pathlib.Path("/var/backups/record-office")
+LISTS = pathlib.Path("/var/cache/record-office/lists")
+UNIT = "record-office.service"
 
 
 class Trouble(Exception):
@@ -16,15 +19,10 @@ class Trouble(Exception):
 
 
 class Office:
-    """The office NAME, or that of the package if there is no name: its folder, its units and the user that it belongs to."""
+    """The office of this machine: its folder, its file and the user that it belongs to."""
 
-    def __init__(self, name=None):
-        self.name = name
-        self.folder = FOLDER.with_name(f"{FOLDER.name}-{name}") if name else FOLDER
-        self.unit = f"record-office@{name}.service" if name else "record-office.service"
-        self.copies = pathlib.Path("/var/backups") / self.folder.name
-        self.lists = pathlib.Path("/var/cache") / self.folder.name / "lists"
-        self.store = self.folder / "office.db"
+    def __init__(self):
+        self.folder, self.store = FOLDER, FOLDER / "office.db"
         if not self.folder.is_dir():
             raise Trouble(f"there is no folder {self.folder}")
         self.owner = pwd.getpwuid(self.folder.stat().st_uid)
@@ -65,11 +63,11 @@ class Office:
         return int(self.shown("MainPID") or 0)
 
     def shown(self, what):
-        return subprocess.run(["systemctl", "show", "-p", what, "--value", self.unit], text=True, capture_output=True).stdout.strip()
+        return subprocess.run(["systemctl", "show", "-p", what, "--value", UNIT], text=True, capture_output=True).stdout.strip()
 
     def tell_systemd(self, verb):
-        if subprocess.run(["systemctl", verb, self.unit]).returncode:
-            raise Trouble(f"systemctl {verb} {self.unit} failed")
+        if subprocess.run(["systemctl", verb, UNIT]).returncode:
+            raise Trouble(f"systemctl {verb} {UNIT} failed")
 
 
 def log_of(store):
@@ -78,10 +76,8 @@ def log_of(store):
 
 
 def arguments(text):
-    """The words that both tools take. `text` is the tool's own description."""
-    words = argparse.ArgumentParser(description=text, formatter_class=argparse.RawDescriptionHelpFormatter)
-    words.add_argument("--office", metavar="NAME", help="another office than that of the package: record-office@NAME")
-    return words
+    """The parser of a tool's words. `text` is the tool's own description."""
+    return argparse.ArgumentParser(description=text, formatter_class=argparse.RawDescriptionHelpFormatter)
 
 
 def run(main):
