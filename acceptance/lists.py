@@ -110,7 +110,8 @@ def make_office(program, folder, checks):
 
 
 def make_lists(copy, folder, *words):
-    subprocess.run([LISTS / "record-office-lists", copy, folder, "--sql", LISTS / "lists.sql", *words], check=True, capture_output=True)
+    command = [LISTS / "record-office-lists", copy, folder, "--sql", LISTS / "lists.sql", *words]
+    subprocess.run(command, check=True, capture_output=True)
 
 
 def rows_of(path):
@@ -127,10 +128,12 @@ def check_lists(checks, folder, waiting):
     """Each list against what was done above."""
     checks.same("drafts", told(folder, "drafts", "Unit", "Source", "legacyId", "Title", "Code"),
                 [("2", "a", "2", MARKUP, "GB 0999 A/1"), ("5", "a", "5", "A map", "GB 0999 A/3/1")])
-    checks.same("closures that end soon", told(folder, "closures", "Opens on", "Unit", "Title"), [("2024-04-01", "3", f"'{FORMULA}")])
+    checks.same("closures that end soon", told(folder, "closures", "Opens on", "Unit", "Title"),
+                [("2024-04-01", "3", f"'{FORMULA}")])
     checks.same("permits that end soon", told(folder, "permits", "Last day", "Ticket", "Reader", "Unit", "Closed until"),
                 [("2024-03-20", "2", "'+Ben", "3", "2024-04-01")])
-    checks.same("orders that no run can fetch", told(folder, "waiting", "Order", "Reader", "Why", "Containers of the same name"), [
+    columns = ("Order", "Reader", "Why", "Containers of the same name")
+    checks.same("orders that no run can fetch", told(folder, "waiting", *columns), [
         ("1", "<i>Ann</i>", "unit 3 in it is closed until 2024-04-01, and the reader has no permit", ""),
         ("2", "'+Ben", "order 1 is before it and cannot be fetched", ""),
         ("3", "<i>Ann</i>", "unit 5 in it is a draft, or below one", ""),
@@ -145,7 +148,8 @@ def check_lists(checks, folder, waiting):
                 [("2024-03", "2", "6", "1", "1")])
     checks.same("figures by archive", told(folder, "archives", "Archive", "Tickets", "Orders", "Cancelled", "Productions"),
                 [("", "1", "1", "0", "0"), ("GB 0999 A", "2", "5", "1", "1"), ("GB 0999 B", "1", "1", "0", "1")])
-    checks.same("units that the file does not name", told(folder, "units-without-row-a", "legacyId"), [(str(n),) for n in (4, 5, 6, 7, 8)])
+    checks.same("units that the file does not name", told(folder, "units-without-row-a", "legacyId"),
+                [("4",), ("5",), ("6",), ("7",), ("8",)])
     checks.same("boxes that it does not name", told(folder, "boxes-without-row-a", "Name", "Location"),
                 [("Box 3", "Room 1"), ("Box 5", "Room 1"), ("Box 6", "Room 1"), ("Box 4", "Room 9")])
 
@@ -162,14 +166,16 @@ def check_pages(checks, folder):
             checks.same(f"the rows of {page.name}", shown.rows[1:], marked)
         checks.same(f"{page.name} says as of when", "As of the copy of " in page.read_text(encoding="utf-8"), True)
         named = page.stem in ("permits", "waiting", "readers")
-        checks.same(f"{page.name} has readers' names", any(name in page.read_text() for name in ("&lt;i&gt;Ann", "+Ben")), named)
+        has_names = any(name in page.read_text(encoding="utf-8") for name in ("&lt;i&gt;Ann", "+Ben"))
+        checks.same(f"{page.name} has readers' names", has_names, named)
 
 
 def waiting_orders(program, store):
     """The orders that still wait, as the program tells them."""
     messages = b"".join(b"GET /desk/queue/%d HTTP/1.1\r\nHost: x\r\n\r\n" % container for container in range(1, 8))
     told = subprocess.run([program, "talk", "--store", store], input=messages, capture_output=True, check=True).stdout.decode()
-    return sorted(line["order"] for part in told.split("\r\n\r\n")[1:] for line in json.loads(part.split("HTTP/1.1")[0])["waiting"])
+    queues = [json.loads(part.split("HTTP/1.1")[0]) for part in told.split("\r\n\r\n")[1:]]
+    return sorted(line["order"] for queue in queues for line in queue["waiting"])
 
 
 def main(program, folder=None):

@@ -35,6 +35,14 @@ before() {
     is 'the manual page is there' test -s /usr/share/man/man1/record_office.1.gz -o -e /etc/dpkg/dpkg.cfg.d/excludes
 }
 
+# What the packaged OPERATING links to is in the package.
+links() {
+    local file folder=/usr/share/doc/record-office
+    for file in $(zcat $folder/OPERATING.md.gz | grep -o '](\([^)#]*\)[^)]*)' | sed 's/^](//; s/[)#].*//' | sort -u); do
+        is "OPERATING's link to $file" test -e "$folder/$file" -o -e "$folder/$file.gz"
+    done
+}
+
 # What a copy tells: query SQL
 query() { runuser -u record-office -- sqlite3 "$copies/office-$today.db" "$1"; }
 
@@ -116,6 +124,9 @@ backups() {
 upgrades() {
     local file edited="/etc/nginx/sites-available/record-office /etc/nginx/sites-available/record-office-tls /etc/record-office/backup.conf"
     for file in $edited; do echo '# our own' >>$file; done
+    sed 's/rate=50r/rate=40r/' /etc/record-office/common.conf >/etc/record-office/our-common.conf
+    sed -i 's/common.conf/our-common.conf/' /etc/nginx/sites-available/record-office
+    is 'a limit of our own' nginx -t -q
     systemctl stop record-office
     is 'an upgrade asks nothing' sh -c 'dpkg -i /root/next.deb </dev/null'
     same 'what was stopped stays stopped' "$(systemctl is-active record-office record-office-queue record-office-backup.timer | xargs)" 'inactive active active'
@@ -159,6 +170,7 @@ after() {
     same 'no process may get new rights' "$(grep -h NoNewPrivs "/proc/$(systemctl show -p MainPID --value record-office)/status" | cut -f2)" 1
     systemd-analyze security --no-pager record-office record-office-queue 2>/dev/null | grep -i overall || true
 
+    links
     upgrades
     backups
 
@@ -166,7 +178,7 @@ after() {
     same 'each end of the program was asked for' "$(journalctl --no-pager -o cat -u record-office | grep -c 'Main process exited.*KILL')" \
         "$(journalctl --no-pager -o cat -u record-office | grep -c 'Main process exited')"
     is 'check by the office'"'"'s user' runuser -u record-office -- record_office check --store "$office"
-    rm /etc/record-office/*.pem /etc/nginx/sites-available/record-office-tls
+    rm /etc/record-office/*.pem /etc/record-office/our-common.conf /etc/nginx/sites-available/record-office-tls
     is 'purge' dpkg --purge record-office
     is 'the office and its copies stay' test -s "$office" -a -s "$copies/office-$today.db"
     is 'nothing else stays' test ! -e /etc/record-office -a ! -e /usr/share/record-office -a ! -e /etc/nginx/sites-available/record-office

@@ -1,7 +1,7 @@
--- The lists for the staff. record-office-lists runs each SELECT over a copy of the office, and makes a page and a CSV file of it.
+-- The lists for the staff. record-office-lists runs each SELECT over a copy of the office, and makes a page and a CSV file.
 --
--- Before a SELECT stand its name, its title, and what is said above it. Its columns are named as the page shows them. The name of
--- a reader stands only in lists that are for finding that reader. To change a list, or to add one, change this file.
+-- Before a SELECT stand its name, its title, and what is said above it. Its columns are named as the page shows them. Names of
+-- readers stand only in lists that are for finding a reader. To change a list, or to add one, change a copy of this file.
 --
 -- The tables of the office are: unit (draft is 0 or 1; it is closed while `until` is after today), element (k is 1 for the
 -- identifier and 2 for the title), container, housing (which unit names which container), reader, permit, orders (state is 1:
@@ -14,7 +14,8 @@
 
 -- list: drafts
 -- title: Drafts
--- about: Units that the public does not see. What is below a draft is not shown either, and is not in this list unless it is a draft itself.
+-- about: Units that the public does not see. What is below a draft is not shown either, and is not in this list unless it
+--     is a draft itself.
 SELECT unit.id AS "Unit", unit.source AS "Source", unit.legacy AS "legacyId", place.code AS "Code", unit.level AS "Level",
     title(unit.id) AS "Title", title(place.archive) AS "Archive"
 FROM unit JOIN place ON place.unit = unit.id
@@ -23,7 +24,8 @@ ORDER BY place.number;
 
 -- list: closures
 -- title: Closures that end soon
--- about: Units that open by themselves within 90 days after the office's day. A unit stays closed while one above it is closed.
+-- about: Units that open by themselves within 90 days after the office's day. A unit stays closed while one above it is
+--     closed.
 SELECT day(unit.until) AS "Opens on", unit.id AS "Unit", place.code AS "Code", unit.level AS "Level", title(unit.id) AS "Title",
     CASE WHEN place.closed > unit.until THEN day(place.closed) ELSE '' END AS "One above is closed until"
 FROM unit JOIN place ON place.unit = unit.id, office
@@ -41,7 +43,8 @@ ORDER BY permit.until, permit.ticket, place.number;
 
 -- list: waiting
 -- title: Orders that no run can fetch, with readers' names
--- about: They wait until the reason ends. If the location of a box was changed by a file, the box has a new number: cancel the order, and place it again.
+-- about: They wait until the reason ends. If the location of a box was changed by a file, the box has a new number: cancel
+--     the order, and place it again.
 WITH waiting AS (SELECT * FROM orders WHERE state = 1),
 contents AS (
     SELECT waiting.id AS order_id, waiting.ticket, place.unit, place.draft, place.closed
@@ -72,13 +75,15 @@ SELECT waiting.id AS "Order", day(waiting.day) AS "Ordered on", waiting.ticket A
     (SELECT group_concat(other.id) FROM container AS other
         WHERE other.name = container.name AND other.id <> container.id
         AND EXISTS (SELECT 1 FROM housing WHERE housing.container = other.id)) AS "Containers of the same name"
-FROM waiting JOIN (SELECT order_id, text FROM not_open UNION ALL SELECT order_id, text FROM behind) AS found ON order_id = waiting.id
+FROM waiting
+JOIN (SELECT order_id, text FROM not_open UNION ALL SELECT order_id, text FROM behind) AS found ON order_id = waiting.id
 JOIN reader USING (ticket) JOIN container ON container.id = waiting.container
 ORDER BY waiting.id;
 
 -- list: shared
 -- title: Boxes that several archives share
--- about: A container is known by its name, location and kind. If units of two archives name the same ones, it is one container: closing a unit of one archive withholds it from readers of the other.
+-- about: A container is known by its name, location and kind. If units of two archives name the same ones, it is one
+--     container: closing a unit of one archive withholds it from readers of the other.
 WITH named AS (SELECT DISTINCT housing.container, place.archive FROM housing JOIN place USING (unit))
 SELECT container.id AS "Container", container.name AS "Name", container.location AS "Location", container.kind AS "Kind",
     place.code AS "Archive", title(named.archive) AS "Title", named.archive AS "Unit"
@@ -98,7 +103,8 @@ ORDER BY orders.id DESC;
 
 -- list: months
 -- title: Figures by month
--- about: Tickets that ordered, orders that were placed (and of these, how many were cancelled), and productions: containers that runs fetched, in the month of the run.
+-- about: Tickets that ordered, orders that were placed (and of these, how many were cancelled), and productions: containers
+--     that runs fetched, in the month of the run.
 WITH placed AS (
     SELECT substr(day(day), 1, 7) AS month, count(DISTINCT ticket) AS tickets, count(*) AS many, sum(state = 4) AS cancelled
     FROM orders GROUP BY month
@@ -113,7 +119,8 @@ ORDER BY month DESC;
 
 -- list: archives
 -- title: Figures by month and archive
--- about: As in the figures by month. A container counts for each archive whose units name it now, so the sum may be greater; containers that no unit names any more stand without an archive.
+-- about: As in the figures by month. A container counts for each archive whose units name it now, so the sum may be
+--     greater; containers that no unit names any more stand without an archive.
 WITH archives AS (
     SELECT DISTINCT container.id AS container, place.archive
     FROM container LEFT JOIN housing ON housing.container = container.id LEFT JOIN place USING (unit)
@@ -129,8 +136,8 @@ FROM event JOIN archives USING (container) LEFT JOIN place ON place.unit = archi
 GROUP BY month, archives.archive
 ORDER BY month DESC, place.number;
 
--- The lists from here on need a file of a source: record-office-lists --source SOURCE --file FILE. The tables row_of_file (legacy)
--- and box_of_file (name, location, kind) have what the file names, and source has the name of the source.
+-- The lists from here on need a file of a source: record-office-lists --source SOURCE --file FILE. The tables row_of_file
+-- (legacy) and box_of_file (name, location, kind) have what the file names, and source has the name of the source.
 
 -- list: units-without-row
 -- title: Units of a source that its file does not name

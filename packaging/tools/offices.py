@@ -29,10 +29,12 @@ class Office:
 
     def as_owner(self, *words):
         """Runs a command as the user of the office, in the folder of the office, and returns what it printed."""
-        done = subprocess.run(["runuser", "-u", self.owner.pw_name, "--", *map(str, words)], cwd=self.folder, text=True, capture_output=True)
+        words = [str(word) for word in words]
+        command = ["runuser", "-u", self.owner.pw_name, "--", *words]
+        done = subprocess.run(command, cwd=self.folder, text=True, capture_output=True)
         said = (done.stdout + done.stderr).strip()
         if done.returncode:
-            raise Trouble(f"{' '.join(map(str, words))}: {said or done.returncode}")
+            raise Trouble(f"{' '.join(words)}: {said or done.returncode}")
         return said
 
     def make_folder(self, path):
