@@ -117,6 +117,8 @@ backups() {
     is 'a backup of an office that is stopped' systemctl start record-office-backup
     is 'a restore of it' record-office-restore "$copies/office-$today.db"
     same 'it stays stopped' "$(systemctl is-active record-office)" inactive
+    rm -r $office* "${office%/*}"/replaced-*
+    is 'a restore where there is no office yet, as on another machine' record-office-restore /root/copy.db
     systemctl start record-office
 }
 
