@@ -79,6 +79,7 @@ mv "$root/usr/share/lintian/overrides/lintian-overrides" "$root/usr/share/lintia
 )
 if [ -d "$top/docs/pictures" ]; then place 644 usr/share/doc/record-office/pictures "$top"/docs/pictures/*.png; fi
 gzip -9n "$root"/usr/share/man/man*/*
+ln -s record-office-backup.8.gz "$root/usr/share/man/man8/record-office-restore.8.gz"
 
 install -d -m 755 "$root/DEBIAN"
 install -m 755 "$top"/packaging/{postinst,prerm,postrm} "$root/DEBIAN"
