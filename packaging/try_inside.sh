@@ -172,13 +172,14 @@ after() {
     same 'no process may get new rights' "$(grep -h NoNewPrivs "/proc/$(systemctl show -p MainPID --value record-office)/status" | cut -f2)" 1
     systemd-analyze security --no-pager record-office record-office-queue 2>/dev/null | grep -i overall || true
 
+    same 'each end of the program was asked for' "$(journalctl --no-pager -o cat -u record-office | grep -c 'Main process exited.*KILL')" \
+        "$(journalctl --no-pager -o cat -u record-office | grep -c 'Main process exited')"
+
     links
     upgrades
     backups
 
     systemctl stop record-office
-    same 'each end of the program was asked for' "$(journalctl --no-pager -o cat -u record-office | grep -c 'Main process exited.*KILL')" \
-        "$(journalctl --no-pager -o cat -u record-office | grep -c 'Main process exited')"
     is 'check by the office'"'"'s user' runuser -u record-office -- record_office check --store "$office"
     rm /etc/record-office/*.pem /etc/record-office/our-common.conf /etc/nginx/sites-available/record-office-tls
     is 'purge' dpkg --purge record-office
