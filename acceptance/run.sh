@@ -295,6 +295,7 @@ timeout 300 python3 "$here/limits.py" "$program" "$fast" || wrong=1
 timeout 600 python3 "$here/heads.py" "$program" "$fast" || wrong=1
 timeout 600 python3 "$here/filled.py" "$program" "$fast" || wrong=1
 timeout 120 python3 "$here/rounds.py" "$program" || wrong=1
+timeout 600 python3 "$here/lists.py" "$program" || wrong=1
 timeout 300 python3 "$here/sessions.py" "$program" 0 100 || wrong=1
 timeout 300 python3 "$here/random_heads.py" "$program" || wrong=1
 timeout 300 python3 "$here/boxes.py" "$program" 0 40 || wrong=1

@@ -3,14 +3,20 @@
 #
 #     packaging/deb.sh PROGRAM [OUT]
 #
-# OUT is the folder for the package, by default packaging/out. DEBFULLNAME and DEBEMAIL name the maintainer.
+# OUT is the folder for the package, by default packaging/out. DEBFULLNAME and DEBEMAIL name the maintainer. Two packages from one
+# program and one tree are equal byte for byte: all files have the day of the version, and nothing depends on where it is made.
 set -euo pipefail
+umask 022
+export LC_ALL=C.UTF-8 TZ=UTC
 top=$(cd "$(dirname "$0")/.." && pwd)
 [ $# -ge 1 ] && [ -x "$1" ] || { echo "usage: packaging/deb.sh PROGRAM [OUT]" >&2; exit 2; }
 program=$1
 out=${2:-$top/packaging/out}
 maintainer="${DEBFULLNAME:-Record Office} <${DEBEMAIL:-office@record-office.invalid}>"
 version=$(sed -n 's/^## \[\([0-9.]*\)\].*/\1/p' "$top/CHANGELOG.md" | head -1)
+day=$(sed -n 's/^## \[[0-9.]*\] - \([0-9-]*\)$/\1/p' "$top/CHANGELOG.md" | head -1)
+SOURCE_DATE_EPOCH=$(date -d "$day 12:00" +%s)
+export SOURCE_DATE_EPOCH
 arch=$(dpkg --print-architecture)
 root=$(mktemp -d)
 trap 'rm -rf "$root"' EXIT
@@ -23,6 +29,9 @@ place() {
     install -d -m 755 "$folder"
     install -m "$mode" "$@" "$folder"
 }
+
+# own FILE ..: files that the operator edits. postinst copies each to /etc/record-office once; no upgrade asks about them.
+own() { place 644 usr/share/record-office/own "$@"; }
 
 # The version of the C library that the program needs: the highest that its symbols name.
 needed_libc() {
@@ -41,13 +50,25 @@ done
 place 644 usr/share/record-office/search "$top"/front/search/*.py
 for file in "$top"/front/server/*; do
     case ${file##*/} in
-    nginx.conf) place 644 etc/nginx/sites-available "$file" && mv "$root"/etc/nginx/sites-available/{nginx.conf,record-office} ;;
+    nginx.conf) place 644 usr/share/record-office "$file" && mv "$root"/usr/share/record-office/{nginx.conf,site} ;;
     tls.conf) place 644 usr/share/doc/record-office/examples "$file" ;;
+    orders-from.conf) own "$file" ;;
     *) place 644 etc/record-office "$file" ;;
     esac
 done
-place 644 lib/systemd/system "$top"/packaging/*.service
-place 644 usr/share/man/man1 "$top/packaging/record_office.1" "$top/packaging/record-office-look.1"
+place 644 lib/systemd/system "$top"/packaging/*.service "$top"/packaging/*.timer
+place 755 usr/sbin "$top"/packaging/tools/record-office-*
+place 644 usr/share/record-office/tools "$top"/packaging/tools/*.py
+place 755 usr/bin "$top/packaging/lists/record-office-lists"
+place 644 usr/share/record-office/lists "$top/packaging/lists/lists.sql"
+own "$top/packaging/backup.conf"
+words=usr/share/record-office/front/public/office.json
+if [ -e "$root/$words" ]; then
+    own "$root/$words"
+    ln -sf /etc/record-office/office.json "$root/$words"
+fi
+place 644 usr/share/man/man1 "$top"/packaging/*.1
+place 644 usr/share/man/man8 "$top"/packaging/*.8
 place 644 usr/share/doc/record-office "$top/packaging/copyright" "$top/docs/OPERATING.md" "$top/docs/RULES.md" "$top/CHANGELOG.md"
 place 644 usr/share/doc/record-office/examples "$top/examples/archives.csv" "$top/examples/fonds.csv"
 place 644 usr/share/lintian/overrides "$top/packaging/lintian-overrides"
@@ -59,7 +80,8 @@ mv "$root/usr/share/lintian/overrides/lintian-overrides" "$root/usr/share/lintia
     gzip -9n changelog changelog.Debian OPERATING.md RULES.md
 )
 if [ -d "$top/docs/pictures" ]; then place 644 usr/share/doc/record-office/pictures "$top"/docs/pictures/*.png; fi
-gzip -9n "$root"/usr/share/man/man1/*.1
+gzip -9n "$root"/usr/share/man/man*/*
+ln -s record-office-backup.8.gz "$root/usr/share/man/man8/record-office-restore.8.gz"
 
 install -d -m 755 "$root/DEBIAN"
 install -m 755 "$top"/packaging/{postinst,prerm,postrm} "$root/DEBIAN"
@@ -70,9 +92,9 @@ Package: record-office
 Version: $version-1
 Architecture: $arch
 Maintainer: $maintainer
-Installed-Size: $(du -sk --exclude=DEBIAN "$root" | cut -f1)
-Depends: adduser, libc6 (>= $(needed_libc "$program")), python3 (>= 3.9)
-Recommends: haproxy (>= 2.4), nginx (>= 1.19.4), openssl, python3-waitress, sqlite3
+Installed-Size: $(find "$root" -path "$root/DEBIAN" -prune -o -type f -printf '%s\n' | awk '{ sum += int(($1 + 1023) / 1024) } END { print sum }')
+Depends: adduser, libc6 (>= $(needed_libc "$program")), python3 (>= 3.9), sqlite3
+Recommends: haproxy (>= 2.4), nginx (>= 1.19.4), openssl, python3-waitress
 Section: database
 Priority: optional
 Description: public side of a record office: catalogue and reading room
@@ -85,6 +107,7 @@ Description: public side of a record office: catalogue and reading room
  units for systemd. Nothing is started before an office has been made.
 END
 chmod 644 "$root"/DEBIAN/{control,conffiles,md5sums}
+find "$root" -exec touch --no-dereference --date "@$SOURCE_DATE_EPOCH" {} +
 mkdir -p "$out"
-dpkg-deb --root-owner-group --build "$root" "$out/record-office_$version-1_$arch.deb" >/dev/null
+dpkg-deb --root-owner-group -Zgzip --build "$root" "$out/record-office_$version-1_$arch.deb" >/dev/null
 echo "$out/record-office_$version-1_$arch.deb"

@@ -46,10 +46,19 @@ lintian --fail-on error,warning "$deb" >"$room/lintian" 2>&1 && is "lintian find
     is "lintian finds no error and no warning" 1
 }
 
+mkdir "$room/copy"
+cp -r "$here/../front" "$here/../packaging" "$here/../docs" "$here/../examples" "$here/../CHANGELOG.md" "$room/copy"
+again=$(umask 077 && cd / && LC_ALL=C TZ=Asia/Tokyo "$room/copy/packaging/deb.sh" "$(realpath "$1")" "$room/copy/out")
 how=0
-said=$(LC_ALL=C.UTF-8 MANWIDTH=80 man --warnings -l -Tutf8 "$here/record_office.1" 2>&1 >/dev/null) || how=$?
-[ -z "$said" ] || how=1
-is "man finds nothing wrong with the manual page${said:+: $said}" "$how"
+cmp "$deb" "$again" || how=1
+is "another build of the package is equal byte for byte" "$how"
+
+for page in "$here"/*.[18]; do
+    how=0
+    said=$(cd "$here" && LC_ALL=C.UTF-8 MANWIDTH=80 man --warnings -l -Tutf8 "$page" 2>&1 >/dev/null) || how=$?
+    [ -z "$said" ] || how=1
+    is "man finds nothing wrong with ${page##*/}${said:+: $said}" "$how"
+done
 
 [ -s "$tar" ] || mmdebstrap --quiet --variant=minbase --include=systemd-sysv,dbus,curl,iproute2,ca-certificates bookworm "$tar"
 root=$room/root
@@ -57,8 +66,13 @@ mkdir "$root"
 tar -C "$root" -xf "$tar" --exclude='./dev/*'
 cp /etc/resolv.conf "$root/etc/resolv.conf"
 cp "$deb" "$root/root/record-office.deb"
-cp "$here/try_inside.sh" "$root/root"
+cp "$here"/{try_inside.sh,try_busy.py} "$root/root"
 cp "$here/../examples/archives.csv" "$root/root"
+# A next version, in which each file that the package brings to /etc has changed.
+mv "$room/copy" "$room/next"
+sed -i '0,/^## \[\([0-9.]*\)\]/s//## [\1.1]/' "$room/next/CHANGELOG.md"
+for file in "$room"/next/front/server/*.{conf,cfg} "$room/next/packaging/backup.conf"; do echo '# of the next version' >>"$file"; done
+cp "$("$room/next/packaging/deb.sh" "$1" "$room/next")" "$root/root/next.deb"
 mkdir -p "$root/root/top/crates/record_office/out"
 cp -r "$here/../front" "$here/../packaging" "$root/root/top"
 cp "$1" "$root/root/top/crates/record_office/out/record_office"
@@ -72,7 +86,8 @@ install >"$room/install" 2>&1 && is "apt installs the package, with nginx and HA
     is "apt installs the package, with nginx and HAProxy, on a clean root" 1
 }
 
-# systemd as the first process of its own namespaces, in a control group of its own, with only loopback as network
+# systemd as the first process of its own namespaces, in a control group of its own, with only loopback as network. This machine
+# may run other such systems: `booted` is the child of the process that was begun here, and it has the root that was made here.
 boot() {
     mkdir "$group"
     setsid bash -c "echo \$\$ >'$group/cgroup.procs'; exec unshare -mpfCn --kill-child bash -c '
@@ -80,12 +95,11 @@ boot() {
         mount -t proc proc proc; mount -t sysfs -o ro sysfs sys; mount -t tmpfs none run; mount -t tmpfs none tmp; mount --rbind /dev dev
         mount -t cgroup2 none sys/fs/cgroup; ip link set lo up
         pivot_root . mnt; umount -l /mnt; exec env container=other /lib/systemd/systemd'" <"/dev/null" >"$room/boot" 2>&1 &
+    local began=$!
     for _ in $(seq 30); do
         sleep 1
-        booted=$(pgrep -f '^/lib/systemd/systemd$' | while read -r one; do
-            ! grep -qs "/${group##*/}/" "/proc/$one/cgroup" || echo "$one"
-        done | head -1)
-        [ -z "$booted" ] || return 0
+        booted=$(cat "/proc/$began/task/$began/children" 2>/dev/null | xargs)
+        [ -z "$booted" ] || [ "$(cat "/proc/$booted/comm")" != systemd ] || [ ! "/proc/$booted/root/root" -ef "$root/root" ] || return 0
     done
     return 1
 }

@@ -1,8 +1,11 @@
 #!/usr/bin/env bash
 # try.sh calls this inside its booted root: with `before`, before the lines of OPERATING make an office, and with `after`, after that.
-# `after` checks the front's rules and a kill, and upgrades, removes and purges the package.
+# `after` checks the front's rules and a kill, upgrades and removes the package,
+# makes backups, and purges the package.
 set -uo pipefail
 office=/var/lib/record-office/office.db
+copies=/var/backups/record-office
+today=$(date +%F)
 readers=http://127.0.0.1:8080
 desk=http://127.0.0.1:8081
 units='record-office record-office-queue record-office-search'
@@ -33,6 +36,124 @@ before() {
     is 'the manual page is there' test -s /usr/share/man/man1/record_office.1.gz -o -e /etc/dpkg/dpkg.cfg.d/excludes
 }
 
+# What the packaged OPERATING links to is in the package.
+links() {
+    local file folder=/usr/share/doc/record-office
+    for file in $(zcat $folder/OPERATING.md.gz | grep -o '](\([^)#]*\)[^)]*)' | sed 's/^](//; s/[)#].*//' | sort -u); do
+        is "OPERATING's link to $file" test -e "$folder/$file" -o -e "$folder/$file.gz"
+    done
+}
+
+# What a copy tells: query SQL
+query() { runuser -u record-office -- sqlite3 "$copies/office-$today.db" "$1"; }
+
+# fails WHAT TEXT: the backup fails, its unit is failed, and its journal has this text
+fails() {
+    systemctl start record-office-backup 2>/dev/null
+    same "$1: the unit" "$(systemctl is-failed record-office-backup)" failed
+    is "$1: the journal" sh -c "journalctl --no-pager -o cat -u record-office-backup -n 20 | grep -q '$2'"
+    systemctl reset-failed record-office-backup
+}
+
+# The backup: by its timer beside a busy front, what it keeps, elsewhere, how it fails; and back to a copy.
+backups() {
+    local before pid timer=/run/systemd/system/record-office-backup.timer.d/soon.conf
+    same 'the timer is enabled and runs' "$(systemctl is-enabled record-office-backup.timer) $(systemctl is-active record-office-backup.timer)" 'enabled active'
+    (cd $copies 2>/dev/null || { install -d -o record-office -g record-office -m 700 $copies && cd $copies; }
+        for day in $(seq 0 365); do date -d "2020-01-01 $day days" +office-%F.db; done | xargs touch)
+    before=$(curl -s -u desk:quiet-paper $desk/desk/readers/1 | grep -c ticket)
+    python3 /root/try_busy.py 20 >/tmp/busy &
+    pid=$!
+    sleep 3
+    mkdir "${timer%/*}"
+    printf '[Timer]\nOnCalendar=\nOnActiveSec=1\nAccuracySec=1\n' >$timer
+    systemctl daemon-reload && systemctl restart record-office-backup.timer
+    wait $pid
+    cat /tmp/busy
+    is 'the timer made a backup' test -s "$copies/office-$today.db"
+    is 'beside it each question and each command was answered' sh -c '! grep -v "^[a-z]* [0-9]* of 200$" /tmp/busy | grep -v ^longest'
+    rm -r "${timer%/*}" && systemctl daemon-reload && systemctl restart record-office-backup.timer
+    same 'what is kept of a year' "$(cd $copies && ls | grep -v "$today" | sed 's/office-2020-//; s/.db//' | xargs)" \
+        '02-29 03-31 04-30 05-31 06-30 07-31 08-31 09-30 10-31 11-30 12-20 12-26 12-27 12-28 12-29 12-30 12-31'
+
+    mkdir /srv/other
+    printf 'COPY_FOLDER=/srv/other\nCOPY_COMMAND='"'"'cp "$1" /srv/by-command.db'"'\n" >/etc/record-office/backup.conf
+    is 'a backup to another folder and by a command' systemctl start record-office-backup
+    same 'each reader who got a ticket is in it' "$(query 'SELECT count(*) FROM reader')" $((before + $(sed -n 's/registrations \([0-9]*\) .*/\1/p' /tmp/busy)))
+    is 'the copies are the same' cmp "$copies/office-$today.db" "/srv/other/office-$today.db"
+    is 'by the command too' cmp "$copies/office-$today.db" /srv/by-command.db
+    same 'the staff see the lists' "$(status -u desk:quiet-paper $desk/lists/) $(status $desk/lists/drafts.csv) $(status $readers/lists/)" '200 401 404'
+    is 'of that night' sh -c "curl -s -u desk:quiet-paper $desk/lists/drafts.html | grep -q 'As of the copy of $today'"
+    same 'as pages and as CSV' "$(curl -s -o /dev/null -w '%{content_type}' -u desk:quiet-paper $desk/lists/drafts.csv)" 'text/csv; charset=utf-8'
+    echo 'COPY_FOLDER=/srv/none' >/etc/record-office/backup.conf
+    fails 'a folder that is not there' 'there is no folder /srv/none'
+    echo 'COPY_COMMAND=false' >/etc/record-office/backup.conf
+    fails 'a command that fails' 'the command for another copy failed: false'
+    cp /usr/share/record-office/own/backup.conf /etc/record-office/backup.conf
+
+    printf '#!/bin/sh\nsleep 60\n' >/usr/local/sbin/sqlite3 && chmod 755 /usr/local/sbin/sqlite3
+    systemctl start --no-block record-office-backup
+    for _ in $(seq 50); do systemctl is-active -q record-office || break; sleep 0.1; done
+    systemctl kill -s KILL record-office-backup
+    rm /usr/local/sbin/sqlite3
+    sleep 2
+    same 'after a backup that was killed readers get an answer' "$(status $readers/public/fonds)" 200
+    systemctl reset-failed record-office-backup
+
+    systemctl stop record-office
+    runuser -u record-office -- sqlite3 $office 'UPDATE office SET seats = 0'
+    systemctl start record-office
+    cp "$copies/office-$today.db" /root/copy.db
+    fails 'an office that is not sound' 'not sound 1'
+    is 'the copy of before stays' cmp "$copies/office-$today.db" /root/copy.db
+    is 'no old log would be left' test -e $office-wal
+    is 'the restore of a file that is no office is refused' sh -c '! record-office-restore /etc/hostname'
+    is 'a restore' record-office-restore /root/copy.db
+    same 'after it readers get an answer' "$(status $readers/public/fonds)" 200
+    same 'the office is its user'"'"'s' "$(stat -c '%U %a' $office)" 'record-office 600'
+    is 'what stood there is kept with its log' sh -c "ls ${office%/*}/replaced-*/office.db-wal"
+    rm -r "${office%/*}"/replaced-*
+
+    systemctl stop record-office
+    is 'a backup of an office that is stopped' systemctl start record-office-backup
+    is 'a restore of it' record-office-restore "$copies/office-$today.db"
+    same 'it stays stopped' "$(systemctl is-active record-office)" inactive
+    rm -r $office* "${office%/*}"/replaced-*
+    is 'a restore where there is no office yet, as on another machine' record-office-restore /root/copy.db
+    systemctl start record-office
+}
+
+# An upgrade whose files have all changed, after the operator has edited the files that are the operator's; removed, and installed again.
+upgrades() {
+    local file edited="/etc/nginx/sites-available/record-office /etc/nginx/sites-available/record-office-tls /etc/record-office/backup.conf"
+    for file in $edited; do echo '# our own' >>$file; done
+    sed 's/rate=50r/rate=40r/' /etc/record-office/common.conf >/etc/record-office/our-common.conf
+    sed -i 's/common.conf/our-common.conf/' /etc/nginx/sites-available/record-office
+    is 'a limit of our own' nginx -t -q
+    systemctl stop record-office
+    is 'an upgrade asks nothing' sh -c 'dpkg -i /root/next.deb </dev/null'
+    same 'what was stopped stays stopped' "$(systemctl is-active record-office record-office-queue record-office-backup.timer | xargs)" 'inactive active active'
+    is 'what was edited stays' grep -c '^# our own' $edited
+    is 'the rest is new' grep '^# of the next version' /etc/record-office/readers.conf /usr/share/record-office/site
+    systemctl start record-office
+    same 'after it readers get an answer' "$(status $readers/public/fonds)" 200
+    is 'the same once more' sh -c 'dpkg -i /root/next.deb </dev/null'
+    same 'after that too' "$(status $readers/public/fonds)" 200
+
+    is 'removal' dpkg --remove record-office
+    same 'nothing runs any more' "$(systemctl is-active record-office record-office-queue record-office-backup.timer | xargs)" 'inactive inactive inactive'
+    is 'nginx goes on' nginx -t -q
+    same 'nothing answers readers' "$(status $readers/public/fonds)" 000
+    is 'installed again' sh -c 'dpkg -i /root/next.deb </dev/null'
+    same 'readers get an answer as before' "$(status $readers/public/fonds)" 200
+    same 'and the desk' "$(status -u desk:quiet-paper $desk/desk/issued)" 200
+
+    chown root $office && systemctl restart record-office
+    same 'an office of root is not answered for' "$(status -m 3 $readers/public/fonds)" 000
+    chown record-office $office && systemctl restart record-office
+    same 'that of its user is' "$(status $readers/public/fonds)" 200
+}
+
 after() {
     same 'readers get an answer' "$(status $readers/public/fonds)" 200
     same 'and a finding aid' "$(status $readers/public/aid/1)" 200
@@ -56,25 +177,22 @@ after() {
     same 'no process may get new rights' "$(grep -h NoNewPrivs "/proc/$(systemctl show -p MainPID --value record-office)/status" | cut -f2)" 1
     systemd-analyze security --no-pager $units 2>/dev/null | grep -i overall || true
 
-    is 'the package once more, as an upgrade' env DEBIAN_FRONTEND=noninteractive dpkg -i /root/record-office.deb
-    sleep 2
-    same 'after it readers get an answer' "$(status $readers/public/fonds)" 200
-
-    systemctl stop record-office
     same 'each end of the program was asked for' "$(journalctl --no-pager -o cat -u record-office | grep -c 'Main process exited.*KILL')" \
         "$(journalctl --no-pager -o cat -u record-office | grep -c 'Main process exited')"
+
+    links
+    upgrades
+    backups
+
+    systemctl stop record-office
     is 'check by the office'"'"'s user' runuser -u record-office -- record_office check --store "$office"
-    is 'removal' env DEBIAN_FRONTEND=noninteractive dpkg --remove record-office
-    same 'nothing runs any more' "$(systemctl is-active $units | xargs)" 'inactive inactive inactive'
-    is 'nginx goes on' nginx -t -q
-    same 'nothing answers readers' "$(status $readers/public/fonds)" 000
-    rm /etc/record-office/*.pem /etc/nginx/sites-available/record-office-tls
-    is 'purge' env DEBIAN_FRONTEND=noninteractive dpkg --purge record-office
-    is 'the office stays' test -s "$office"
+    rm /etc/record-office/*.pem /etc/record-office/our-common.conf /etc/nginx/sites-available/record-office-tls
+    is 'purge' dpkg --purge record-office
+    is 'the office and its copies stay' test -s "$office" -a -s "$copies/office-$today.db"
     is 'nothing else stays' test ! -e /etc/record-office -a ! -e /usr/share/record-office -a ! -e /etc/nginx/sites-available/record-office
     is 'nginx still goes on' nginx -t -q
-    rm -rf /var/lib/record-office
+    rm -rf /var/lib/record-office $copies
     echo 'to the end'
 }
 
-"$1"
+"$@"

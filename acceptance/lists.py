@@ -1,0 +1,199 @@
+#!/usr/bin/env python3
+"""The lists for the staff, over an office that the program made, with titles and names that try to be markup or formulas:
+
+    acceptance/lists.py PROGRAM [FOLDER]
+
+The lists stay in FOLDER, if one is given. Which orders no run can fetch is compared with what runs of the program leave.
+The last line is `N passed, M failed`.
+"""
+
+import csv
+import html.parser
+import json
+import pathlib
+import subprocess
+import sys
+import tempfile
+
+TOP = pathlib.Path(__file__).resolve().parent.parent
+LISTS = TOP / "packaging" / "lists"
+SETTINGS = "--country GB --repo 0999 --seats 12 --daily 8 --hands 2 --run 20 --day 2024-03-01".split()
+COLUMNS = "legacyId,parentId,identifier,title,levelOfDescription,publicationStatus,physicalObjectName,physicalObjectLocation\n"
+MARKUP = "</td></table><script>alert(1)</script>&amp;"
+FORMULA = "=HYPERLINK('http://example.org')"
+FIRST = COLUMNS + f"""1,,A,{MARKUP},Fonds,Published,,
+2,1,1,{MARKUP},Series,Draft,Box 1,Room 1
+3,1,2,{FORMULA},Series,Published,Box 2,Room 1
+4,1,3,Maps,Series,Published,Box 3,Room 1
+5,4,1,A map,Item,Published,,
+6,1,4,Deeds,Series,Published,Box 4,Room 1
+7,1,5,Letters,Series,Published,Box 5,Room 1
+8,1,6,Closed for long,Series,Published,Box 6,Room 1
+"""
+MOVED = COLUMNS + "6,1,4,Deeds,Series,Published,Box 4,Room 9\n"
+OTHER = COLUMNS + "1,,B,Other archive,Fonds,Published,Box 5,Room 1\n"
+NEWEST = COLUMNS + "1,,A,x,Fonds,Published,,\n2,1,1,x,Series,Draft,Box 1,Room 1\n3,1,2,x,Series,Published,NULL|Box 2,|Room 1\n"
+COMMANDS = [
+    ("register", {"name": "<i>Ann</i>", "until": "2030-12-31"}, 200),
+    ("register", {"name": "+Ben", "until": "2030-12-31"}, 200),
+    ("orders", {"ticket": 1, "container": 2}, 200),
+    ("orders", {"ticket": 2, "container": 2}, 200),
+    ("orders", {"ticket": 1, "container": 3}, 200),
+    ("orders", {"ticket": 1, "container": 4}, 200),
+    ("orders", {"ticket": 1, "container": 5}, 200),
+    ("orders", {"ticket": 2, "container": 6}, 200),
+    ("cancel", {"order": 6}, 200),
+    ("closure", {"unit": 3, "until": "2024-04-01"}, 200),
+    ("closure", {"unit": 8, "until": "2030-01-01"}, 200),
+    ("permit", {"ticket": 2, "unit": 3, "until": "2024-03-20"}, 200),
+    ("status", {"unit": 5, "status": "draft", "branch": False}, 200),
+    ("import/a", MOVED, 200),
+    ("import/b", OTHER, 200),
+    ("seat", {"ticket": 1}, 200),
+    ("run", "", 200),
+    ("run", "", 409),
+    ("issue", {"ticket": 1, "container": 5}, 200),
+    ("return", {"container": 5}, 200),
+    ("reshelve", "", 200),
+    ("run", "", 409),
+]
+
+
+class Checks:
+    def __init__(self):
+        self.passed = self.failed = 0
+
+    def same(self, what, found, wanted):
+        if found == wanted:
+            self.passed += 1
+        else:
+            self.failed += 1
+            print(f"{what}: {found!r} is not {wanted!r}")
+
+
+class Shown(html.parser.HTMLParser):
+    """The cells of a page's body, row by row, and the names of its elements."""
+
+    def __init__(self, text):
+        super().__init__()
+        self.rows, self.elements = [], set()
+        self.feed(text)
+
+    def handle_starttag(self, name, _):
+        self.elements.add(name)
+        if name == "tr":
+            self.rows.append([])
+        elif name in ("td", "th"):
+            self.rows[-1].append("")
+
+    def handle_data(self, text):
+        if self.rows and self.rows[-1]:
+            self.rows[-1][-1] += text.strip("\n")
+
+
+def request(path, body):
+    body = (body if isinstance(body, str) else json.dumps(body)).encode()
+    path = "/public/orders" if path == "orders" else f"/desk/{path}"
+    return b"POST %s HTTP/1.1\r\nHost: x\r\nContent-Length: %d\r\n\r\n%s" % (path.encode(), len(body), body)
+
+
+def make_office(program, folder, checks):
+    """An office in which each list has something, and its copy."""
+    store = folder / "office.db"
+    subprocess.run([program, "init", "--store", store, *SETTINGS], check=True)
+    messages = b"".join(request(path, body) for path, body, _ in [("import/a", FIRST, 200), *COMMANDS])
+    told = subprocess.run([program, "talk", "--store", store], input=messages, capture_output=True, check=True).stdout.decode()
+    statuses = [int(part[:3]) for part in told.split("HTTP/1.1 ")[1:]]
+    checks.same("the answers of the session", statuses, [200] + [status for _, _, status in COMMANDS])
+    subprocess.run([program, "check", "--store", store], check=True, capture_output=True)
+    return store
+
+
+def make_lists(copy, folder, *words):
+    command = [LISTS / "record-office-lists", copy, folder, "--sql", LISTS / "lists.sql", *words]
+    subprocess.run(command, check=True, capture_output=True)
+
+
+def rows_of(path):
+    with path.open(encoding="utf-8-sig", newline="") as lines:
+        return list(csv.DictReader(lines))
+
+
+def told(folder, name, *columns):
+    """Some columns of a list's CSV file."""
+    return [tuple(row[column] for column in columns) for row in rows_of(folder / f"{name}.csv")]
+
+
+def check_lists(checks, folder, waiting):
+    """Each list against what was done above."""
+    checks.same("drafts", told(folder, "drafts", "Unit", "Source", "legacyId", "Title", "Code"),
+                [("2", "a", "2", MARKUP, "GB 0999 A/1"), ("5", "a", "5", "A map", "GB 0999 A/3/1")])
+    checks.same("closures that end soon", told(folder, "closures", "Opens on", "Unit", "Title"),
+                [("2024-04-01", "3", f"'{FORMULA}")])
+    checks.same("permits that end soon", told(folder, "permits", "Last day", "Ticket", "Reader", "Unit", "Closed until"),
+                [("2024-03-20", "2", "'+Ben", "3", "2024-04-01")])
+    columns = ("Order", "Reader", "Why", "Containers of the same name")
+    checks.same("orders that no run can fetch", told(folder, "waiting", *columns), [
+        ("1", "<i>Ann</i>", "unit 3 in it is closed until 2024-04-01, and the reader has no permit", ""),
+        ("2", "'+Ben", "order 1 is before it and cannot be fetched", ""),
+        ("3", "<i>Ann</i>", "unit 5 in it is a draft, or below one", ""),
+        ("4", "<i>Ann</i>", "no unit names this container any more", "7"),
+    ])
+    checks.same("and these are what the runs left", [int(order) for (order,) in told(folder, "waiting", "Order")], waiting)
+    checks.same("boxes that archives share", told(folder, "shared", "Container", "Name", "Archive", "Unit"),
+                [("5", "Box 5", "GB 0999 A", "1"), ("5", "Box 5", "GB 0999 B", "9")])
+    checks.same("who had a box", told(folder, "readers", "Container", "Order", "Ordered on", "Reader", "State"),
+                [("5", "5", "2024-03-01", "<i>Ann</i>", "returned")])
+    checks.same("figures by month", told(folder, "months", "Month", "Tickets", "Orders", "Cancelled", "Productions"),
+                [("2024-03", "2", "6", "1", "1")])
+    checks.same("figures by archive", told(folder, "archives", "Archive", "Tickets", "Orders", "Cancelled", "Productions"),
+                [("", "1", "1", "0", "0"), ("GB 0999 A", "2", "5", "1", "1"), ("GB 0999 B", "1", "1", "0", "1")])
+    checks.same("units that the file does not name", told(folder, "units-without-row-a", "legacyId"),
+                [("4",), ("5",), ("6",), ("7",), ("8",)])
+    checks.same("boxes that it does not name", told(folder, "boxes-without-row-a", "Name", "Location"),
+                [("Box 3", "Room 1"), ("Box 5", "Room 1"), ("Box 6", "Room 1"), ("Box 4", "Room 9")])
+
+
+def check_pages(checks, folder):
+    """Each page shows the rows of its CSV file as text, and has no element but its own."""
+    own = set("html head meta title link body main h1 p a table thead tbody tr th td ul li".split())
+    for page in sorted(folder.glob("*.html")):
+        shown = Shown(page.read_text(encoding="utf-8"))
+        checks.same(f"other elements of {page.name}", shown.elements - own, set())
+        if page.name != "index.html":
+            rows = [list(row.values()) for row in rows_of(page.with_suffix(".csv"))]
+            marked = [[cell.removeprefix("'") if cell[1:2] in ("=", "+") else cell for cell in row] for row in rows]
+            checks.same(f"the rows of {page.name}", shown.rows[1:], marked)
+        checks.same(f"{page.name} says as of when", "As of the copy of " in page.read_text(encoding="utf-8"), True)
+        named = page.stem in ("permits", "waiting", "readers")
+        has_names = any(name in page.read_text(encoding="utf-8") for name in ("&lt;i&gt;Ann", "+Ben"))
+        checks.same(f"{page.name} has readers' names", has_names, named)
+
+
+def waiting_orders(program, store):
+    """The orders that still wait, as the program tells them."""
+    messages = b"".join(b"GET /desk/queue/%d HTTP/1.1\r\nHost: x\r\n\r\n" % container for container in range(1, 8))
+    told = subprocess.run([program, "talk", "--store", store], input=messages, capture_output=True, check=True).stdout.decode()
+    queues = [json.loads(part.split("HTTP/1.1")[0]) for part in told.split("\r\n\r\n")[1:]]
+    return sorted(line["order"] for queue in queues for line in queue["waiting"])
+
+
+def main(program, folder=None):
+    checks = Checks()
+    memory = pathlib.Path("/dev/shm")  # where no sync waits for a disk
+    with tempfile.TemporaryDirectory(dir=memory if memory.is_dir() else None) as room:
+        room = pathlib.Path(room)
+        folder = pathlib.Path(folder or room / "lists")
+        folder.mkdir(parents=True, exist_ok=True)
+        store = make_office(pathlib.Path(program).resolve(), room, checks)
+        (room / "newest.csv").write_text(NEWEST)
+        make_lists(store, folder, "--source", "a", "--file", room / "newest.csv")
+        make_lists(store, folder)
+        check_lists(checks, folder, waiting_orders(pathlib.Path(program).resolve(), store))
+        check_pages(checks, folder)
+    print(f"{checks.passed} passed, {checks.failed} failed")
+    return 1 if checks.failed else 0
+
+
+if __name__ == "__main__":
+    sys.exit(main(*sys.argv[1:]))

@@ -1,0 +1,163 @@
+-- The lists for the staff. record-office-lists runs each SELECT over a copy of the office, and makes a page and a CSV file.
+--
+-- Before a SELECT stand its name, its title, and what is said above it. Its columns are named as the page shows them. Names of
+-- readers stand only in lists that are for finding a reader. To change a list, or to add one, change a copy of this file.
+--
+-- The tables of the office are: unit (draft is 0 or 1; it is closed while `until` is after today), element (k is 1 for the
+-- identifier and 2 for the title), container, housing (which unit names which container), reader, permit, orders (state is 1:
+-- waits, 2: out, 3: done, 4: cancelled), run, run_line, and office (its day). Days count from 1970-01-01.
+--
+-- record-office-lists adds two tables: place has, for each unit, its `number` in the order of the catalogue, its `archive` (the
+-- unit at the top), its reference `code`, whether it or a unit above it is a draft, until when it or a unit above it is closed
+-- (0: open), and its `home`, the unit whose containers it lies in; above has each unit with itself and all units above it.
+-- The function day() writes a day as a date, and title() finds the title of a unit.
+
+-- list: drafts
+-- title: Drafts
+-- about: Units that the public does not see. What is below a draft is not shown either, and is not in this list unless it
+--     is a draft itself.
+SELECT unit.id AS "Unit", unit.source AS "Source", unit.legacy AS "legacyId", place.code AS "Code", unit.level AS "Level",
+    title(unit.id) AS "Title", title(place.archive) AS "Archive"
+FROM unit JOIN place ON place.unit = unit.id
+WHERE unit.draft = 1
+ORDER BY place.number;
+
+-- list: closures
+-- title: Closures that end soon
+-- about: Units that open by themselves within 90 days after the office's day. A unit stays closed while one above it is
+--     closed.
+SELECT day(unit.until) AS "Opens on", unit.id AS "Unit", place.code AS "Code", unit.level AS "Level", title(unit.id) AS "Title",
+    CASE WHEN place.closed > unit.until THEN day(place.closed) ELSE '' END AS "One above is closed until"
+FROM unit JOIN place ON place.unit = unit.id, office
+WHERE unit.until > office.day AND unit.until <= office.day + 90
+ORDER BY unit.until, place.number;
+
+-- list: permits
+-- title: Permits that end soon, with readers' names
+-- about: Permits for closed units whose last day is within 30 days from the office's day.
+SELECT day(permit.until) AS "Last day", permit.ticket AS "Ticket", reader.name AS "Reader", permit.unit AS "Unit",
+    place.code AS "Code", title(permit.unit) AS "Title", day(place.closed) AS "Closed until"
+FROM permit JOIN reader USING (ticket) JOIN place USING (unit), office
+WHERE permit.until BETWEEN office.day AND office.day + 30 AND place.closed > office.day
+ORDER BY permit.until, permit.ticket, place.number;
+
+-- list: waiting
+-- title: Orders that no run can fetch, with readers' names
+-- about: They wait until the reason ends. If the location of a box was changed by a file, the box has a new number: cancel
+--     the order, and place it again.
+WITH waiting AS (SELECT * FROM orders WHERE state = 1),
+contents AS (
+    SELECT waiting.id AS order_id, waiting.ticket, place.unit, place.draft, place.closed
+    FROM waiting JOIN housing USING (container) JOIN place ON place.home = housing.unit
+),
+reason AS (
+    SELECT id AS order_id, 0 AS rank, 'no unit names this container any more' AS text FROM waiting
+    WHERE NOT EXISTS (SELECT 1 FROM housing WHERE housing.container = waiting.container)
+    UNION ALL
+    SELECT order_id, 1, 'unit ' || unit || ' in it is a draft, or below one' FROM contents WHERE draft
+    UNION ALL
+    SELECT order_id, 2, 'unit ' || unit || ' in it is closed until ' || day(closed) || ', and the reader has no permit'
+    FROM contents, office
+    WHERE closed > day AND NOT EXISTS (
+        SELECT 1 FROM above JOIN permit ON permit.unit = above.higher
+        WHERE above.unit = contents.unit AND permit.ticket = contents.ticket AND permit.until >= day)
+),
+not_open AS (SELECT order_id, min(rank), text FROM reason GROUP BY order_id),
+behind AS (
+    SELECT later.id AS order_id, 'order ' || waiting.id || ' is before it and cannot be fetched' AS text
+    FROM waiting JOIN not_open ON order_id = waiting.id
+    JOIN waiting AS later ON later.container = waiting.container AND later.id > waiting.id
+    WHERE later.id NOT IN (SELECT order_id FROM not_open)
+    GROUP BY later.id
+)
+SELECT waiting.id AS "Order", day(waiting.day) AS "Ordered on", waiting.ticket AS "Ticket", reader.name AS "Reader",
+    container.id AS "Container", container.name AS "Name", container.location AS "Location", found.text AS "Why",
+    (SELECT group_concat(other.id) FROM container AS other
+        WHERE other.name = container.name AND other.id <> container.id
+        AND EXISTS (SELECT 1 FROM housing WHERE housing.container = other.id)) AS "Containers of the same name"
+FROM waiting
+JOIN (SELECT order_id, text FROM not_open UNION ALL SELECT order_id, text FROM behind) AS found ON order_id = waiting.id
+JOIN reader USING (ticket) JOIN container ON container.id = waiting.container
+ORDER BY waiting.id;
+
+-- list: shared
+-- title: Boxes that several archives share
+-- about: A container is known by its name, location and kind. If units of two archives name the same ones, it is one
+--     container: closing a unit of one archive withholds it from readers of the other.
+WITH named AS (SELECT DISTINCT housing.container, place.archive FROM housing JOIN place USING (unit))
+SELECT container.id AS "Container", container.name AS "Name", container.location AS "Location", container.kind AS "Kind",
+    place.code AS "Archive", title(named.archive) AS "Title", named.archive AS "Unit"
+FROM container JOIN named ON named.container = container.id JOIN place ON place.unit = named.archive
+WHERE (SELECT count(*) FROM named AS other WHERE other.container = container.id) > 1
+ORDER BY container.id, place.number;
+
+-- list: readers
+-- title: Who had a box, with readers' names
+-- about: Each order whose container was given out, the newest first. The page shows 1,000; the CSV file has all.
+SELECT container.id AS "Container", container.name AS "Name", container.location AS "Location", orders.id AS "Order",
+    day(orders.day) AS "Ordered on", orders.ticket AS "Ticket", reader.name AS "Reader",
+    CASE orders.state WHEN 2 THEN 'out' ELSE 'returned' END AS "State"
+FROM orders JOIN container ON container.id = orders.container JOIN reader USING (ticket)
+WHERE orders.state IN (2, 3)
+ORDER BY orders.id DESC;
+
+-- list: months
+-- title: Figures by month
+-- about: Tickets that ordered, orders that were placed (and of these, how many were cancelled), and productions: containers
+--     that runs fetched, in the month of the run.
+WITH placed AS (
+    SELECT substr(day(day), 1, 7) AS month, count(DISTINCT ticket) AS tickets, count(*) AS many, sum(state = 4) AS cancelled
+    FROM orders GROUP BY month
+),
+fetched AS (
+    SELECT substr(day(run.day), 1, 7) AS month, count(*) AS many FROM run_line JOIN run ON run.id = run_line.run GROUP BY month
+)
+SELECT month AS "Month", coalesce(tickets, 0) AS "Tickets", coalesce(placed.many, 0) AS "Orders",
+    coalesce(cancelled, 0) AS "Cancelled", coalesce(fetched.many, 0) AS "Productions"
+FROM (SELECT month FROM placed UNION SELECT month FROM fetched) LEFT JOIN placed USING (month) LEFT JOIN fetched USING (month)
+ORDER BY month DESC;
+
+-- list: archives
+-- title: Figures by month and archive
+-- about: As in the figures by month. A container counts for each archive whose units name it now, so the sum may be
+--     greater; containers that no unit names any more stand without an archive.
+WITH archives AS (
+    SELECT DISTINCT container.id AS container, place.archive
+    FROM container LEFT JOIN housing ON housing.container = container.id LEFT JOIN place USING (unit)
+),
+event AS (
+    SELECT substr(day(day), 1, 7) AS month, container, ticket, 1 AS placed, state = 4 AS cancelled, 0 AS fetched FROM orders
+    UNION ALL
+    SELECT substr(day(run.day), 1, 7), container, NULL, 0, 0, 1 FROM run_line JOIN run ON run.id = run_line.run
+)
+SELECT month AS "Month", coalesce(place.code, '') AS "Archive", coalesce(title(archives.archive), '') AS "Title",
+    count(DISTINCT ticket) AS "Tickets", sum(placed) AS "Orders", sum(cancelled) AS "Cancelled", sum(fetched) AS "Productions"
+FROM event JOIN archives USING (container) LEFT JOIN place ON place.unit = archives.archive
+GROUP BY month, archives.archive
+ORDER BY month DESC, place.number;
+
+-- The lists from here on need a file of a source: record-office-lists --source SOURCE --file FILE. The tables row_of_file
+-- (legacy) and box_of_file (name, location, kind) have what the file names, and source has the name of the source.
+
+-- list: units-without-row
+-- title: Units of a source that its file does not name
+-- about: An import removes nothing. Remove these units at the desk if they are no longer held.
+-- needs: file
+SELECT unit.id AS "Unit", unit.legacy AS "legacyId", place.code AS "Code", unit.level AS "Level", title(unit.id) AS "Title",
+    CASE unit.draft WHEN 1 THEN 'draft' ELSE 'published' END AS "Status"
+FROM unit JOIN place ON place.unit = unit.id, source
+WHERE unit.source = source.name AND unit.legacy NOT IN (SELECT legacy FROM row_of_file)
+ORDER BY place.number;
+
+-- list: boxes-without-row
+-- title: Boxes of a source that its file does not name
+-- about: Containers that units of this source name in the office, and that no row of the file names.
+-- needs: file
+SELECT container.id AS "Container", container.name AS "Name", container.location AS "Location", container.kind AS "Kind",
+    group_concat(unit.id, ' ') AS "Units"
+FROM container JOIN housing ON housing.container = container.id JOIN unit ON unit.id = housing.unit, source
+WHERE unit.source = source.name
+    AND NOT EXISTS (SELECT 1 FROM box_of_file AS box
+        WHERE box.name = container.name AND box.location = container.location AND box.kind = container.kind)
+GROUP BY container.id
+ORDER BY container.id;
