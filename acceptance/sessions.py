@@ -378,7 +378,7 @@ def is_held(program, session):
     place = 0
     for path, body, _, wanted in session.said:
         if done.stdout[place : place + len(wanted)] != wanted:
-            print(f"WRONG session {session.seed}, {path} {body!r}: {done.stdout[place:place + 400]}, wanted {wanted}")
+            print(f"WRONG session {session.seed}, {path} {body!r}: {done.returncode}, {done.stdout[place:place + 400]}, wanted {wanted}")
             return False
         place += len(wanted)
     return (done.returncode, done.stderr, len(done.stdout)) == (0, b"", place)
