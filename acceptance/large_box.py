@@ -151,11 +151,15 @@ def permits():
     yield 0, "reshelve", {}
 
 
+class Unlike(Exception):
+    """A command did not end as the day says."""
+
+
 class Day:
     """The requests of the day, with the answers of a plain office."""
 
-    def __init__(self):
-        self.office, self.said, self.wanted = plain.Office(**SETTINGS), [], []
+    def __init__(self, office):
+        self.office, self.said, self.wanted = office, [], []
         for code, word, members in (*morning(), *changes(), *permits()):
             self.command(code, word, members)
             self.question("/desk/issued")
@@ -167,7 +171,7 @@ class Day:
         body = members if isinstance(members, str) else plain.as_json(members)
         status, told = self.office.post(path, body.encode())
         if told.get("code", 0) != code:
-            sys.exit(f"WRONG a plain office answers {path} {body[:100]} with {told}, not with refusal {code}")
+            raise Unlike(f"{path} {body[:100]}: {told}, wanted refusal {code}")
         self.keep(days.post(path, body.encode()), status, told)
 
     def question(self, path):
@@ -189,7 +193,7 @@ def first_wrong(day, printed):
 
 
 def main(program, room):
-    day, store = Day(), str(Path(room) / "large_box.db")
+    day, store = Day(plain.Office(**SETTINGS)), str(Path(room) / "large_box.db")
     begun = time.monotonic()
     try:
         subprocess.run([program, "init", "--store", store, *days.options(SETTINGS)], check=True, timeout=SECONDS)

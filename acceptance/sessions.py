@@ -378,7 +378,8 @@ def is_held(program, session):
     place = 0
     for path, body, _, wanted in session.said:
         if done.stdout[place : place + len(wanted)] != wanted:
-            print(f"WRONG session {session.seed}, {path} {body!r}: {done.stdout[place:place + 400]}, wanted {wanted}")
+            told = done.stdout[place : place + 400]
+            print(f"WRONG session {session.seed}, {path} {body!r}: {done.returncode}, {told}, wanted {wanted}")
             return False
         place += len(wanted)
     return (done.returncode, done.stderr, len(done.stdout)) == (0, b"", place)

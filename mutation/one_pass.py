@@ -3,16 +3,17 @@
 
 Makes the sessions of acceptance/boxes.py for COUNT seeds (100) from FIRST (0) on, by the plain office, and replays each with an
 office that is quicker. It reads the units that name a box in walk order, and keeps of the path of each what also lies above the
-next; and its gate asks only for the boxes whose contents a change can withhold. Without a fault it must answer all sessions,
-and with each of FAULTS at least one wrongly. The script prints how many seeds find each fault, and the first of them. It ends
-with 1 if a fault is not found. After a change of what a seed makes, look again for the seeds that boxes.py keeps. CI does not
-run this script: it takes some minutes."""
+next; and its gate asks only for the boxes whose contents a change can withhold. Without a fault it must answer all sessions and
+the day of acceptance/large_box.py, and with each of FAULTS at least one session and the day wrongly. The script prints how many
+seeds find each fault, and the first of them. It ends with 1 if a fault is not found. After a change of what a seed makes, look
+again for the seeds that boxes.py keeps. CI does not run this script: it takes a quarter of an hour."""
 import sys
 from pathlib import Path
 
 ROOT = Path(__file__).resolve().parents[1]
 sys.path[:0] = [str(ROOT / "acceptance")]
 import boxes  # noqa: E402
+import large_box  # noqa: E402
 import plain  # noqa: E402
 from plain.refusals import refuse  # noqa: E402
 
@@ -132,15 +133,28 @@ def is_answered(session, fault):
     return True
 
 
+def is_day_answered(right, fault):
+    """Whether an office with this fault answers the day around a large box as it should."""
+    office = Quick(**large_box.SETTINGS)
+    office.fault = fault
+    try:
+        return large_box.Day(office).wanted == right.wanted
+    except large_box.Unlike:
+        return False
+
+
 def main(first=0, number=100):
     made = [boxes.BoxSession(seed) for seed in range(int(first), int(first) + int(number))]
+    day = large_box.Day(plain.Office(**large_box.SETTINGS))
     wrong = [session.seed for session in made if not is_answered(session, None)]
-    print(f"without a fault {len(made) - len(wrong)} of {len(made)} sessions are answered; wrong: {wrong}")
+    wrong += [] if is_day_answered(day, None) else ["the day"]
+    print(f"without a fault, of {len(made)} sessions and the day these are answered wrongly: {wrong}")
     missed = []
     for fault in FAULTS:
         seeds = [session.seed for session in made if not is_answered(session, fault)]
-        print(f"{fault}: {len(seeds)} seeds, {seeds[:12]}", flush=True)
-        missed += [] if seeds else [fault]
+        passed = is_day_answered(day, fault)
+        print(f"{fault}: {'not by the day, ' if passed else ''}{len(seeds)} seeds, {seeds[:12]}", flush=True)
+        missed += [fault] if passed or not seeds else []
     return bool(wrong or missed)
 
 
