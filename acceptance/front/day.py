@@ -36,9 +36,9 @@ class Day:
         self.shot(page, "desk-import-refused")
         archives = (catalogue_file("archives.csv")).read_text()
         self.takes_in("archives.csv", archives, "archives")
-        page.see("archives.csv was taken in from the source archives.")
+        page.see("archives.csv was imported from the source archives.")
         self.takes_in("dock.csv", "".join(catalogue.dock_company()), "catalogue")
-        page.see("dock.csv was taken in from the source catalogue.")
+        page.see("dock.csv was imported from the source catalogue.")
         rows = str(len(ODD) + 10)
         self.checks.same("the counts of an import", page.text(".outcome tbody").split("\t"), [rows, "0", "0", "0"])
         self.checks.check("remarks in words", self.remarks(page), page.text(".outcome"))
@@ -63,7 +63,7 @@ class Day:
         page.wait("document.querySelector('.seen-in-file .note, .seen-in-file table')")
         if page.js("document.querySelector('#confirmed') !== null"):
             page.choose("Take it in all the same")
-        page.press("Take the file in")
+        page.press("Import the file")
 
     # Readers
 

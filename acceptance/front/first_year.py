@@ -74,7 +74,7 @@ class FirstYear:
             page = self.chosen("file.csv", file.data)
             for told in file.advice.values():
                 page.see(told, ".seen-in-file .note.refused")
-            page.press("Take the file in")
+            page.press("Import the file")
             page.see("The file was not sent: the office would refuse it.", ".outcome")
         self.shot(page, "desk-import-stopped")
         self.checks.same("nothing of bad files came to the office", self.asks.get("/public/units/200")[0], 404)
@@ -86,7 +86,7 @@ class FirstYear:
         page = self.chosen("few.csv", EMPTYING)
         page.see("will be emptied", ".seen-in-file")
         page.see("Scope and content (scopeAndContent)", ".seen-in-file")
-        page.press("Take the file in")
+        page.press("Import the file")
         page.see("The file was not sent.", ".outcome")
         self.checks.same("the box to tick has the focus", page.js("document.activeElement.id"), "confirmed")
         self.shot(page, "desk-import-emptying")
@@ -116,7 +116,7 @@ class FirstYear:
             ["4", "4", "2", "0", "1", "0"],
         )
         page.fill("Source", "port")
-        page.press("Take the file in")
+        page.press("Import the file")
         page.see("2 new units are drafts.", ".outcome")
         self.shot(page, "desk-import-drafts")
         told = page.js(
@@ -136,7 +136,7 @@ class FirstYear:
         self.asks.done("/desk/remove", unit=top + 3)
         page = self.chosen("port.csv", files.whole(*rows, files.unit("5", "1", "Maps", publicationStatus="Draft")).encode())
         page.fill("Source", "port")
-        page.press("Take the file in")
+        page.press("Import the file")
         page.see("1 new unit is a draft.", ".outcome")
         cells = page.js("[...document.querySelector('.drafts tbody tr').cells].slice(0, 3).map((cell) => cell.innerText)")
         self.checks.same("a draft among known rows", cells, [f"unit {top + 5}", "", "not shown to the public"])

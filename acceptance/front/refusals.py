@@ -128,9 +128,9 @@ class Refusals:
         self.page.file(self.folder / "bad.csv")
         self.page.see("In 1 row, the parent is not in this file")
         self.page.choose("Take it in all the same")
-        self.page.press("Take the file in")
+        self.page.press("Import the file")
         self.page.see("nothing of it was used")
-        self.sees(22, ("The file was not taken in, and nothing of it was used. Row 3 (3 in the spreadsheet), legacyId 2", RULES["causes"]["11"][1]), ".outcome .note.refused")
+        self.sees(22, ("The file was not imported, and nothing of it was used. Row 3 (3 in the spreadsheet), legacyId 2", RULES["causes"]["11"][1]), ".outcome .note.refused")
 
     def rest(self):
         self.meets(18, "/", "Open a new day", {"The new day": "2024-03-01"}, "Open the day")

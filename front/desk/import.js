@@ -29,9 +29,9 @@ const BESIDE = [
 export function importPage() {
   return { title: 'Import', content: [
     el('h1', {}, 'Import'),
-    el('p', {}, 'Takes in a CSV file of archival descriptions as AtoM exports it.'),
+    el('p', {}, 'Imports a CSV file of archival descriptions as AtoM exports it.'),
     el('div', { class: 'beside-form' },
-      card('Take in a file', importForm()),
+      card('Import a file', importForm()),
       card('Good to know', el('ul', { class: 'known' },
         BESIDE.map(([first, rest]) => el('li', {}, el('strong', {}, first), ` ${rest}`))))),
   ] };
@@ -51,7 +51,7 @@ function importForm() {
       }),
       file, reader.panel,
     ],
-    button: 'Take the file in',
+    button: 'Import the file',
     before: (values) => reader.objection(values.file),
     send: (values) => send(values, reader),
     done: (value, values) => report(value, values, reader),
@@ -73,7 +73,7 @@ async function send({ source, file }, reader) {
 
 function report(value, { source, file }, reader) {
   return [
-    el('p', {}, el('strong', {}, el('bdi', {}, file.name), ` was taken in from the source ${source}.`)),
+    el('p', {}, el('strong', {}, el('bdi', {}, file.name), ` was imported from the source ${source}.`)),
     table('Rows', ['New units', 'Changed', 'Unchanged', 'Translations, passed over'],
       [[value.new, value.changed, value.same, value.translations].map(String)]),
     newDrafts(value.new, reader),
@@ -84,7 +84,7 @@ function report(value, { source, file }, reader) {
 function remarks(list) {
   if (list.length === 0) return el('p', {}, 'There is nothing to look at.');
   return [
-    el('p', {}, el('strong', {}, 'Please look at these rows. '), 'They were taken in all the same.'),
+    el('p', {}, el('strong', {}, 'Please look at these rows. '), 'They were imported all the same.'),
     el('ul', { class: 'remarks' }, list.slice(0, SHOWN).map(({ kind, row }) => el('li', {}, `Row ${row}: ${remarkWords(kind)}.`))),
     list.length > SHOWN ? el('p', {}, `And ${list.length - SHOWN} more.`) : null,
   ];

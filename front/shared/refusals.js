@@ -33,7 +33,7 @@ export const DESK = {
   20: ['A unit cannot be put below itself or below one of its own lower units.', 'Choose a unit outside its branch.'],
   21: ['A reader has a container in hand that this would close to that reader.',
     'Take the container back first, then do this again.'],
-  22: ['The file was not taken in, and nothing of it was used.', 'Correct the file at this place and take it in again.'],
+  22: ['The file was not imported, and nothing of it was used.', 'Correct the file at this place and import it again.'],
   23: ['The office has reached one of its limits.', 'Tell whoever runs the office: the limits stand in its manual.'],
   24: ['There is nothing to move.', 'There is nothing to do now.'],
   25: ['A unit would then lie deeper than 64 levels.', 'Choose a unit higher up.'],
@@ -54,7 +54,7 @@ const AFTER = {
   permit: { 23: ['The reader has 100 permits, which is the most that a ticket may have. Expired ones count too.',
     'Take a permit away on the reader’s card first.'] },
   import: { 23: ['The office would have more than 200,000 units or 100,000 containers.',
-    'Nothing was taken in. Remove units that are no longer needed, or tell whoever runs the office.'] },
+    'Nothing was imported. Remove units that are no longer needed, or tell whoever runs the office.'] },
 };
 
 const READER = {
