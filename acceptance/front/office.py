@@ -189,8 +189,8 @@ class Office:
     @contextlib.contextmanager
     def without_queue(self):
         """A context in which the queue before the program is away."""
-        self.queue.terminate()
-        self.queue.wait(20)
+        self.haproxy.terminate()
+        self.haproxy.wait(20)
         try:
             yield
         finally:
@@ -198,7 +198,7 @@ class Office:
             self.wait_for(self.public + "/public/fonds")
 
     def _begin_queue(self):
-        self.queue = self._run("haproxy", "-f", "haproxy.cfg")
+        self.haproxy = self._run("haproxy", "-f", "haproxy.cfg")
 
     def _run(self, *words):
         log = open(self.folder / f"{words[0]}.told", "w")
