@@ -310,7 +310,7 @@ def states(checks, office):
         status, body = patient(office, "q=dock")
         checks.check("while the office is away", json.loads(body)["state"] in ("late", "unreached") and time.time() - begun < 12, (status, body))
     office.kill_search()
-    checks.same("without the service", patient(office, "q=dock")[0], 502)
+    checks.same("without the service", patient(office, "q=dock")[0], 503)
     checks.check("the pages are as they were", b"[Fonds]" in office.wait_for(office.public + "/public/fonds"))
 
 
