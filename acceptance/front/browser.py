@@ -84,6 +84,7 @@ class Page:
         self.browser, self.session, self.opened = browser, session, 0
         for domain in ("Page", "Runtime", "Log", "Network"):
             self.call(f"{domain}.enable")
+        self.call("Emulation.setFocusEmulationEnabled", enabled=True)  # keys reach the page, whichever tab is in front
         if headers:
             self.call("Network.setExtraHTTPHeaders", headers=headers)
         self.size(1200, 850)

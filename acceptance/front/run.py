@@ -49,11 +49,14 @@ def pages(checks, office, browser, folder, shot):
     hall.open(office.public, "/help")
     checks.part("folding of words", foldings.play, checks, hall)
     checks.part("day: imports", day.imports)
+    # Chromium no longer sends keys to a tab in which a file was chosen once another tab was in front.
+    imports, desk = desk, browser.page(SIGNED_IN)
+    day.page = desk
     visit.play()
     day.play()
     FirstYear(checks, asks, desk, day, shot, folder).play()
     shapes.play(checks, visit, day, shot)
-    complaints(checks, (hall, desk))
+    complaints(checks, (hall, imports, desk))
 
 
 def looks_at_files(checks, office, browser):
