@@ -1,5 +1,5 @@
 -- A unit that is closed, or whose closure ends, by the rules and in the tables.
-use Rattle.std.proofs.Common.{◌≡◌, ℕ, ℤ, Bool, true, false, cond, [], ◌∷◌, Option, refl, ap}
+use Rattle.std.proofs.Common.{◌≡◌, ℕ, ℤ, Bool, true, false, cond, [], ◌∷◌, Option, None, refl, ap}
 use Rattle.std.specs.Prelude.{⊤}
 use Rattle.sqlite.specs.State as store
 use Rattle.sqlite.specs.State.{HasCleanDisk}
@@ -11,7 +11,7 @@ use Rattle.catalogue_core.specs.GoodCatalogues.{IsSomeDay}
 use Rattle.catalogue_core.specs.LegibleCatalogues.{IsLegibleCatalogue}
 use Rattle.catalogue_core.specs.CatalogueMerge.{Catalogue}
 use Rattle.catalogue_core.specs.Statuses.{with_closure}
-use Rattle.catalogue_core.specs.Units.{Unit, has_id}
+use Rattle.catalogue_core.specs.Units.{Unit, has_id, is_closed, is_later}
 use Rattle.catalogue_core.proofs.DistinctLists.{all_so}
 use Rattle.catalogue_core.proofs.GoodChanges.{each_good}
 use Rattle.catalogue_core.proofs.ImportedAgain.{all_each}
@@ -19,7 +19,7 @@ use Rattle.catalogue_core.proofs.KeptUnits.{closure_keeps}
 use Rattle.catalogue_core.proofs.LegibleMerges.{each_legible}
 use Rattle.catalogue_statements.specs.Representation.{Represents}
 use Rattle.catalogue_statements.specs.declared.office.OfficeRow.{OfficeRow}
-use Rattle.office_core.specs.Rules.{after}
+use Rattle.office_core.specs.Rules.{after, gate}
 use Rattle.office_core.specs.SoundOffice.{IsSoundOffice}
 use Rattle.office_core.specs.State.{State}
 use Rattle.office_core.specs.declared.command.Command.TheVariants as command
@@ -32,6 +32,7 @@ use Rattle.refinement.specs.Representation.{office_of}
 use Rattle.refinement.proofs.Changed.{shown_with}
 use Rattle.refinement.proofs.Judged.{distinct_ids, judged_with}
 use Rattle.refinement.proofs.OpenElsewhere.{none_left, others_open, stays_changed}
+use Rattle.refinement.proofs.OpenedUnits.{OnlyOpens, passes}
 use Rattle.refinement.proofs.Passing.{IsChange}
 
 module _ (u : ℕ) (until : Option ℤ) where
@@ -81,3 +82,23 @@ module _ (u : ℕ) (until : Option ℤ) where
       others_open s sound (each change f) u judged
       (stays_changed change u f (λ unit. same_id (has_id u unit) unit) (λ unit. same_boxes (has_id u unit) unit) (distinct_ids s.catalogue sound.sound.units) judged.units
       (all_so (λ (unit : Unit). has_id u unit ≡ false) (λ (unit : Unit). change unit ≡ unit) (λ unit other. ap (λ b. cond b (record unit { until = until }) unit) other) (nodes (cut (has_id u) f)) (none_left u f)))
+
+-- a closure that does not last beyond the day withholds nothing
+ended_opens : (u : ℕ) (until : Option ℤ) (day : ℤ) → is_later day until ≡ false → OnlyOpens day (change u until)
+ended_opens u until day past = record {
+  ids = λ unit. same_id u until (has_id u unit) unit;
+  boxes = λ unit. same_boxes u until (has_id u unit) unit;
+  published = λ unit is. published (has_id u unit) unit is;
+  unclosed = λ unit is. unclosed (has_id u unit) unit is;
+}
+  where
+    published : (b : Bool) (unit : Unit) → unit.draft ≡ false → (let new : Unit = cond b (record unit { until = until }) unit in new.draft) ≡ false
+    published true unit is = is
+    published false unit is = is
+
+    unclosed : (b : Bool) (unit : Unit) → is_closed day unit ≡ false → is_closed day (cond b (record unit { until = until }) unit) ≡ false
+    unclosed true unit is = past
+    unclosed false unit is = is
+
+pub ends : (u : ℕ) (until : Option ℤ) (s : State) → IsSoundOffice s → is_later s.day until ≡ false → gate (after s (command.SetClosure u until)) ≡ None
+ends u until s sound past = passes s sound (change u until) (ended_opens u until s.day past)

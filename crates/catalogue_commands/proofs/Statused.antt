@@ -1,5 +1,5 @@
 -- Units that become drafts or are published, by the rules and in the tables.
-use Rattle.std.proofs.Common.{◌≡◌, ℕ, ℤ, Bool, true, false, cond, List, [], ◌∷◌, length, inl, inr, refl, sym, ap, ◌∙◌, nat_eq}
+use Rattle.std.proofs.Common.{◌≡◌, ℕ, ℤ, Bool, true, false, cond, List, [], ◌∷◌, length, None, inl, inr, refl, sym, ap, ◌∙◌, nat_eq}
 use Rattle.std.specs.Prelude.{◌||◌, ⊤}
 use Rattle.std.specs.List.{AllByRecursion, list_any}
 use Rattle.std.proofs.lemmas.Bool.{cases_Bool, false≢true}
@@ -16,7 +16,7 @@ use Rattle.catalogue_core.specs.GoodCatalogues.{IsSomeDay}
 use Rattle.catalogue_core.specs.LegibleCatalogues.{IsLegibleCatalogue}
 use Rattle.catalogue_core.specs.CatalogueMerge.{Catalogue}
 use Rattle.catalogue_core.specs.Statuses.{chosen, chosen_units, is_chosen, with_status}
-use Rattle.catalogue_core.specs.Units.{Unit, has_id}
+use Rattle.catalogue_core.specs.Units.{Unit, has_id, is_closed}
 use Rattle.catalogue_core.proofs.DistinctLists.{all_so}
 use Rattle.catalogue_core.proofs.GoodChanges.{each_good}
 use Rattle.catalogue_core.proofs.ImportedAgain.{all_each}
@@ -25,7 +25,7 @@ use Rattle.catalogue_core.proofs.LegibleMerges.{each_legible}
 use Rattle.catalogue_core.proofs.UnitsAfter.{each_there}
 use Rattle.catalogue_statements.specs.Representation.{Represents}
 use Rattle.catalogue_statements.specs.declared.office.OfficeRow.{OfficeRow}
-use Rattle.office_core.specs.Rules.{after}
+use Rattle.office_core.specs.Rules.{after, gate}
 use Rattle.office_core.specs.SoundOffice.{IsSoundOffice}
 use Rattle.office_core.specs.State.{State}
 use Rattle.office_core.specs.declared.command.Command.TheVariants as command
@@ -38,6 +38,7 @@ use Rattle.refinement.specs.Representation.{office_of}
 use Rattle.refinement.proofs.Changed.{shown_with}
 use Rattle.refinement.proofs.Judged.{distinct_ids, judged_with}
 use Rattle.refinement.proofs.OpenElsewhere.{none_left, others_open, stays_changed}
+use Rattle.refinement.proofs.OpenedUnits.{OnlyOpens, passes}
 use Rattle.refinement.proofs.Passing.{IsChange}
 
 abbrev id_of : Unit → ℕ
@@ -113,3 +114,23 @@ module _ (u : ℕ) (draft whole : Bool) where
       others_open s sound (each (change ids) f) u judged
       (stays_changed (change ids) u f (λ unit. same_id (is_chosen ids unit) unit) (λ unit. same_boxes (is_chosen ids unit) unit) once judged.units
       (all_so (λ (unit : Unit). is_chosen ids unit ≡ false) (λ (unit : Unit). change ids unit ≡ unit) (λ unit other. ap (λ b. cond b (record unit { draft = draft }) unit) other) (nodes (cut (has_id u) f)) (not_chosen whole f once there)))
+
+-- what is published withholds nothing
+published_opens : (ids : List ℕ) (day : ℤ) (u : ℕ) (whole : Bool) → OnlyOpens day (change u false whole ids)
+published_opens ids day u whole = record {
+  ids = λ unit. same_id u false whole (is_chosen ids unit) unit;
+  boxes = λ unit. same_boxes u false whole (is_chosen ids unit) unit;
+  published = λ unit is. published (is_chosen ids unit) unit is;
+  unclosed = λ unit is. unclosed (is_chosen ids unit) unit is;
+}
+  where
+    published : (b : Bool) (unit : Unit) → unit.draft ≡ false → (let new : Unit = cond b (record unit { draft = false }) unit in new.draft) ≡ false
+    published true unit is = refl
+    published false unit is = is
+
+    unclosed : (b : Bool) (unit : Unit) → is_closed day unit ≡ false → is_closed day (cond b (record unit { draft = false }) unit) ≡ false
+    unclosed true unit is = is
+    unclosed false unit is = is
+
+pub publishes : (u : ℕ) (whole : Bool) (s : State) → IsSoundOffice s → gate (after s (command.SetStatus u false whole)) ≡ None
+publishes u whole s sound = passes s sound (change u false whole (chosen whole u s.catalogue)) (published_opens (chosen whole u s.catalogue) s.day u whole)

@@ -4,6 +4,7 @@ ghost use Rattle.std.specs.Prelude.{◌≡◌, true};
 ghost use Rattle.sqlite.specs.Held.{state};
 ghost use Rattle.isad_core.specs.Limits.{IsNumber};
 ghost use Rattle.catalogue_core.specs.UnitLookup.{has_unit};
+ghost use Rattle.catalogue_core.specs.Units.{is_later};
 ghost use Rattle.catalogue_core.specs.GoodCatalogues.{IsSomeDay};
 ghost use Rattle.office_core.specs.declared.command.Command.TheVariants as command;
 ghost use Rattle.office_tables.specs.Step.{InTransaction};
@@ -13,7 +14,7 @@ use catalogue_store::{Places, is_unit, set_closure};
 use isad_core::Day;
 use office_core::{Done, Refusal};
 use office_tables::StoreFault;
-use refinement::pass_near;
+use refinement::{is_closed, pass_near};
 use sqlite::{Alter, Connection};
 use std::alloc::Global;
 
@@ -27,21 +28,26 @@ fn is_of_calendar(until: Option<Day>)
 }
 
 /// Closes a unit that exists or ends its closure, or refuses if this would close a container to the
-/// reader who has it.
+/// reader who has it. A closure that is not in force today closes none.
 fn close_known<P: Places, S: Alter>(
     alloc: Global,
     conn: &mut Connection<S>,
     today: Day,
     unit: u64,
     until: Option<Day>,
+    is_in_force: bool,
 ) -> Result<Result<Done, Refusal>, StoreFault>
     requires inside { InTransaction P.version (state S.Store conn.old) }
     requires small { IsNumber unit }
     requires calendar { IsSomeDay until }
+    requires lasts { is_in_force ≡ is_later today until }
     ensures { CarriesOut P.represents P.version (λ s. (today ≡ s.day) × (has_unit s.catalogue.forest unit ≡ true))
         (command.SetClosure unit until) (state S.Store conn.old) (state S.Store conn.new) result }
 {
     set_closure::<P, S>(conn, unit, until)?;
+    if !is_in_force {
+        return Ok(Ok(Done::SetClosure { unit }));
+    }
     pass_near::<P, S>(alloc, conn, today, unit, Done::SetClosure { unit })
 }
 
@@ -63,5 +69,6 @@ pub fn change_closure<P: Places, S: Alter>(
         return Ok(Err(Refusal::UnknownUnit));
     }
     is_of_calendar(until);
-    close_known::<P, S>(alloc, conn, today, unit, until)
+    let is_in_force = is_closed(until, today);
+    close_known::<P, S>(alloc, conn, today, unit, until, is_in_force)
 }

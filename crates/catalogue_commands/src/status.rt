@@ -17,7 +17,7 @@ use sqlite::{Alter, Connection};
 use std::alloc::Global;
 
 /// Makes a unit that exists a draft or publishes it, alone or with all below it, or refuses if this would close a
-/// container to the reader who has it.
+/// container to the reader who has it. What is published closes none.
 fn set_known<P: Places, S: Alter>(
     alloc: Global,
     conn: &mut Connection<S>,
@@ -32,7 +32,11 @@ fn set_known<P: Places, S: Alter>(
         (command.SetStatus unit draft whole) (state S.Store conn.old) (state S.Store conn.new) result }
 {
     let units = set_status::<P, S>(alloc, conn, unit, draft, whole)?;
-    pass_near::<P, S>(alloc, conn, today, unit, Done::SetStatus { units })
+    let done = Done::SetStatus { units };
+    if !draft {
+        return Ok(Ok(done));
+    }
+    pass_near::<P, S>(alloc, conn, today, unit, done)
 }
 
 /// Makes a unit a draft, or publishes it, alone or with all below it. Refuses if there is no such unit, or if this

@@ -20,13 +20,14 @@ ghost use Rattle.public_queries.specs.PathValues.{coded_way, unit_values};
 
 use crate::head_lines::{bare, bare_units};
 use crate::page_lines::{print_closed, print_told};
-use crate::path_heads::{identifiers, is_closed, shows_last};
+use crate::path_heads::{identifiers, shows_last};
 use crate::path_values::coded;
 use catalogue_store::{Head, OfficeRow, Places, UnitValues, heads_below, path_heads, values};
 use isad_core::{List, Shown, Text};
 use office_core::{Answer, Refusal};
 use office_tables::StoreFault;
 use office_tables::value::NO_NUMBER;
+use refinement::is_closed;
 use sqlite::{Alter, Connection};
 use std::alloc::{AllocError, Global};
 

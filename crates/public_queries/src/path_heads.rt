@@ -2,22 +2,12 @@
 
 ghost use Rattle.std.specs.Prelude.{◌≡◌, IfOk};
 ghost use Rattle.catalogue_core.specs.Pages.{before_last};
-ghost use Rattle.catalogue_core.specs.Units.{is_later};
 ghost use Rattle.public_queries.specs.HeadLines.{are_open as all_open, ids_of, shows_last as represents};
 
 use catalogue_store::Head;
 use isad_core::{Day, Text};
+use refinement::is_closed;
 use std::alloc::{AllocError, Global};
-
-/// Whether a closure lasts beyond this day.
-pub(crate) fn is_closed(until: Option<Day>, today: Day) -> bool
-    ensures { result ≡ is_later today until }
-{
-    match until {
-        None => false,
-        Some(until) => today.number() < until.number(),
-    }
-}
 
 /// Whether none of these units is a draft or closed.
 fn are_open(heads: &[Head], today: Day) -> bool

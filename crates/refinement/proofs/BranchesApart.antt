@@ -58,7 +58,7 @@ module _ (box : BoxKey) where
       by_boxes (b ∷ boxes) e = e
 
   -- a unit lies where the nearest that names some names the container
-  by_nearest : (found : Option Unit) (above : List BoxKey) → in_it above ≡ list_any names_box (option_to_list found) → (way : List Unit)
+  pub by_nearest : (found : Option Unit) (above : List BoxKey) → in_it above ≡ list_any names_box (option_to_list found) → (way : List Unit)
       → in_it (housed_below above way) ≡ list_any names_box (option_to_list (last_or found (filter names_some way)))
   by_nearest found above so [] = so
   by_nearest found above so (unit ∷ way) = at unit.values.boxes refl (λ found above so. by_nearest found above so way)

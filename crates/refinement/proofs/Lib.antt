@@ -27,8 +27,11 @@ pub mod NearRows
 pub mod OpenByRows
 pub mod OpenByPermits
 pub mod OpenElsewhere
+pub mod OpenedUnits
 pub mod Passing
 pub mod PermitFrames
 pub mod RowsOfLists
+pub mod SameRows
 pub mod Tellings
+pub mod WithheldUnits
 pub mod Paths

@@ -20,7 +20,7 @@ use Rattle.catalogue_core.proofs.EachOf.{all_append, all_split}
 use Rattle.catalogue_statements.specs.Rows.{HousingRow, counted_from}
 use Rattle.catalogue_statements.specs.Representation.{RepresentsHousings, housing_cells, housings_of}
 use Rattle.catalogue_statements.specs.declared.row_types.Housing.{Housing}
-use Rattle.refinement.specs.Gate.{has_row, is_one_of, names_some, near, says_so}
+use Rattle.refinement.specs.Gate.{has_row, is_one_of, names_some, near, nearest, says_so}
 use Rattle.std.proofs.Math.Bool.{or-false}
 
 -- ---- lists
@@ -150,11 +150,15 @@ module _ (db : Trees) (f : Forest Unit) (containers : List BoxKey) (shown : Repr
   all_said [] all = refl
   all_said (unit ∷ units) all = ap₂ ◌||◌ all.0 (all_said units all.1)
 
-  pub near_named : (u : ℕ) → list_any (λ u. list_any (says_so n u) shown.housings) (map (λ (unit : Unit). unit.id) (near u f)) ≡ list_any (names containers n) (near u f)
+  each_said : AllByRecursion IsSaid (nodes f)
   unfolding IsSaid
-  near_named u =
-      let each_said : AllByRecursion IsSaid (nodes f) = all_so (λ (unit : Unit). IsPermutation (housing_cells containers unit.values) (housings_of unit.id shown.housings)) IsSaid says (nodes f) shown.are in
-      all_said (near u f) (all_near IsSaid u f each_said)
+  each_said = all_so (λ (unit : Unit). IsPermutation (housing_cells containers unit.values) (housings_of unit.id shown.housings)) IsSaid says (nodes f) shown.are
+
+  pub branch_named : (u : ℕ) → list_any (λ u. list_any (says_so n u) shown.housings) (map (λ (unit : Unit). unit.id) (branch (has_id u) f)) ≡ list_any (names containers n) (branch (has_id u) f)
+  branch_named u = all_said (branch (has_id u) f) (all_branch IsSaid (has_id u) f each_said)
+
+  pub nearest_named : (u : ℕ) → list_any (λ u. list_any (says_so n u) shown.housings) (map (λ (unit : Unit). unit.id) (nearest u f)) ≡ list_any (names containers n) (nearest u f)
+  nearest_named u = all_said (nearest u f) (all_last IsSaid names_some None (path (has_id u) f) tt (all_path IsSaid (has_id u) f each_said))
 
 -- ---- which unit has containers of its own
 

@@ -104,7 +104,7 @@ module _ (s : State) (judged : CanBeJudged s) (t n : ℕ) where
 same_of : (t : ℕ) (rows : List PermitRow) → filter (λ (row : PermitRow). nat_eq t row.ticket) rows ≡ filter (λ (row : PermitRow). nat_eq row.ticket t) rows
 same_of t rows = ap (λ p. filter p rows) (fun_ext (λ (row : PermitRow). eqb_comm t row.ticket))
 
-allowed : (s : State) → CanBeJudged s → (t : ℕ) (d : Desk) → d.permits ≡ permit_rows s → (day : ℤ) (permits : List Permit) → IsPermutation (permits_of t d) permits
+pub allowed : (s : State) → CanBeJudged s → (t : ℕ) (d : Desk) → d.permits ≡ permit_rows s → (day : ℤ) (permits : List Permit) → IsPermutation (permits_of t d) permits
     → allows day permits ≡ is_permitted day (s.permits t)
 allowed s judged t d are day permits same = fun_ext (λ u.
     sym (list_any-IsPermutation (λ (permit : Permit). nat_eq permit.unit u && int_le day permit.until) (permits_of t d) permits same)

@@ -36,10 +36,10 @@ StaysOpen u old new = (box : BoxKey) (permitted : ℕ → Bool) (day : ℤ) → 
 
 -- ---- which containers are named, by their numbers
 
-abbrev IsKnown : List BoxKey → Unit → Type 0
+abbrev pub IsKnown : List BoxKey → Unit → Type 0
 IsKnown cs unit = list_all (λ b. list_any (is_same_box b) cs) unit.values.boxes ≡ true
 
-named_alike : (cs : List BoxKey) → distinct cs ≡ cs → (n : ℕ) (box : BoxKey) → numbered cs n ≡ Some box → (units : List Unit) → AllByRecursion (IsKnown cs) units → list_any (names cs n) units ≡ list_any (names_box box) units
+pub named_alike : (cs : List BoxKey) → distinct cs ≡ cs → (n : ℕ) (box : BoxKey) → numbered cs n ≡ Some box → (units : List Unit) → AllByRecursion (IsKnown cs) units → list_any (names cs n) units ≡ list_any (names_box box) units
 named_alike cs apart n box is [] known = refl
 named_alike cs apart n box is (unit ∷ units) known =
     ap₂ ◌||◌ (names_one cs apart n unit.values.boxes known.0 ∙ ap (λ o. list_any (λ b. some_and (λ box. is_same_box box b) o) unit.values.boxes) is) (named_alike cs apart n box is units known.1)

@@ -86,3 +86,16 @@ module _ {S : Type 0} (g : kept_in.Ghosts S) (places : Trees → Forest ℕ → 
         cut = on_err_then r (IsAborted b c) (IsAborted before c) (λ cut. cut_then before b c goes.on cut) tells.cut;
         faults = λ s sound so it. excused_then before b c goes.on r tells.cut (λ at_b. tells.faults tt (after s asked) (change.represents at_b s sound so it) tt (change.judged s sound so));
       }
+
+-- the same of a change that can withhold nothing
+pub passed_freely : (places : Trees → Forest ℕ → Type 0) (version : Version) (known : State → Type 0) (asked : Command) (today : ℤ) (done : Done) (old new : store.State) → IsChange places version known asked today done old new
+    → ((s : State) → IsSoundOffice s → known s → gate (after s asked) ≡ None) → Goes old new → CarriesOut places version known asked old new (let r : Result Reply StoreFault = Ok (Ok done) in r)
+passed_freely places version known asked today done old new change free goes = record {
+  steps = λ clean s sound so it.
+      gated_step places version s asked new.now (change.last s so) (Ok done)
+      (ap Ok (change.tells clean s so it) ∙ sym (ap (λ why. unless_refused why (told s asked)) (free s sound so)))
+      (change.represents clean s sound so it);
+  goes = goes;
+  cut = tt;
+  faults = λ s sound so it clean free. tt;
+}

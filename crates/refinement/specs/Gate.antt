@@ -1,17 +1,20 @@
 -- The gate, as it is checked over tables.
-use Rattle.std.specs.Prelude.{◌≡◌, ℕ, Bool, false, not, List, filter, ◌++◌, Option, Some, None, Ok, Err, option_map, option_to_list, ◌&&◌, nat_eq}
+use Rattle.std.specs.Prelude.{◌≡◌, ℕ, Bool, false, not, List, filter, map, true, ◌++◌, Option, Some, None, Ok, Err, option_map, option_to_list, ◌&&◌, nat_eq}
 use Rattle.std.specs.List.{last_or, list_any}
 use Rattle.tree_core.specs.Forest.{Forest, branch, path}
+use Rattle.tree_core.specs.Marks.{withholds}
 use Rattle.catalogue_core.specs.ContainerContents.{is_some_there}
-use Rattle.catalogue_core.specs.UnitMarks.{names}
+use Rattle.catalogue_core.specs.OpenMarks.{with_permit}
+use Rattle.catalogue_core.specs.UnitMarks.{AreMarks, names}
 use Rattle.catalogue_core.specs.Units.{Unit, has_id}
 use Rattle.catalogue_statements.specs.Rows.{HousingRow}
 use Rattle.desk_core.specs.declared.refusal.Refusal.{Refusal}
 use Rattle.desk_store.specs.declared.holdings.Loan.{Loan}
 use Rattle.office_core.specs.Rules.{Reply, gate, is_kept_from_holder, kept}
-use Rattle.office_core.specs.State.{State, opens}
+use Rattle.office_core.specs.State.{State, is_permitted, opens}
 use Rattle.office_core.specs.Words.{first_that}
 use Rattle.office_core.specs.declared.done.Done.{Done}
+use Rattle.refinement.specs.declared.housed_units.HousedUnit.{HousedUnit}
 
 -- the container is not open to the reader who has it
 abbrev pub is_closed_to : State → Loan → Bool
@@ -35,11 +38,14 @@ gated s done = unless_refused (gate s) done
 abbrev pub names_some : Unit → Bool
 names_some unit = is_some_there unit.values.boxes
 
--- The units whose containers hold something of the branch: the units of the branch, and the unit from which the first
--- of them takes its containers. That is the first of them itself if it names any, otherwise the nearest unit above it
--- that does.
+-- the unit whose containers this one lies in: itself if it names any, otherwise the nearest unit above it that does
+abbrev pub nearest : ℕ → Forest Unit → List Unit
+nearest u f = option_to_list (last_or None (filter names_some (path (has_id u) f)))
+
+-- The units whose containers hold something of the branch: the units of the branch, and the unit whose containers the
+-- first of them lies in.
 abbrev pub near : ℕ → Forest Unit → List Unit
-near u f = branch (has_id u) f ++ option_to_list (last_or None (filter names_some (path (has_id u) f)))
+near u f = branch (has_id u) f ++ nearest u f
 
 -- one of these units names the container
 abbrev pub is_named_near : ℕ → State → ℕ → Bool
@@ -76,3 +82,20 @@ says_so n unit h = nat_eq unit h.unit && nat_eq h.container n
 -- a row says that the unit names some container
 abbrev pub has_row : List HousingRow → ℕ → Bool
 has_row housings unit = list_any (λ (h : HousingRow). nat_eq unit h.unit) housings
+
+-- ---- a unit in its containers
+
+-- these are the containers in which the unit lies, and the marks of its path
+pub record IsHoused (u : ℕ) (s : State) (found : HousedUnit) : Type 0 where
+  pub containers : (c : ℕ) → is_one_of c found.containers.items ≡ list_any (names s.catalogue.containers c) (nearest u s.catalogue.forest)
+  pub path : AreMarks (path (has_id u) s.catalogue.forest) found.path.items
+
+-- the unit is withheld from the reader who has a container in which it lies
+abbrev pub is_withheld_in : State → HousedUnit → Loan → Bool
+is_withheld_in s it loan =
+    is_one_of loan.container it.containers.items
+    && withholds s.day false (map (with_permit (is_permitted s.day (s.permits loan.ticket))) it.path.items)
+
+-- then this container is closed to the reader who has it
+abbrev pub Withholds : State → HousedUnit → Type 0
+Withholds s it = (loan : Loan) → is_withheld_in s it loan ≡ true → is_closed_to s loan ≡ true

@@ -1,20 +1,22 @@
 //! Whether a container is open to a reader.
 
-ghost use Rattle.std.specs.Prelude.{◌≡◌, ⊤, IfErr, IfOk, map};
+ghost use Rattle.std.specs.Cmp.Lexicographic.{pointwise};
+ghost use Rattle.std.specs.Prelude.{◌≡◌, ◌&&◌, ⊤, IfErr, IfOk, List, [], map, true};
 ghost use Rattle.std.specs.List.{AllByRecursion, list_any};
 ghost use Rattle.sqlite.specs.Held.{state};
 ghost use Rattle.sqlite.specs.State.{HasCleanDisk};
 ghost use Rattle.catalogue_core.specs.OpenMarks.{is_opened_above, with_permit};
 ghost use Rattle.office_core.specs.State.{opens};
+ghost use Rattle.office_core.specs.Words.{is_empty};
 ghost use Rattle.tree_core.specs.Forest.{each};
 ghost use Rattle.catalogue_core.specs.Bounds.{IsKept};
-ghost use Rattle.catalogue_core.specs.Units.{«Unit» as Described};
+ghost use Rattle.catalogue_core.specs.Units.{«Unit» as Described, is_later};
 ghost use Rattle.catalogue_statements.specs.Representation.{Represents};
 ghost use Rattle.office_tables.specs.Calls.{Answers, StoreAnswers};
 ghost use Rattle.office_tables.specs.Faults.{BlamesDisk};
 ghost use Rattle.office_tables.specs.Step.{InTransaction};
 ghost use Rattle.refinement.specs.AccessConditions.{CanBeJudged, RepresentsWhole};
-ghost use Rattle.refinement.specs.Openness.{AreTheirs, TellsClean, allows, are_clean_for};
+ghost use Rattle.refinement.specs.Openness.{AreClean, AreTheirs, TellsClean, allows, are_clean_for, is_same_row};
 
 use catalogue_store::{Attached, Places, attached_rows};
 use desk_store::{Permit, permits};
@@ -25,6 +27,16 @@ use sqlite::{Alter, Connection};
 use std::alloc::{AllocError, Global};
 use tree_core::{Mark, Span, clean_contents, clean_path};
 
+/// Whether a closure lasts beyond this day.
+pub fn is_closed(until: Option<Day>, today: Day) -> bool
+    ensures { result ≡ is_later today until }
+{
+    match until {
+        None => false,
+        Some(until) => today.number() < until.number(),
+    }
+}
+
 /// Whether one of these permits is for the unit and valid on this day.
 fn is_permitted(permits: &[Permit], unit: u64, today: Day) -> bool
     ensures { result ≡ allows today permits.now unit }
@@ -33,7 +45,7 @@ fn is_permitted(permits: &[Permit], unit: u64, today: Day) -> bool
 }
 
 /// The marks, each with `permit` set to whether there is a permit for its unit that is valid on this day.
-fn with_permits(
+pub(crate) fn with_permits(
     alloc: Global,
     marks: &[Mark],
     permits: &[Permit],
@@ -108,6 +120,97 @@ fn are_clean<P: Places, S: Alter>(
     Ok(true)
 }
 
+/// What is known of a container once it is judged for a reader.
+#[derive(Debug, PartialEq, Drop)]
+pub(crate) struct Judgement {
+    /// Whether it is open to the reader.
+    pub(crate) is_open: bool,
+    /// Rows of units that nothing withholds from a reader without permits.
+    pub(crate) clean: Vec<Span>,
+}
+
+/// Whether a reader without permits asks for the units of rows that are known to be clean.
+fn are_known(permits: &[Permit], rows: &[Span], clean: &[Span]) -> bool
+    ensures { result ≡ (is_empty permits.now && pointwise is_same_row rows.now clean.now) }
+{
+    permits.is_empty() && rows == clean
+}
+
+/// Whether a container is open to a reader because it is open to all.
+fn is_for_all(is_open: bool, permits: &[Permit]) -> bool
+    ensures { result ≡ (is_open && is_empty permits.now) }
+{
+    is_open && permits.is_empty()
+}
+
+/// Judges whether nothing withholds the units of these rows, nor the units that take their containers from them.
+/// `clean` are rows that are known to be clean for a reader without permits: for such a reader they are not judged again.
+fn judge_rows<P: Places, S: Alter>(
+    alloc: Global,
+    conn: &mut Connection<S>,
+    rows: Vec<Span>,
+    permits: &[Permit],
+    today: Day,
+    clean: Vec<Span>,
+) -> Result<Judgement, StoreFault>
+    requires inside { InTransaction P.version (state S.Store conn.old) }
+    ensures tells { StoreAnswers S.Store (Represents P.represents P.version) IsKept conn.old conn.new result
+        (λ c. AllByRecursion (P.stands (each (λ (u : Described). u.id) c.forest)) rows.items)
+        (λ _ c found. AreTheirs P.stands c rows.items → are_clean_for today [] c clean.items ≡ true
+        → (found.is_open ≡ are_clean_for today permits.now c rows.items)
+        × (are_clean_for today [] c found.clean.items ≡ true)) }
+{
+    if are_known(permits, &rows, &clean) {
+        return Ok(Judgement {
+            is_open: true,
+            clean,
+        });
+    }
+    let is_open = are_clean::<P, S>(alloc, conn, &rows, permits, today)?;
+    if is_for_all(is_open, permits) {
+        return Ok(Judgement {
+            is_open,
+            clean: rows,
+        });
+    }
+    Ok(Judgement { is_open, clean })
+}
+
+/// Judges whether a container is open on this day to the reader with this ticket. `clean` are rows of units that nothing
+/// withholds from a reader without permits: a container in just these units is not judged again for such a reader.
+pub(crate) fn judge<P: Places, S: Alter>(
+    alloc: Global,
+    conn: &mut Connection<S>,
+    container: u64,
+    ticket: u64,
+    today: Day,
+    clean: Vec<Span>,
+) -> Result<Judgement, StoreFault>
+    requires inside { InTransaction P.version (state S.Store conn.old) }
+    ensures tells { Answers S.Store (RepresentsWhole P.represents P.version) CanBeJudged conn.old conn.new result
+        (λ _. ⊤) (λ _ s found. CanBeJudged s → today ≡ s.day → AreClean s clean.items
+        → (found.is_open ≡ opens s ticket container) × AreClean s found.clean.items) }
+    ensures disk { HasCleanDisk (state S.Store conn.new)
+        → IfErr result (BlamesDisk (state S.Store conn.old) (state S.Store conn.new)) }
+{
+    if container >= NO_NUMBER {
+        return Ok(Judgement {
+            is_open: false,
+            clean,
+        });
+    }
+    let rows = attached_rows::<P, S>(alloc, conn, container)?;
+    if rows.is_empty() {
+        return Ok(Judgement {
+            is_open: false,
+            clean,
+        });
+    }
+    let permits = permits(alloc, conn, ticket)?;
+    let judged = judge_rows::<P, S>(alloc, conn, rows, &permits, today, clean)?;
+    Ok(judged)
+}
+
 /// Whether a container is open on this day to the reader with this ticket. A ticket that was not given stands for the
 /// public.
 pub fn is_open_to<P: Places, S: Alter>(
@@ -123,14 +226,6 @@ pub fn is_open_to<P: Places, S: Alter>(
     ensures disk { HasCleanDisk (state S.Store conn.new)
         → IfErr result (BlamesDisk (state S.Store conn.old) (state S.Store conn.new)) }
 {
-    if container >= NO_NUMBER {
-        return Ok(false);
-    }
-    let rows = attached_rows::<P, S>(alloc, conn, container)?;
-    if rows.is_empty() {
-        return Ok(false);
-    }
-    let permits = permits(alloc, conn, ticket)?;
-    let yes = are_clean::<P, S>(alloc, conn, &rows, &permits, today)?;
-    Ok(yes)
+    let found = judge::<P, S>(alloc, conn, container, ticket, today, Vec::new(alloc))?;
+    Ok(found.is_open)
 }

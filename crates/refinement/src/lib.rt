@@ -5,8 +5,9 @@ mod access;
 mod branch_gate;
 mod day_rules;
 mod gate;
+mod housed_units;
 
-pub use access::is_open_to;
+pub use access::{is_closed, is_open_to};
 pub use branch_gate::{loans_near, pass_near, pass_of};
 pub use day_rules::breaks_day_rules;
 pub use gate::{kept_back, pass};

@@ -1,5 +1,6 @@
-use Rattle.std.proofs.Common.{◌≡◌, true}
+use Rattle.std.proofs.Common.{◌≡◌, ℤ, true, false, ap, sym, subst, ◌∙◌}
 use Rattle.sqlite.specs.Held.{state}
+use Rattle.catalogue_core.specs.Units.{is_later}
 use Rattle.catalogue_core.specs.UnitLookup.{has_unit}
 use Rattle.office_core.specs.declared.command.Command.TheVariants as command
 use Rattle.office_core.specs.declared.done.Done.TheVariants as done
@@ -8,8 +9,8 @@ use Rattle.office_tables.proofs.CallEnds.{same_fault}
 use Rattle.refinement.specs.Gate.{OthersAreOpen}
 use Rattle.refinement.specs.Representation.{office_of}
 use Rattle.refinement.proofs.Doings.{does_not}
-use Rattle.refinement.proofs.Passing.{passed_where}
-use Rattle.catalogue_commands.proofs.Closed.{closes, closes_near}
+use Rattle.refinement.proofs.Passing.{passed_freely, passed_where}
+use Rattle.catalogue_commands.proofs.Closed.{closes, closes_near, ends}
 use Rattle.catalogue_commands.proofs.closure.close_known.Goals as goal
 
 pub returns-in_err-set_closure : goal.returns-in_err-set_closure
@@ -21,6 +22,17 @@ returns-in_err-set_closure g c =
     does_not g.P.Places.represents g.P.Places.version _ (command.SetClosure c.args.unit c.args.until) a b c.from_residual.result c.in_err-set_closure.field-0.0
     (same_fault c.from_residual.result c.in_err-set_closure.field-0.0 e.0 e.1) made.cut
     (λ s sound so it clean free. made.faults (office_of s) s.catalogue it.catalogue tt (office_kept s sound) clean free)
+
+pub returns-then-not-is_in_force : goal.returns-then-not-is_in_force
+returns-then-not-is_in_force g c =
+    let a = state g.S.Store c.args.conn.now in
+    let b = state g.S.Store c.set_closure.new.conn in
+    let u = c.args.unit in
+    let made = c.in_ok-set_closure.ensures.makes in
+    let past : is_later c.args.today c.args.until ≡ false = sym c.requires.lasts ∙ c.if-not-is_in_force.true in
+    passed_freely g.P.Places.represents g.P.Places.version (λ s. (c.args.today ≡ s.day) × (has_unit s.catalogue.forest u ≡ true)) (command.SetClosure u c.args.until) c.args.today (done.SetClosure u) a b
+    (closes u c.args.until g.P.Places.represents g.P.Places.version a b c.args.today c.requires.calendar made.represents_updated made.only)
+    (λ s sound so. ends u c.args.until s sound (subst (λ (day : ℤ). is_later day c.args.until ≡ false) so.0 past)) made.goes
 
 pub returns : goal.returns
 returns g c =

@@ -1,6 +1,7 @@
-use Rattle.std.proofs.Common.{◌≡◌, true}
+use Rattle.std.proofs.Common.{◌≡◌, Bool, true, false, None, sym, subst}
 use Rattle.sqlite.specs.Held.{state}
 use Rattle.catalogue_core.specs.UnitLookup.{has_unit}
+use Rattle.office_core.specs.Rules.{after, gate}
 use Rattle.office_core.specs.declared.command.Command.TheVariants as command
 use Rattle.office_core.specs.declared.done.Done.TheVariants as done
 use Rattle.office_core.proofs.KeptOffices.{office_kept}
@@ -8,8 +9,8 @@ use Rattle.office_tables.proofs.CallEnds.{same_fault}
 use Rattle.refinement.specs.Gate.{OthersAreOpen}
 use Rattle.refinement.specs.Representation.{office_of}
 use Rattle.refinement.proofs.Doings.{does_not}
-use Rattle.refinement.proofs.Passing.{passed_where}
-use Rattle.catalogue_commands.proofs.Statused.{sets, sets_near}
+use Rattle.refinement.proofs.Passing.{passed_freely, passed_where}
+use Rattle.catalogue_commands.proofs.Statused.{publishes, sets, sets_near}
 use Rattle.catalogue_commands.proofs.status.set_known.Goals as goal
 
 pub returns-in_err-units : goal.returns-in_err-units
@@ -21,6 +22,16 @@ returns-in_err-units g c =
     does_not g.P.Places.represents g.P.Places.version _ (command.SetStatus c.args.unit c.args.draft c.args.whole) a b c.from_residual.result c.in_err-units.field-0.0
     (same_fault c.from_residual.result c.in_err-units.field-0.0 e.0 e.1) made.cut
     (λ s sound so it clean free. made.faults (office_of s) s.catalogue it.catalogue tt (office_kept s sound) clean free)
+
+pub returns-then-not-draft : goal.returns-then-not-draft
+returns-then-not-draft g c =
+    let a = state g.S.Store c.args.conn.now in
+    let b = state g.S.Store c.set_status.new.conn in
+    let u = c.args.unit in
+    let made = c.in_ok-units.ensures.makes in
+    passed_freely g.P.Places.represents g.P.Places.version (λ s. (c.args.today ≡ s.day) × (has_unit s.catalogue.forest u ≡ true)) (command.SetStatus u c.args.draft c.args.whole) c.args.today (done.SetStatus c.in_ok-units.units) a b
+    (sets u c.args.draft c.args.whole g.P.Places.represents g.P.Places.version a b c.args.today c.in_ok-units.units made.represents_updated made.only c.in_ok-units.ensures.count)
+    (λ s sound so. subst (λ (draft : Bool). gate (after s (command.SetStatus u draft c.args.whole)) ≡ None) (sym c.if-not-draft.true) (publishes u c.args.whole s sound)) made.goes
 
 pub returns : goal.returns
 returns g c =

@@ -7,7 +7,7 @@ use Rattle.desk_store.proofs.ToldCalls.{ends_well}
 use Rattle.desk_store.specs.declared.holdings.Loan.{Loan}
 use Rattle.office_tables.proofs.CallEnds.{same_fault, tells_not}
 use Rattle.office_tables.proofs.Calls.{looks_nowhere, office_of}
-use Rattle.refinement.specs.Gate.{AreAsked, is_one_of}
+use Rattle.refinement.specs.Gate.{AreAsked, IsHoused, is_one_of}
 use Rattle.refinement.specs.AccessConditions.{CanBeJudged, RepresentsWhole}
 use Rattle.refinement.proofs.NearRows.{all_pass}
 use Rattle.refinement.proofs.branch_gate.loans_to_ask.Goals as goal
@@ -17,9 +17,9 @@ returns-then-len-le-FEW g c =
     let v = g.P.Places.version in
     let a = state g.S.Store c.args.conn.now in
     record {
-      tells = ends_well (RepresentsWhole g.P.Places.represents v) CanBeJudged (λ _. ⊤) g.S.Store c.args.conn.now c.args.conn.now c.args.conn.now (λ _ s found. AreAsked c.args.unit s c.args.loans.items found.items)
+      tells = ends_well (RepresentsWhole g.P.Places.represents v) CanBeJudged (λ _. ⊤) g.S.Store c.args.conn.now c.args.conn.now c.args.conn.now (λ _ s found. IsHoused c.args.unit s c.args.housed.now → AreAsked c.args.unit s c.args.loans.items found.items)
           (looks_nowhere a (office_of v a c.requires.inside)) c.args.loans
-          (λ clean s shown. record { test = λ _. true; near = λ k no. absurd (cc); are = all_pass c.args.loans.items });
+          (λ clean s shown housed. record { test = λ _. true; near = λ k no. absurd (cc); are = all_pass c.args.loans.items });
     }
 
 pub returns-in_err-containers : goal.returns-in_err-containers
@@ -28,7 +28,7 @@ returns-in_err-containers g c =
     let e = c.from_residual.ensures in
     let told = c.in_err-containers.ensures.tells in
     record {
-      tells = tells_not g.S.Store (RepresentsWhole g.P.Places.represents v) CanBeJudged (λ _. ⊤) c.args.conn.now c.containers_near.new.conn c.from_residual.result (λ _ s found. AreAsked c.args.unit s c.args.loans.items found.items) c.in_err-containers.field-0.0
+      tells = tells_not g.S.Store (RepresentsWhole g.P.Places.represents v) CanBeJudged (λ _. ⊤) c.args.conn.now c.containers_near.new.conn c.from_residual.result (λ _ s found. IsHoused c.args.unit s c.args.housed.now → AreAsked c.args.unit s c.args.loans.items found.items) c.in_err-containers.field-0.0
           (same_fault c.from_residual.result c.in_err-containers.field-0.0 e.0 e.1) told.cut told.faults;
     }
 
@@ -40,12 +40,12 @@ returns g c =
     let v = g.P.Places.version in
     let told = c.in_ok-containers.ensures.tells in
     record {
-      tells = ends_well (RepresentsWhole g.P.Places.represents v) CanBeJudged (λ _. ⊤) g.S.Store c.args.conn.now c.args.conn.now c.containers_near.new.conn (λ _ s found. AreAsked c.args.unit s c.args.loans.items found.items)
+      tells = ends_well (RepresentsWhole g.P.Places.represents v) CanBeJudged (λ _. ⊤) g.S.Store c.args.conn.now c.args.conn.now c.containers_near.new.conn (λ _ s found. IsHoused c.args.unit s c.args.housed.now → AreAsked c.args.unit s c.args.loans.items found.items)
           told.looks _
-          (λ clean s shown.
+          (λ clean s shown housed.
           record {
             test = λ k. is_one_of k c.deref-2.result.now;
-            near = λ k far. sym (told.answers clean tt s shown k) ∙ list_any-IsPermutation (λ m. nat_eq m k) _ _ c.sort_unstable.ensures.permutation ∙ sym (ap (is_one_of k) c.deref-2.ensures.value) ∙ far;
+            near = λ k far. sym (told.answers clean tt s shown housed k) ∙ list_any-IsPermutation (λ m. nat_eq m k) _ _ c.sort_unstable.ensures.permutation ∙ sym (ap (is_one_of k) c.deref-2.ensures.value) ∙ far;
             are = c.in_ok-loans_of.ensures ∙ ap (filter (λ (loan : Loan). is_one_of loan.container c.deref-2.result.now)) c.deref.ensures.value;
           });
     }

@@ -2,7 +2,7 @@ use Rattle.std.proofs.Common.{◌≡◌, List, length, not, nat_eq, rules, ap, a
 use Rattle.catalogue_statements.specs.Rows.{HousingRow}
 use Rattle.catalogue_statements.specs.declared.row_types.Housing.{Housing}
 use Rattle.refinement.proofs.NearRows.{rows_of_unit, some_told}
-use Rattle.refinement.proofs.branch_gate.has_containers.Goals as goal
+use Rattle.refinement.proofs.housed_units.has_containers.Goals as goal
 
 pub returns-in_err-housings-clause-faults : goal.returns-in_err-housings-clause-faults
 returns-in_err-housings-clause-faults g c xs stored clean free =

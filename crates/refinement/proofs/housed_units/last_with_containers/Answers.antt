@@ -11,8 +11,8 @@ use Rattle.office_tables.proofs.CallEnds.{excused_then, same_fault}
 use Rattle.office_tables.proofs.Calls.{early, looks_then}
 use Rattle.refinement.specs.Gate.{has_row}
 use Rattle.refinement.proofs.NearRows.{last_more}
-use Rattle.refinement.proofs.branch_gate.last_with_containers.Goals as goal
-use Rattle.refinement.proofs.branch_gate.last_with_containers.Goals.{then-branch, else-branch}
+use Rattle.refinement.proofs.housed_units.last_with_containers.Goals as goal
+use Rattle.refinement.proofs.housed_units.last_with_containers.Goals.{then-branch, else-branch}
 
 pub returns-in_err-has_containers-clause-faults : goal.returns-in_err-has_containers-clause-faults
 returns-in_err-has_containers-clause-faults g c xs stored small clean free =

@@ -3,7 +3,7 @@ use Rattle.std.specs.Prelude.{map}
 use Rattle.catalogue_statements.specs.declared.row_types.Housing.{Housing}
 use Rattle.refinement.specs.Gate.{is_one_of}
 use Rattle.refinement.proofs.NearRows.{of_unit}
-use Rattle.refinement.proofs.branch_gate.containers_of.Goals as goal
+use Rattle.refinement.proofs.housed_units.containers_of.Goals as goal
 
 pub returns-in_err-housings-clause-faults : goal.returns-in_err-housings-clause-faults
 returns-in_err-housings-clause-faults g c xs stored clean free =

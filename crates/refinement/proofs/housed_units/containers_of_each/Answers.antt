@@ -14,7 +14,7 @@ use Rattle.office_tables.proofs.Calls.{cut_after, early, looks_then}
 use Rattle.refinement.specs.Gate.{is_one_of, says_so}
 use Rattle.refinement.proofs.NearRows.{one_more}
 use Rattle.office_tables.proofs.Sparing.{spares_full}
-use Rattle.refinement.proofs.branch_gate.containers_of_each.Goals as goal
+use Rattle.refinement.proofs.housed_units.containers_of_each.Goals as goal
 
 pub returns-in_err-named-clause-reads : goal.returns-in_err-named-clause-reads
 returns-in_err-named-clause-reads g c =

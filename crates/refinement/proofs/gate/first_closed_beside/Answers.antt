@@ -1,0 +1,140 @@
+use Rattle.std.proofs.Common.{◌≡◌, ℕ, true, false, not, refl, sym, ap, subst, ◌∙◌}
+use Rattle.std.specs.Prelude.{⊤, Option, option_map, slice_index_or}
+use Rattle.sqlite.specs.Held.{state}
+use Rattle.desk_store.proofs.ToldCalls.{ends_not, ends_well, shown_on}
+use Rattle.desk_store.specs.declared.holdings.Loan.{Loan}
+use Rattle.office_core.specs.State.{State}
+use Rattle.office_tables.proofs.CallEnds.{same_fault}
+use Rattle.office_tables.proofs.Calls.{early, looks_nowhere, looks_then, office_of, still}
+use Rattle.refinement.specs.Gate.{Withholds, first_closed, is_closed_to}
+use Rattle.refinement.specs.AccessConditions.{CanBeJudged, RepresentsWhole}
+use Rattle.refinement.specs.Openness.{AreClean}
+use Rattle.refinement.specs.declared.housed_units.HousedUnit.{HousedUnit}
+use Rattle.refinement.proofs.DiskBlames.{blames_later}
+use Rattle.refinement.proofs.Gates.{first_here, none_more}
+use Rattle.refinement.proofs.gate.first_closed_beside.Goals as goal
+
+pub loop-loan-init : goal.loop-loan-init
+loop-loan-init g c =
+    let a = state g.S.Store c.args.conn.now in
+    record {
+      inside = c.requires.inside;
+      looks = looks_nowhere a (office_of g.P.Places.version a c.requires.inside);
+      so_far = λ clean s judged it day closes. refl;
+      known = λ clean s judged it day. subst (AreClean s) (sym c.new-clean.ensures.items) refl;
+    }
+
+pub is_withheld_in-requires : goal.is_withheld_in-requires
+is_withheld_in-requires g c = record { inside = c.loop-loan.invariant.inside; rise = c.requires.rise }
+
+pub returns-in_err-is_withheld_in : goal.returns-in_err-is_withheld_in
+returns-in_err-is_withheld_in g c =
+    let v = g.P.Places.version in
+    let e = c.from_residual.ensures in
+    let told = c.in_err-is_withheld_in.ensures.tells in
+    let looked = c.loop-loan.invariant.looks in
+    let same = same_fault c.from_residual.result c.in_err-is_withheld_in.field-0.0 e.0 e.1 in
+    record {
+      tells = ends_not (RepresentsWhole g.P.Places.represents v) CanBeJudged (λ _. ⊤) g.S.Store c.args.conn.now c.loop-loan.conn c.is_withheld_in.new.conn (λ _ s found. CanBeJudged s → c.args.today ≡ s.day → Withholds s c.args.housed.now → found ≡ first_closed s c.args.loans.now)
+          looked c.in_err-is_withheld_in.field-0.0 told.cut
+          (λ s it may judged clean free. told.faults tt s it tt judged clean free)
+          c.from_residual.result same;
+      disk = λ clean.
+          blames_later (state g.S.Store c.args.conn.now) (state g.S.Store c.loop-loan.conn) (state g.S.Store c.is_withheld_in.new.conn) c.from_residual.result c.in_err-is_withheld_in.field-0.0 same looked told.cut clean
+          (c.in_err-is_withheld_in.ensures.disk clean);
+    }
+
+-- the unit is withheld from the reader who has the container
+pub returns-then-branch : goal.returns-then-branch
+returns-then-branch g c =
+    let v = g.P.Places.version in
+    let a = state g.S.Store c.args.conn.now in
+    let b = state g.S.Store c.loop-loan.conn in
+    let d = state g.S.Store c.is_withheld_in.new.conn in
+    let looks = c.loop-loan.invariant.looks in
+    let told = c.in_ok-is_withheld_in.ensures.tells in
+    let none : Loan = record { container = 0; order = 0; ticket = 0 } in
+    let i = c.loop-loan.loan-index in
+    record {
+      tells = ends_well (RepresentsWhole g.P.Places.represents v) CanBeJudged (λ _. ⊤) g.S.Store c.args.conn.now c.args.conn.now c.is_withheld_in.new.conn (λ _ s found. CanBeJudged s → c.args.today ≡ s.day → Withholds s c.args.housed.now → found ≡ first_closed s c.args.loans.now)
+          (looks_then a b d looks told.looks) _
+          (λ clean s it judged day closes.
+          let before = early b d _ told.looks.goes.on.crash clean in
+          let at_b = shown_on (RepresentsWhole g.P.Places.represents v) a b looks before s it in
+          let shut : is_closed_to s (slice_index_or c.args.loans.now i none) ≡ true = closes (slice_index_or c.args.loans.now i none) (sym (told.answers clean tt s at_b judged day) ∙ c.if-branch.true) in
+          ap (option_map (λ (l : Loan). l.container)) (sym (first_here (is_closed_to s) c.args.loans.now i none (c.loop-loan.invariant.so_far before s judged it day closes) c.loop-loan-test.true shut)));
+      disk = λ clean. tt;
+    }
+
+pub judge-requires : goal.judge-requires
+judge-requires g c =
+    record { inside = still g.P.Places.version (state g.S.Store c.loop-loan.conn) (state g.S.Store c.is_withheld_in.new.conn) c.loop-loan.invariant.inside c.in_ok-is_withheld_in.ensures.tells.looks.goes }
+
+pub returns-in_err-found : goal.returns-in_err-found
+returns-in_err-found g c =
+    let v = g.P.Places.version in
+    let e = c.from_residual-in_err-found.ensures in
+    let told = c.in_err-found.ensures.tells in
+    let looked = looks_then (state g.S.Store c.args.conn.now) (state g.S.Store c.loop-loan.conn) (state g.S.Store c.is_withheld_in.new.conn) c.loop-loan.invariant.looks c.in_ok-is_withheld_in.ensures.tells.looks in
+    let same = same_fault c.from_residual-in_err-found.result c.in_err-found.field-0.0 e.0 e.1 in
+    record {
+      tells = ends_not (RepresentsWhole g.P.Places.represents v) CanBeJudged (λ _. ⊤) g.S.Store c.args.conn.now c.is_withheld_in.new.conn c.judge.new.conn (λ _ s found. CanBeJudged s → c.args.today ≡ s.day → Withholds s c.args.housed.now → found ≡ first_closed s c.args.loans.now)
+          looked c.in_err-found.field-0.0 told.cut
+          (λ s it may judged clean free. told.faults tt s it tt judged clean free)
+          c.from_residual-in_err-found.result same;
+      disk = λ clean.
+          blames_later (state g.S.Store c.args.conn.now) (state g.S.Store c.is_withheld_in.new.conn) (state g.S.Store c.judge.new.conn) c.from_residual-in_err-found.result c.in_err-found.field-0.0 same looked told.cut clean
+          (c.in_err-found.ensures.disk clean);
+    }
+
+pub returns-then-not-found : goal.returns-then-not-found
+returns-then-not-found g c =
+    let v = g.P.Places.version in
+    let a = state g.S.Store c.args.conn.now in
+    let b = state g.S.Store c.loop-loan.conn in
+    let m = state g.S.Store c.is_withheld_in.new.conn in
+    let d = state g.S.Store c.judge.new.conn in
+    let first = c.in_ok-is_withheld_in.ensures.tells in
+    let looks = looks_then a b m c.loop-loan.invariant.looks first.looks in
+    let told = c.in_ok-found.ensures.tells in
+    let none : Loan = record { container = 0; order = 0; ticket = 0 } in
+    let i = c.loop-loan.loan-index in
+    record {
+      tells = ends_well (RepresentsWhole g.P.Places.represents v) CanBeJudged (λ _. ⊤) g.S.Store c.args.conn.now c.args.conn.now c.judge.new.conn (λ _ s found. CanBeJudged s → c.args.today ≡ s.day → Withholds s c.args.housed.now → found ≡ first_closed s c.args.loans.now)
+          (looks_then a m d looks told.looks) _
+          (λ clean s it judged day closes.
+          let at_m = early m d _ told.looks.goes.on.crash clean in
+          let before = early b m _ first.looks.goes.on.crash at_m in
+          let shown_m = shown_on (RepresentsWhole g.P.Places.represents v) a m looks at_m s it in
+          let shut : is_closed_to s (slice_index_or c.args.loans.now i none) ≡ true = ap not (sym (told.answers clean tt s shown_m judged day (c.loop-loan.invariant.known before s judged it day)).0) ∙ c.if-not-found.true in
+          ap (option_map (λ (l : Loan). l.container)) (sym (first_here (is_closed_to s) c.args.loans.now i none (c.loop-loan.invariant.so_far before s judged it day closes) c.loop-loan-test.true shut)));
+      disk = λ clean. tt;
+    }
+
+pub loop-loan-preserved : goal.loop-loan-preserved
+loop-loan-preserved g c =
+    let v = g.P.Places.version in
+    let a = state g.S.Store c.args.conn.now in
+    let b = state g.S.Store c.loop-loan.conn in
+    let m = state g.S.Store c.is_withheld_in.new.conn in
+    let d = state g.S.Store c.judge.new.conn in
+    let first = c.in_ok-is_withheld_in.ensures.tells in
+    let looks = looks_then a b m c.loop-loan.invariant.looks first.looks in
+    let told = c.in_ok-found.ensures.tells in
+    let none : Loan = record { container = 0; order = 0; ticket = 0 } in
+    let i = c.loop-loan.loan-index in
+    record {
+      inside = still v m d (still v b m c.loop-loan.invariant.inside first.looks.goes) told.looks.goes;
+      looks = looks_then a m d looks told.looks;
+      so_far = λ clean s judged it day closes.
+          let at_m = early m d _ told.looks.goes.on.crash clean in
+          let before = early b m _ first.looks.goes.on.crash at_m in
+          let shown_m = shown_on (RepresentsWhole g.P.Places.represents v) a m looks at_m s it in
+          let open_to : is_closed_to s (slice_index_or c.args.loans.now i none) ≡ false = ap not (sym (told.answers clean tt s shown_m judged day (c.loop-loan.invariant.known before s judged it day)).0) ∙ c.if-not-found.false in
+          none_more (is_closed_to s) c.args.loans.now i none (c.loop-loan.invariant.so_far before s judged it day closes) c.loop-loan-test.true open_to;
+      known = λ clean s judged it day.
+          let at_m = early m d _ told.looks.goes.on.crash clean in
+          let before = early b m _ first.looks.goes.on.crash at_m in
+          let shown_m = shown_on (RepresentsWhole g.P.Places.represents v) a m looks at_m s it in
+          (told.answers clean tt s shown_m judged day (c.loop-loan.invariant.known before s judged it day)).1;
+    }
