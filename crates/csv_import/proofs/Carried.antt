@@ -43,9 +43,10 @@ use Rattle.refinement.specs.Representation.{RepresentsState, office_of}
 use Rattle.refinement.proofs.Doings.{accepted, refused}
 use Rattle.refinement.proofs.Frames.{desk_kept}
 use Rattle.refinement.proofs.Tellings.{looked_crash}
-use Rattle.csv_import.specs.RowEntry.{CanEnter, RepresentsLegible, counts_of, entered}
+use Rattle.csv_import.specs.Arrivals.{IsReady}
+use Rattle.csv_import.specs.RowEntry.{RepresentsLegible, counts_of, entered}
 use Rattle.csv_import.specs.CatalogueImport.{FitsIn, HasNumbered, judged, told_of}
-use Rattle.csv_import.specs.KnownUnits.{TellsUnits}
+use Rattle.csv_import.specs.KnownUnits.{KnowsUnits}
 use Rattle.csv_import.specs.Remarks.{HaveUnits}
 use Rattle.csv_import.specs.declared.row_entry.Counts.{Counts}
 use Rattle.csv_import.proofs.Imports.{after_is, can_enter, entered_is, has_imported, now, refusal_is, same_desk, texts_stay, told_is}
@@ -90,7 +91,7 @@ judged_step places version s t asked db becomes last r is shown = at (nat_lt mos
         accept (last ∙ (ap (λ (b : Bool). first_that_holds (when b Full ∷ gate t ∷ [])) e ∙ ap (λ w. first_that_holds (w ∷ [])) f))
         (is ∙ (ap (λ (b : Bool). cond b (Err Full) (gated t (told s asked))) e ∙ ap (λ w. unless_refused w (told s asked)) f))
 
-module _ {S : Type 0} (g : kept_in.Ghosts S) (places : Trees → Forest ℕ → Type 0) (version : Version) (today : ℤ) (source bytes : Bytes) (file : File) (read : file_of bytes ≡ Ok file) (numbers : Bytes → Option ℕ) (before : store.State) (mid after_it : Held S) (r : Result Reply StoreFault) (counts : Counts) (units : List ℕ) where
+module _ {S : Type 0} (g : kept_in.Ghosts S) (places : Trees → Forest ℕ → Type 0) (version : Version) (today : ℤ) (source bytes : Bytes) (file : File) (read : file_of bytes ≡ Ok file) (numbers : Bytes → Option ℕ) (next : ℕ) (before : store.State) (mid after_it : Held S) (r : Result Reply StoreFault) (counts : Counts) (units : List ℕ) where
   abbrev b : store.State
   b = state g mid
 
@@ -98,23 +99,26 @@ module _ {S : Type 0} (g : kept_in.Ghosts S) (places : Trees → Forest ℕ → 
   c = state g after_it
 
   abbrev Known : State → Type 0
-  Known s = (today ≡ s.day) × (is_source source ≡ true) × FitsIn source file s × TellsUnits s.catalogue source file.rows numbers
+  Known s = (today ≡ s.day) × (is_source source ≡ true) × FitsIn source file s × KnowsUnits s.catalogue source file.rows numbers × (next ≡ s.catalogue.next)
 
   -- what entering the rows did
   pub record HasEnteredAll : Type 0 where
-    pub represents : HasCleanDisk b → (o : OfficeRow) (k : Catalogue) → RepresentsLegible places version before.now o k → CanEnter source file.rows k → TellsUnits k source file.rows numbers → RepresentsLegible places version b.now o (entered source file.rows k)
+    pub represents : HasCleanDisk b → (o : OfficeRow) (k : Catalogue) → RepresentsLegible places version before.now o k → IsReady source file.rows numbers next k → RepresentsLegible places version b.now o (entered source file.rows k)
     pub only : HasCleanDisk b → OnlyTouches catalogue_trees before.now b.now
     pub goes : Goes before b
-    pub counted : HasCleanDisk b → (o : OfficeRow) (k : Catalogue) → RepresentsLegible places version before.now o k → CanEnter source file.rows k → TellsUnits k source file.rows numbers → counts ≡ counts_of k.forest source file.rows
-    pub units_are : HasCleanDisk b → (o : OfficeRow) (k : Catalogue) → RepresentsLegible places version before.now o k → CanEnter source file.rows k → TellsUnits k source file.rows numbers
+    pub counted : HasCleanDisk b → (o : OfficeRow) (k : Catalogue) → RepresentsLegible places version before.now o k → IsReady source file.rows numbers next k → counts ≡ counts_of k.forest source file.rows
+    pub units_are : HasCleanDisk b → (o : OfficeRow) (k : Catalogue) → RepresentsLegible places version before.now o k → IsReady source file.rows numbers next k
         → map Some units ≡ map (λ (row : Row). number_there (entered source file.rows k) source row.legacy) file.rows
+
+  ready : (s : State) → IsSoundOffice s → Known s → IsReady source file.rows numbers next s.catalogue
+  ready s sound so = record { can = can_enter s source bytes file read sound so.1 so.2; known = so.3; number = so.4 }
 
   module _ (come : HasEnteredAll) where
     shown_now : HasCleanDisk b → (s : State) → (sound : IsSoundOffice s) → (so : Known s) → RepresentsState places version before.now s → RepresentsState places version b.now (now s source bytes file read sound so.1 so.2)
     shown_now clean s sound so it =
         let named = so.1 in
         let fits = so.2 in
-        let shown = come.represents clean (office_of s) s.catalogue (shown_legible places version before.now s sound it) (can_enter s source bytes file read sound named fits) so.3 in
+        let shown = come.represents clean (office_of s) s.catalogue (shown_legible places version before.now s sound it) (ready s sound so) in
         record {
           catalogue = subst (λ (k : Catalogue). RepresentsNumbered places version b.now (office_of s) k) (entered_is s source bytes file read sound named fits) shown.tables;
           desk = subst (RepresentsDesk b.now.trees) (sym (same_desk s source bytes file read sound named fits version)) (desk_kept before.now b.now catalogue_trees (come.only clean) (tables version s).desk refl it.desk);
@@ -126,12 +130,12 @@ module _ {S : Type 0} (g : kept_in.Ghosts S) (places : Trees → Forest ℕ → 
     has_numbered clean s sound so it = record {
       imported = has_imported s source bytes file read sound so.1 so.2;
       numbered =
-          come.units_are clean (office_of s) s.catalogue (shown_legible places version before.now s sound it) (can_enter s source bytes file read sound so.1 so.2) so.3
+          come.units_are clean (office_of s) s.catalogue (shown_legible places version before.now s sound it) (ready s sound so)
           ∙ ap (λ (k : Catalogue). map (λ (row : Row). number_there k source row.legacy) file.rows) (entered_is s source bytes file read sound so.1 so.2);
     }
 
     pub imports : Answers g (RepresentsWhole places version) (HasNumbered source file units) mid after_it r (λ _. ⊤) (λ _ s reply. HasNumbered source file units s → today ≡ s.day → reply ≡ judged s (told_of source file counts s))
-        → CarriesOut places version (λ s. (today ≡ s.day) × (is_source source ≡ true) × FitsIn source file s × TellsUnits s.catalogue source file.rows numbers) (command.Import source bytes) before c r
+        → CarriesOut places version (λ s. (today ≡ s.day) × (is_source source ≡ true) × FitsIn source file s × KnowsUnits s.catalogue source file.rows numbers × (next ≡ s.catalogue.next)) (command.Import source bytes) before c r
     imports tells =
         let asked = command.Import source bytes in
         let still = λ (clean : HasCleanDisk c). early b c _ (looked_crash r b c tells.looks tells.cut) clean in
@@ -143,7 +147,7 @@ module _ {S : Type 0} (g : kept_in.Ghosts S) (places : Trees → Forest ℕ → 
               let t = now s source bytes file read sound named fits in
               let shown = shown_now at_b s sound so it in
               let has = has_numbered at_b s sound so it in
-              let counts_are = come.counted at_b (office_of s) s.catalogue (shown_legible places version before.now s sound it) (can_enter s source bytes file read sound named fits) so.3 in
+              let counts_are = come.counted at_b (office_of s) s.catalogue (shown_legible places version before.now s sound it) (ready s sound so) in
               if_ok_with r (LeavesUnchanged b c) (λ reply. HasNumbered source file units t → today ≡ t.day → reply ≡ judged t (told_of source file counts t)) (λ reply. CarriesOutStep places version s asked reply c.now)
               (λ reply looked is.
               judged_step places version s t asked c.now (after_is s source bytes file read sound named fits) (refusal_is s source bytes file read sound named fits) reply

@@ -1,9 +1,12 @@
 -- How many units and containers there are, as SQL counts them.
-use Rattle.std.proofs.Common.{◌≡◌, ℕ, ◌+◌, ◌<◌, ◌≤◌, sym, ◌∙◌, inl, inr, arith}
+use Rattle.std.proofs.Common.{◌≡◌, ℕ, ◌+◌, ◌<◌, ◌≤◌, Bool, true, false, cond, ◌&&◌, Some, None, refl, sym, ap, ap₂, ◌∙◌, inl, inr, arith}
 use Rattle.std.specs.Prelude.{nat_le, nat_lt}
 use Rattle.std.proofs.lemmas.Bool.{cases_Bool, le-leb, le-ltb, leb-false, leb-true, lt-leb, lt-ltb, ltb-false, ltb-true}
-use Rattle.isad_core.specs.Limits.{most_containers, most_units}
+use Rattle.isad_core.specs.Limits.{most_containers, most_unit_numbers, most_units}
+use Rattle.tree_core.specs.Forest.{size}
+use Rattle.catalogue_core.specs.CatalogueMerge.{Catalogue}
 use Rattle.office_tables.specs.RowCounts.{capped}
+use Rattle.csv_import.specs.CatalogueImport.{has_room, next_with_room}
 
 -- the count has an end, but far above what an office may have
 pub many_counted : (n : ℕ) → nat_lt most_containers (capped n) ≡ nat_lt most_containers n
@@ -17,3 +20,28 @@ room_counted n new = elim (cases_Bool (nat_le (n + new) most_units)) [
   | inl room ↦ (let less : n + new ≤ most_units = leb-true (n + new) most_units room in le-leb (capped n + new) most_units (omega (arith, less)) ∙ sym room)
   | inr none ↦ (let more : most_units < n + new = leb-false (n + new) most_units none in lt-leb (capped n + new) most_units (omega (arith, more)) ∙ sym none)
 ]
+
+-- the next number where there is room, or none, by the numbers as they are told
+pub next_if : (new : ℕ) (c : Catalogue) (units next : ℕ) → units ≡ capped (size c.forest) → next ≡ c.next → (room : Bool) → (nat_le (units + new) most_units && nat_le (next + new) (most_unit_numbers + 1)) ≡ room
+    → cond room (Some next) None ≡ next_with_room new c
+next_if new c units next many is room e =
+    let here : has_room new c ≡ room =
+    sym (ap (λ (b : Bool). b && nat_le (c.next + new) (most_unit_numbers + 1)) (room_counted (size c.forest) new))
+    ∙ (sym (ap₂ (λ n m. nat_le (n + new) most_units && nat_le (m + new) (most_unit_numbers + 1)) many is) ∙ e) in
+    ap (λ n. cond room (Some n) None) is ∙ sym (ap (λ (b : Bool). cond b (Some c.next) None) here)
+
+-- there is a next number
+pub room_there : (new : ℕ) (c : Catalogue) (next : ℕ) → Some next ≡ next_with_room new c → (has_room new c ≡ true) × (next ≡ c.next)
+room_there new c next e = at (has_room new c) e
+  where
+    at : (b : Bool) → Some next ≡ cond b (Some c.next) None → (b ≡ true) × (next ≡ c.next)
+    at true h = (refl, cc)
+    at false h = absurd (cc)
+
+-- there is none
+pub no_room_there : (new : ℕ) (c : Catalogue) → None ≡ next_with_room new c → has_room new c ≡ false
+no_room_there new c e = at (has_room new c) e
+  where
+    at : (b : Bool) → None ≡ cond b (Some c.next) None → b ≡ false
+    at true h = absurd (cc)
+    at false h = refl

@@ -1,16 +1,15 @@
 -- The path of the unit that a source has under a number.
-use Rattle.std.proofs.Common.{◌≡◌, ℕ, suc, ◌+◌, Bool, true, false, not, cond, ◌&&◌, ◌||◌, List, [], ◌∷◌, length, map, Option, Some, None, refl, sym, ap, ap₂, subst, ◌∙◌, inl, inr, nat_eq, arith}
-use Rattle.std.specs.Prelude.{find, is_some}
+use Rattle.std.proofs.Common.{◌≡◌, ℕ, suc, ◌+◌, Bool, true, false, not, cond, ◌||◌, List, [], ◌∷◌, length, map, Some, None, refl, sym, ap, ap₂, ◌∙◌, nat_eq, arith}
+use Rattle.std.specs.Prelude.{find}
 use Rattle.std.specs.List.{AllByRecursion, list_any}
-use Rattle.std.proofs.lemmas.Bool.{and_parts, eqb-true, false≢true, or_cases, or_parts}
+use Rattle.std.proofs.lemmas.Bool.{eqb-true}
 use Rattle.isad_core.specs.Texts.{Bytes}
 use Rattle.tree_core.specs.Forest.{Forest, Empty, Node, each, has, nodes, path}
 use Rattle.tree_core.proofs.EachLemmas.{path-each}
-use Rattle.catalogue_core.specs.UnitLookup.{Finds, has_unit}
 use Rattle.catalogue_core.specs.GoodCatalogues.{AreGoodUnits}
 use Rattle.catalogue_core.specs.CatalogueMerge.{Catalogue, depth_under}
 use Rattle.catalogue_core.specs.Units.{Unit, has_id, is_from}
-use Rattle.catalogue_core.proofs.EachOf.{all_split, none_found}
+use Rattle.catalogue_core.proofs.EachOf.{all_split}
 use Rattle.catalogue_core.proofs.EachRow.{found_numbers}
 use Rattle.refinement.proofs.Paths.{path_there}
 
@@ -36,53 +35,6 @@ no_length (x ∷ xs) h = absurd (let e = eqb-true (suc (length xs)) 0 h in omega
 pub none_path : (is : Unit → Bool) (f : Forest Unit) → has is f ≡ false → path is f ≡ []
 none_path is f h = no_length (path is f) (path_there is f ∙ ap not h)
 
--- ---- the unit that is found
-
-none_both : (p q : Unit → Bool) (us : List Unit) → list_any p us ≡ false → list_any (λ (u : Unit). p u && q u) us ≡ false
-none_both p q [] h = refl
-none_both p q (u ∷ us) h =
-    let parts = or_parts (p u) (list_any p us) h in
-    ap₂ (λ (a b : Bool). (a && q u) || b) parts.0 (none_both p q us parts.1)
-
-any_second : (p q : Unit → Bool) (us : List Unit) → list_any (λ (u : Unit). p u && q u) us ≡ true → list_any q us ≡ true
-any_second p q [] h = absurd (false≢true h)
-any_second p q (u ∷ us) h = at (p u) (q u) h (any_second p q us)
-  where
-    at : (a b : Bool) → ((a && b) || list_any (λ (u : Unit). p u && q u) us) ≡ true → (list_any (λ (u : Unit). p u && q u) us ≡ true → list_any q us ≡ true) → (b || list_any q us) ≡ true
-    at a true k later = refl
-    at true false k later = later k
-    at false false k later = later k
-
--- a number that is found is that of a unit that is there
-pub found_there : (is : Unit → Bool) (f : Forest Unit) (id : ℕ) → Finds is f (Some id) → has_unit f id ≡ true
-found_there is f id h = any_second is (has_id id) (nodes f) h
-
-which : (is : Unit → Bool) (v id : ℕ) (us : List Unit) → AllByRecursion (λ (u : Unit). has_id v u ≡ is u) us → list_any (λ (u : Unit). is u && has_id id u) us ≡ true → v ≡ id
-which is v id [] h e = absurd (false≢true e)
-which is v id (u ∷ us) h e = elim (or_cases (is u && has_id id u) (list_any (λ (w : Unit). is w && has_id id w) us) e) [
-  | inl here ↦ (let both = and_parts (is u) (has_id id u) here in eqb-true v u.id (h.0 ∙ both.0) ∙ sym (eqb-true id u.id both.1))
-  | inr later ↦ which is v id us h.1 later
-]
-
--- each unit has that number where it is the one that was looked for
-pub found_number : (c : Catalogue) (source legacy : Bytes) (id : ℕ) → AreGoodUnits c → Finds (is_from source legacy) c.forest (Some id) → AllByRecursion (λ (u : Unit). has_id id u ≡ is_from source legacy u) (nodes c.forest)
-found_number c source legacy id good h = at (find (is_from source legacy) (nodes c.forest)) refl
-  where
-    at : (r : Option Unit) → find (is_from source legacy) (nodes c.forest) ≡ r → AllByRecursion (λ (u : Unit). has_id id u ≡ is_from source legacy u) (nodes c.forest)
-    at None e =
-        let none = none_both (is_from source legacy) (has_id id) (nodes c.forest) (none_found (is_from source legacy) (nodes c.forest) e) in
-        absurd (false≢true (sym none ∙ h))
-    at (Some v) e =
-        let all = found_numbers source legacy (nodes c.forest) v good.ids good.pairs e in
-        let same = which (is_from source legacy) v.id id (nodes c.forest) all h in
-        subst (λ n. AllByRecursion (λ (u : Unit). has_id n u ≡ is_from source legacy u) (nodes c.forest)) same all
-
--- its path, by its number
-pub found_path : (c : Catalogue) (source legacy : Bytes) (id : ℕ) → AreGoodUnits c → Finds (is_from source legacy) c.forest (Some id) → path (nat_eq id) (each (λ (u : Unit). u.id) c.forest) ≡ map (λ (u : Unit). u.id) (path (is_from source legacy) c.forest)
-found_path c source legacy id good h =
-    path-each (nat_eq id) (λ (u : Unit). u.id) c.forest
-    ∙ ap (map (λ (u : Unit). u.id)) (same_path (has_id id) (is_from source legacy) c.forest (found_number c source legacy id good h))
-
 -- the path of a unit that is found, by its number
 pub path_by_number : (c : Catalogue) (source legacy : Bytes) (v : Unit) → AreGoodUnits c → find (is_from source legacy) (nodes c.forest) ≡ Some v → path (nat_eq v.id) (each (λ (u : Unit). u.id) c.forest) ≡ map (λ (u : Unit). u.id) (path (is_from source legacy) c.forest)
 path_by_number c source legacy v good found =
@@ -104,17 +56,3 @@ depth_found f source legacy n b long zero =
     swapped : (b : Bool) → cond (not b) (Some (n + 1)) None ≡ cond b None (Some (n + 1))
     swapped true = refl
     swapped false = refl
-
--- ---- whether it is found
-
-pub finds_so : (is : Unit → Bool) (f : Forest Unit) (r : Option ℕ) → Finds is f r → is_some r ≡ has is f
-finds_so is f None h = sym h
-finds_so is f (Some id) h = sym (any_first (nodes f) h)
-  where
-    any_first : (us : List Unit) → list_any (λ (u : Unit). is u && has_id id u) us ≡ true → list_any is us ≡ true
-    any_first [] h = absurd (false≢true h)
-    any_first (u ∷ us) h = at (is u) (has_id id u) h (any_first us)
-      where
-        at : (a b : Bool) → ((a && b) || list_any (λ (u : Unit). is u && has_id id u) us) ≡ true → (list_any (λ (u : Unit). is u && has_id id u) us ≡ true → list_any is us ≡ true) → (a || list_any is us) ≡ true
-        at true b k later = refl
-        at false b k later = later k

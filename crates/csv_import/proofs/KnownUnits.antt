@@ -1,10 +1,11 @@
--- The units of a file's rows, known by the rows' numbers in their source, and known still as rows are entered.
-use Rattle.std.proofs.Common.{◌≡◌, ℕ, Bool, true, false, cond, ◌&&◌, ◌<◌, ◌+◌, length, get_or, List, [], ◌∷◌, ◌++◌, Option, Some, None, refl, sym, ap, ◌∙◌, subst}
+-- The units of a file's rows and their parents, known by their numbers in the source, and known still as rows are entered.
+use Rattle.std.proofs.Common.{◌≡◌, ℕ, Bool, true, false, cond, ◌&&◌, ◌||◌, ◌<◌, ◌+◌, length, get_or, List, [], ◌∷◌, Option, Some, None, refl, sym, ap, ◌∙◌, subst}
 use Rattle.std.specs.Prelude.{IfSome, find, drop, is_some, option_map}
 use Rattle.std.specs.List.{AllByRecursion}
 use Rattle.std.specs.Str.{bytes_eq}
+use Rattle.std.proofs.lemmas.Bool.{false≢true}
 use Rattle.std.proofs.lemmas.List.{drop_more}
-use Rattle.sqlite_trees.proofs.ListLemmas.{all-append, all-get_or}
+use Rattle.sqlite_trees.proofs.ListLemmas.{all-get_or}
 use Rattle.isad_core.specs.Texts.{Bytes}
 use Rattle.isad_core.specs.declared.values.Values.{Values}
 use Rattle.atom_csv.specs.declared.file.Row.{Row}
@@ -18,7 +19,7 @@ use Rattle.catalogue_core.proofs.EachOf.{none_found, some_found}
 use Rattle.catalogue_core.proofs.EnteredUnits.{alike_each, same_added}
 use Rattle.catalogue_core.proofs.ImportedAgain.{one_text}
 use Rattle.csv_import.specs.RowEntry.{entered}
-use Rattle.csv_import.specs.KnownUnits.{KnowsUnits, TellsUnits}
+use Rattle.csv_import.specs.KnownUnits.{IsAsked, KnowsAsked, KnowsUnits, TellsParentOfNew, TellsUnits}
 use Rattle.csv_import.specs.Turns.{AreToCome, IsTurn}
 use Rattle.csv_import.proofs.OneRow.{entered_known, entered_new}
 use Rattle.csv_import.proofs.RowsToCome.{one_entered}
@@ -31,6 +32,10 @@ is_known_by c source row = at (find (is_from source row.legacy) (nodes c.forest)
     at None e = ap (λ (u : Option Unit). is_some (option_map (λ (v : Unit). v.id) u)) e ∙ sym (none_found (is_from source row.legacy) (nodes c.forest) e)
     at (Some v) e = ap (λ (u : Option Unit). is_some (option_map (λ (v : Unit). v.id) u)) e ∙ sym (some_found (is_from source row.legacy) (nodes c.forest) v e)
 
+pub none_known : (o : Option ℕ) → is_some o ≡ false → o ≡ None
+none_known None e = refl
+none_known (Some id) e = absurd (false≢true (sym e))
+
 -- what is told of the row at this index
 pub told_at : (c : Catalogue) (source : Bytes) (rows : List Row) (numbers : Bytes → Option ℕ) (i : ℕ) (row : Row) → i < length rows → get_or rows i row ≡ row → TellsUnits c source rows numbers → numbers row.legacy ≡ number_there c source row.legacy
 told_at c source rows numbers i row low is told =
@@ -42,49 +47,91 @@ pub told_here : (c : Catalogue) (source : Bytes) (rows : List Row) (numbers : By
 told_here c source rows numbers i row low is told =
     subst (λ rest. TellsUnits c source rest numbers) (drop_more rows i row low ∙ ap (λ (r : Row). r ∷ drop (i + 1) rows) is) told
 
+-- the parent of the row at this index
+pub parent_at : (c : Catalogue) (source : Bytes) (rows : List Row) (numbers : Bytes → Option ℕ) (i : ℕ) (row : Row) → i < length rows → get_or rows i row ≡ row → AllByRecursion (TellsParentOfNew c source numbers) rows → TellsParentOfNew c source numbers row
+parent_at c source rows numbers i row low is told = subst (TellsParentOfNew c source numbers) is (all-get_or (TellsParentOfNew c source numbers) rows i row told low)
+
 -- ---- they become known one after another
 
 module _ (c : Catalogue) (source : Bytes) where
+  -- nothing was asked for yet
+  pub asked_nothing : (asked : Bytes → Bool) (numbers : Bytes → Option ℕ) → ((q : Bytes) → asked q ≡ false) → ((q : Bytes) → numbers q ≡ None) → KnowsAsked c source asked numbers
+  asked_nothing asked numbers unasked none = record {
+    right = λ q. subst (λ o. IfSome o (λ n. number_there c source q ≡ Some n)) (sym (none q)) tt;
+    told = λ q yes. absurd (false≢true (sym (unasked q) ∙ yes));
+  }
+
+  -- one number more was asked for
+  module _ (asked later : Bytes → Bool) (numbers : Bytes → Option ℕ) (legacy : Bytes) (before : KnowsAsked c source asked numbers) (more : (q : Bytes) → later q ≡ (bytes_eq q legacy || asked q)) where
+    -- again
+    pub asked_again : asked legacy ≡ true → KnowsAsked c source later numbers
+    asked_again was = record {
+      right = before.right;
+      told = λ q yes. at q (bytes_eq q legacy) refl (sym (more q) ∙ yes);
+    }
+      where
+        at : (q : Bytes) (b : Bool) → bytes_eq q legacy ≡ b → (b || asked q) ≡ true → numbers q ≡ number_there c source q
+        at q true e h = before.told q (ap asked (one_text q legacy e) ∙ was)
+        at q false e h = before.told q h
+
+    -- the catalogue has none
+    pub asked_in_vain : None ≡ number_there c source legacy → KnowsAsked c source later numbers
+    asked_in_vain is = record {
+      right = before.right;
+      told = λ q yes. at q (bytes_eq q legacy) refl (sym (more q) ∙ yes);
+    }
+      where
+        none : (q : Bytes) (o : Option ℕ) → IfSome o (λ n. number_there c source q ≡ Some n) → None ≡ number_there c source q → o ≡ number_there c source q
+        none q None h e = e
+        none q (Some n) h e = absurd (let clash : None ≡ Some n = e ∙ h in cc)
+
+        at : (q : Bytes) (b : Bool) → bytes_eq q legacy ≡ b → (b || asked q) ≡ true → numbers q ≡ number_there c source q
+        at q true e h = none q (numbers q) (before.right q) (is ∙ ap (number_there c source) (sym (one_text q legacy e)))
+        at q false e h = before.told q h
+
+    -- it is catalogued
+    pub asked_and_found : (after : Bytes → Option ℕ) (unit : ℕ) → Some unit ≡ number_there c source legacy → ((q : Bytes) → after q ≡ cond (bytes_eq q legacy) (Some unit) (numbers q)) → KnowsAsked c source later after
+    asked_and_found after unit is kept = record {
+      right = λ q. subst (λ o. IfSome o (λ n. number_there c source q ≡ Some n)) (sym (kept q)) (right_at q (bytes_eq q legacy) refl);
+      told = λ q yes. kept q ∙ at q (bytes_eq q legacy) refl (sym (more q) ∙ yes);
+    }
+      where
+        there : (q : Bytes) → bytes_eq q legacy ≡ true → Some unit ≡ number_there c source q
+        there q e = is ∙ ap (number_there c source) (sym (one_text q legacy e))
+
+        right_at : (q : Bytes) (b : Bool) → bytes_eq q legacy ≡ b → IfSome (cond b (Some unit) (numbers q)) (λ n. number_there c source q ≡ Some n)
+        right_at q true e = sym (there q e)
+        right_at q false e = before.right q
+
+        at : (q : Bytes) (b : Bool) → bytes_eq q legacy ≡ b → (b || asked q) ≡ true → cond b (Some unit) (numbers q) ≡ number_there c source q
+        at q true e h = there q e
+        at q false e h = before.told q h
+
+  -- ---- a row and its parent
+
+  if_asked : (asked later : Bytes → Bool) → ((q : Bytes) → asked q ≡ true → later q ≡ true) → (p : Option Bytes) → IfSome p (λ parent. asked parent ≡ true) → IfSome p (λ parent. later parent ≡ true)
+  if_asked asked later more None h = tt
+  if_asked asked later more (Some parent) h = more parent h
+
+  -- what was asked for stays asked for
+  pub still_asked : (asked later : Bytes → Bool) → ((q : Bytes) → asked q ≡ true → later q ≡ true) → (rows : List Row) → AllByRecursion (IsAsked c source asked) rows → AllByRecursion (IsAsked c source later) rows
+  still_asked asked later more rows all =
+      all_so (IsAsked c source asked) (IsAsked c source later) (λ row it. record { unit = more row.legacy it.unit; parent = λ new. if_asked asked later more row.parent (it.parent new) }) rows all
+
   abbrev IsTold : (Bytes → Option ℕ) → Row → Type 0
   IsTold numbers row = numbers row.legacy ≡ number_there c source row.legacy
 
-  pub one_known : (numbers after : Bytes → Option ℕ) (rows : List Row) (row : Row) (unit : ℕ) → KnowsUnits c source rows numbers → Some unit ≡ number_there c source row.legacy
-      → ((q : Bytes) → after q ≡ cond (bytes_eq q row.legacy) (Some unit) (numbers q)) → KnowsUnits c source (rows ++ row ∷ []) after
-  one_known numbers after rows row unit it is more = record {
-    sound = λ legacy. subst (λ o. IfSome o (λ n. number_there c source legacy ≡ Some n)) (sym (more legacy)) (sound_at legacy (bytes_eq legacy row.legacy) refl);
-    each = all-append (IsTold after) rows (row ∷ []) (all_so (IsTold numbers) (IsTold after) (λ r h. more r.legacy ∙ told_at r.legacy (bytes_eq r.legacy row.legacy) refl h) rows it.each) (its_own, tt);
+  -- all rows were asked for
+  pub all_known : (asked : Bytes → Bool) (numbers : Bytes → Option ℕ) (rows : List Row) → KnowsAsked c source asked numbers → AllByRecursion (IsAsked c source asked) rows → KnowsUnits c source rows numbers
+  all_known asked numbers rows it all = record {
+    sound = it.right;
+    each = all_so (IsAsked c source asked) (IsTold numbers) (λ row h. it.told row.legacy h.unit) rows all;
+    parents = all_so (IsAsked c source asked) (TellsParentOfNew c source numbers) (λ row h new. parent_told row.parent (h.parent new)) rows all;
   }
     where
-      there : (q : Bytes) → bytes_eq q row.legacy ≡ true → Some unit ≡ number_there c source q
-      there q e = is ∙ ap (number_there c source) (sym (one_text q row.legacy e))
-
-      sound_at : (q : Bytes) (b : Bool) → bytes_eq q row.legacy ≡ b → IfSome (cond b (Some unit) (numbers q)) (λ n. number_there c source q ≡ Some n)
-      sound_at q true e = sym (there q e)
-      sound_at q false e = it.sound q
-
-      told_at : (q : Bytes) (b : Bool) → bytes_eq q row.legacy ≡ b → numbers q ≡ number_there c source q → cond b (Some unit) (numbers q) ≡ number_there c source q
-      told_at q true e h = there q e
-      told_at q false e h = h
-
-      its_own : after row.legacy ≡ number_there c source row.legacy
-      its_own = more row.legacy ∙ own (bytes_eq row.legacy row.legacy) refl
-        where
-          own : (b : Bool) → bytes_eq row.legacy row.legacy ≡ b → cond b (Some unit) (numbers row.legacy) ≡ number_there c source row.legacy
-          own true e = is
-          own false e = absurd (Rattle.std.proofs.lemmas.Bool.false≢true (sym e ∙ Rattle.catalogue_core.proofs.ImportedAgain.same_text row.legacy))
-
-  pub no_more_known : (numbers : Bytes → Option ℕ) (rows : List Row) (row : Row) → KnowsUnits c source rows numbers → None ≡ number_there c source row.legacy → KnowsUnits c source (rows ++ row ∷ []) numbers
-  no_more_known numbers rows row it is = record {
-    sound = it.sound;
-    each = all-append (IsTold numbers) rows (row ∷ []) it.each (none (numbers row.legacy) refl (it.sound row.legacy) ∙ is, tt);
-  }
-    where
-      none : (o : Option ℕ) → numbers row.legacy ≡ o → IfSome (numbers row.legacy) (λ n. number_there c source row.legacy ≡ Some n) → numbers row.legacy ≡ None
-      none None e h = e
-      none (Some n) e h =
-          let there : number_there c source row.legacy ≡ Some n = subst (λ o. IfSome o (λ n. number_there c source row.legacy ≡ Some n)) e h in
-          let clash : None ≡ Some n = is ∙ there in
-          absurd (cc)
+      parent_told : (p : Option Bytes) → IfSome p (λ parent. asked parent ≡ true) → IfSome p (λ parent. numbers parent ≡ number_there c source parent)
+      parent_told None h = tt
+      parent_told (Some parent) h = it.told parent h
 
 -- ---- they stay known
 

@@ -18,3 +18,4 @@ pub mod ComeToStand
 pub mod RightAbove
 pub mod KnownUnits
 pub mod EnteredNumbers
+pub mod Noted

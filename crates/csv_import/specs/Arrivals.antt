@@ -6,7 +6,8 @@ use Rattle.tree_core.specs.Forest.{Forest}
 use Rattle.tree_core.specs.declared.arrivals.Arrival.{Arrival}
 use Rattle.catalogue_core.specs.CatalogueMerge.{Catalogue, New, is_known, number_of, numbered_from}
 use Rattle.catalogue_core.specs.Units.{Unit}
-use Rattle.csv_import.specs.KnownUnits.{TellsUnits}
+use Rattle.csv_import.specs.KnownUnits.{KnowsUnits, TellsUnits}
+use Rattle.csv_import.specs.RowEntry.{CanEnter}
 use Rattle.csv_import.specs.RowPlan.{new_of, or_there}
 use Rattle.csv_import.specs.Turns.{AreToCome}
 
@@ -29,10 +30,16 @@ arrival_at f source n above row =
     if is_known f source row then None
     else Some (record { unit = n; parent = option_and_then (number_of f source n above) row.parent })
 
--- `numbers` has the number that each of the new rows above got. Any other number is looked up in the catalogue.
+-- `numbers` has the number that each of the new rows above got; any other unit is in the catalogue
 abbrev pub KnowsNumbers : Forest Unit → Bytes → ℕ → List Row → (Bytes → Option ℕ) → Type 0
 KnowsNumbers f source n above numbers =
     (legacy : Bytes) → number_of f source n above legacy ≡ or_there (numbers legacy) (number_of f source n [] legacy)
+
+-- the rows can be entered; what the catalogue has of their units and parents is known, and so is the next number
+pub record IsReady (source : Bytes) (rows : List Row) (numbers : Bytes → Option ℕ) (next : ℕ) (c : Catalogue) : Type 0 where
+  pub can : CanEnter source rows c
+  pub known : KnowsUnits c source rows numbers
+  pub number : next ≡ c.next
 
 -- the rows are still to be entered, and these are the units that they add to those that are catalogued
 pub record BringUnits (source : Bytes) (rows : List Row) (numbers : Bytes → Option ℕ) (next : ℕ) (arrivals : List Arrival) (c : Catalogue) : Type 0 where

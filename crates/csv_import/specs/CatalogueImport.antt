@@ -1,5 +1,5 @@
 -- A file that is imported into an office.
-use Rattle.std.specs.Prelude.{◌≡◌, ℕ, ◌+◌, ◌≤◌, Bool, true, nat_le, nat_lt, ◌&&◌, if◌then◌else◌, List, [], length, map, Some, Err}
+use Rattle.std.specs.Prelude.{◌≡◌, ℕ, ◌+◌, ◌≤◌, Bool, true, nat_le, nat_lt, ◌&&◌, if◌then◌else◌, List, [], length, map, Option, Some, None, Err}
 use Rattle.isad_core.specs.Limits.{most_containers, most_unit_numbers, most_units}
 use Rattle.isad_core.specs.Texts.{Bytes}
 use Rattle.atom_csv.specs.declared.file.File.{File}
@@ -22,6 +22,10 @@ use Rattle.csv_import.specs.declared.row_entry.Counts.{Counts}
 -- an office may have this many more units, each with a number of its own
 abbrev pub has_room : ℕ → Catalogue → Bool
 has_room new c = nat_le (size c.forest + new) most_units && nat_le (c.next + new) (most_unit_numbers + 1)
+
+-- the number of the next new unit, or none if there is no room for so many more
+abbrev pub next_with_room : ℕ → Catalogue → Option ℕ
+next_with_room new c = if has_room new c then Some c.next else None
 
 -- the rows of the file can all be placed, and this many of them are new
 pub record CanBePlaced (source : Bytes) (file : File) (new : ℕ) (s : State) : Type 0 where

@@ -17,7 +17,7 @@ ghost use Rattle.refinement.specs.CommandSteps.{CarriesOut};
 ghost use Rattle.refinement.specs.AccessConditions.{RepresentsWhole};
 ghost use Rattle.csv_import.specs.CatalogueImport.{CanBePlaced, FitsIn, HasNumbered, judged, told_of};
 ghost use Rattle.csv_import.specs.CatalogueImport as spec;
-ghost use Rattle.csv_import.specs.KnownUnits.{TellsUnits};
+ghost use Rattle.csv_import.specs.KnownUnits.{KnowsUnits};
 
 use crate::legacy::ByLegacy;
 use crate::numbers::known_units;
@@ -25,37 +25,43 @@ use crate::remarks::remarks;
 use crate::row_entry::{Outcome, enter_rows};
 use crate::row_plan::{Planned, plan};
 use atom_csv::{File, FileFault, read_file};
-use catalogue_store::{Office, Places, office_row};
+use catalogue_statements::office::{count_containers, count_units};
+use catalogue_store::{Places, settings};
 use isad_core::limits::{MOST_CONTAINERS, MOST_UNIT_NUMBERS, MOST_UNITS};
 use isad_core::{Day, Text};
 use office_core::{Done, Refusal};
 use office_tables::StoreFault;
+use office_tables::from_row::only_number;
 use refinement::pass;
 use sqlite::{Alter, Connection};
 use std::alloc::Global;
 
-/// Whether `new` more units fit, each with a number of its own.
-fn has_space(office: &Office, new: u64) -> bool
-    ensures { result ≡ (nat_le (office.now.units + new) most_units
-        && nat_le (office.now.row.next_unit + new) (most_unit_numbers + 1)) }
+/// Whether `new` more units fit beside so many, each with a number of its own from `next` on.
+fn has_space(units: u64, next: u64, new: u64) -> bool
+    ensures { result ≡ (nat_le (units + new) most_units && nat_le (next + new) (most_unit_numbers + 1)) }
 {
-    let units = office.units.saturating_add(new);
-    let next = office.row.next_unit.saturating_add(new);
-    units <= MOST_UNITS && next <= MOST_UNIT_NUMBERS + 1
+    let all = units.saturating_add(new);
+    let after = next.saturating_add(new);
+    all <= MOST_UNITS && after <= MOST_UNIT_NUMBERS + 1
 }
 
-/// Whether there is room for `new` more units, each with a number of its own.
-fn has_room<P: Places, S: Alter>(
+/// The number of the next new unit, or none if there is no room for `new` more units, each with a number of its own.
+fn next_with_room<P: Places, S: Alter>(
     alloc: Global,
     conn: &mut Connection<S>,
     new: u64,
-) -> Result<bool, StoreFault>
+) -> Result<Option<u64>, StoreFault>
     requires inside { InTransaction P.version (state S.Store conn.old) }
     ensures tells { Answers S.Store (RepresentsSettings P.represents P.version) AreLegibleSettings conn.old conn.new
-        result (λ _. ⊤) (λ c _ room. room ≡ spec.has_room new c) }
+        result (λ _. ⊤) (λ c _ next. next ≡ spec.next_with_room new c) }
 {
-    let office = office_row::<P, S>(alloc, conn)?;
-    Ok(has_space(&office, new))
+    let office = settings::<P, S>(alloc, conn)?;
+    let counted = count_units(alloc, conn)?;
+    let units = only_number(&counted)?;
+    if has_space(units, office.next_unit, new) {
+        return Ok(Some(office.next_unit));
+    }
+    Ok(None)
 }
 
 /// Whether there are more containers than an office may have.
@@ -67,8 +73,9 @@ fn has_many_containers<P: Places, S: Alter>(
     ensures tells { Answers S.Store (RepresentsSettings P.represents P.version) AreLegibleSettings conn.old conn.new
         result (λ _. ⊤) (λ c _ many. many ≡ nat_lt most_containers (length c.containers)) }
 {
-    let office = office_row::<P, S>(alloc, conn)?;
-    Ok(office.containers > MOST_CONTAINERS)
+    let counted = count_containers(alloc, conn)?;
+    let containers = only_number(&counted)?;
+    Ok(containers > MOST_CONTAINERS)
 }
 
 /// The outcome of a file whose rows were entered, or a refusal if there are now too many containers, or if a container
@@ -102,29 +109,30 @@ fn judge<P: Places, S: Alter>(
     pass::<P, S>(alloc, conn, today, done)
 }
 
-/// Imports rows that can all be placed and for which there is room. `catalogued` has the numbers of the units that are
-/// catalogued.
+/// Imports rows that can all be placed and for which there is room. `catalogued` has the numbers of the catalogued units
+/// among those of the rows and their parents. `next` is the next new number.
 fn import_rows<P: Places, S: Alter>(
     alloc: Global,
     conn: &mut Connection<S>,
     today: Day,
     source: &Text,
     catalogued: &ByLegacy,
+    next: u64,
     file: &File,
 ) -> Result<Result<Done, Refusal>, StoreFault>
     requires inside { InTransaction P.version (state S.Store conn.old) }
     requires low { (legacy : Bytes) → IfSome (get_by_text catalogued.now legacy) IsNumber }
     ensures { (bytes : Bytes) → file_of bytes ≡ Ok file.now → CarriesOut P.represents P.version
         (λ s. (today ≡ s.day) × (is_source source.now ≡ true) × FitsIn source.now file.now s
-        × TellsUnits s.catalogue source.now file.now.rows (get_by_text catalogued.now))
+        × KnowsUnits s.catalogue source.now file.now.rows (get_by_text catalogued.now) × (next ≡ s.catalogue.next))
         (command.Import source.now bytes) (state S.Store conn.old) (state S.Store conn.new) result }
 {
-    let outcome = enter_rows::<P, S>(alloc, conn, source, catalogued, file.rows.as_slice())?;
+    let outcome = enter_rows::<P, S>(alloc, conn, source, catalogued, next, file.rows.as_slice())?;
     judge::<P, S>(alloc, conn, today, file, &outcome)
 }
 
 /// Imports rows that can all be placed, of which `new` are new, or refuses if there is no room for them. `catalogued`
-/// has the numbers of the units that are catalogued.
+/// has the numbers of the catalogued units among those of the rows and their parents.
 fn import_placed<P: Places, S: Alter>(
     alloc: Global,
     conn: &mut Connection<S>,
@@ -138,16 +146,17 @@ fn import_placed<P: Places, S: Alter>(
     requires low { (legacy : Bytes) → IfSome (get_by_text catalogued.now legacy) IsNumber }
     ensures { (bytes : Bytes) → file_of bytes ≡ Ok file.now → CarriesOut P.represents P.version
         (λ s. (today ≡ s.day) × (is_source source.now ≡ true) × CanBePlaced source.now file.now new s
-        × TellsUnits s.catalogue source.now file.now.rows (get_by_text catalogued.now))
+        × KnowsUnits s.catalogue source.now file.now.rows (get_by_text catalogued.now))
         (command.Import source.now bytes) (state S.Store conn.old) (state S.Store conn.new) result }
 {
-    if !has_room::<P, S>(alloc, conn, new)? {
+    let Some(next) = next_with_room::<P, S>(alloc, conn, new)? else {
         return Ok(Err(Refusal::Full));
-    }
-    import_rows::<P, S>(alloc, conn, today, source, catalogued, file)
+    };
+    import_rows::<P, S>(alloc, conn, today, source, catalogued, next, file)
 }
 
-/// Imports a file that was read. `catalogued` has the numbers of the units that are catalogued.
+/// Imports a file that was read. `catalogued` has the numbers of the catalogued units among those of the rows and their
+/// parents.
 fn import_known<P: Places, S: Alter>(
     alloc: Global,
     conn: &mut Connection<S>,
@@ -160,10 +169,10 @@ fn import_known<P: Places, S: Alter>(
     requires low { (legacy : Bytes) → IfSome (get_by_text catalogued.now legacy) IsNumber }
     ensures { (bytes : Bytes) → file_of bytes ≡ Ok file.now → CarriesOut P.represents P.version
         (λ s. (today ≡ s.day) × (is_source source.now ≡ true)
-        × TellsUnits s.catalogue source.now file.now.rows (get_by_text catalogued.now))
+        × KnowsUnits s.catalogue source.now file.now.rows (get_by_text catalogued.now))
         (command.Import source.now bytes) (state S.Store conn.old) (state S.Store conn.new) result }
 {
-    match plan::<P, S>(alloc, conn, source, catalogued, file.rows.as_slice())? {
+    match plan::<P, S>(alloc, conn, catalogued, file.rows.as_slice())? {
         Planned::Fits { new } => import_placed::<P, S>(
             alloc, conn, today, source, catalogued, file, new,
         ),

@@ -1,25 +1,29 @@
-//! What is kept about rows, by their numbers in their source.
+//! What is kept about units and rows, by their numbers in their source.
 
-ghost use Rattle.std.specs.Prelude.{◌≡◌, if◌then◌else◌, OnOk, Some};
+ghost use Rattle.std.specs.Prelude.{◌≡◌, ◌||◌, if◌then◌else◌, not, IfOk, OnOk, Some};
 ghost use Rattle.std.specs.BTreeMap.{get_by_text};
+ghost use Rattle.std.specs.BTreeSet.{contains_text};
 ghost use Rattle.std.specs.Str.{bytes_eq};
 ghost use Rattle.isad_core.specs.Texts.{Bytes};
 
 use isad_core::Text;
 use std::alloc::{AllocError, Global};
-use std::collections::BTreeMap;
+use std::collections::{BTreeMap, BTreeSet};
 
-/// A number for each of some rows, by the row's number in its source.
+/// A number for each of some units or rows, by its number in its source.
 pub(crate) type ByLegacy = BTreeMap<String, u64>;
 
-/// The number that is kept for a row, if one is.
+/// Some numbers in a source.
+pub(crate) type Legacies = BTreeSet<String>;
+
+/// The number that is kept for a unit or row, if one is.
 pub(crate) fn kept_number(kept: &ByLegacy, legacy: &Text) -> Option<u64>
     ensures { result ≡ get_by_text kept.now legacy.now }
 {
     kept.get(legacy.as_str()).copied()
 }
 
-/// Keeps a number for a row.
+/// Keeps a number for a unit or row.
 #[tactic(auto, using(std::proofs::lemmas::Map::Text::text_keys))]
 pub(crate) fn remember(
     kept: &mut ByLegacy,
@@ -33,4 +37,15 @@ pub(crate) fn remember(
     let key = String::from_str(alloc, legacy.as_str())?;
     kept.insert(key, number)?;
     Ok(())
+}
+
+/// Adds a number in a source to those that were noted, and returns whether it is new among them.
+pub(crate) fn note(noted: &mut Legacies, alloc: Global, legacy: &Text) -> Result<bool, AllocError>
+    ensures new { IfOk result (λ new. new ≡ not (contains_text noted.old legacy.now)) }
+    ensures noted { OnOk result ((q : Bytes) → contains_text noted.new q
+        ≡ (bytes_eq q legacy.now || contains_text noted.old q)) }
+{
+    let key = String::from_str(alloc, legacy.as_str())?;
+    let is_new = noted.insert(key)?;
+    Ok(is_new)
 }

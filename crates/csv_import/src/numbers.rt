@@ -1,7 +1,9 @@
 //! The numbers of units by their numbers in their source.
 
-ghost use Rattle.std.specs.Prelude.{◌≡◌, IfOk, IfSome, ⊤};
+ghost use Rattle.std.specs.Prelude.{◌≡◌, ◌||◌, true, IfOk, IfSome, OnOk, ⊤};
 ghost use Rattle.std.specs.BTreeMap.{get_by_text};
+ghost use Rattle.std.specs.BTreeSet.{contains_text};
+ghost use Rattle.std.specs.Str.{bytes_eq};
 ghost use Rattle.sqlite.specs.Held.{state};
 ghost use Rattle.isad_core.specs.Limits.{IsNumber};
 ghost use Rattle.isad_core.specs.Texts.{Bytes};
@@ -10,9 +12,9 @@ ghost use Rattle.catalogue_core.specs.EntryByRow.{number_there};
 ghost use Rattle.office_tables.specs.Calls.{Answers};
 ghost use Rattle.office_tables.specs.Step.{InTransaction};
 ghost use Rattle.csv_import.specs.RowEntry.{RepresentsEntering};
-ghost use Rattle.csv_import.specs.KnownUnits.{KnowsUnits};
+ghost use Rattle.csv_import.specs.KnownUnits.{IsAsked, KnowsAsked, KnowsUnits};
 
-use crate::legacy::{ByLegacy, remember};
+use crate::legacy::{ByLegacy, Legacies, kept_number, note, remember};
 use atom_csv::Row;
 use catalogue_store::{Places, known};
 use isad_core::Text;
@@ -22,7 +24,7 @@ use sqlite::{Alter, Connection};
 use std::alloc::Global;
 
 /// The number of the unit that has this number in the source, if it is catalogued.
-pub(crate) fn number_of<P: Places, S: Alter>(
+fn number_of<P: Places, S: Alter>(
     alloc: Global,
     conn: &mut Connection<S>,
     source: &Text,
@@ -42,7 +44,67 @@ pub(crate) fn number_of<P: Places, S: Alter>(
     Ok(Some(unit))
 }
 
-/// The numbers of those of these rows' units that are catalogued. Each is looked up once, and kept for all later steps.
+/// Looks up the unit that has this number in the source, unless it was asked for before. If it is catalogued, its
+/// number is kept.
+fn look_up<P: Places, S: Alter>(
+    alloc: Global,
+    conn: &mut Connection<S>,
+    source: &Text,
+    asked: &mut Legacies,
+    numbers: &mut ByLegacy,
+    legacy: &Text,
+) -> Result<(), StoreFault>
+    requires inside { InTransaction P.version (state S.Store conn.old) }
+    requires low { (q : Bytes) → IfSome (get_by_text numbers.old q) IsNumber }
+    ensures tells { Answers S.Store (RepresentsEntering P.version) (λ _. ⊤) conn.old conn.new result AreGoodUnits
+        (λ _ c _. AreGoodUnits c → KnowsAsked c source.now (contains_text asked.old) (get_by_text numbers.old)
+        → KnowsAsked c source.now (contains_text asked.new) (get_by_text numbers.new)) }
+    ensures asked { OnOk result ((q : Bytes) → contains_text asked.new q
+        ≡ (bytes_eq q legacy.now || contains_text asked.old q)) }
+    ensures small { OnOk result ((q : Bytes) → IfSome (get_by_text numbers.new q) IsNumber) }
+{
+    if !note(asked, alloc, legacy)? {
+        return Ok(());
+    }
+    let Some(unit) = number_of::<P, S>(alloc, conn, source, legacy)? else {
+        return Ok(());
+    };
+    remember(numbers, alloc, legacy, unit)?;
+    Ok(())
+}
+
+/// Looks up the unit of a row, and if the row is new, the parent that it names. A row whose unit is catalogued is not
+/// placed, so its parent is not looked up.
+fn look_up_row<P: Places, S: Alter>(
+    alloc: Global,
+    conn: &mut Connection<S>,
+    source: &Text,
+    asked: &mut Legacies,
+    numbers: &mut ByLegacy,
+    row: &Row,
+) -> Result<(), StoreFault>
+    requires inside { InTransaction P.version (state S.Store conn.old) }
+    requires low { (q : Bytes) → IfSome (get_by_text numbers.old q) IsNumber }
+    ensures tells { Answers S.Store (RepresentsEntering P.version) (λ _. ⊤) conn.old conn.new result AreGoodUnits
+        (λ _ c _. AreGoodUnits c → KnowsAsked c source.now (contains_text asked.old) (get_by_text numbers.old)
+        → KnowsAsked c source.now (contains_text asked.new) (get_by_text numbers.new)
+        × IsAsked c source.now (contains_text asked.new) row.now) }
+    ensures more { OnOk result ((q : Bytes) → contains_text asked.old q ≡ true → contains_text asked.new q ≡ true) }
+    ensures small { OnOk result ((q : Bytes) → IfSome (get_by_text numbers.new q) IsNumber) }
+{
+    look_up::<P, S>(alloc, conn, source, asked, numbers, &row.legacy)?;
+    if kept_number(numbers, &row.legacy).is_some() {
+        return Ok(());
+    }
+    let Some(parent) = &row.parent else {
+        return Ok(());
+    };
+    look_up::<P, S>(alloc, conn, source, asked, numbers, parent)?;
+    Ok(())
+}
+
+/// The numbers of the catalogued units among those of these rows and the parents of those that are new. Each is looked
+/// up once, and kept for all later steps.
 pub(crate) fn known_units<P: Places, S: Alter>(
     alloc: Global,
     conn: &mut Connection<S>,
@@ -54,11 +116,10 @@ pub(crate) fn known_units<P: Places, S: Alter>(
         (λ _ c numbers. AreGoodUnits c → KnowsUnits c source.now rows.now (get_by_text numbers)) }
     ensures small { IfOk result (λ numbers. (legacy : Bytes) → IfSome (get_by_text numbers legacy) IsNumber) }
 {
+    let mut asked = Legacies::new(alloc);
     let mut numbers = ByLegacy::new(alloc);
     for row in rows {
-        if let Some(unit) = number_of::<P, S>(alloc, conn, source, &row.legacy)? {
-            remember(&mut numbers, alloc, &row.legacy, unit)?;
-        }
+        look_up_row::<P, S>(alloc, conn, source, &mut asked, &mut numbers, row)?;
     }
     Ok(numbers)
 }

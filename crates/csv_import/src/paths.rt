@@ -1,40 +1,37 @@
 //! The paths of the units that a file's rows name.
 
-ghost use Rattle.std.specs.Prelude.{◌≡◌, map, ⊤};
+ghost use Rattle.std.specs.Prelude.{◌≡◌, map, IfSome, ⊤};
 ghost use Rattle.sqlite.specs.Held.{state};
+ghost use Rattle.isad_core.specs.Limits.{IsNumber};
+ghost use Rattle.isad_core.specs.Texts.{Bytes};
 ghost use Rattle.tree_core.specs.Forest.{path};
 ghost use Rattle.catalogue_core.specs.Bounds.{IsKept};
 ghost use Rattle.catalogue_core.specs.GoodCatalogues.{AreGoodUnits};
+ghost use Rattle.catalogue_core.specs.EntryByRow.{number_there};
 ghost use Rattle.catalogue_core.specs.Units.{is_from};
 ghost use Rattle.office_tables.specs.Calls.{Answers};
 ghost use Rattle.office_tables.specs.Step.{InTransaction};
 ghost use Rattle.catalogue_statements.specs.Representation.{Represents};
 
-use catalogue_store::{Places, known};
-use isad_core::Text;
+use catalogue_store::Places;
 use office_tables::StoreFault;
-use office_tables::value::NO_NUMBER;
 use sqlite::{Alter, Connection};
 use std::alloc::Global;
 
-/// The numbers of the units from a top down to the one with this number in the source. Empty if
-/// there is no such unit.
+/// The numbers of the units from a top down to this one. Empty if there is none.
 pub(crate) fn path_of<P: Places, S: Alter>(
     alloc: Global,
     conn: &mut Connection<S>,
-    source: &Text,
-    legacy: &Text,
+    unit: Option<u64>,
 ) -> Result<Vec<u64>, StoreFault>
     requires inside { InTransaction P.version (state S.Store conn.old) }
+    requires small { IfSome unit IsNumber }
     ensures tells { Answers S.Store (Represents P.represents P.version) IsKept conn.old conn.new result (λ _. ⊤)
-        (λ _ c ids. AreGoodUnits c
-        → ids.items ≡ map (λ unit. unit.id) (path (is_from source.now legacy.now) c.forest)) }
+        (λ _ c ids. AreGoodUnits c → (source legacy : Bytes) → unit ≡ number_there c source legacy
+        → ids.items ≡ map (λ unit. unit.id) (path (is_from source legacy) c.forest)) }
 {
-    let Some(unit) = known(alloc, conn, source, legacy)? else {
+    let Some(unit) = unit else {
         return Ok(Vec::new(alloc));
     };
-    if unit >= NO_NUMBER {
-        return Err(StoreFault::Schema);
-    }
     P::path(alloc, conn, unit)
 }

@@ -17,17 +17,17 @@ ghost use Rattle.catalogue_core.specs.Units.{«Unit» as Described, has_id};
 ghost use Rattle.catalogue_statements.specs.Representation.{RepresentsNumbered, catalogue_trees, described_trees};
 ghost use Rattle.catalogue_statements.specs.declared.office.OfficeRow.{OfficeRow};
 ghost use Rattle.catalogue_store.specs.Arrivals.{IsNumbered};
-ghost use Rattle.office_tables.specs.Calls.{Updates, Answers};
+ghost use Rattle.office_tables.specs.Calls.{Updates};
 ghost use Rattle.office_tables.specs.Step.{InTransaction};
-ghost use Rattle.csv_import.specs.Arrivals.{BringUnits};
-ghost use Rattle.csv_import.specs.RowEntry.{CanEnter, RepresentsEntering, RepresentsLegible, counts_of, entered};
+ghost use Rattle.csv_import.specs.Arrivals.{BringUnits, IsReady};
+ghost use Rattle.csv_import.specs.RowEntry.{RepresentsEntering, RepresentsLegible, counts_of, entered};
 ghost use Rattle.csv_import.specs.KnownUnits.{TellsUnits, units_from};
 ghost use Rattle.csv_import.specs.Turns.{AreToCome, IsTurn, MayChange, MayCome, boxes_named, counted, entry_of};
 
 use crate::arrivals::arrivals;
 use crate::legacy::{ByLegacy, kept_number};
 use atom_csv::Row;
-use catalogue_statements::office::{office_rows, set_next_unit};
+use catalogue_statements::office::set_next_unit;
 use catalogue_store::{NewUnit, Places, enter_unit, enter_values, values as values_of};
 use isad_core::{Text, Values};
 use office_tables::StoreFault;
@@ -208,22 +208,6 @@ fn enter_each<P: Places, S: Alter>(
     Ok(counts)
 }
 
-/// The number of the next new unit.
-fn next_number<P: Places, S: Alter>(
-    alloc: Global,
-    conn: &mut Connection<S>,
-) -> Result<u64, StoreFault>
-    requires inside { InTransaction P.version (state S.Store conn.old) }
-    ensures tells { Answers S.Store (RepresentsLegible P.represents P.version) (λ _. ⊤) conn.old conn.new result
-        (λ _. ⊤) (λ _ c next. next ≡ c.next) }
-{
-    let mut found = office_rows(alloc, conn)?;
-    let Some(office) = found.pop() else {
-        return Err(StoreFault::Schema);
-    };
-    Ok(office.next_unit)
-}
-
 /// No memory holds this many rows or containers. Fewer can be numbered after those that an office
 /// has.
 const MOST_HELD: u64 = 1 << 61;
@@ -307,26 +291,27 @@ fn enter_with_places<P: Places, S: Alter>(
 }
 
 /// Enters the rows of a file from a source, one after another: the unit of a row gets the row's values, or is added
-/// with the next number. `catalogued` has the numbers of the units that are catalogued.
+/// with the next number, which is `next` for the first. `catalogued` has the numbers of the catalogued units among those
+/// of the rows and their parents.
 pub(crate) fn enter_rows<P: Places, S: Alter>(
     alloc: Global,
     conn: &mut Connection<S>,
     source: &Text,
     catalogued: &ByLegacy,
+    next: u64,
     rows: &[Row],
 ) -> Result<Outcome, StoreFault>
     requires inside { InTransaction P.version (state S.Store conn.old) }
     requires low { (legacy : Bytes) → IfSome (get_by_text catalogued.now legacy) IsNumber }
     ensures makes { Updates S.Store (RepresentsLegible P.represents P.version) (λ _. ⊤) conn.old conn.new result
-        (λ c. CanEnter source.now rows.now c × TellsUnits c source.now rows.now (get_by_text catalogued.now))
-        (entered source.now rows.now) catalogue_trees }
+        (IsReady source.now rows.now (get_by_text catalogued.now) next) (entered source.now rows.now) catalogue_trees }
     ensures counts { HasCleanDisk (state S.Store conn.new) → (o : OfficeRow) (c : Catalogue)
-        → RepresentsLegible P.represents P.version (state S.Store conn.old).now o c → CanEnter source.now rows.now c
-        → TellsUnits c source.now rows.now (get_by_text catalogued.now)
+        → RepresentsLegible P.represents P.version (state S.Store conn.old).now o c
+        → IsReady source.now rows.now (get_by_text catalogued.now) next c
         → IfOk result (λ made. made.counts ≡ counts_of c.forest source.now rows.now) }
     ensures units { HasCleanDisk (state S.Store conn.new) → (o : OfficeRow) (c : Catalogue)
-        → RepresentsLegible P.represents P.version (state S.Store conn.old).now o c → CanEnter source.now rows.now c
-        → TellsUnits c source.now rows.now (get_by_text catalogued.now)
+        → RepresentsLegible P.represents P.version (state S.Store conn.old).now o c
+        → IsReady source.now rows.now (get_by_text catalogued.now) next c
         → IfOk result (λ made. map Some made.units.items
         ≡ map (λ row. number_there (entered source.now rows.now c) source.now row.legacy) rows.now) }
     ensures small { IfOk result (λ made. AllByRecursion IsNumber made.units.items) }
@@ -334,11 +319,10 @@ pub(crate) fn enter_rows<P: Places, S: Alter>(
     if name_too_many(rows) || rows.len() as u64 >= MOST_HELD {
         return Err(StoreFault::Memory);
     }
-    let next = next_number::<P, S>(alloc, conn)?;
     if next >= LAST_NUMBER {
         return Err(StoreFault::Schema);
     }
-    let arrivals = arrivals::<P, S>(alloc, conn, source, catalogued, next, rows)?;
+    let arrivals = arrivals(alloc, catalogued, next, rows)?;
     let units = units_of(alloc, catalogued, next, rows)?;
     let counts = enter_with_places::<P, S>(alloc, conn, source, catalogued, next, rows, &arrivals)?;
     Ok(Outcome { counts, units })

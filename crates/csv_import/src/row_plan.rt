@@ -1,8 +1,10 @@
 //! What is known about a file's rows before any is entered.
 
-ghost use Rattle.std.specs.Prelude.{◌≡◌, List, ⊤};
+ghost use Rattle.std.specs.Prelude.{◌≡◌, List, IfSome, ⊤};
 ghost use Rattle.std.specs.BTreeMap.{get_by_text};
 ghost use Rattle.sqlite.specs.Held.{state};
+ghost use Rattle.isad_core.specs.Limits.{IsNumber};
+ghost use Rattle.isad_core.specs.Texts.{Bytes};
 ghost use Rattle.atom_csv.specs.declared.file.Row.{«Row» as RowTold};
 ghost use Rattle.catalogue_core.specs.Bounds.{IsKept};
 ghost use Rattle.catalogue_core.specs.GoodCatalogues.{AreGoodUnits};
@@ -11,7 +13,7 @@ ghost use Rattle.office_tables.specs.Calls.{Answers};
 ghost use Rattle.office_tables.specs.Step.{InTransaction};
 ghost use Rattle.catalogue_statements.specs.Representation.{Represents};
 ghost use Rattle.catalogue_core.specs.EntryByRow.{number_there};
-ghost use Rattle.csv_import.specs.KnownUnits.{TellsUnits};
+ghost use Rattle.csv_import.specs.KnownUnits.{KnowsUnits, TellsParent, TellsParentOfNew};
 ghost use Rattle.csv_import.specs.RowPlan.{KnowsDepths, at_depth, placing_of, plan_of};
 
 use crate::ancestor_depths::depths_below_many;
@@ -19,7 +21,6 @@ use crate::legacy::{ByLegacy, kept_number, remember};
 use crate::paths::path_of;
 use atom_csv::Row;
 use catalogue_store::Places;
-use isad_core::Text;
 use isad_core::limits::MOST_DEEP;
 use office_tables::StoreFault;
 use sqlite::{Alter, Connection};
@@ -51,21 +52,22 @@ enum Placing {
     Faulty { cause: u8 },
 }
 
-/// How deep a new row lies: 1 for a top; none if its parent does not exist. The path of a catalogued parent is looked
-/// up once, because many rows of a file may have the same parent.
+/// How deep a new row lies: 1 for a top; none if its parent does not exist. The path of a catalogued parent is read
+/// once, because many rows of a file may have the same parent. `catalogued` has the parent's number if it is catalogued.
 fn depth_of<P: Places, S: Alter>(
     alloc: Global,
     conn: &mut Connection<S>,
-    source: &Text,
+    catalogued: &ByLegacy,
     depths: &mut ByLegacy,
     row: &Row,
 ) -> Result<Option<u64>, StoreFault>
     requires inside { InTransaction P.version (state S.Store conn.old) }
+    requires low { (legacy : Bytes) → IfSome (get_by_text catalogued.now legacy) IsNumber }
     ensures tells { Answers S.Store (Represents P.represents P.version) IsKept conn.old conn.new result (λ _. ⊤)
-        (λ _ c depth. AreGoodUnits c
-        → (above : List RowTold) → KnowsDepths c.forest source.now above (get_by_text depths.old)
-        → (depth ≡ depth_under c.forest source.now row.now.parent above)
-        × KnowsDepths c.forest source.now above (get_by_text depths.new)) }
+        (λ _ c depth. AreGoodUnits c → (source : Bytes) → TellsParent c source (get_by_text catalogued.now) row.now
+        → (above : List RowTold) → KnowsDepths c.forest source above (get_by_text depths.old)
+        → (depth ≡ depth_under c.forest source row.now.parent above)
+        × KnowsDepths c.forest source above (get_by_text depths.new)) }
 {
     let Some(parent) = &row.parent else {
         return Ok(Some(1));
@@ -73,7 +75,7 @@ fn depth_of<P: Places, S: Alter>(
     if let Some(depth) = depths.get(parent.as_str()) {
         return Ok(Some(*depth));
     }
-    let path = path_of::<P, S>(alloc, conn, source, parent)?;
+    let path = path_of::<P, S>(alloc, conn, kept_number(catalogued, parent))?;
     if path.is_empty() {
         return Ok(None);
     }
@@ -93,49 +95,50 @@ fn placed(depth: Option<u64>) -> Placing
     }
 }
 
-/// How a row is placed, after the new rows above it in the file. `catalogued` has its unit's number if the unit is
-/// catalogued.
+/// How a row is placed, after the new rows above it in the file. `catalogued` has the numbers of its unit and its parent
+/// if these are catalogued.
 fn place<P: Places, S: Alter>(
     alloc: Global,
     conn: &mut Connection<S>,
-    source: &Text,
     catalogued: &ByLegacy,
     depths: &mut ByLegacy,
     row: &Row,
 ) -> Result<Placing, StoreFault>
     requires inside { InTransaction P.version (state S.Store conn.old) }
+    requires low { (legacy : Bytes) → IfSome (get_by_text catalogued.now legacy) IsNumber }
     ensures tells { Answers S.Store (Represents P.represents P.version) IsKept conn.old conn.new result (λ _. ⊤)
-        (λ _ c placing. AreGoodUnits c
-        → get_by_text catalogued.now row.now.legacy ≡ number_there c source.now row.now.legacy
-        → (above : List RowTold) → KnowsDepths c.forest source.now above (get_by_text depths.old)
-        → (placing ≡ placing_of c.forest source.now above row.now)
-        × KnowsDepths c.forest source.now above (get_by_text depths.new)) }
+        (λ _ c placing. AreGoodUnits c → (source : Bytes)
+        → get_by_text catalogued.now row.now.legacy ≡ number_there c source row.now.legacy
+        → TellsParentOfNew c source (get_by_text catalogued.now) row.now
+        → (above : List RowTold) → KnowsDepths c.forest source above (get_by_text depths.old)
+        → (placing ≡ placing_of c.forest source above row.now)
+        × KnowsDepths c.forest source above (get_by_text depths.new)) }
 {
     if kept_number(catalogued, &row.legacy).is_some() {
         return Ok(Placing::Known);
     }
-    let depth = depth_of::<P, S>(alloc, conn, source, depths, row)?;
+    let depth = depth_of::<P, S>(alloc, conn, catalogued, depths, row)?;
     Ok(placed(depth))
 }
 
-/// The first row of a file from a source that cannot be placed, or how many rows are new. `catalogued` has the numbers
-/// of the rows' units that are catalogued. Nothing is entered.
+/// The first row of a file that cannot be placed, or how many rows are new. `catalogued` has the numbers of the
+/// catalogued units among those of the rows and their parents. Nothing is entered.
 pub(crate) fn plan<P: Places, S: Alter>(
     alloc: Global,
     conn: &mut Connection<S>,
-    source: &Text,
     catalogued: &ByLegacy,
     rows: &[Row],
 ) -> Result<Planned, StoreFault>
     requires inside { InTransaction P.version (state S.Store conn.old) }
+    requires low { (legacy : Bytes) → IfSome (get_by_text catalogued.now legacy) IsNumber }
     ensures tells { Answers S.Store (Represents P.represents P.version) IsKept conn.old conn.new result (λ _. ⊤)
-        (λ _ c told. AreGoodUnits c → TellsUnits c source.now rows.now (get_by_text catalogued.now)
-        → told ≡ plan_of c.forest source.now rows.now) }
+        (λ _ c told. AreGoodUnits c → (source : Bytes) → KnowsUnits c source rows.now (get_by_text catalogued.now)
+        → told ≡ plan_of c.forest source rows.now) }
 {
-    let mut depths = depths_below_many::<P, S>(alloc, conn, source, rows, catalogued)?;
+    let mut depths = depths_below_many::<P, S>(alloc, conn, rows, catalogued)?;
     let mut new = 0;
     for row in rows {
-        match place::<P, S>(alloc, conn, source, catalogued, &mut depths, row)? {
+        match place::<P, S>(alloc, conn, catalogued, &mut depths, row)? {
             Placing::Known => {}
             Placing::Fits { below } => {
                 remember(&mut depths, alloc, &row.legacy, below)?;

@@ -7,7 +7,7 @@ use Rattle.office_core.specs.declared.command.Command.TheVariants as command
 use Rattle.office_tables.proofs.CallEnds.{same_fault}
 use Rattle.refinement.specs.Representation.{office_of}
 use Rattle.refinement.proofs.Doings.{does_after, does_not}
-use Rattle.csv_import.specs.KnownUnits.{TellsUnits}
+use Rattle.csv_import.specs.KnownUnits.{KnowsUnits}
 use Rattle.csv_import.proofs.Frames.{entering_of}
 use Rattle.csv_import.proofs.catalogue_import.import_read.Goals as goal
 
@@ -31,8 +31,8 @@ returns g c bytes read =
     let source = c.args.source.now in
     let file = c.args.file.now in
     let numbers = get_by_text c.in_ok-catalogued.catalogued in
-    does_after g.P.Places.represents g.P.Places.version (λ s. (c.args.today ≡ s.day) × (is_source source ≡ true)) (command.Import source bytes) (λ s. (c.args.today ≡ s.day) × (is_source source ≡ true) × TellsUnits s.catalogue source file.rows numbers) a b d c.import_known.result told.looks
+    does_after g.P.Places.represents g.P.Places.version (λ s. (c.args.today ≡ s.day) × (is_source source ≡ true)) (command.Import source bytes) (λ s. (c.args.today ≡ s.day) × (is_source source ≡ true) × KnowsUnits s.catalogue source file.rows numbers) a b d c.import_known.result told.looks
     (λ clean s sound so it.
     let known = told.answers clean (office_of s) s.catalogue (entering_of g.P.Places.version a.now (office_of s) s.catalogue it.catalogue.catalogue) sound.sound.units in
-    (so.0, so.1, subst (λ (rows : List RowTold). TellsUnits s.catalogue source rows numbers) c.as_slice.ensures known.each))
+    (so.0, so.1, subst (λ (rows : List RowTold). KnowsUnits s.catalogue source rows numbers) c.as_slice.ensures known))
     (c.import_known.ensures bytes read)

@@ -1,5 +1,7 @@
 use Rattle.std.proofs.Common.{IfSome, take}
 use Rattle.std.specs.BTreeMap.{get_by_text}
+use Rattle.std.specs.BTreeSet.{contains_text}
+use Rattle.std.specs.List.{AllByRecursion}
 use Rattle.sqlite.specs.Held.{state}
 use Rattle.sqlite.specs.State.{HasCleanDisk}
 use Rattle.isad_core.specs.Limits.{IsNumber}
@@ -9,7 +11,7 @@ use Rattle.catalogue_core.specs.CatalogueMerge.{Catalogue}
 use Rattle.catalogue_statements.specs.declared.office.OfficeRow.{OfficeRow}
 use Rattle.office_tables.specs.Step.{InTransaction, LeavesUnchanged}
 use Rattle.csv_import.specs.RowEntry.{RepresentsEntering}
-use Rattle.csv_import.specs.KnownUnits.{KnowsUnits}
+use Rattle.csv_import.specs.KnownUnits.{IsAsked, KnowsAsked}
 use Rattle.csv_import.proofs.numbers.known_units.Given as goal
 
 abbrev pub invariant-loop-row : goal.invariant-loop-row
@@ -18,5 +20,5 @@ invariant-loop-row g l = record {
   looks : LeavesUnchanged (state g.S.Store l.initial.conn) (state g.S.Store l.conn);
   low : (legacy : Bytes) → IfSome (get_by_text l.numbers legacy) IsNumber;
   so_far : HasCleanDisk (state g.S.Store l.conn) → (o : OfficeRow) (c : Catalogue) → RepresentsEntering g.P.Places.version (state g.S.Store l.initial.conn).now o c → AreGoodUnits c
-      → KnowsUnits c l.source (take l.row-index l.rows) (get_by_text l.numbers);
+      → KnowsAsked c l.source (contains_text l.asked) (get_by_text l.numbers) × AllByRecursion (IsAsked c l.source (contains_text l.asked)) (take l.row-index l.rows);
 }

@@ -4,6 +4,7 @@ use Rattle.std.specs.BTreeMap.{get_by_text}
 use Rattle.std.proofs.lemmas.List.{drop_all, drop_more}
 use Rattle.sqlite.specs.Effect.{Database}
 use Rattle.sqlite.specs.Held.{state}
+use Rattle.isad_core.specs.Texts.{Bytes}
 use Rattle.atom_csv.specs.declared.file.Row.{Row as RowTold}
 use Rattle.catalogue_core.specs.Bounds.{IsKept}
 use Rattle.catalogue_core.specs.GoodCatalogues.{AreGoodUnits}
@@ -11,9 +12,9 @@ use Rattle.catalogue_statements.specs.Representation.{Represents}
 use Rattle.office_tables.specs.declared.fault.StoreFault.TheVariants as fault
 use Rattle.office_tables.proofs.CallEnds.{same_fault, tells_cut, tells_not}
 use Rattle.office_tables.proofs.Calls.{cut_after, early, looks_then, still}
-use Rattle.csv_import.specs.KnownUnits.{TellsUnits}
+use Rattle.csv_import.specs.KnownUnits.{KnowsUnits}
 use Rattle.csv_import.specs.RowPlan.{plan_of}
-use Rattle.csv_import.proofs.KnownUnits.{told_at}
+use Rattle.csv_import.proofs.KnownUnits.{parent_at, told_at}
 use Rattle.csv_import.proofs.Planned.{IsPlanned, begins, ends_faulty, ends_well, goes_known, goes_new}
 use Rattle.csv_import.proofs.row_plan.plan.Goals as goal
 use Rattle.csv_import.proofs.row_plan.plan.Goals.{in-Known, in-Fits+in_ok-remember-in-Fits}
@@ -25,7 +26,7 @@ loop-row-init g c =
       inside = still g.P.Places.version (state g.S.Store c.args.conn.now) (state g.S.Store c.depths_below_many.new.conn) c.requires.inside told.looks.goes;
       looks = told.looks;
       few = omega arith;
-      so_far = λ clean o k it good known. begins k.forest c.args.source.now (get_by_text c.in_ok-depths.depths) c.args.rows.now (told.answers clean o k it good);
+      so_far = λ clean o k it good source known. begins k.forest source (get_by_text c.in_ok-depths.depths) c.args.rows.now (told.answers clean o k it good source known.sound);
     }
 
 pub returns-in_err-place : goal.returns-in_err-place
@@ -37,7 +38,7 @@ returns-in_err-place g c =
     let told = c.in_err-place.ensures.tells in
     record {
       tells = tells_cut g.S.Store (Represents g.P.Places.represents v) IsKept (λ _. ⊤) c.args.conn.now c.loop-row.conn c.place.new.conn c.from_residual-in_err-place.result
-          (λ _ k told. AreGoodUnits k → TellsUnits k c.args.source.now c.args.rows.now (get_by_text c.args.catalogued.now) → told ≡ plan_of k.forest c.args.source.now c.args.rows.now) e
+          (λ _ k told. AreGoodUnits k → (source : Bytes) → KnowsUnits k source c.args.rows.now (get_by_text c.args.catalogued.now) → told ≡ plan_of k.forest source c.args.rows.now) e
           (same_fault c.from_residual-in_err-place.result e handed.0 handed.1) looks told.cut
           (λ o k it may kept at_b clean free. told.faults o k (subst (λ (db : Database). Represents g.P.Places.represents v db o k) (sym (looks.same at_b)) it) tt kept clean free);
     }
@@ -50,7 +51,7 @@ returns-in_err-remember-in-Fits g c =
     let handed = c.from_residual-in_err-remember-in-Fits.ensures in
     record {
       tells = tells_not g.S.Store (Represents g.P.Places.represents g.P.Places.version) IsKept (λ _. ⊤) c.args.conn.now c.place.new.conn c.from_residual-in_err-remember-in-Fits.result
-          (λ _ k told. AreGoodUnits k → TellsUnits k c.args.source.now c.args.rows.now (get_by_text c.args.catalogued.now) → told ≡ plan_of k.forest c.args.source.now c.args.rows.now) fault.Memory
+          (λ _ k told. AreGoodUnits k → (source : Bytes) → KnowsUnits k source c.args.rows.now (get_by_text c.args.catalogued.now) → told ≡ plan_of k.forest source c.args.rows.now) fault.Memory
           (same_fault c.from_residual-in_err-remember-in-Fits.result fault.Memory handed.0 handed.1) (cut_after a d (looks_then a b d c.loop-row.invariant.looks c.in_ok-place.ensures.tells.looks).goes.on) (λ o k it may kept clean free. tt);
     }
 
@@ -67,12 +68,13 @@ returns-in-Faulty g c =
     let rest : drop i rows ≡ item ∷ drop (i + 1) rows = drop_more rows i item c.loop-row-test.true ∙ ap (λ (r : RowTold). r ∷ drop (i + 1) rows) (sym c.row-item.is) in
     record {
       tells = record {
-        answers = λ clean o k it good known.
+        answers = λ clean o k it good source known.
             let at_b = early b d _ told.looks.goes.on.crash clean in
-            let planned = subst (IsPlanned k.forest c.args.source.now (get_by_text c.loop-row.depths) c.loop-row.new rows) rest (c.loop-row.invariant.so_far at_b o k it good known) in
+            let planned = subst (IsPlanned k.forest source (get_by_text c.loop-row.depths) c.loop-row.new rows) rest (c.loop-row.invariant.so_far at_b o k it good source known) in
             let shown = subst (λ (db : Database). Represents g.P.Places.represents g.P.Places.version db o k) (sym (looks.same at_b)) it in
-            ends_faulty k.forest c.args.source.now (get_by_text c.loop-row.depths) c.loop-row.new rows (drop (i + 1) rows) item c.in-Faulty.cause planned
-            (sym c.in-Faulty.is ∙ (told.answers clean o k shown good (told_at k c.args.source.now rows (get_by_text c.args.catalogued.now) i item c.loop-row-test.true (sym c.row-item.is) known) planned.above planned.knows).0);
+            ends_faulty k.forest source (get_by_text c.loop-row.depths) c.loop-row.new rows (drop (i + 1) rows) item c.in-Faulty.cause planned
+            (sym c.in-Faulty.is ∙ (told.answers clean o k shown good source (told_at k source rows (get_by_text c.args.catalogued.now) i item c.loop-row-test.true (sym c.row-item.is) known.each)
+            (parent_at k source rows (get_by_text c.args.catalogued.now) i item c.loop-row-test.true (sym c.row-item.is) known.parents) planned.above planned.knows).0);
         looks = looks_then a b d looks told.looks;
         cut = tt;
         faults = λ o k it may kept clean free. tt;
@@ -99,19 +101,20 @@ loop-row-preserved g c =
         | in-Known w ↦ (let n = w.new-is in omega (arith, few, n))
         | in-Fits+in_ok-remember-in-Fits w ↦ (let n = w.new-is in omega (arith, few, n))
       ];
-      so_far = λ clean o k it good known.
+      so_far = λ clean o k it good source known.
           let at_b = early b d _ told.looks.goes.on.crash clean in
-          let planned = subst (IsPlanned k.forest c.args.source.now (get_by_text c.loop-row.depths) c.loop-row.new rows) rest (c.loop-row.invariant.so_far at_b o k it good known) in
+          let planned = subst (IsPlanned k.forest source (get_by_text c.loop-row.depths) c.loop-row.new rows) rest (c.loop-row.invariant.so_far at_b o k it good source known) in
           let shown = subst (λ (db : Database). Represents g.P.Places.represents g.P.Places.version db o k) (sym (looks.same at_b)) it in
-          let both = told.answers clean o k shown good (told_at k c.args.source.now rows (get_by_text c.args.catalogued.now) i item c.loop-row-test.true (sym c.row-item.is) known) planned.above planned.knows in
+          let both = told.answers clean o k shown good source (told_at k source rows (get_by_text c.args.catalogued.now) i item c.loop-row-test.true (sym c.row-item.is) known.each)
+          (parent_at k source rows (get_by_text c.args.catalogued.now) i item c.loop-row-test.true (sym c.row-item.is) known.parents) planned.above planned.knows in
           let is = both.0 in
           elim c.match-branch-3.branch [
             | in-Known w ↦
                 rw (w.depths-is, w.new-is)
-                (goes_known k.forest c.args.source.now (get_by_text c.loop-row.depths) (get_by_text c.place.new.depths) c.loop-row.new rows (drop (i + 1) rows) item planned both.1 (sym w.in-Known.is ∙ is))
+                (goes_known k.forest source (get_by_text c.loop-row.depths) (get_by_text c.place.new.depths) c.loop-row.new rows (drop (i + 1) rows) item planned both.1 (sym w.in-Known.is ∙ is))
             | in-Fits+in_ok-remember-in-Fits w ↦
                 rw (w.depths-is, w.new-is)
-                (goes_new k.forest c.args.source.now (get_by_text c.loop-row.depths) (get_by_text c.place.new.depths) (get_by_text w.remember.new.kept) c.loop-row.new rows (drop (i + 1) rows) item w.in-Fits.below planned both.1 (sym w.in-Fits.is ∙ is) w.in_ok-remember-in-Fits.ensures)
+                (goes_new k.forest source (get_by_text c.loop-row.depths) (get_by_text c.place.new.depths) (get_by_text w.remember.new.kept) c.loop-row.new rows (drop (i + 1) rows) item w.in-Fits.below planned both.1 (sym w.in-Fits.is ∙ is) w.in_ok-remember-in-Fits.ensures)
           ];
     }
 
@@ -121,9 +124,9 @@ returns g c =
     let last = c.loop-row-test.false in
     record {
       tells = record {
-        answers = λ clean o k it good known.
-            ends_well k.forest c.args.source.now (get_by_text c.loop-row.depths) c.loop-row.new rows
-            (subst (IsPlanned k.forest c.args.source.now (get_by_text c.loop-row.depths) c.loop-row.new rows) (drop_all c.loop-row.row-index rows (omega (arith, last))) (c.loop-row.invariant.so_far clean o k it good known));
+        answers = λ clean o k it good source known.
+            ends_well k.forest source (get_by_text c.loop-row.depths) c.loop-row.new rows
+            (subst (IsPlanned k.forest source (get_by_text c.loop-row.depths) c.loop-row.new rows) (drop_all c.loop-row.row-index rows (omega (arith, last))) (c.loop-row.invariant.so_far clean o k it good source known));
         looks = c.loop-row.invariant.looks;
         cut = tt;
         faults = λ o k it may kept clean free. tt;

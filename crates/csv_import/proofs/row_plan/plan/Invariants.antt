@@ -2,12 +2,13 @@ use Rattle.std.proofs.Common.{◌≤◌, drop}
 use Rattle.std.specs.BTreeMap.{get_by_text}
 use Rattle.sqlite.specs.Held.{state}
 use Rattle.sqlite.specs.State.{HasCleanDisk}
+use Rattle.isad_core.specs.Texts.{Bytes}
 use Rattle.catalogue_core.specs.GoodCatalogues.{AreGoodUnits}
 use Rattle.catalogue_core.specs.CatalogueMerge.{Catalogue}
 use Rattle.catalogue_statements.specs.Representation.{Represents}
 use Rattle.catalogue_statements.specs.declared.office.OfficeRow.{OfficeRow}
 use Rattle.office_tables.specs.Step.{InTransaction, LeavesUnchanged}
-use Rattle.csv_import.specs.KnownUnits.{TellsUnits}
+use Rattle.csv_import.specs.KnownUnits.{KnowsUnits}
 use Rattle.csv_import.proofs.Planned.{IsPlanned}
 use Rattle.csv_import.proofs.row_plan.plan.Given as goal
 
@@ -16,6 +17,6 @@ invariant-loop-row g l = record {
   inside : InTransaction g.P.Places.version (state g.S.Store l.conn);
   looks : LeavesUnchanged (state g.S.Store l.fn.conn) (state g.S.Store l.conn);
   few : l.new ≤ l.row-index;
-  so_far : HasCleanDisk (state g.S.Store l.conn) → (o : OfficeRow) (c : Catalogue) → Represents g.P.Places.represents g.P.Places.version (state g.S.Store l.fn.conn).now o c → AreGoodUnits c → TellsUnits c l.source l.rows (get_by_text l.catalogued)
-      → IsPlanned c.forest l.source (get_by_text l.depths) l.new l.rows (drop l.row-index l.rows);
+  so_far : HasCleanDisk (state g.S.Store l.conn) → (o : OfficeRow) (c : Catalogue) → Represents g.P.Places.represents g.P.Places.version (state g.S.Store l.fn.conn).now o c → AreGoodUnits c → (source : Bytes) → KnowsUnits c source l.rows (get_by_text l.catalogued)
+      → IsPlanned c.forest source (get_by_text l.depths) l.new l.rows (drop l.row-index l.rows);
 }

@@ -1,0 +1,109 @@
+use Rattle.std.proofs.Common.{◌≡◌, true, false, Option, sym, ap, subst, ◌∙◌}
+use Rattle.std.specs.Prelude.{⊤, IfSome, is_some}
+use Rattle.std.specs.BTreeMap.{get_by_text}
+use Rattle.std.specs.BTreeSet.{contains_text}
+use Rattle.sqlite.specs.Effect.{Database}
+use Rattle.sqlite.specs.Held.{state}
+use Rattle.isad_core.specs.Texts.{Bytes}
+use Rattle.catalogue_core.specs.GoodCatalogues.{AreGoodUnits}
+use Rattle.office_tables.proofs.CallEnds.{same_fault, tells_cut}
+use Rattle.office_tables.proofs.Calls.{early, looks_then, still}
+use Rattle.csv_import.specs.RowEntry.{RepresentsEntering}
+use Rattle.csv_import.specs.KnownUnits.{IsAsked, KnowsAsked}
+use Rattle.csv_import.proofs.Noted.{noted_itself, still_noted}
+use Rattle.csv_import.proofs.numbers.look_up_row.Goals as goal
+
+pub returns-then-is_some-clause-tells : goal.returns-then-is_some-clause-tells
+returns-then-is_some-clause-tells g c =
+    let told = c.in_ok-look_up.ensures.tells in
+    let source = c.args.source.now in
+    let legacy = c.args.row.now.legacy in
+    record {
+      answers = λ clean o k it good knows.
+          let now = told.answers clean o k it good knows in
+          let own = noted_itself (contains_text c.args.asked.now) (contains_text c.look_up.new.asked) legacy c.in_ok-look_up.ensures.asked in (
+            now,
+            record {
+              unit = own;
+              parent = λ new. absurd (let clash : true ≡ false = sym (sym (ap is_some c.kept_number.ensures) ∙ (sym c.is_some.ensures ∙ c.if-is_some.true)) ∙ ap is_some (now.told legacy own ∙ new) in cc);
+            },
+          );
+      looks = told.looks;
+      cut = tt;
+      faults = λ o k it may kept clean free. tt;
+    }
+
+pub returns-in_default-clause-tells : goal.returns-in_default-clause-tells
+returns-in_default-clause-tells g c =
+    let told = c.in_ok-look_up.ensures.tells in
+    let legacy = c.args.row.now.legacy in
+    record {
+      answers = λ clean o k it good knows. (
+        told.answers clean o k it good knows,
+        record {
+          unit = noted_itself (contains_text c.args.asked.now) (contains_text c.look_up.new.asked) legacy c.in_ok-look_up.ensures.asked;
+          parent = λ new. subst (λ (p : Option Bytes). IfSome p (λ parent. contains_text c.look_up.new.asked parent ≡ true)) (sym c.in_default.is) tt;
+        },
+      );
+      looks = told.looks;
+      cut = tt;
+      faults = λ o k it may kept clean free. tt;
+    }
+
+pub look_up-requires-2-clause-inside : goal.look_up-requires-2-clause-inside
+look_up-requires-2-clause-inside g c = still g.P.Places.version (state g.S.Store c.args.conn.now) (state g.S.Store c.look_up.new.conn) c.requires.inside c.in_ok-look_up.ensures.tells.looks.goes
+
+pub returns-in_err-look_up-2-clause-tells : goal.returns-in_err-look_up-2-clause-tells
+returns-in_err-look_up-2-clause-tells g c =
+    let v = g.P.Places.version in
+    let source = c.args.source.now in
+    let handed = c.from_residual-in_err-look_up-2.ensures in
+    let e = c.in_err-look_up-2.field-0.0 in
+    let looks = c.in_ok-look_up.ensures.tells.looks in
+    let told = c.in_err-look_up-2.ensures.tells in
+    tells_cut g.S.Store (RepresentsEntering v) (λ _. ⊤) AreGoodUnits c.args.conn.now c.look_up.new.conn c.look_up-2.new.conn c.from_residual-in_err-look_up-2.result
+    (λ _ k _. AreGoodUnits k → KnowsAsked k source (contains_text c.args.asked.now) (get_by_text c.args.numbers.now)
+    → KnowsAsked k source (contains_text c.look_up-2.new.asked) (get_by_text c.look_up-2.new.numbers) × IsAsked k source (contains_text c.look_up-2.new.asked) c.args.row.now) e
+    (same_fault c.from_residual-in_err-look_up-2.result e handed.0 handed.1) looks told.cut
+    (λ o k it good kept at_b clean free. told.faults o k (subst (λ (db : Database). RepresentsEntering v db o k) (sym (looks.same at_b)) it) good tt clean free)
+
+pub returns-clause-tells : goal.returns-clause-tells
+returns-clause-tells g c =
+    let v = g.P.Places.version in
+    let a = state g.S.Store c.args.conn.now in
+    let b = state g.S.Store c.look_up.new.conn in
+    let d = state g.S.Store c.look_up-2.new.conn in
+    let first = c.in_ok-look_up.ensures in
+    let second = c.in_ok-look_up-2.ensures in
+    let legacy = c.args.row.now.legacy in
+    let asked = contains_text c.args.asked.now in
+    let mid = contains_text c.look_up.new.asked in
+    let later = contains_text c.look_up-2.new.asked in
+    record {
+      answers = λ clean o k it good knows.
+          let at_b = early b d _ second.tells.looks.goes.on.crash clean in
+          let shown = subst (λ (db : Database). RepresentsEntering v db o k) (sym (first.tells.looks.same at_b)) it in
+          let now = second.tells.answers clean o k shown good (first.tells.answers at_b o k it good knows) in (
+            now,
+            record {
+              unit = still_noted mid later c.in-Some.parent second.asked legacy (noted_itself asked mid legacy first.asked);
+              parent = λ new. subst (λ (p : Option Bytes). IfSome p (λ parent. later parent ≡ true)) (sym c.in-Some.is) (noted_itself mid later c.in-Some.parent second.asked);
+            },
+          );
+      looks = looks_then a b d first.tells.looks second.tells.looks;
+      cut = tt;
+      faults = λ o k it may kept clean free. tt;
+    }
+
+pub returns-clause-more : goal.returns-clause-more
+returns-clause-more g c q was =
+    let asked = contains_text c.args.asked.now in
+    let mid = contains_text c.look_up.new.asked in
+    let later = contains_text c.look_up-2.new.asked in
+    still_noted mid later c.in-Some.parent c.in_ok-look_up-2.ensures.asked q (still_noted asked mid c.args.row.now.legacy c.in_ok-look_up.ensures.asked q was)
+
+pub returns-then-is_some-clause-more : goal.returns-then-is_some-clause-more
+returns-then-is_some-clause-more g c q was = still_noted (contains_text c.args.asked.now) (contains_text c.look_up.new.asked) c.args.row.now.legacy c.in_ok-look_up.ensures.asked q was
+
+pub returns-in_default-clause-more : goal.returns-in_default-clause-more
+returns-in_default-clause-more g c q was = still_noted (contains_text c.args.asked.now) (contains_text c.look_up.new.asked) c.args.row.now.legacy c.in_ok-look_up.ensures.asked q was
