@@ -1,5 +1,5 @@
 -- A container is closed to a reader from whom a unit that lies in it is withheld.
-use Rattle.std.proofs.Common.{◌≡◌, ◌⊎◌, ℕ, ℤ, Bool, true, false, cond, not, List, [], ◌∷◌, ◌++◌, append_assoc, filter, map, Option, Some, None, inl, inr, nat_eq, refl, sym, ap, ap₂, subst, ◌∙◌, arith}
+use Rattle.std.proofs.Common.{◌≡◌, ℕ, ℤ, Bool, true, false, cond, not, List, [], ◌∷◌, ◌++◌, append_assoc, filter, map, Option, Some, None, inl, inr, nat_eq, refl, sym, ap, ap₂, subst, ◌∙◌, arith}
 use Rattle.std.specs.Prelude.{◌&&◌, ◌||◌, option_to_list}
 use Rattle.std.specs.List.{last_or, list_all, list_any}
 use Rattle.std.specs.List.Sorted.{IsNonDecreasing}
@@ -22,7 +22,7 @@ use Rattle.office_core.specs.State.{State, is_permitted, opens}
 use Rattle.office_core.specs.Words.{numbered, some_and}
 use Rattle.desk_store.specs.declared.holdings.Loan.{Loan}
 use Rattle.refinement.specs.AccessConditions.{CanBeJudged}
-use Rattle.refinement.specs.Gate.{IsHoused, Withholds, is_closed_to, is_one_of, is_withheld_in, names_some, nearest}
+use Rattle.refinement.specs.Gate.{IsHoused, Withholds, is_one_of, is_withheld_in, names_some, nearest}
 use Rattle.refinement.specs.declared.housed_units.HousedUnit.{HousedUnit}
 use Rattle.refinement.proofs.BranchesApart.{by_nearest, lies, lying}
 use Rattle.refinement.proofs.NearRows.{all_last, all_path}

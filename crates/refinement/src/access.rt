@@ -1,7 +1,7 @@
 //! Whether a container is open to a reader.
 
 ghost use Rattle.std.specs.Cmp.Lexicographic.{pointwise};
-ghost use Rattle.std.specs.Prelude.{◌≡◌, ◌&&◌, ⊤, IfErr, IfOk, List, [], map, true};
+ghost use Rattle.std.specs.Prelude.{◌≡◌, ◌&&◌, ⊤, IfErr, IfOk, [], map, true};
 ghost use Rattle.std.specs.List.{AllByRecursion, list_any};
 ghost use Rattle.sqlite.specs.Held.{state};
 ghost use Rattle.sqlite.specs.State.{HasCleanDisk};
@@ -95,8 +95,8 @@ fn is_clean(
     Ok(clean_path(&path, day) && is_within)
 }
 
-/// Whether nothing withholds the units of these rows, nor the units that take their containers from them. The first that
-/// is withheld ends the reading. Of each path only what the one before lacks is read.
+/// Whether nothing withholds the units of these rows, nor the units that take their containers from them. The first
+/// that is withheld ends the reading. Of each path only what the one before lacks is read.
 fn are_clean<P: Places, S: Alter>(
     alloc: Global,
     conn: &mut Connection<S>,
@@ -144,7 +144,8 @@ fn is_for_all(is_open: bool, permits: &[Permit]) -> bool
 }
 
 /// Judges whether nothing withholds the units of these rows, nor the units that take their containers from them.
-/// `clean` are rows that are known to be clean for a reader without permits: for such a reader they are not judged again.
+/// `clean` are rows that are known to be clean for a reader without permits. For such a reader they are not judged
+/// again.
 fn judge_rows<P: Places, S: Alter>(
     alloc: Global,
     conn: &mut Connection<S>,
@@ -176,8 +177,9 @@ fn judge_rows<P: Places, S: Alter>(
     Ok(Judgement { is_open, clean })
 }
 
-/// Judges whether a container is open on this day to the reader with this ticket. `clean` are rows of units that nothing
-/// withholds from a reader without permits: a container in just these units is not judged again for such a reader.
+/// Judges whether a container is open on this day to the reader with this ticket. `clean` are rows of units that
+/// nothing withholds from a reader without permits. A container in just these units is not judged again for such a
+/// reader.
 pub(crate) fn judge<P: Places, S: Alter>(
     alloc: Global,
     conn: &mut Connection<S>,

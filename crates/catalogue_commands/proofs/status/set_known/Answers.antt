@@ -1,4 +1,4 @@
-use Rattle.std.proofs.Common.{◌≡◌, Bool, true, false, None, sym, subst}
+use Rattle.std.proofs.Common.{◌≡◌, Bool, true, None, sym, subst}
 use Rattle.sqlite.specs.Held.{state}
 use Rattle.catalogue_core.specs.UnitLookup.{has_unit}
 use Rattle.office_core.specs.Rules.{after, gate}

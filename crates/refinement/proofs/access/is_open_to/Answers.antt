@@ -1,7 +1,6 @@
-use Rattle.std.proofs.Common.{◌≡◌, ℤ, true, refl, sym, ap, subst, [], List, ◌∙◌}
+use Rattle.std.proofs.Common.{◌≡◌, refl, sym, subst}
 use Rattle.std.specs.Prelude.{⊤}
 use Rattle.sqlite.specs.Held.{state}
-use Rattle.tree_core.specs.declared.rows.Span.{Span}
 use Rattle.desk_store.proofs.ToldCalls.{ends_well}
 use Rattle.office_core.specs.State.{opens}
 use Rattle.office_tables.proofs.CallEnds.{same_fault, tells_not}

@@ -140,9 +140,10 @@ returns g c =
           let it_d = shown_on represents a d looked at_d s it in
           let at = rows.answers at_b (shown.office_of s) s.catalogue it.catalogue in
           let both = judged_rows.answers clean (shown.office_of s) s.catalogue it_d.catalogue (theirs g.P.Places.stands s judged c.args.ticket c.args.container found at)
-              (subst (λ (day : ℤ). are_clean_for day [] s.catalogue c.args.clean.items ≡ true) (sym day) kept) in
-          (clean_open g.P.Places.stands s judged c.args.ticket c.args.container found at (tables v s).desk refl permits (told.answers at_d tt (tables v s).desk it_b.desk).0 some c.in_ok-judged.judged.is_open
-          (both.0 ∙ ap (λ (l : List Permit). are_clean_for c.args.today l s.catalogue found) c.deref.ensures.value ∙ ap (λ (day : ℤ). are_clean_for day permits s.catalogue found) day),
-          subst (λ (day : ℤ). are_clean_for day [] s.catalogue c.in_ok-judged.judged.clean.items ≡ true) day both.1));
+          (subst (λ (day : ℤ). are_clean_for day [] s.catalogue c.args.clean.items ≡ true) (sym day) kept) in (
+            clean_open g.P.Places.stands s judged c.args.ticket c.args.container found at (tables v s).desk refl permits (told.answers at_d tt (tables v s).desk it_b.desk).0 some c.in_ok-judged.judged.is_open
+                (both.0 ∙ ap (λ (l : List Permit). are_clean_for c.args.today l s.catalogue found) c.deref.ensures.value ∙ ap (λ (day : ℤ). are_clean_for day permits s.catalogue found) day),
+            subst (λ (day : ℤ). are_clean_for day [] s.catalogue c.in_ok-judged.judged.clean.items ≡ true) day both.1,
+          ));
       disk = λ clean. tt;
     }

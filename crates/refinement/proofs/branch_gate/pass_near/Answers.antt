@@ -1,6 +1,5 @@
-use Rattle.std.proofs.Common.{◌≡◌, Ok, List, [], ◌∷◌, length, nat_eq, refl, ap, subst, sym, ◌∙◌, arith}
+use Rattle.std.proofs.Common.{◌≡◌, Ok, List, [], ◌∷◌, length, refl, ap, subst, sym, ◌∙◌, arith}
 use Rattle.std.specs.Prelude.{⊤, option_map}
-use Rattle.std.specs.List.Sorted.{IsNonDecreasing}
 use Rattle.std.proofs.lemmas.Bool.{eqb-true}
 use Rattle.sqlite.specs.Held.{state}
 use Rattle.desk_core.specs.declared.refusal.Refusal.TheVariants.{WithReader}
@@ -10,7 +9,7 @@ use Rattle.desk_store.proofs.ToldCalls.{ends_not, ends_well, shown_on}
 use Rattle.state_encoding.specs.OfficeRows.{tables}
 use Rattle.office_tables.proofs.CallEnds.{same_fault, tells_not}
 use Rattle.office_tables.proofs.Calls.{early, looks_then, office_of, still}
-use Rattle.refinement.specs.Gate.{AreAsked, AreEnough, IsHoused, OthersAreOpen, Withholds, first_closed, gated, unless_refused}
+use Rattle.refinement.specs.Gate.{AreAsked, AreEnough, OthersAreOpen, Withholds, first_closed, gated, unless_refused}
 use Rattle.refinement.specs.AccessConditions.{CanBeJudged, RepresentsWhole}
 use Rattle.refinement.proofs.Gates.{enough_of, kept_is}
 use Rattle.refinement.proofs.Tellings.{told_then}

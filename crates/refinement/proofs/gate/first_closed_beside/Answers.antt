@@ -1,15 +1,13 @@
-use Rattle.std.proofs.Common.{◌≡◌, ℕ, true, false, not, refl, sym, ap, subst, ◌∙◌}
-use Rattle.std.specs.Prelude.{⊤, Option, option_map, slice_index_or}
+use Rattle.std.proofs.Common.{◌≡◌, true, false, not, refl, sym, ap, subst, ◌∙◌}
+use Rattle.std.specs.Prelude.{⊤, option_map, slice_index_or}
 use Rattle.sqlite.specs.Held.{state}
 use Rattle.desk_store.proofs.ToldCalls.{ends_not, ends_well, shown_on}
 use Rattle.desk_store.specs.declared.holdings.Loan.{Loan}
-use Rattle.office_core.specs.State.{State}
 use Rattle.office_tables.proofs.CallEnds.{same_fault}
 use Rattle.office_tables.proofs.Calls.{early, looks_nowhere, looks_then, office_of, still}
 use Rattle.refinement.specs.Gate.{Withholds, first_closed, is_closed_to}
 use Rattle.refinement.specs.AccessConditions.{CanBeJudged, RepresentsWhole}
 use Rattle.refinement.specs.Openness.{AreClean}
-use Rattle.refinement.specs.declared.housed_units.HousedUnit.{HousedUnit}
 use Rattle.refinement.proofs.DiskBlames.{blames_later}
 use Rattle.refinement.proofs.Gates.{first_here, none_more}
 use Rattle.refinement.proofs.gate.first_closed_beside.Goals as goal

@@ -1,7 +1,6 @@
-use Rattle.std.proofs.Common.{◌≡◌, ℕ, List, Vec, Global, Option, None, Result, Err, IfErr, filter, nat_eq, rules, ap, sym, subst, ◌∙◌}
+use Rattle.std.proofs.Common.{ℕ, Vec, Global, None, Result, Err, IfErr, nat_eq, rules, ap, sym, subst, ◌∙◌}
 use Rattle.std.specs.Prelude.{option_to_list}
-use Rattle.std.specs.List.{AllByRecursion, last_or, list_any}
-use Rattle.std.specs.List.Sorted.{IsNonDecreasing}
+use Rattle.std.specs.List.{AllByRecursion, list_any}
 use Rattle.std.proofs.lemmas.List.Sorted.{IsNonDecreasingBy-from_sort, list_any-IsPermutation}
 use Rattle.sqlite.specs.Effect.{Database}
 use Rattle.sqlite.specs.Held.{state}
@@ -15,7 +14,7 @@ use Rattle.office_tables.specs.declared.fault.StoreFault.TheVariants as fault
 use Rattle.office_tables.proofs.CallEnds.{excused_then, read_cut, read_not, read_well, same_fault}
 use Rattle.office_tables.proofs.Calls.{cut_after, early, looks_then, still_office}
 use Rattle.office_tables.proofs.Sparing.{spares_full}
-use Rattle.refinement.specs.Gate.{has_row, is_one_of, says_so}
+use Rattle.refinement.specs.Gate.{has_row, says_so}
 use Rattle.refinement.proofs.NearRows.{all_last}
 use Rattle.refinement.proofs.housed_units.containers_on_path.Goals as goal
 

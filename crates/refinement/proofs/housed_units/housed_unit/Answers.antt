@@ -1,4 +1,4 @@
-use Rattle.std.proofs.Common.{◌≡◌, ℕ, List, Vec, Global, Option, None, Result, Err, filter, map, nat_eq, ap, subst, sym, ◌∙◌}
+use Rattle.std.proofs.Common.{ℕ, List, Vec, Global, None, Result, Err, filter, map, nat_eq, ap, subst, sym, ◌∙◌}
 use Rattle.std.specs.Prelude.{⊤, option_to_list}
 use Rattle.std.specs.List.{AllByRecursion, last_or, list_any}
 use Rattle.sqlite.specs.Effect.{Database}
@@ -6,7 +6,6 @@ use Rattle.sqlite.specs.Held.{state}
 use Rattle.isad_core.specs.Limits.{IsNumber}
 use Rattle.tree_core.specs.Forest.{each, path}
 use Rattle.tree_core.specs.declared.marks.Mark.{Mark}
-use Rattle.catalogue_core.specs.UnitMarks.{AreMarks, mark_of, unnumbered}
 use Rattle.catalogue_core.specs.Units.{Unit, has_id}
 use Rattle.catalogue_statements.specs.Rows.{housing_row}
 use Rattle.catalogue_store.proofs.MarkForests.{path_ids}
@@ -17,7 +16,7 @@ use Rattle.office_tables.specs.declared.fault.StoreFault.{StoreFault}
 use Rattle.office_tables.specs.declared.fault.StoreFault.TheVariants as fault
 use Rattle.office_tables.proofs.CallEnds.{excused_then, same_fault, tells_not}
 use Rattle.office_tables.proofs.Calls.{cut_after, cut_then, early, looks_then, office_of, still}
-use Rattle.refinement.specs.Gate.{IsHoused, has_row, is_one_of, names_some, says_so}
+use Rattle.refinement.specs.Gate.{IsHoused, has_row, says_so}
 use Rattle.refinement.specs.AccessConditions.{CanBeJudged, RepresentsWhole}
 use Rattle.refinement.specs.Representation as shown
 use Rattle.refinement.proofs.NearRows.{all_path, last_with_rows, nearest_named}
@@ -30,8 +29,8 @@ returns-in_err-path-clause-tells g c =
     let e = c.from_residual.ensures in
     let told = c.in_err-path.ensures.tells in
     tells_not g.S.Store (RepresentsWhole g.P.Places.represents v) CanBeJudged (λ _. ⊤) c.args.conn.now c.path_marks.new.conn c.from_residual.result (λ _ s found. IsHoused c.args.unit s found) c.in_err-path.field-0.0
-          (same_fault c.from_residual.result c.in_err-path.field-0.0 e.0 e.1) told.cut
-          (λ beside s it may judged clean free. told.faults (shown.office_of s) s.catalogue it.catalogue tt judged.catalogue clean free)
+    (same_fault c.from_residual.result c.in_err-path.field-0.0 e.0 e.1) told.cut
+    (λ beside s it may judged clean free. told.faults (shown.office_of s) s.catalogue it.catalogue tt judged.catalogue clean free)
 
 pub returns-in_err-units-clause-tells : goal.returns-in_err-units-clause-tells
 returns-in_err-units-clause-tells g c =
@@ -40,7 +39,7 @@ returns-in_err-units-clause-tells g c =
     let b = state g.S.Store c.path_marks.new.conn in
     let e = c.from_residual-in_err-units.ensures in
     tells_not g.S.Store (RepresentsWhole g.P.Places.represents v) CanBeJudged (λ _. ⊤) c.args.conn.now c.path_marks.new.conn c.from_residual-in_err-units.result (λ _ s found. IsHoused c.args.unit s found) fault.Memory
-          (same_fault c.from_residual-in_err-units.result fault.Memory e.0 e.1) (cut_after a b c.in_ok-path.ensures.tells.looks.goes.on) (λ beside s it may judged clean free. tt)
+    (same_fault c.from_residual-in_err-units.result fault.Memory e.0 e.1) (cut_after a b c.in_ok-path.ensures.tells.looks.goes.on) (λ beside s it may judged clean free. tt)
 
 pub containers_on_path-requires : goal.containers_on_path-requires
 containers_on_path-requires g c =
@@ -61,15 +60,15 @@ returns-in_err-containers-clause-tells g c =
     let last = c.in_err-containers.ensures in
     let failed : Result (Vec ℕ Global) StoreFault = Err c.in_err-containers.field-0.0 in
     tells_not g.S.Store (RepresentsWhole g.P.Places.represents v) CanBeJudged (λ _. ⊤) c.args.conn.now c.containers_on_path.new.conn c.from_residual-in_err-containers.result (λ _ s found. IsHoused c.args.unit s found) c.in_err-containers.field-0.0
-          (same_fault c.from_residual-in_err-containers.result c.in_err-containers.field-0.0 e.0 e.1) (cut_then a b d one.looks.goes.on last.reads.cut)
-          (λ beside s it may judged. excused_then a b d one.looks.goes.on failed last.reads.cut (λ at_b.
-          let f = s.catalogue.forest in
-          let F = each (λ (u : Unit). u.id) f in
-          let housings = it.catalogue.catalogue.housings in
-          let marks = one.answers at_b (shown.office_of s) s.catalogue it.catalogue in
-          let ids = c.deref-2.ensures.value ∙ c.in_ok-units.ensures ∙ ap (map (λ (mark : Mark). mark.id)) c.deref.ensures.value ∙ ids_of_marks (path (has_id u) f) c.in_ok-path.path.items marks ∙ sym (path_ids u f) in
-          last.faults housings.housings (subst (λ (db : Database). HasNumbered housing_row (db.trees tables.housing.tree) housings.housings) (sym (one.looks.same at_b)) housings.rows)
-          (subst (AllByRecursion IsNumber) (sym ids) (all_path IsNumber (nat_eq u) F judged.catalogue.places.low))))
+    (same_fault c.from_residual-in_err-containers.result c.in_err-containers.field-0.0 e.0 e.1) (cut_then a b d one.looks.goes.on last.reads.cut)
+    (λ beside s it may judged. excused_then a b d one.looks.goes.on failed last.reads.cut (λ at_b.
+    let f = s.catalogue.forest in
+    let F = each (λ (u : Unit). u.id) f in
+    let housings = it.catalogue.catalogue.housings in
+    let marks = one.answers at_b (shown.office_of s) s.catalogue it.catalogue in
+    let ids = c.deref-2.ensures.value ∙ c.in_ok-units.ensures ∙ ap (map (λ (mark : Mark). mark.id)) c.deref.ensures.value ∙ ids_of_marks (path (has_id u) f) c.in_ok-path.path.items marks ∙ sym (path_ids u f) in
+    last.faults housings.housings (subst (λ (db : Database). HasNumbered housing_row (db.trees tables.housing.tree) housings.housings) (sym (one.looks.same at_b)) housings.rows)
+    (subst (AllByRecursion IsNumber) (sym ids) (all_path IsNumber (nat_eq u) F judged.catalogue.places.low))))
 
 pub returns : goal.returns
 returns g c =
