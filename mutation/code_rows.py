@@ -6,6 +6,7 @@ they are examples.
 import collections
 import pathlib
 import re
+import sys
 import textwrap
 
 WIDTH = 128
@@ -88,6 +89,8 @@ def exports(source):
 def public_functions(top, crate):
     """The functions of a crate that others can call, and that promise something."""
     source = pathlib.Path(top) / "crates" / crate / "src"
+    if not source.is_dir():
+        sys.exit(f"no such crate: {crate}")
     modules, names = exports(source)
     for file in sorted(source.rglob("*.rt")):
         module = file.relative_to(source).with_suffix("").parts
@@ -110,7 +113,7 @@ def calls(top, crates):
     """A line for each crate: its name, and the names of its public functions that are no laws."""
     margin = max(len(it) for it in crates) + 2
     for crate in crates:
-        names = [it.name_in_crate() for it in public_functions(top, crate) if not it.is_law()]
+        names = dict.fromkeys(it.name_in_crate() for it in public_functions(top, crate) if not it.is_law())
         yield from in_columns(crate, ", ".join(names), margin)
 
 

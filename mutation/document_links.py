@@ -20,10 +20,9 @@ def pages(top):
 
 def differences(name, text, wanted):
     """Where a page differs from what a script would write."""
-    if text == wanted:
-        return
-    yield f"{name} has lines that the code gives otherwise (mutation/promises.py --write):"
-    yield from difflib.unified_diff(text.splitlines(), wanted.splitlines(), "the page", "the code", n=0, lineterm="")
+    if text != wanted:
+        lines = difflib.unified_diff(text.splitlines(), wanted.splitlines(), "the page", "the code", n=0, lineterm="")
+        yield "\n".join([f"{name}: the code gives other lines (mutation/promises.py --write)", *lines])
 
 
 def anchors(text):
