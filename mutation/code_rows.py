@@ -1,7 +1,8 @@
-"""The public functions of a crate, as docs/PROMISES.md lists them: laws with the first sentence of their comment, calls by name.
+"""The public functions of a crate, as docs/PROMISES.md lists them: laws with the first sentence of their comment, calls by
+name.
 
-A public function is one that other crates can call and that promises something (an ensures). Those named worked_.. are left out:
-they are examples.
+A public function is one that other crates can call and that promises something (an ensures). Those named worked_.. are left
+out: they are examples.
 """
 import collections
 import pathlib

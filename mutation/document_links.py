@@ -1,7 +1,7 @@
 """What the pages of the repository say of other files: links, and excerpts of code.
 
-An excerpt is an indented block right below the mark `<!-- excerpt: FILE -->`. Its lines must stand in the file in this order, and
-without others between them except where the excerpt has a line `...`. How deep they are indented makes no difference.
+An excerpt is an indented block right below the mark `<!-- excerpt: FILE -->`. Its lines must stand in the file in this order,
+and without others between them except where the excerpt has a line `...`. How deep they are indented makes no difference.
 """
 import difflib
 import pathlib
@@ -9,7 +9,7 @@ import re
 
 LINK = re.compile(r"\[[^\[\]]*\]\(([^()\s]+)\)")
 EXCERPT = re.compile(r"^<!-- excerpt: (\S+) -->\n\n((?:(?:    .*)?\n)+)", re.M)
-PAGES = ("*.md", "docs/*.md", "acceptance/*.md", "bench/*.md", "front/*.md", "mutation/*.md", "packaging/*.md")
+PAGES = ("*.md", "*/*.md")
 
 
 def pages(top):
@@ -50,10 +50,10 @@ def wrong_links(top, texts):
     """Each link of the pages that leads nowhere, with its line."""
     top = pathlib.Path(top).resolve()
     for page, text in texts.items():
-        for number, line in enumerate(text.splitlines(), 1):
-            for link in LINK.findall(re.sub(r"`[^`]*`", "", line)):
-                if not re.match(r"[a-z]+:", link) and not is_there(top, page, link, texts):
-                    yield f"{page}:{number}: no such place: {link}"
+        plain = re.sub(r"`[^`\n]*`", lambda code: " " * len(code[0]), text)
+        for found in LINK.finditer(plain):
+            if not re.match(r"[a-z]+:", found[1]) and not is_there(top, page, found[1], texts):
+                yield f"{page}:{plain.count(chr(10), 0, found.start()) + 1}: no such place: {found[1]}"
 
 
 def stands_in(lines, code):

@@ -3,15 +3,16 @@
 
     mutation/promises.py [--write] [--list CRATE] [TREE]
 
-What PROMISES has between `<!-- laws: CRATE .. -->` or `<!-- calls: CRATE .. -->` and `<!-- end -->` must be what the comments of
-the code give (code_rows.py); `--write` writes it. WALK's excerpts must be lines of their files, and each link of a page must lead
-to a file and a heading (document_links.py). `--list` prints each public function of a crate with its sentence and its clauses.
+What PROMISES has between `<!-- laws: CRATE .. -->` or `<!-- calls: CRATE .. -->` and `<!-- end -->` must be what the comments
+of the code give (code_rows.py); `--write` writes it. WALK's excerpts must be lines of their files, and each link of a page must
+lead to a file and a heading (document_links.py). `--list` prints each public function of a crate with its sentence and its
+clauses.
 
 In the column "Clause" `crate::module::function`: `clause` names a clause of that function; a function that follows without
 a path is in the same module, or of the same type; names in parentheses are definitions. Each function must be there, each
 clause must be one of the functions before it, and each of these must have one of the clauses. Everywhere else a name in code
-marks must be a file, a name that the crates have, or a word of SQL in capitals. The script prints each problem with its line, and
-ends with 1 if there is one.
+marks must be a file, a name that the crates have, or a word of SQL in capitals. The script prints each problem with its line,
+and ends with 1 if there is one.
 """
 import argparse
 import collections
