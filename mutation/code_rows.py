@@ -14,7 +14,7 @@ WIDTH = 128
 LONGEST = 44
 INDENT = "    "
 MARK = re.compile(r"(<!-- (laws|calls): ([\w: ]+) -->)\n.*?(<!-- end -->)", re.S)
-FUNCTION = re.compile(r"(pub )?(?:const |unsafe )*fn (\w+)")
+FUNCTION = re.compile(r"(pub )?(?:pub\([^)]*\) )?(?:const |unsafe )*fn (\w+)")
 OWNER = re.compile(r"(pub )?(impl|trait)\b(.*?)\{?$")
 
 
@@ -71,6 +71,8 @@ def functions(path, module):
         elif last and words.startswith("ensures"):
             last.promises = True
             last.labels += re.findall(r"^ensures (\w+)", words)
+        if words == "{" or found and words.endswith("{"):
+            last = None  # its body begins
         if not words.startswith("#["):
             comment = []
 
