@@ -137,8 +137,8 @@ fn is_bare(block: &[u8], head: Head) -> bool
     is_bare_method(head.method.of(block))
 }
 
-/// Answers a whole message. The answer borrows the buffer until it is written. No memory is taken meanwhile: that can be
-/// read here, and no clause says it.
+/// Answers a whole message. The answer borrows the buffer until it is written, so nothing here can take memory while
+/// it is written.
 fn act<W: Write, M: Machine>(
     means: &Means,
     writer: &mut Sink<'_, W>,
