@@ -1,22 +1,32 @@
 #!/usr/bin/env python3
-"""Looks whether all that docs/PROMISES.md names exists: functions, clauses, laws, definitions, crates and files.
+"""Looks whether the documents agree with the code: the names and lines of PROMISES, the excerpts of WALK, and all links.
 
-    mutation/promises.py [TREE]
+    mutation/promises.py [--write] [--list CRATE] [TREE]
+
+What PROMISES has between `<!-- laws: CRATE .. -->` or `<!-- calls: CRATE .. -->` and `<!-- end -->` must be what the comments
+of the code give (code_rows.py); `--write` writes it. WALK's excerpts must be lines of their files, and each link of a page must
+lead to a file and a heading (document_links.py). `--list` prints each public function of a crate with its sentence and its
+clauses.
 
 In the column "Clause" `crate::module::function`: `clause` names a clause of that function; a function that follows without
 a path is in the same module, or of the same type; names in parentheses are definitions. Each function must be there, each
 clause must be one of the functions before it, and each of these must have one of the clauses. Everywhere else a name in code
-marks must be a file, a name that the crates have, or a word of SQL in capitals. The script prints each name that is nowhere, with its line, and
-ends with 1 if there is one.
+marks must be a file, a name that the crates have, or a word of SQL in capitals. The script prints each problem with its line,
+and ends with 1 if there is one.
 """
+import argparse
 import collections
 import os
+import pathlib
 import re
 import sys
 
+import code_rows
+import document_links
 from clauses import Source
 
 TOP = os.path.dirname(os.path.dirname(os.path.abspath(__file__)))
+PROMISES, WALK = "docs/PROMISES.md", "docs/WALK.md"
 PIECE = re.compile(r"`[^`]+`|[:;()]|[^\s`:;()]+")
 
 
@@ -132,15 +142,34 @@ def wrong_names(tree, text):
         yield from ((number, it) for it in re.findall(r"`([^`]+)`", line) if not tree.has(it))
 
 
+def problems(tree, pages):
+    """What is wrong with the pages, one line each: names of nothing, lines that the code has otherwise, and broken links."""
+    text = pages[PROMISES]
+    for number, name in wrong_names(tree, text):
+        yield f"{PROMISES}:{number}: no such thing: {name}"
+    yield from document_links.differences(PROMISES, text, code_rows.written(tree.top, text))
+    yield from document_links.wrong_excerpts(tree.top, WALK, pages[WALK])
+    yield from document_links.wrong_links(tree.top, pages)
+
+
 def main():
-    top = sys.argv[1] if len(sys.argv) > 1 else TOP
-    tree = Tree(top)
-    text = open(f"{top}/docs/PROMISES.md", encoding="utf-8").read()
-    wrong = list(wrong_names(tree, text))
-    for number, name in wrong:
-        print(f"docs/PROMISES.md:{number}: no such thing: {name}")
-    print(f"{len(re.findall('`[^`]+`', text))} names, {len(wrong)} of nothing")
-    return 1 if wrong else 0
+    words = argparse.ArgumentParser(description=__doc__.split("\n")[0])
+    words.add_argument("top", nargs="?", default=TOP, help="the tree; without it the one of this script")
+    words.add_argument("--write", action="store_true", help="write what PROMISES has from the code")
+    words.add_argument("--list", metavar="CRATE", help="print the public functions of a crate, and look at nothing")
+    given = words.parse_args()
+    if given.list:
+        print(*code_rows.described(given.top, given.list), sep="\n")
+        return 0
+    pages = document_links.pages(given.top)
+    if given.write:
+        pages[PROMISES] = code_rows.written(given.top, pages[PROMISES])
+        pathlib.Path(given.top, PROMISES).write_text(pages[PROMISES], encoding="utf-8")
+    found = list(problems(Tree(given.top), pages))
+    print(*found, sep="\n", end="\n" if found else "")
+    names = len(re.findall("`[^`]+`", pages[PROMISES]))
+    print(f"{names} names, {len(pages)} pages with their links and excerpts, {len(found)} problems")
+    return 1 if found else 0
 
 
 if __name__ == "__main__":
