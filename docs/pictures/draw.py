@@ -111,8 +111,14 @@ def dependencies():
 
 def layers_of_crates():
     """The layers from above, each a title and its crates; every dependency has to lead downwards."""
-    rows = [(layer, plain(crate)) for layer, crate, _ in table("docs/ARCHITECTURE.md", "Crates", "Layer")]
-    below, order = dependencies(), [crate for _, crate in rows]
+    text = (TOP / "docs/ARCHITECTURE.md").read_text(encoding="utf-8")
+    layers, below = {}, dependencies()
+    for layer, crate in re.findall(r"^- \*\*(.*)\*\*$|^  - `(\w+)`:", text, re.M):
+        if layer:
+            crates = layers.setdefault(layer, [])
+        else:
+            crates.append(crate)
+    order = [crate for crates in layers.values() for crate in crates]
     lacking = sorted(name for name in set(below) - set(order) if not name.endswith("_tests"))
     if lacking:
         sys.exit(f"ARCHITECTURE lacks the crates {', '.join(lacking)}")
@@ -120,9 +126,6 @@ def layers_of_crates():
         upwards = below[crate] & set(order[:place])
         if upwards:
             sys.exit(f"{crate} stands below {', '.join(sorted(upwards))}, on which it depends")
-    layers = {}
-    for layer, crate in rows:
-        layers.setdefault(layer, []).append(crate)
     return layers, below
 
 
