@@ -130,7 +130,7 @@ def layers_of_crates():
 
 
 def layers():
-    """A band for each layer; an arrow where a crate depends on the next one of its layer."""
+    """A band for each layer; an arrow where a crate depends on the one right beside it."""
     bands, below = layers_of_crates()
     picture = Drawing(760, 34 * len(bands) + 26, "Layers of crates")
     for number, (layer, crates) in enumerate(bands.items()):
@@ -144,7 +144,8 @@ def layers():
             if following in below[crate]:
                 picture.line(x + width, y + 15, x + width + 14, y + 15, arrow=True)
             x += width + 14
-    picture.text(12, picture.height - 8, "A crate depends on crates of lower layers only, and, along an arrow, on its neighbour.", 11, color=FAINT)
+    note = "A crate depends only on crates of lower layers, and of its own layer on those to its right."
+    picture.text(12, picture.height - 8, note, 11, color=FAINT)
     return picture
 
 
