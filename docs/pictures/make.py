@@ -17,6 +17,7 @@ from office import SIGNED_IN, Office  # noqa: E402
 WIDTH, HEIGHT = 860, 600
 PHONE = 390, 844
 DESK = [("desk-readers", "/readers"), ("desk-counter", "/counter"), ("desk-runs", "/runs/1")]
+AT_THE_COUNTER = "2"  # the ticket of the reader who is there
 
 
 def file_of_the_document():
@@ -49,6 +50,10 @@ def shoot(office, browser):
         page = browser.page(SIGNED_IN)
         page.size(WIDTH, HEIGHT)
         page.open(office.staff, place)
+        if name == "desk-counter":
+            page.js("document.querySelector('.card input').focus()")
+            page.scan(AT_THE_COUNTER)
+            page.see("Ready at the desk")
         keep(page, name)
     page = browser.page()
     page.size(WIDTH, HEIGHT)
