@@ -1,7 +1,6 @@
 -- A container that is given to a reader, in the rows of the desk; and when it may be.
 use Rattle.std.proofs.Common.{◌≡◌, ℕ, Bool, true, false, cond, ◌||◌, nat_eq, List, [], ◌∷◌, Option, Some, None, Ok, Err, inl, inr, refl, sym, ap, subst, ◌∙◌, arith}
-use Rattle.std.specs.Prelude.{ℤ, filter_map, int_lt, is_some, option_and_then, option_map, slice_get, unwrap_or}
-use Rattle.std.specs.List.{cons_option}
+use Rattle.std.specs.Prelude.{ℤ, int_lt, is_some, option_and_then, option_map, unwrap_or}
 use Rattle.std.proofs.lemmas.Bool.{cases_Bool, eqb-true, false≢true}
 use Rattle.sqlite.specs.Effect.{Database}
 use Rattle.sqlite.specs.Tree.{Trees}
@@ -32,7 +31,7 @@ use Rattle.office_core.specs.Words.{first, numbered, some_and, stands}
 use Rattle.office_core.specs.declared.command.Command.{Command}
 use Rattle.office_core.specs.declared.command.Command.TheVariants as command
 use Rattle.office_core.specs.declared.done.Done.TheVariants as done
-use Rattle.office_core.proofs.Filed.{is_issued, only_issues, waiting, waits_within}
+use Rattle.office_core.proofs.Filed.{is_issued, only_issues, waits_within}
 use Rattle.office_core.proofs.OrderLaws.{stands_out}
 use Rattle.office_core.proofs.Steps.{held_so, passes}
 use Rattle.office_core.proofs.Words.{same_number}
@@ -51,7 +50,7 @@ use Rattle.refinement.proofs.HoldingRows.{place_after}
 use Rattle.refinement.proofs.SeatsShown.{some_placed}
 use Rattle.desk_commands.specs.Issuance.{IsQueuedFor, asked_for, first_waiting}
 use Rattle.desk_commands.specs.ContainerMoves.{handed_over}
-use Rattle.desk_commands.proofs.QueueTold.{waiter}
+use Rattle.desk_commands.proofs.HeadTold.{waiter}
 
 -- ---- who may have it
 
@@ -129,27 +128,6 @@ module _ (s : State) (c t : ℕ) where
 -- ---- the first order
 
 module _ (s : State) (c : ℕ) where
-  abbrev orders_of : List ℕ → List WaitingOrder
-  orders_of os = filter_map (λ o. option_map (waiter o) (numbered s.orders o)) os
-
-  pub head_shown : IsSoundOffice s → slice_get (orders_of (s.queue c)) 0 ≡ first_waiting s c
-  head_shown sound = at (s.queue c) refl
-    where
-      at : (q : List ℕ) → s.queue c ≡ q → slice_get (orders_of q) 0 ≡ option_and_then (λ o. option_map (waiter o) (numbered s.orders o)) (first q)
-      at [] is = refl
-      at (o ∷ os) is = found (numbered s.orders o) refl
-        where
-          in_queue : stands o (s.queue c) ≡ true
-          in_queue = ap (stands o) is ∙ ap (λ b. b || stands o os) (same_number o)
-
-          found : (order : Option Order) → numbered s.orders o ≡ order → slice_get (cons_option (option_map (waiter o) order) (orders_of os)) 0 ≡ option_map (waiter o) order
-          found (Some order) e = refl
-          found None e =
-              let it = waiting (container_of s o) (λ c. stands o (s.queue c)) (λ c. is_out_for o (s.place c)) (s.past o) c (sound.sound.desk.filed.each o) in_queue in
-              let for_it = it.for_it in
-              let none : container_of s o ≡ None = ap (option_map (λ (order : Order). order.container)) e in
-              absurd (let bad : None ≡ Some c = sym none ∙ for_it in cc)
-
   pub first_order : (o : ℕ) → option_map (λ (w : WaitingOrder). w.order) (first_waiting s c) ≡ Some o → first (s.queue c) ≡ Some o
   first_order o h = at (first (s.queue c)) h
     where

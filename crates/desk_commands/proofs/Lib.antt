@@ -9,7 +9,7 @@ pub mod Cancelled
 pub mod Returned
 pub mod MovedAll
 pub mod Reshelved
-pub mod QueueTold
+pub mod HeadTold
 pub mod Revoked
 pub mod Issued
 pub mod Picked

@@ -11,7 +11,7 @@ ghost use Rattle.refinement.specs.CommandSteps.{CarriesOut};
 use crate::container_moves::hand_over;
 use catalogue_store::Places;
 use desk_core::Place;
-use desk_store::{OrderState, queue};
+use desk_store::{OrderState, queue_head};
 use office_core::{Done, Refusal};
 use office_tables::StoreFault;
 use office_tables::value::NO_NUMBER;
@@ -46,10 +46,10 @@ pub fn return_container<P: Places, S: Alter>(
     ensures { CarriesOut P.represents P.version (λ _. ⊤) (command.Return container) (state S.Store conn.old)
         (state S.Store conn.new) result }
 {
-    let Some(found) = queue(alloc, conn, container)? else {
+    let Some(head) = queue_head(alloc, conn, container)? else {
         return Ok(Err(Refusal::UnknownContainer));
     };
-    let Place::Out(order) = found.place else {
+    let Place::Out(order) = head.place else {
         return Ok(Err(Refusal::NotIssued));
     };
     take_back::<P, S>(conn, container, order)

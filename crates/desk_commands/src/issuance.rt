@@ -1,6 +1,6 @@
 //! Issuing a container to a reader.
 
-ghost use Rattle.std.specs.Prelude.{◌≡◌, None, Some, IfOk, option_map, slice_get};
+ghost use Rattle.std.specs.Prelude.{◌≡◌, None, Some, IfOk, option_map};
 ghost use Rattle.std.specs.Result.{result_err};
 ghost use Rattle.sqlite.specs.Held.{state};
 ghost use Rattle.isad_core.specs.Limits.{IsNumber};
@@ -19,7 +19,7 @@ ghost use Rattle.desk_commands.specs.Issuance.{IsQueuedFor, asked_for};
 use crate::container_moves::hand_over;
 use catalogue_store::Places;
 use desk_core::{AtDesk, Limits, Place, Reader, may_issue};
-use desk_store::{OrderState, WaitingOrder, queue, ticket_holder};
+use desk_store::{OrderState, QueueHead, WaitingOrder, queue_head, ticket_holder};
 use isad_core::Day;
 use office_core::{Done, Refusal};
 use office_tables::StoreFault;
@@ -28,24 +28,17 @@ use refinement::is_open_to;
 use sqlite::{Alter, Connection};
 use std::alloc::Global;
 
-/// A container that is known: where it is, and the first order that waits for it.
-#[derive(Debug, Clone, Copy, PartialEq, Eq)]
-struct Wanted {
-    container: u64,
-    place: Place,
-    head: Option<WaitingOrder>,
-}
-
 /// The ticket of the order, or none if there is no order.
-fn ticket_of(head: Option<WaitingOrder>) -> Option<u64>
-    ensures { result ≡ option_map (λ (w : Waiter). w.ticket) head }
+fn ticket_of(first: Option<WaitingOrder>) -> Option<u64>
+    ensures { result ≡ option_map (λ (w : Waiter). w.ticket) first }
 {
-    head.map(|head| head.ticket)
+    first.map(|first| first.ticket)
 }
 
-/// The order with which the container may be issued to the ticket, or why it may not be issued.
+/// The order with which a container that is known may be issued to the ticket, or why it may not be issued. `head` is
+/// the head of its queue.
 fn decide(
-    wanted: Wanted,
+    head: QueueHead,
     is_open: bool,
     ticket: u64,
     who: Option<Reader>,
@@ -54,17 +47,17 @@ fn decide(
 ) -> Result<u64, Refusal>
     ensures refused { result_err result
         ≡ first_that_holds (issue_checks
-        (issue_facts (Some (asked_for wanted.place wanted.head is_open)) ticket who today limits.now)) }
-    ensures order { IfOk result (λ order. option_map (λ (w : Waiter). w.order) wanted.head ≡ Some order) }
+        (issue_facts (Some (asked_for head.place head.first is_open)) ticket who today limits.now)) }
+    ensures order { IfOk result (λ order. option_map (λ (w : Waiter). w.order) head.first ≡ Some order) }
 {
     let asked = AtDesk {
-        place: wanted.place,
-        head: ticket_of(wanted.head),
+        place: head.place,
+        head: ticket_of(head.first),
         is_open,
     };
     may_issue(Some(&asked), ticket, who.as_ref(), today, limits)?;
-    match wanted.head {
-        Some(head) => Ok(head.order),
+    match head.first {
+        Some(first) => Ok(first.order),
         None => Err(Refusal::NotFirst),
     }
 }
@@ -89,34 +82,28 @@ fn lend<P: Places, S: Alter>(
     Ok(Ok(Done::Issue { order }))
 }
 
-/// Issues a container to a reader if no rule forbids it. The container is known to be as `wanted` describes it.
+/// Issues a container to a reader if no rule forbids it. The container is known, and `head` is the head of its queue.
 fn issue_known<P: Places, S: Alter>(
     alloc: Global,
     conn: &mut Connection<S>,
     today: Day,
     limits: &Limits,
+    container: u64,
     ticket: u64,
-    wanted: Wanted,
+    head: QueueHead,
 ) -> Result<Result<Done, Refusal>, StoreFault>
     requires inside { InTransaction P.version (state S.Store conn.old) }
-    requires number { IsNumber wanted.container }
+    requires number { IsNumber container }
     ensures { CarriesOut P.represents P.version (λ s. (today ≡ s.day) × (limits.now ≡ limits_of s)
-        × IsQueuedFor s wanted.container wanted.place wanted.head) (command.Issue wanted.container ticket)
+        × IsQueuedFor s container head.place head.first) (command.Issue container ticket)
         (state S.Store conn.old) (state S.Store conn.new) result }
 {
     let who = ticket_holder(alloc, conn, ticket)?;
-    let is_open = is_open_to::<P, S>(alloc, conn, wanted.container, ticket, today)?;
-    match decide(wanted, is_open, ticket, who, today, limits) {
-        Ok(order) => lend::<P, S>(conn, wanted.container, ticket, order),
+    let is_open = is_open_to::<P, S>(alloc, conn, container, ticket, today)?;
+    match decide(head, is_open, ticket, who, today, limits) {
+        Ok(order) => lend::<P, S>(conn, container, ticket, order),
         Err(why) => Ok(Err(why)),
     }
-}
-
-/// The first of these orders, or none.
-fn head_of(waiting: &[WaitingOrder]) -> Option<WaitingOrder>
-    ensures { result ≡ slice_get waiting.now 0 }
-{
-    waiting.first().copied()
 }
 
 /// Issues a container to a reader if it is at the desk and open to the reader, the reader's order is the first in its
@@ -134,13 +121,8 @@ pub fn issue<P: Places, S: Alter>(
     ensures { CarriesOut P.represents P.version (λ s. (today ≡ s.day) × (limits.now ≡ limits_of s))
         (command.Issue container ticket) (state S.Store conn.old) (state S.Store conn.new) result }
 {
-    let Some(found) = queue(alloc, conn, container)? else {
+    let Some(head) = queue_head(alloc, conn, container)? else {
         return Ok(Err(Refusal::UnknownContainer));
     };
-    let wanted = Wanted {
-        container,
-        place: found.place,
-        head: head_of(found.waiting.as_slice()),
-    };
-    issue_known::<P, S>(alloc, conn, today, limits, ticket, wanted)
+    issue_known::<P, S>(alloc, conn, today, limits, container, ticket, head)
 }

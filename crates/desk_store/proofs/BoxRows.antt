@@ -1,7 +1,7 @@
--- The statement on a container: what its text means, what it tells, and why it fails. And the container that it tells.
+-- The statements on a container: what their texts mean, what they tell, and why they fail. And the container that is told.
 use Rattle.std.proofs.Common.{◌≡◌, ◌<◌, ℕ, pos, List, [], ◌∷◌, length, map, filter, find, codes, true, false, ◌++◌, Option, Some, None, Result, IfOk, IfErr, Ordering, nat_eq, refl, sym, ap, arith}
 use Rattle.std.proofs.Math.Nat.{le_refl}
-use Rattle.std.specs.Prelude.{IsSome, option_map, option_to_list, slice_get}
+use Rattle.std.specs.Prelude.{⊤, IsSome, option_map, option_to_list, slice_get}
 use Rattle.std.specs.Cmp.{IsTotalOrder, on_total, int_cmp_total}
 use Rattle.std.specs.List.{AllByRecursion}
 use Rattle.std.specs.Ordering.{int_cmp}
@@ -18,6 +18,7 @@ use Rattle.sqlite.specs.State.{State}
 use Rattle.sqlite_sql.specs.declared.ops.BinaryOp.TheVariants.{Compare}
 use Rattle.sqlite_sql.specs.declared.ops.CompareOp.TheVariants.{Eq}
 use Rattle.sqlite_tied.specs.Compute.{everything}
+use Rattle.sqlite_trees.proofs.ListLemmas.{all_of}
 use Rattle.tree_core.specs.Versions.{Version, Links, Spans}
 use Rattle.office_tables.specs.Query.{Finds, Misses}
 use Rattle.office_tables.specs.Faults.{IsUnlimited, HasCause}
@@ -79,6 +80,38 @@ module _ (old new : State) (n : ℕ) (v : Version) (has : old.now.schema ≡ sch
       select_faults v container box_text with_its_number box_columns in_order box_names (Int (pos n) ∷ []) (box_means v) old new has container_row bs stored
       (λ (b : Numbered). nat_eq n b.0) (λ b. only (same_number b.0 n)) (λ b. written_cells b.1) (λ (b : Numbered). Int (pos b.0) ∷ []) (λ _. refl) by_number (λ _. refl) (λ a b. by_one_int (pos a.0) (pos b.0))
       written_cells items (λ (b : Numbered). b.1) (λ _. refl) IsLegibleBox refl free legible r
+
+-- ---- whether it is there
+
+abbrev pub number_cells : ℕ → Row
+number_cells n = Int (pos n) ∷ []
+
+abbrev pub number_text : List ℕ
+number_text = codes "SELECT id FROM container WHERE id = ?1 ORDER BY id"
+
+abbrev pub number_command : Command
+number_command = Select (asking container with_its_number (col 1 0 ∷ []) in_order) (codes "id" ∷ [])
+
+pub number_means : (v : Version) → Means v number_text 1 number_command
+unfolding understood everything
+number_means Links = record { is = refl; plain = (refl, refl); whole = (le_refl _, refl, refl); unlisted = refl }
+number_means Spans = record { is = refl; plain = (refl, refl); whole = (le_refl _, refl, refl); unlisted = refl }
+
+module _ (old new : State) (n : ℕ) (v : Version) (has : old.now.schema ≡ schema v) (bs : List Numbered) (stored : Holds container container_row old bs) {X : Type 0} (items : X → List ℕ) (r : Result X StoreFault) where
+  pub number_finds : IfOk r (λ found. Finds number_cells number_text (Int (pos n) ∷ []) old new (items found))
+      → IfOk r (λ found. (ys : List Numbered) × IsOrdered by_number (filter (λ (b : Numbered). nat_eq n b.0) bs) ys × (items found ≡ map (λ (b : Numbered). b.0) ys))
+  number_finds =
+      select_finds v container number_text with_its_number (col 1 0 ∷ []) in_order (codes "id" ∷ []) (Int (pos n) ∷ []) (number_means v) old new has container_row bs stored
+      (λ (b : Numbered). nat_eq n b.0) (λ b. only (same_number b.0 n)) (λ b. number_cells b.0) (λ (b : Numbered). Int (pos b.0) ∷ []) (λ _. refl) by_number (λ _. refl) (λ a b. by_one_int (pos a.0) (pos b.0))
+      number_cells items (λ (b : Numbered). b.0) (λ _. refl) r
+
+  pub number_faults : IsUnlimited old → IfErr r (Misses number_cells (λ _. ⊤) number_text (Int (pos n) ∷ []) old new) → IfErr r (HasCause old new)
+  number_faults free =
+      select_faults v container number_text with_its_number (col 1 0 ∷ []) in_order (codes "id" ∷ []) (Int (pos n) ∷ []) (number_means v) old new has container_row bs stored
+      (λ (b : Numbered). nat_eq n b.0) (λ b. only (same_number b.0 n)) (λ b. number_cells b.0) (λ (b : Numbered). Int (pos b.0) ∷ []) (λ _. refl) by_number (λ _. refl) (λ a b. by_one_int (pos a.0) (pos b.0))
+      number_cells items (λ (b : Numbered). b.0) (λ _. refl) (λ _. ⊤) refl free (all_of (λ (_ : Numbered). ⊤) (λ _. tt) bs) r
+
+-- ---- what is told
 
 -- the first of the rows tells what is written on it
 pub box_told : (n : ℕ) (bs : List Numbered) (found : List BoxKey) → found ≡ map (λ (b : Numbered). b.1) (filter (λ (b : Numbered). nat_eq n b.0) bs) → slice_get found 0 ≡ option_map (λ (b : Numbered). b.1) (find (λ (b : Numbered). nat_eq n b.0) bs)

@@ -1,6 +1,6 @@
 -- A reader's card, and the holder of a ticket: the parts are read one after another, and nothing is changed between them.
-use Rattle.std.proofs.Common.{◌≡◌, ℕ, ℤ, suc, ◌+◌, ◌<◌, ◌≤◌, ◌^◌, ◌&&◌, true, false, Bool, cond, nat_eq, List, [], ◌∷◌, map, filter, length, find, Some, None, refl, sym, ap, subst, ◌∙◌, arith}
-use Rattle.std.specs.Prelude.{nat_lt, option_map, slice_get}
+use Rattle.std.proofs.Common.{◌≡◌, ℕ, ℤ, suc, ◌+◌, ◌<◌, ◌≤◌, ◌^◌, ◌&&◌, true, false, Bool, cond, nat_eq, List, [], ◌∷◌, map, filter, length, find, Option, Some, None, refl, sym, ap, subst, ◌∙◌, arith}
+use Rattle.std.specs.Prelude.{nat_lt, is_some, option_map, slice_get}
 use Rattle.std.specs.List.{AllByRecursion, count_by}
 use Rattle.std.proofs.lemmas.Bool.Decides.{nat_tests}
 use Rattle.std.proofs.lemmas.List.{length-map}
@@ -32,6 +32,12 @@ find_none number t n (x ∷ xs) all h =
 
 pub unknown : {A : Type 0} (number : A → ℕ) (t : ℕ) (xs : List A) → AreCounted number xs → length xs < t → find (λ x. nat_eq t (number x)) xs ≡ None
 unknown number t xs counted h = find_none number t (1 + length xs) xs (counted_within number 1 xs counted) (omega (arith, h))
+
+-- ---- a number that was given
+
+pub some_mapped : {X Y : Type 0} (f : X → Y) (o : Option X) → is_some (option_map f o) ≡ is_some o
+some_mapped f None = refl
+some_mapped f (Some x) = refl
 
 -- ---- how many of the orders that have not ended are out
 

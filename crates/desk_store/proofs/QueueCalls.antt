@@ -1,10 +1,11 @@
--- A queue is read in three steps: what is written on the container, where it is, and who waits for it.
-use Rattle.std.proofs.Common.{◌≡◌, ℕ, List, Option, Some, None, refl, sym, ap}
-use Rattle.std.specs.Prelude.{option_map}
+-- A queue is read in three steps: what is written on the container, where it is, and who waits for it. Its head too: is
+-- there such a container, where is it, and who is the first.
+use Rattle.std.proofs.Common.{◌≡◌, ℕ, true, false, List, Option, Some, None, refl, sym, ap}
+use Rattle.std.specs.Prelude.{is_some, option_map, slice_get}
 use Rattle.isad_core.specs.declared.values.BoxKey.{BoxKey}
 use Rattle.desk_core.specs.declared.reader.Place.{Place}
 use Rattle.desk_store.specs.Orders.{IsAt, holding_of, queue_of}
-use Rattle.desk_store.specs.Stacks.{Stacks, IsQueued}
+use Rattle.desk_store.specs.Stacks.{Stacks, IsQueued, IsHeaded}
 use Rattle.desk_store.specs.declared.orders.WaitingOrder.{WaitingOrder}
 use Rattle.desk_store.proofs.BoxRows.{Numbered}
 
@@ -21,3 +22,12 @@ known_queue c s None known is place at waiting are = absurd (cc)
 known_queue c s (Some b) known is place at waiting are =
     let same : b.1 ≡ known = cc in
     record { name = ap (λ (k : BoxKey). k.name) (sym same); place = at; waiting = are }
+
+pub unknown_head : (c : ℕ) (s : Stacks) (box : Option Numbered) → is_some box ≡ false → IsHeaded c s box None
+unknown_head c s None is = refl
+unknown_head c s (Some b) is = absurd (cc)
+
+pub known_head : (c : ℕ) (s : Stacks) (box : Option Numbered) → is_some box ≡ true → (place : Place) → IsAt (holding_of c s.desk) place → (first : Option WaitingOrder) → first ≡ slice_get (queue_of c s.desk) 0
+    → IsHeaded c s box (Some (record { place = place; first = first }))
+known_head c s None is place at first head = absurd (cc)
+known_head c s (Some b) is place at first head = record { place = at; first = head }

@@ -1,22 +1,26 @@
 -- The statements on the orders that wait: what their texts mean, what they tell, and why they fail.
-use Rattle.std.proofs.Common.{◌≡◌, ◌≤◌, ◌<◌, ◌^◌, ℕ, pos, List, [], ◌∷◌, length, map, filter, codes, true, false, Bool, cond, ◌||◌, Result, IfOk, IfErr, refl, sym, ap, ◌∙◌, arith}
+use Rattle.std.proofs.Common.{◌≡◌, ◌≤◌, ◌<◌, ◌^◌, ℕ, pos, List, [], ◌∷◌, length, map, filter, take, codes, true, false, Bool, cond, ◌||◌, Result, IfOk, IfErr, refl, sym, ap, ◌∙◌, arith}
 use Rattle.std.proofs.Math.Nat.{le_refl}
-use Rattle.std.specs.Prelude.{⊤, nat_lt}
+use Rattle.std.specs.Prelude.{⊤, nat_lt, slice_get}
 use Rattle.std.proofs.lemmas.Bool.{lt-ltb}
 use Rattle.std.proofs.lemmas.List.Sums.{length-filter}
+use Rattle.std.proofs.lemmas.Result.{IfOk-weaker}
 use Rattle.std.specs.List.{count_by, list_any}
-use Rattle.sqlite.specs.declared.types.Value.TheVariants.{Int}
+use Rattle.sqlite.specs.declared.types.Value.TheVariants.{Int, Null}
 use Rattle.sqlite.specs.Order.{Row}
 use Rattle.sqlite.specs.Term.{Term, lit, col, op2}
+use Rattle.sqlite.specs.Query.{inner, end}
 use Rattle.sqlite.specs.Collation.TheVariants.{Binary}
 use Rattle.sqlite.specs.Command.{Command}
 use Rattle.sqlite.specs.Command.TheVariants.{Select}
 use Rattle.sqlite.specs.Listing.{understood}
-use Rattle.sqlite.specs.State.{State}
+use Rattle.sqlite.specs.State.{State, Shown}
+use Rattle.sqlite.proofs.Callers.{reads_as}
+use Rattle.sqlite_schema.specs.declared.program.Program.{Program}
 use Rattle.sqlite_sql.specs.declared.ops.BinaryOp.TheVariants.{Compare}
 use Rattle.sqlite_sql.specs.declared.ops.CompareOp.TheVariants.{Eq}
 use Rattle.sqlite_tied.specs.Compute.{everything}
-use Rattle.sqlite_trees.proofs.ListLemmas.{all_of}
+use Rattle.sqlite_trees.proofs.ListLemmas.{all_of, map-map}
 use Rattle.tree_core.specs.Versions.{Version, Links, Spans}
 use Rattle.isad_core.specs.Limits.{most_orders}
 use Rattle.desk_core.specs.DeskRows.{OrderRow}
@@ -27,7 +31,10 @@ use Rattle.office_tables.specs.Order.{IsOrdered}
 use Rattle.office_tables.specs.Schema.{schema, orders}
 use Rattle.office_tables.specs.Step.{Holds}
 use Rattle.office_tables.specs.declared.fault.StoreFault.{StoreFault}
+use Rattle.office_tables.proofs.Causes.{read_cause, none_refuse, sums_nothing}
+use Rattle.office_tables.proofs.Limits.{limited_query, first_answers}
 use Rattle.office_tables.proofs.Queries.{asking}
+use Rattle.office_tables.proofs.RowReads.{all_caused}
 use Rattle.office_tables.proofs.statements.SelectOf.{select_finds, select_faults}
 use Rattle.office_tables.proofs.Tests.{both, same_number, by_one_int}
 use Rattle.desk_store.specs.Holdings.{waits_for}
@@ -77,6 +84,49 @@ module _ (old new : State) (c : ℕ) (v : Version) (has : old.now.schema ≡ sch
       select_faults v orders waiting_text for_the_container waiting_columns in_order waiting_names (Int (pos c) ∷ []) (waiting_means v) old new has order_cells xs stored
       (waits_for c) (λ o. both (same_number o.state 1) (same_number o.container c)) (λ o. waiting_cells (waiting_of o)) (λ (o : OrderRow). Int (pos o.id) ∷ []) (λ _. refl) by_order (λ _. refl) (λ a b. by_one_int (pos a.id) (pos b.id))
       waiting_cells items waiting_of (λ _. refl) (λ _. ⊤) refl free (all_of (λ _. ⊤) (λ _. tt) xs) r
+
+-- ---- the first that waits for a container
+
+abbrev pub first_text : List ℕ
+first_text = codes "SELECT id, ticket FROM orders WHERE state = 1 AND container = ?1 ORDER BY id LIMIT 1"
+
+abbrev first_program : Program
+first_program = record { lets = []; body = limited_query (inner orders.tree end) for_the_container waiting_columns in_order 1 }
+
+abbrev pub first_command : Command
+first_command = Select first_program waiting_names
+
+pub first_means : (v : Version) → Means v first_text 1 first_command
+unfolding understood everything
+first_means Links = record { is = refl; plain = (refl, refl); whole = (le_refl _, refl, refl); unlisted = refl }
+first_means Spans = record { is = refl; plain = (refl, refl); whole = (le_refl _, refl, refl); unlisted = refl }
+
+module _ (old new : State) (c : ℕ) (v : Version) (has : old.now.schema ≡ schema v) (xs : List OrderRow) (stored : Holds orders order_cells old xs) {X : Type 0} (items : X → List WaitingOrder) (r : Result X StoreFault) where
+  first_rows : (rows : List Row) → Shown first_text (Int (pos c) ∷ []) old new rows
+      → (ys : List OrderRow) × IsOrdered by_order (filter (waits_for c) xs) ys × (rows ≡ map waiting_cells (map waiting_of (take 1 ys)))
+  first_rows rows shown =
+      let means = first_means v in
+      let read = reads_as first_text (Int (pos c) ∷ []) old new (schema v) has first_command means.is means.plain means.unlisted rows shown in
+      let got = first_answers orders.tree for_the_container waiting_columns in_order old.now.trees (Int (pos c) ∷ [])
+      order_cells xs (waits_for c) (λ o. waiting_cells (waiting_of o)) (λ (o : OrderRow). Int (pos o.id) ∷ []) by_order
+      stored (λ o. both (same_number o.state 1) (same_number o.container c)) (λ _. refl) (λ _. refl) (λ a b. by_one_int (pos a.id) (pos b.id)) 1 rows (read.answer Null) in
+      (got.0, (got.1, got.2), got.3 ∙ sym (map-map waiting_cells waiting_of (take 1 got.0)))
+
+  pub first_finds : IfOk r (λ found. Finds waiting_cells first_text (Int (pos c) ∷ []) old new (items found))
+      → IfOk r (λ found. (ys : List OrderRow) × IsOrdered by_order (filter (waits_for c) xs) ys × (items found ≡ map waiting_of (take 1 ys)))
+  first_finds found = IfOk-weaker r _ _ (λ all it. let got = first_rows it.rows it.shown in (got.0, got.1, it.are (map waiting_of (take 1 got.0)) got.2)) found
+
+  pub first_faults : IsUnlimited old → IfErr r (Misses waiting_cells (λ _. ⊤) first_text (Int (pos c) ∷ []) old new) → IfErr r (HasCause old new)
+  first_faults free missed =
+      let means = first_means v in
+      all_caused waiting_cells (λ _. ⊤) first_text (Int (pos c) ∷ []) old new r missed
+      (read_cause first_text (Int (pos c) ∷ []) old new (schema v) has first_program waiting_names means.is means.plain means.whole means.unlisted
+      (λ db e refused. none_refuse refused (λ t. let clash : true ≡ false = t in cc) (sums_nothing _)) free)
+      (λ rows shown. let got = first_rows rows shown in (map waiting_of (take 1 got.0), got.2, all_of (λ (_ : WaitingOrder). ⊤) (λ _. tt) _))
+
+pub first_taken : {A : Type 0} (xs : List A) → slice_get (take 1 xs) 0 ≡ slice_get xs 0
+first_taken [] = refl
+first_taken (x ∷ xs) = refl
 
 -- ---- how many wait for a container
 

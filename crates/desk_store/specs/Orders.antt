@@ -1,5 +1,5 @@
 -- What was ordered, and who waits for a container.
-use Rattle.std.specs.Prelude.{◌≡◌, ℕ, suc, ℤ, ◌&&◌, ◌<◌, nat_eq, List, [], ◌∷◌, ◌++◌, length, map, filter, find, Option, Some, None}
+use Rattle.std.specs.Prelude.{◌≡◌, ℕ, suc, ℤ, ◌&&◌, ◌<◌, nat_eq, List, [], ◌∷◌, ◌++◌, length, map, filter, find, slice_get, Option, Some, None}
 use Rattle.isad_core.specs.declared.values.BoxKey.{BoxKey}
 use Rattle.desk_core.specs.declared.reader.Place.{Place}
 use Rattle.desk_core.specs.declared.reader.Place.TheVariants.{Shelf, Desk as AtTheDesk, Out}
@@ -9,6 +9,7 @@ use Rattle.desk_store.specs.declared.orders.OrderState.{OrderState}
 use Rattle.desk_store.specs.declared.orders.OrderState.TheVariants.{Waiting, «Out» as WithReader, Done, Cancelled}
 use Rattle.desk_store.specs.declared.orders.PlacedOrder.{PlacedOrder}
 use Rattle.desk_store.specs.declared.orders.WaitingOrder.{WaitingOrder}
+use Rattle.desk_store.specs.declared.queue_heads.QueueHead.{QueueHead}
 use Rattle.desk_store.specs.declared.queues.ContainerQueue.{ContainerQueue}
 
 -- ---- orders
@@ -69,3 +70,8 @@ pub record IsQueue (c : ℕ) (d : Desk) (box : BoxKey) (q : ContainerQueue) : Ty
   pub name : q.name ≡ box.name
   pub place : IsAt (holding_of c d) q.place
   pub waiting : q.waiting ≡ queue_of c d
+
+-- the answer about the head of its queue: where it is, and the first of the orders that wait for it, or none
+pub record IsHead (c : ℕ) (d : Desk) (head : QueueHead) : Type 0 where
+  pub place : IsAt (holding_of c d) head.place
+  pub first : head.first ≡ slice_get (queue_of c d) 0

@@ -8,10 +8,11 @@ use Rattle.isad_core.specs.declared.values.BoxKey.{BoxKey}
 use Rattle.desk_core.specs.DeskRows.{Desk, RunRow, RunLineRow}
 use Rattle.office_tables.specs.Schema as tables
 use Rattle.office_tables.specs.SharedRows.{container_row}
-use Rattle.desk_store.specs.Orders.{IsQueue}
+use Rattle.desk_store.specs.Orders.{IsQueue, IsHead}
 use Rattle.desk_store.specs.Runs.{lines_of, IsCandidate}
 use Rattle.desk_store.specs.Representation.{RepresentsDesk, IsLegible}
 use Rattle.office_tables.specs.RowNumbers.{AreCounted}
+use Rattle.desk_store.specs.declared.queue_heads.QueueHead.{QueueHead}
 use Rattle.desk_store.specs.declared.queues.ContainerQueue.{ContainerQueue}
 use Rattle.desk_core.specs.declared.run.Candidate.{Candidate}
 use Rattle.desk_store.specs.declared.runs.Brought.{Brought}
@@ -44,6 +45,12 @@ abbrev pub IsQueued : ℕ → Stacks → Option (ℕ × BoxKey) → Option Conta
 IsQueued c stacks None found = found ≡ None
 IsQueued c stacks (Some box) None = ⊥
 IsQueued c stacks (Some box) (Some q) = IsQueue c stacks.desk box.1 q
+
+-- the same of the head of its queue
+abbrev pub IsHeaded : ℕ → Stacks → Option (ℕ × BoxKey) → Option QueueHead → Type 0
+IsHeaded c stacks None found = found ≡ None
+IsHeaded c stacks (Some box) None = ⊥
+IsHeaded c stacks (Some box) (Some head) = IsHead c stacks.desk head
 
 -- ---- what a run brought
 

@@ -1,6 +1,6 @@
-//! What is written on containers. Their table belongs to the catalogue.
+//! Which containers there are, and what is written on them. Their table belongs to the catalogue.
 
-ghost use Rattle.std.specs.Prelude.{◌≡◌, ℕ, nat_eq, List, map, filter, IfOk, IfSome, ⊤, option_map};
+ghost use Rattle.std.specs.Prelude.{◌≡◌, ℕ, nat_eq, true, List, map, filter, IfOk, IfSome, ⊤, is_some, option_map, slice_get};
 ghost use Rattle.std.specs.List.{AllByRecursion};
 ghost use Rattle.sqlite.specs.Held.{state};
 ghost use Rattle.sqlite.specs.State.{HasCleanDisk};
@@ -64,4 +64,53 @@ pub(crate) fn box_of<S: Alter>(
     }
     let found = boxes_with(alloc, conn, container)?;
     Ok(found.into_iter().next())
+}
+
+/// The number of the container with this number: one item, or none. Nothing that is written on it is read.
+fn numbers_with<S: Alter>(
+    alloc: Global,
+    conn: &mut Connection<S>,
+    container: u64,
+) -> Result<Vec<u64>, StoreFault>
+    requires inside { InOffice (state S.Store conn.old) }
+    requires small { IsNumber container }
+    ensures reads { Reads (state S.Store conn.old) (state S.Store conn.new) result }
+    ensures rows { HasCleanDisk (state S.Store conn.new) → (bs : List (ℕ × BoxKey))
+        → Holds tables.container container_row (state S.Store conn.old) bs → AreCounted (λ b. b.0) bs
+        → IfOk result (λ found. found.items ≡ map (λ (b : ℕ × BoxKey). b.0)
+        (filter (λ (b : ℕ × BoxKey). nat_eq container b.0) bs)) }
+    ensures faults { (bs : List (ℕ × BoxKey)) → Holds tables.container container_row (state S.Store conn.old) bs
+        → FaultsHaveCause (state S.Store conn.old) (state S.Store conn.new) result }
+{
+    find(
+        alloc,
+        conn,
+        "SELECT id FROM container WHERE id = ?1 ORDER BY id",
+        &[number(container)],
+    )
+}
+
+/// Whether a row was found.
+fn is_found(numbers: &[u64]) -> bool
+    ensures { result ≡ is_some (slice_get numbers.now 0) }
+{
+    numbers.first().is_some()
+}
+
+/// Whether there is a container with this number.
+pub(crate) fn is_known<S: Alter>(
+    alloc: Global,
+    conn: &mut Connection<S>,
+    container: u64,
+) -> Result<bool, StoreFault>
+    requires inside { InOffice (state S.Store conn.old) }
+    ensures tells { StoreAnswers S.Store RepresentsQueues IsLegibleStacks conn.old conn.new result (λ _. ⊤)
+        (λ _ stacks known. known ≡ is_some (box_with container stacks)) }
+    ensures small { IfOk result (λ known. known ≡ true → IsNumber container) }
+{
+    if container > MOST_CONTAINERS {
+        return Ok(false);
+    }
+    let numbers = numbers_with(alloc, conn, container)?;
+    Ok(is_found(&numbers))
 }

@@ -106,7 +106,7 @@ fn places_with<S: Alter>(
 }
 
 /// Where a container is. A container without a row is on the shelf.
-fn place_of<S: Alter>(
+pub(crate) fn place_of<S: Alter>(
     alloc: Global,
     conn: &mut Connection<S>,
     container: u64,

@@ -1,6 +1,6 @@
 //! The orders that wait for containers.
 
-ghost use Rattle.std.specs.Prelude.{◌≡◌, ◌≤◌, List as Rows, length, map, filter, IfOk};
+ghost use Rattle.std.specs.Prelude.{◌≡◌, ◌≤◌, List as Rows, length, map, filter, take, IfOk};
 ghost use Rattle.std.specs.List.{count_by, list_any};
 ghost use Rattle.sqlite.specs.Held.{state};
 ghost use Rattle.sqlite.specs.State.{HasCleanDisk};
@@ -60,6 +60,32 @@ pub(crate) fn waiting_for<S: Alter>(
         alloc,
         conn,
         "SELECT id, ticket FROM orders WHERE state = 1 AND container = ?1 ORDER BY id",
+        &[number(container)],
+    )
+}
+
+/// The first order that waits for a container: the one with the least number, or none. The same index finds it, and
+/// the orders behind it are not read.
+pub(crate) fn first_for<S: Alter>(
+    alloc: Global,
+    conn: &mut Connection<S>,
+    container: u64,
+) -> Result<Vec<WaitingOrder>, StoreFault>
+    requires inside { InOffice (state S.Store conn.old) }
+    requires small { IsNumber container }
+    ensures reads { Reads (state S.Store conn.old) (state S.Store conn.new) result }
+    ensures rows { HasCleanDisk (state S.Store conn.new) → (xs : Rows OrderRow)
+        → Holds tables.orders order_cells (state S.Store conn.old) xs → AreCounted (λ o. o.id) xs
+        → IfOk result (λ found. found.items
+        ≡ take 1 (map (λ (o : OrderRow). record { order = o.id; ticket = o.ticket })
+        (filter (waits_for container) xs))) }
+    ensures faults { (xs : Rows OrderRow) → Holds tables.orders order_cells (state S.Store conn.old) xs
+        → FaultsHaveCause (state S.Store conn.old) (state S.Store conn.new) result }
+{
+    find(
+        alloc,
+        conn,
+        "SELECT id, ticket FROM orders WHERE state = 1 AND container = ?1 ORDER BY id LIMIT 1",
         &[number(container)],
     )
 }

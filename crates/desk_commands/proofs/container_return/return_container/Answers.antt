@@ -3,66 +3,66 @@ use Rattle.std.specs.Prelude.{is_some}
 use Rattle.sqlite.specs.Held.{state}
 use Rattle.desk_core.specs.declared.refusal.Refusal.TheVariants.{NotIssued, UnknownContainer}
 use Rattle.desk_core.specs.declared.reader.Place.{Place}
-use Rattle.desk_store.specs.Stacks.{IsQueued, box_with}
-use Rattle.desk_store.specs.declared.queues.ContainerQueue.{ContainerQueue}
+use Rattle.desk_store.specs.Stacks.{IsHeaded, box_with}
+use Rattle.desk_store.specs.declared.queue_heads.QueueHead.{QueueHead}
 use Rattle.office_core.specs.State.{order_out}
 use Rattle.office_core.specs.declared.command.Command.TheVariants as command
 use Rattle.office_tables.proofs.CallEnds.{same_fault}
 use Rattle.office_tables.proofs.Calls.{office_of}
 use Rattle.refinement.proofs.Doings.{does_after, does_not, does_refuse}
 use Rattle.refinement.proofs.StacksShown.{legible_stacks, shows_stacks, stacks_of}
-use Rattle.desk_commands.proofs.QueueTold.{none_queued, queued_at}
+use Rattle.desk_commands.proofs.HeadTold.{none_queued, queued_at}
 use Rattle.desk_commands.proofs.Returned.{in_house, not_issued, unknown_container}
 use Rattle.desk_commands.proofs.container_return.return_container.Goals as goal
 
-pub queue-requires : goal.queue-requires
-queue-requires g c = record { inside = office_of g.P.Places.version (state g.S.Store c.args.conn.now) c.requires.inside }
+pub queue_head-requires : goal.queue_head-requires
+queue_head-requires g c = record { inside = office_of g.P.Places.version (state g.S.Store c.args.conn.now) c.requires.inside }
 
-pub returns-in_err-found : goal.returns-in_err-found
-returns-in_err-found g c =
+pub returns-in_err-head : goal.returns-in_err-head
+returns-in_err-head g c =
     let a = state g.S.Store c.args.conn.now in
-    let b = state g.S.Store c.queue.new.conn in
-    let told = c.in_err-found.ensures.tells in
+    let b = state g.S.Store c.queue_head.new.conn in
+    let told = c.in_err-head.ensures.tells in
     let e = c.from_residual.ensures in
-    does_not g.P.Places.represents g.P.Places.version _ (command.Return c.args.container) a b c.from_residual.result c.in_err-found.field-0.0
-    (same_fault c.from_residual.result c.in_err-found.field-0.0 e.0 e.1) told.cut
+    does_not g.P.Places.represents g.P.Places.version _ (command.Return c.args.container) a b c.from_residual.result c.in_err-head.field-0.0
+    (same_fault c.from_residual.result c.in_err-head.field-0.0 e.0 e.1) told.cut
     (λ s sound so it clean free. told.faults tt (stacks_of g.P.Places.version s) (shows_stacks g.P.Places.version s g.P.Places.represents a.now sound it) tt (legible_stacks g.P.Places.version s sound) clean free)
 
 pub returns-in_default : goal.returns-in_default
 returns-in_default g c =
     let a = state g.S.Store c.args.conn.now in
-    let b = state g.S.Store c.queue.new.conn in
-    let told = c.in_ok-found.ensures.tells in
+    let b = state g.S.Store c.queue_head.new.conn in
+    let told = c.in_ok-head.ensures.tells in
     does_refuse g.P.Places.represents g.P.Places.version _ (command.Return c.args.container) a b (Err UnknownContainer) told.looks
     (λ clean s sound so it. unknown_container g.P.Places.represents g.P.Places.version s c.args.container b.now
-    (none_queued g.P.Places.version s c.args.container
-    (subst (λ (found : Option ContainerQueue). IsQueued c.args.container (stacks_of g.P.Places.version s) (box_with c.args.container (stacks_of g.P.Places.version s)) found) c.in_default.is
+    (none_queued s c.args.container g.P.Places.version
+    (subst (λ (head : Option QueueHead). IsHeaded c.args.container (stacks_of g.P.Places.version s) (box_with c.args.container (stacks_of g.P.Places.version s)) head) c.in_default.is
     (told.answers clean tt (stacks_of g.P.Places.version s) (shows_stacks g.P.Places.version s g.P.Places.represents a.now sound it)))))
 
 pub returns-in_default-place : goal.returns-in_default-place
 returns-in_default-place g c =
     let a = state g.S.Store c.args.conn.now in
-    let b = state g.S.Store c.queue.new.conn in
-    let told = c.in_ok-found.ensures.tells in
-    let found = c.in-Some.found in
+    let b = state g.S.Store c.queue_head.new.conn in
+    let told = c.in_ok-head.ensures.tells in
+    let head = c.in-Some.head in
     does_refuse g.P.Places.represents g.P.Places.version _ (command.Return c.args.container) a b (Err NotIssued) told.looks
     (λ clean s sound so it.
-    let queued = queued_at g.P.Places.version s c.args.container sound found
-    (subst (λ (found : Option ContainerQueue). IsQueued c.args.container (stacks_of g.P.Places.version s) (box_with c.args.container (stacks_of g.P.Places.version s)) found) c.in-Some.is
+    let queued = queued_at s c.args.container g.P.Places.version sound head
+    (subst (λ (head : Option QueueHead). IsHeaded c.args.container (stacks_of g.P.Places.version s) (box_with c.args.container (stacks_of g.P.Places.version s)) head) c.in-Some.is
     (told.answers clean tt (stacks_of g.P.Places.version s) (shows_stacks g.P.Places.version s g.P.Places.represents a.now sound it))) in
-    not_issued g.P.Places.represents g.P.Places.version s c.args.container b.now queued.known (ap (λ (p : Place). is_some (order_out p)) (sym queued.place) ∙ in_house found.place c.in_default-place.not-Out))
+    not_issued g.P.Places.represents g.P.Places.version s c.args.container b.now queued.known (ap (λ (p : Place). is_some (order_out p)) (sym queued.is_at) ∙ in_house head.place c.in_default-place.not-Out))
 
 pub returns : goal.returns
 returns g c =
     let a = state g.S.Store c.args.conn.now in
-    let b = state g.S.Store c.queue.new.conn in
+    let b = state g.S.Store c.queue_head.new.conn in
     let d = state g.S.Store c.take_back.new.conn in
-    let told = c.in_ok-found.ensures.tells in
-    let found = c.in-Some.found in
+    let told = c.in_ok-head.ensures.tells in
+    let head = c.in-Some.head in
     does_after g.P.Places.represents g.P.Places.version _ (command.Return c.args.container) _ a b d c.take_back.result told.looks
     (λ clean s sound so it.
-    let queued = queued_at g.P.Places.version s c.args.container sound found
-    (subst (λ (found : Option ContainerQueue). IsQueued c.args.container (stacks_of g.P.Places.version s) (box_with c.args.container (stacks_of g.P.Places.version s)) found) c.in-Some.is
+    let queued = queued_at s c.args.container g.P.Places.version sound head
+    (subst (λ (head : Option QueueHead). IsHeaded c.args.container (stacks_of g.P.Places.version s) (box_with c.args.container (stacks_of g.P.Places.version s)) head) c.in-Some.is
     (told.answers clean tt (stacks_of g.P.Places.version s) (shows_stacks g.P.Places.version s g.P.Places.represents a.now sound it))) in
-    sym queued.place ∙ c.in-Out.is)
+    sym queued.is_at ∙ c.in-Out.is)
     c.take_back.ensures

@@ -1,61 +1,53 @@
-use Rattle.std.proofs.Common.{Option, Err, ap, subst, ◌∙◌}
-use Rattle.std.specs.Prelude.{List, slice_get}
+use Rattle.std.proofs.Common.{Option, Err, subst}
 use Rattle.sqlite.specs.Held.{state}
 use Rattle.desk_core.specs.declared.refusal.Refusal.TheVariants.{UnknownContainer}
-use Rattle.desk_store.specs.Stacks.{IsQueued, box_with}
-use Rattle.desk_store.specs.declared.orders.WaitingOrder.{WaitingOrder}
-use Rattle.desk_store.specs.declared.queues.ContainerQueue.{ContainerQueue}
+use Rattle.desk_store.specs.Stacks.{IsHeaded, box_with}
+use Rattle.desk_store.specs.declared.queue_heads.QueueHead.{QueueHead}
 use Rattle.office_core.specs.declared.command.Command.TheVariants as command
 use Rattle.office_tables.proofs.CallEnds.{same_fault}
 use Rattle.office_tables.proofs.Calls.{office_of}
 use Rattle.refinement.proofs.Doings.{does_after, does_not, does_refuse}
 use Rattle.refinement.proofs.StacksShown.{legible_stacks, shows_stacks, stacks_of}
-use Rattle.desk_commands.proofs.Issued.{head_shown, nothing_to_issue}
-use Rattle.desk_commands.proofs.QueueTold.{none_queued, queued_at}
+use Rattle.desk_commands.proofs.HeadTold.{none_queued, queued_at}
+use Rattle.desk_commands.proofs.Issued.{nothing_to_issue}
 use Rattle.desk_commands.proofs.issuance.issue.Goals as goal
 
-pub queue-requires : goal.queue-requires
-queue-requires g c = record { inside = office_of g.P.Places.version (state g.S.Store c.args.conn.now) c.requires.inside }
+pub queue_head-requires : goal.queue_head-requires
+queue_head-requires g c = record { inside = office_of g.P.Places.version (state g.S.Store c.args.conn.now) c.requires.inside }
 
-pub returns-in_err-found : goal.returns-in_err-found
-returns-in_err-found g c =
+pub returns-in_err-head : goal.returns-in_err-head
+returns-in_err-head g c =
     let a = state g.S.Store c.args.conn.now in
-    let b = state g.S.Store c.queue.new.conn in
-    let told = c.in_err-found.ensures.tells in
+    let b = state g.S.Store c.queue_head.new.conn in
+    let told = c.in_err-head.ensures.tells in
     let e = c.from_residual.ensures in
-    does_not g.P.Places.represents g.P.Places.version _ (command.Issue c.args.container c.args.ticket) a b c.from_residual.result c.in_err-found.field-0.0
-    (same_fault c.from_residual.result c.in_err-found.field-0.0 e.0 e.1) told.cut
+    does_not g.P.Places.represents g.P.Places.version _ (command.Issue c.args.container c.args.ticket) a b c.from_residual.result c.in_err-head.field-0.0
+    (same_fault c.from_residual.result c.in_err-head.field-0.0 e.0 e.1) told.cut
     (λ s sound so it clean free. told.faults tt (stacks_of g.P.Places.version s) (shows_stacks g.P.Places.version s g.P.Places.represents a.now sound it) tt (legible_stacks g.P.Places.version s sound) clean free)
 
 pub returns-in_default : goal.returns-in_default
 returns-in_default g c =
     let a = state g.S.Store c.args.conn.now in
-    let b = state g.S.Store c.queue.new.conn in
-    let told = c.in_ok-found.ensures.tells in
+    let b = state g.S.Store c.queue_head.new.conn in
+    let told = c.in_ok-head.ensures.tells in
     does_refuse g.P.Places.represents g.P.Places.version _ (command.Issue c.args.container c.args.ticket) a b (Err UnknownContainer) told.looks
     (λ clean s sound so it. nothing_to_issue g.P.Places.represents g.P.Places.version s c.args.container c.args.ticket b.now
-    (none_queued g.P.Places.version s c.args.container
-    (subst (λ (found : Option ContainerQueue). IsQueued c.args.container (stacks_of g.P.Places.version s) (box_with c.args.container (stacks_of g.P.Places.version s)) found) c.in_default.is
+    (none_queued s c.args.container g.P.Places.version
+    (subst (λ (head : Option QueueHead). IsHeaded c.args.container (stacks_of g.P.Places.version s) (box_with c.args.container (stacks_of g.P.Places.version s)) head) c.in_default.is
     (told.answers clean tt (stacks_of g.P.Places.version s) (shows_stacks g.P.Places.version s g.P.Places.represents a.now sound it)))))
 
 pub returns : goal.returns
 returns g c =
     let a = state g.S.Store c.args.conn.now in
-    let b = state g.S.Store c.queue.new.conn in
+    let b = state g.S.Store c.queue_head.new.conn in
     let d = state g.S.Store c.issue_known.new.conn in
-    let told = c.in_ok-found.ensures.tells in
-    let found = c.in-Some.found in
+    let told = c.in_ok-head.ensures.tells in
     does_after g.P.Places.represents g.P.Places.version _ (command.Issue c.args.container c.args.ticket) _ a b d c.issue_known.result told.looks
-    (λ clean s sound so it.
-    let queued = queued_at g.P.Places.version s c.args.container sound found
-    (subst (λ (found : Option ContainerQueue). IsQueued c.args.container (stacks_of g.P.Places.version s) (box_with c.args.container (stacks_of g.P.Places.version s)) found) c.in-Some.is
-    (told.answers clean tt (stacks_of g.P.Places.version s) (shows_stacks g.P.Places.version s g.P.Places.represents a.now sound it))) in (
+    (λ clean s sound so it. (
       so.0,
       so.1,
-      record {
-        known = queued.known;
-        is_at = queued.place;
-        is_first = c.head_of.ensures ∙ ap (λ (l : List WaitingOrder). slice_get l 0) (c.as_slice.ensures ∙ queued.waiting) ∙ head_shown s c.args.container sound;
-      },
+      queued_at s c.args.container g.P.Places.version sound c.in-Some.head
+          (subst (λ (head : Option QueueHead). IsHeaded c.args.container (stacks_of g.P.Places.version s) (box_with c.args.container (stacks_of g.P.Places.version s)) head) c.in-Some.is
+          (told.answers clean tt (stacks_of g.P.Places.version s) (shows_stacks g.P.Places.version s g.P.Places.represents a.now sound it))),
     ))
     c.issue_known.ensures

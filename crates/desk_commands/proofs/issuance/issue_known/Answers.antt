@@ -31,7 +31,7 @@ returns-in_err-who g c =
     let b = state g.S.Store c.ticket_holder.new.conn in
     let told = c.in_err-who.ensures.tells in
     let e = c.from_residual.ensures in
-    does_not g.P.Places.represents g.P.Places.version _ (command.Issue c.args.wanted.container c.args.ticket) a b c.from_residual.result c.in_err-who.field-0.0
+    does_not g.P.Places.represents g.P.Places.version _ (command.Issue c.args.container c.args.ticket) a b c.from_residual.result c.in_err-who.field-0.0
     (same_fault c.from_residual.result c.in_err-who.field-0.0 e.0 e.1) told.cut
     (λ s sound so it clean free. told.faults tt (tables g.P.Places.version s).desk it.desk tt (desk_legible g.P.Places.version s sound) clean free)
 
@@ -43,7 +43,7 @@ returns-in_err-is_open g c =
     let first = c.in_ok-who.ensures.tells.looks in
     let told = c.in_err-is_open.ensures.tells in
     let e = c.from_residual-in_err-is_open.ensures in
-    does_not g.P.Places.represents g.P.Places.version _ (command.Issue c.args.wanted.container c.args.ticket) a d c.from_residual-in_err-is_open.result c.in_err-is_open.field-0.0
+    does_not g.P.Places.represents g.P.Places.version _ (command.Issue c.args.container c.args.ticket) a d c.from_residual-in_err-is_open.result c.in_err-is_open.field-0.0
     (same_fault c.from_residual-in_err-is_open.result c.in_err-is_open.field-0.0 e.0 e.1) (cut_then a b d first.goes.on told.cut)
     (λ s sound so it clean free.
     let at_b = early b d _ told.cut.crash clean in
@@ -56,16 +56,16 @@ returns-in-Err g c =
     let a = state g.S.Store c.args.conn.now in
     let b = state g.S.Store c.ticket_holder.new.conn in
     let d = state g.S.Store c.is_open_to.new.conn in
-    let w = c.args.wanted in
+    let head = c.args.head in
     let told = c.in_ok-who.ensures.tells in
     let opened = c.in_ok-is_open.ensures.tells in
-    does_refuse g.P.Places.represents v _ (command.Issue w.container c.args.ticket) a d (Err c.in-Err.why) (looks_then a b d told.looks opened.looks)
+    does_refuse g.P.Places.represents v _ (command.Issue c.args.container c.args.ticket) a d (Err c.in-Err.why) (looks_then a b d told.looks opened.looks)
     (λ clean s sound so it.
     let at_b = early b d _ opened.looks.goes.on.crash clean in
     let shown_b = subst (λ (db : Database). RepresentsState g.P.Places.represents v db s) (sym (told.looks.same at_b)) it in
-    refuses g.P.Places.represents v s (command.Issue w.container c.args.ticket) d.now c.in-Err.why
+    refuses g.P.Places.represents v s (command.Issue c.args.container c.args.ticket) d.now c.in-Err.why
     (sym (c.in-Err.ensures.refused
-    ∙ decided_as v s w.container c.args.ticket sound w.place w.head c.in_ok-is_open.is_open c.in_ok-who.who c.args.today c.args.limits.now so.0 so.1 so.2
+    ∙ decided_as v s c.args.container c.args.ticket sound head.place head.first c.in_ok-is_open.is_open c.in_ok-who.who c.args.today c.args.limits.now so.0 so.1 so.2
     (told.answers at_b tt (tables v s).desk it.desk)
     (opened.answers clean tt s shown_b (judged_now s sound) so.0))))
 
@@ -76,17 +76,17 @@ returns-in-Ok g c =
     let b = state g.S.Store c.ticket_holder.new.conn in
     let d = state g.S.Store c.is_open_to.new.conn in
     let f = state g.S.Store c.lend.new.conn in
-    let w = c.args.wanted in
+    let head = c.args.head in
     let told = c.in_ok-who.ensures.tells in
     let opened = c.in_ok-is_open.ensures.tells in
-    does_after g.P.Places.represents v _ (command.Issue w.container c.args.ticket) _ a d f c.lend.result (looks_then a b d told.looks opened.looks)
+    does_after g.P.Places.represents v _ (command.Issue c.args.container c.args.ticket) _ a d f c.lend.result (looks_then a b d told.looks opened.looks)
     (λ clean s sound so it.
     let at_b = early b d _ opened.looks.goes.on.crash clean in
     let shown_b = subst (λ (db : Database). RepresentsState g.P.Places.represents v db s) (sym (told.looks.same at_b)) it in (
       sym (c.in-Ok.ensures.refused
-          ∙ decided_as v s w.container c.args.ticket sound w.place w.head c.in_ok-is_open.is_open c.in_ok-who.who c.args.today c.args.limits.now so.0 so.1 so.2
+          ∙ decided_as v s c.args.container c.args.ticket sound head.place head.first c.in_ok-is_open.is_open c.in_ok-who.who c.args.today c.args.limits.now so.0 so.1 so.2
           (told.answers at_b tt (tables v s).desk it.desk)
           (opened.answers clean tt s shown_b (judged_now s sound) so.0)),
-      first_order s w.container c.in-Ok.order (ap (option_map (λ (x : WaitingOrder). x.order)) (sym so.2.is_first) ∙ c.in-Ok.ensures.order),
+      first_order s c.args.container c.in-Ok.order (ap (option_map (λ (x : WaitingOrder). x.order)) (sym so.2.is_first) ∙ c.in-Ok.ensures.order),
     ))
     c.lend.ensures

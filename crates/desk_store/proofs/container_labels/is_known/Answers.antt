@@ -1,0 +1,25 @@
+use Rattle.std.proofs.Common.{false, nat_eq, sym, ap, ◌∙◌, arith}
+use Rattle.std.specs.Prelude.{⊤, is_some, slice_get}
+use Rattle.sqlite.specs.Held.{state}
+use Rattle.office_tables.proofs.Calls.{looks_nowhere}
+use Rattle.office_tables.proofs.Reading.{first_shown}
+use Rattle.desk_store.specs.Stacks.{RepresentsQueues, IsLegibleStacks, box_with}
+use Rattle.desk_store.proofs.BoxRows.{Numbered}
+use Rattle.desk_store.proofs.CardCalls.{some_mapped, unknown}
+use Rattle.desk_store.proofs.TellingCalls.{ends_well}
+use Rattle.desk_store.proofs.container_labels.is_known.Goals as goal
+
+pub returns-then-container-gt-MOST_CONTAINERS-clause-tells : goal.returns-then-container-gt-MOST_CONTAINERS-clause-tells
+returns-then-container-gt-MOST_CONTAINERS-clause-tells g c =
+    ends_well RepresentsQueues IsLegibleStacks (λ _. ⊤) g.S.Store c.args.conn.now c.args.conn.now c.args.conn.now _ (looks_nowhere (state g.S.Store c.args.conn.now) c.requires.inside) false (λ clean s shown.
+    let few = shown.few in
+    let over = c.if-container-gt-MOST_CONTAINERS.true in
+    sym (ap is_some (unknown (λ (b : Numbered). b.0) c.args.container s.boxes shown.numbers (omega (arith, few, over)))))
+
+pub returns-clause-tells : goal.returns-clause-tells
+returns-clause-tells g c =
+    ends_well RepresentsQueues IsLegibleStacks (λ _. ⊤) g.S.Store c.args.conn.now c.args.conn.now c.numbers_with.new.conn _ c.in_ok-numbers.ensures.reads.looks _ (λ clean s shown.
+    let rows = c.in_ok-numbers.ensures.rows clean s.boxes shown.boxes shown.numbers in
+    c.is_found.ensures ∙ ap (λ l. is_some (slice_get l 0)) c.deref.ensures.value
+    ∙ ap is_some (first_shown (λ (b : Numbered). b.0) (λ (b : Numbered). nat_eq c.args.container b.0) s.boxes c.in_ok-numbers.numbers.items rows)
+    ∙ some_mapped (λ (b : Numbered). b.0) (box_with c.args.container s))
