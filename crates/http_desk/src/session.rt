@@ -4,20 +4,20 @@ ghost use Rattle.std.specs.Prelude.{length, take, drop, unwrap_or, nat_eq, Match
 ghost use Rattle.std.specs.Io.KnownBytes.{Appends};
 ghost use Rattle.httparse.specs.Spans.{IsWithin, span_bytes};
 ghost use Rattle.isad_core.specs.Texts.{Bytes};
-ghost use Rattle.http_messages.specs.Answers.{answer_text};
+ghost use Rattle.http_messages.specs.Answers.{answer_text, continue_text, error};
 ghost use Rattle.http_messages.specs.Heads.{Accepted, is_head};
 ghost use Rattle.http_messages.specs.HeadVerdict.{request_in};
 ghost use Rattle.http_messages.specs.Replies.{viewed};
 ghost use Rattle.http_desk.specs.Laws.{HasEnded};
 ghost use Rattle.http_desk.specs.Messages.{HasHead};
 ghost use Rattle.http_desk.specs.AnswerOutput.{Sends};
-ghost use Rattle.http_desk.specs.Session.{continue_if, most_answers};
+ghost use Rattle.http_desk.specs.Session.{continue_if, most_answers, refusal};
 ghost use Rattle.http_desk.specs.Streams.{most_reads};
 ghost use Rattle.http_desk.specs.Exchanges.{Turn, Through, Exchange, Talks, TalksWhole, AtEndIf, IsNoEnd};
 ghost use Rattle.http_desk.specs.Exchanges.{Refused, Replies, after_sending};
 ghost use Rattle.http_desk.specs.StreamFaults.{FlushesAll, IsFlushed, IsQuiet, NoBound, NoWriteBound};
-ghost use Rattle.http_desk.specs.StreamFaults.{TellsBound, TellsReadFault, TellsWriteBound, TellsWriteFault};
-ghost use Rattle.http_desk.specs.StreamFaults.{IsUsedUp, TakesCalls, TakesTurns, send_failed};
+ghost use Rattle.http_desk.specs.StreamFaults.{TellsBound, TellsReadFault, TellsSomeWriteBound, TellsWriteBound};
+ghost use Rattle.http_desk.specs.StreamFaults.{TakesCalls, TakesTurns, TellsWriteFault, TextIsUsedUp, send_failed};
 
 use crate::message_input::{FoundBody, FoundHead, body_len, gather_body, gather_head};
 use crate::output::Sent;
@@ -52,7 +52,7 @@ fn refuse<W: Write>(writer: &mut Sink<'_, W>, bare: bool, status: Status) -> Nex
     ensures flushed { IsFlushed writer.new result }
     ensures writes { TellsWriteFault writer.old writer.new result }
     ensures turns { NoWriteBound writer.old writer.new result }
-    ensures used_up { TellsWriteBound writer.new result }
+    ensures used_up { TellsWriteBound (refusal bare (error status)) writer.new result }
     ensures same { writer.new.name ≡ writer.old.name }
 {
     let sent = send_answer(writer, bare, true, AnswerView::fixed(status));
@@ -71,7 +71,7 @@ fn reply<W: Write>(
     ensures flushed { IsFlushed writer.new result }
     ensures writes { TellsWriteFault writer.old writer.new result }
     ensures turns { NoWriteBound writer.old writer.new result }
-    ensures used_up { TellsWriteBound writer.new result }
+    ensures used_up { TellsWriteBound (answer_text bare closing (viewed answer.entry)) writer.new result }
     ensures same { writer.new.name ≡ writer.old.name }
 {
     let sent = send_answer(writer, bare, closing, answer);
@@ -97,7 +97,9 @@ fn reply_or_refuse<W: Write>(
     ensures flushed { IsFlushed writer.new result }
     ensures writes { TellsWriteFault writer.old writer.new result }
     ensures turns { NoWriteBound writer.old writer.new result }
-    ensures used_up { TellsWriteBound writer.new result }
+    ensures used_up { MatchResult answered.entry
+        (λ view. TellsWriteBound (answer_text bare closing (viewed view)) writer.new result)
+        (λ _. TellsWriteBound (refusal false (error Status.Busy)) writer.new result) }
     ensures same { writer.new.name ≡ writer.old.name }
 {
     match answered {
@@ -110,7 +112,7 @@ fn reply_or_refuse<W: Write>(
 fn allow_body<W: Write>(writer: &mut Sink<'_, W>, head: Head) -> Sent
     ensures writes { writer.new.failed ≡ (send_failed result || writer.old.failed) }
     ensures turns { writer.new.interrupted ≡ false → (writer.old.interrupted ≡ false) × (result ≢ Sent.Bound) }
-    ensures used_up { result ≡ Sent.Bound → IsUsedUp writer.new }
+    ensures used_up { result ≡ Sent.Bound → TextIsUsedUp continue_text writer.new }
     ensures same { writer.new.name ≡ writer.old.name }
     ensures sends { Sends writer.old.bytes writer.new.bytes (continue_if head.waits) result }
     ensures flushed { result ≡ Sent.All → writer.old.flushed ≡ true → writer.new.flushed ≡ true }
@@ -163,7 +165,7 @@ fn act<W: Write, M: Machine>(
     ensures flushed { IsFlushed writer.new result }
     ensures writes { TellsWriteFault writer.old writer.new result }
     ensures turns { NoWriteBound writer.old writer.new result }
-    ensures used_up { TellsWriteBound writer.new result }
+    ensures used_up { TellsSomeWriteBound writer.new result }
     ensures same { writer.new.name ≡ writer.old.name }
 {
     let closing = is_closing(head, number);
@@ -186,6 +188,7 @@ fn receive<R: Read, W: Write, M: Machine>(
     number: u32,
 ) -> Next
     requires within { size ≤ length buffer.old.items }
+    requires given { reader.old.given ≡ most_reads }
     requires turns { reader.old.interrupted ≡ false
         → size + unwrap_or head.length 0 < reader.old.turns + length buffer.old.items }
     requires method { IsWithin (length (take size buffer.old.items)) head.method }
@@ -219,8 +222,9 @@ fn receive<R: Read, W: Write, M: Machine>(
     }
 }
 
-/// Reads one message, answers it, and returns what comes next.
-fn exchange<R: Read, W: Write, M: Machine>(
+/// Reads one message, answers it, and returns what comes next. The buffer has what was read before and not yet answered.
+/// A message takes no more reads than the longest head and body have bytes, and one more.
+pub fn exchange<R: Read, W: Write, M: Machine>(
     means: &Means,
     reader: &mut Source<'_, R>,
     writer: &mut Sink<'_, W>,
@@ -307,7 +311,9 @@ pub fn talk<R: Read, W: Write, M: Machine>(
     // All that was written was flushed, unless a fault of the writer or a bound ends the session.
     ensures flushed { FlushesAll writer.old writer.new (Next.Ends result) }
     // If no such call had failed before, a read or write fault is returned exactly if one failed now. A bound is
-    // returned only if a call was interrupted, and the turns of a message or of an answer are used up.
+    // returned only if a call was interrupted, and as many calls were made as the message, or the text that broke off,
+    // may have: one read for each byte of the longest message and one more, or one write or flush for each byte of the
+    // text and 16 more.
     ensures read_fault { TellsReadFault reader.old reader.new (Next.Ends result) }
     ensures write_fault { TellsWriteFault writer.old writer.new (Next.Ends result) }
     ensures bound { reader.new.interrupted ≡ false → writer.new.interrupted ≡ false → result ≢ Ended.Bound }

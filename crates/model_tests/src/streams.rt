@@ -212,6 +212,50 @@ impl Write for Narrow {
     }
 }
 
+/// A writer that takes one byte at each write. The call with the number `once` is interrupted, and so are all from the
+/// number `from` on.
+#[derive(Drop)]
+pub struct Disturbed {
+    pub held: Vec<u8>,
+    pub once: u64,
+    pub from: u64,
+    pub calls: u64,
+}
+
+impl Disturbed {
+    pub fn new(alloc: Global, once: u64, from: u64) -> Disturbed {
+        Disturbed {
+            held: Vec::new(alloc),
+            once,
+            from,
+            calls: 0,
+        }
+    }
+
+    fn is_interrupted(&mut self) -> bool {
+        self.calls = self.calls.wrapping_add(1);
+        self.calls == self.once || self.calls >= self.from
+    }
+}
+
+impl Write for Disturbed {
+    fn write(&mut self, buf: &[u8]) -> io::Result<usize> {
+        if self.is_interrupted() {
+            return Err(io::Error::from(ErrorKind::Interrupted));
+        }
+        let n = buf.len().min(1);
+        self.held.extend_from_slice(&buf[..n])?;
+        Ok(n)
+    }
+
+    fn flush(&mut self) -> io::Result<()> {
+        if self.is_interrupted() {
+            return Err(io::Error::from(ErrorKind::Interrupted));
+        }
+        Ok(())
+    }
+}
+
 /// A reader that gives its bytes in two parts.
 #[derive(Drop)]
 pub struct Halves<'a> {

@@ -5,6 +5,7 @@ use Rattle.http_messages.specs.Answers.{answer_text}
 use Rattle.http_messages.specs.Replies.{answer_in}
 use Rattle.http_messages.specs.declared.status.Status.TheVariants.{Busy}
 use Rattle.http_desk.specs.Exchanges.{Replies, Refused}
+use Rattle.http_desk.proofs.Faults.{some_bound}
 use Rattle.http_desk.proofs.Turns.{answered_at, left_back}
 use Rattle.http_desk.proofs.Views.{of_view}
 use Rattle.http_desk.proofs.session.act.Goals as goal
@@ -22,3 +23,6 @@ returns-clause-turn g c =
     answered_at g.M.Machine.represents g.M.Machine.is_intact g.M.Machine.is_open answer_in c.args.number _ _ items size (unwrap_or c.args.head.length 0) (request_in (take size items) c.args.head) c.prepare-prepared.result.answered c.is_bare-bare.result _ _ _ c.is_closing-closing.result _
     c.requires.accepted c.requires.whole refl (left_back c.prepare-prepared.result.answered _ _ _ c.prepare-prepared.ensures.left (grind arith))
     (rw c.deref.ensures.value at c.is_bare-bare.ensures) (sym c.is_closing-closing.ensures) sent c.prepare-prepared.ensures.answers c.prepare-prepared.ensures.busy c.prepare-prepared.ensures.kept
+
+pub returns-clause-used_up : goal.returns-clause-used_up
+returns-clause-used_up g c = some_bound c.view.result _ _ c.reply_or_refuse-next.new.writer c.reply_or_refuse-next.result c.reply_or_refuse-next.ensures.used_up

@@ -77,17 +77,17 @@ returns-in-NoMemory-clause-turn g c =
     (got, written, consumed, appended, through)
 
 pub returns-in-Refused-clause-used_up : goal.returns-in-Refused-clause-used_up
-returns-in-Refused-clause-used_up g c = λ e. inr (c.refuse.ensures.used_up e)
+returns-in-Refused-clause-used_up g c = λ e. inr (_, c.refuse.ensures.used_up e)
 
 pub returns-in-TooLong-clause-used_up : goal.returns-in-TooLong-clause-used_up
-returns-in-TooLong-clause-used_up g c = λ e. inr (c.refuse-in-TooLong.ensures.used_up e)
+returns-in-TooLong-clause-used_up g c = λ e. inr (_, c.refuse-in-TooLong.ensures.used_up e)
 
 -- without an interruption the turns would have been enough
 pub returns-in-Bound-clause-used_up : goal.returns-in-Bound-clause-used_up
 returns-in-Bound-clause-used_up g c = λ e.
-    inl (used_up c.gather_head.new.reader (λ q.
+    inl (used_up _ c.gather_head.new.reader ((rw c.begin_message.ensures at c.gather_head.ensures.calls).2) (λ q.
     let (before, few) = (rw c.begin_message.ensures at c.in-Bound.ensures.bound) q in
     omega arith) (c.in-Bound.ensures.used_up refl))
 
 pub returns-in-NoMemory-clause-used_up : goal.returns-in-NoMemory-clause-used_up
-returns-in-NoMemory-clause-used_up g c = λ e. inr (c.refuse-in-NoMemory.ensures.used_up e)
+returns-in-NoMemory-clause-used_up g c = λ e. inr (_, c.refuse-in-NoMemory.ensures.used_up e)

@@ -1,7 +1,8 @@
-use Rattle.std.proofs.Common.{◌≡◌, ◌≢◌, ◌<◌, ◌+◌, ◌++◌, length, take, drop, refl, ap, sym, subst, inl, inr, arith, false}
+use Rattle.std.proofs.Common.{◌≡◌, ◌≢◌, ◌<◌, ◌+◌, ◌++◌, length, take, drop, refl, ap, ◌∙◌, sym, subst, inl, inr, arith, false}
 use Rattle.std.specs.Prelude.{unwrap_or, ◌||◌}
 use Rattle.std.proofs.KnownBytes.{Appends-trans}
 use Rattle.http_messages.specs.HeadVerdict.{request_in}
+use Rattle.http_messages.specs.Answers.{continue_text}
 use Rattle.http_messages.specs.Heads.{Accepted}
 use Rattle.http_desk.specs.Messages.{HasHead, Fails}
 use Rattle.http_desk.specs.Session.{continue_if}
@@ -45,8 +46,8 @@ returns-in_default g c =
       turns = λ p q.
           let (before, here) = c.allow_body.ensures.turns q in
           (p, before, no_bound c.allow_body.result _ c.after.ensures here);
-      used_up = λ e. inr (tells_bound c.allow_body.new.writer c.allow_body.result (Ends Closed) c.after.result closed_no_bound c.after.ensures c.allow_body.ensures.used_up e);
-      calls = (refl, omega arith);
+      used_up = λ e. inr (continue_text, tells_bound continue_text c.allow_body.new.writer c.allow_body.result (Ends Closed) c.after.result closed_no_bound c.after.ensures c.allow_body.ensures.used_up e);
+      calls = (refl, omega arith, refl);
       same = c.allow_body.ensures.same;
     }
 
@@ -125,10 +126,10 @@ returns-in-Whole-clause-used_up g c = λ e. inr (c.act.ensures.used_up e)
 -- without an interruption the turns would have been enough
 pub returns-in-Bound-clause-used_up : goal.returns-in-Bound-clause-used_up
 returns-in-Bound-clause-used_up g c = λ e.
-    inl (used_up c.gather_body.new.reader (λ q.
+    inl (used_up _ c.gather_body.new.reader (c.gather_body.ensures.calls.2 ∙ c.requires.given) (λ q.
     let (before, few) = c.in-Bound.ensures.bound q in
     let enough = c.requires.turns before in
     omega arith) (c.in-Bound.ensures.used_up refl))
 
 pub returns-in-NoMemory-clause-used_up : goal.returns-in-NoMemory-clause-used_up
-returns-in-NoMemory-clause-used_up g c = λ e. inr (c.refuse.ensures.used_up e)
+returns-in-NoMemory-clause-used_up g c = λ e. inr (_, c.refuse.ensures.used_up e)
