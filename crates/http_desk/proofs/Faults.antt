@@ -89,7 +89,7 @@ used_up most stream given never none = (given, none, interrupted stream.interrup
     interrupted true e = e
     interrupted false e = absurd (never e)
 
-bound_sent : (sent : Sent) (next : Next) → (next ≡ Ends ends.Bound → ⊥) → after_sending sent next ≡ Ends ends.Bound → sent ≡ Bound
+pub bound_sent : (sent : Sent) (next : Next) → (next ≡ Ends ends.Bound → ⊥) → after_sending sent next ≡ Ends ends.Bound → sent ≡ Bound
 bound_sent All next n e = absurd (n e)
 bound_sent Failed next n e = cc
 bound_sent Bound next n e = refl

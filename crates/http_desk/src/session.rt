@@ -1,5 +1,5 @@
 //! A session with one peer.
-ghost use Rattle.std.specs.Prelude.{◌≢◌, ◌||◌, ◌<◌, true, false, ◌≡◌, ◌≤◌, ◌+◌, ◌*◌, ◌++◌};
+ghost use Rattle.std.specs.Prelude.{◌≢◌, ◌||◌, ◌⊎◌, ◌<◌, true, false, ◌≡◌, ◌≤◌, ◌+◌, ◌*◌, ◌++◌};
 ghost use Rattle.std.specs.Prelude.{length, take, drop, unwrap_or, nat_eq, MatchResult};
 ghost use Rattle.std.specs.Io.KnownBytes.{Appends};
 ghost use Rattle.httparse.specs.Spans.{IsWithin, span_bytes};
@@ -11,11 +11,12 @@ ghost use Rattle.http_messages.specs.Replies.{viewed};
 ghost use Rattle.http_desk.specs.Laws.{HasEnded};
 ghost use Rattle.http_desk.specs.Messages.{HasHead};
 ghost use Rattle.http_desk.specs.AnswerOutput.{Sends};
+ghost use Rattle.http_desk.specs.Bounds.{ExchangeBounded, StopsBounded, TalksBounded};
 ghost use Rattle.http_desk.specs.Session.{continue_if, most_answers, refusal};
 ghost use Rattle.http_desk.specs.Streams.{most_reads};
 ghost use Rattle.http_desk.specs.Exchanges.{Turn, Through, Exchange, Talks, TalksWhole, AtEndIf, IsNoEnd};
 ghost use Rattle.http_desk.specs.Exchanges.{Refused, Replies, after_sending};
-ghost use Rattle.http_desk.specs.StreamFaults.{FlushesAll, IsFlushed, IsQuiet, NoBound, NoWriteBound};
+ghost use Rattle.http_desk.specs.StreamFaults.{FlushesAll, IsFlushed, IsQuiet, IsUsedUp, NoBound, NoWriteBound};
 ghost use Rattle.http_desk.specs.StreamFaults.{TellsBound, TellsReadFault, TellsSomeWriteBound, TellsWriteBound};
 ghost use Rattle.http_desk.specs.StreamFaults.{TakesCalls, TakesTurns, TellsWriteFault, TextIsUsedUp, send_failed};
 
@@ -113,6 +114,7 @@ fn allow_body<W: Write>(writer: &mut Sink<'_, W>, head: Head) -> Sent
     ensures writes { writer.new.failed ≡ (send_failed result || writer.old.failed) }
     ensures turns { writer.new.interrupted ≡ false → (writer.old.interrupted ≡ false) × (result ≢ Sent.Bound) }
     ensures used_up { result ≡ Sent.Bound → TextIsUsedUp continue_text writer.new }
+    ensures due { result ≡ Sent.Bound → head.waits ≡ true }
     ensures same { writer.new.name ≡ writer.old.name }
     ensures sends { Sends writer.old.bytes writer.new.bytes (continue_if head.waits) result }
     ensures flushed { result ≡ Sent.All → writer.old.flushed ≡ true → writer.new.flushed ≡ true }
@@ -166,6 +168,10 @@ fn act<W: Write, M: Machine>(
     ensures writes { TellsWriteFault writer.old writer.new result }
     ensures turns { NoWriteBound writer.old writer.new result }
     ensures used_up { TellsSomeWriteBound writer.new result }
+    ensures breaks_off { result ≡ Next.Ends Ended.Bound
+        → (written : Bytes) × Appends writer.old.bytes writer.new.bytes written
+        × Through M.represents M.is_intact office.old office.new (λ s t. StopsBounded number s buffer.old.items
+        (continue_if head.waits ++ written) t writer.new) }
     ensures same { writer.new.name ≡ writer.old.name }
 {
     let closing = is_closing(head, number);
@@ -205,6 +211,9 @@ fn receive<R: Read, W: Write, M: Machine>(
     ensures writes { TellsWriteFault writer.old writer.new result }
     ensures turns { NoBound reader.old reader.new writer.old writer.new result }
     ensures used_up { TellsBound reader.new writer.new result }
+    ensures breaks_off { result ≡ Next.Ends Ended.Bound → IsUsedUp most_reads reader.new
+        ⊎ ExchangeBounded M.represents M.is_intact number reader.old.bytes reader.new.bytes
+        writer.old.bytes writer.new office.old buffer.old.items office.new }
     ensures calls { TakesTurns reader.old reader.new }
     ensures same { writer.new.name ≡ writer.old.name }
 {
@@ -242,6 +251,9 @@ pub fn exchange<R: Read, W: Write, M: Machine>(
     ensures writes { TellsWriteFault writer.old writer.new result }
     ensures turns { NoBound reader.old reader.new writer.old writer.new result }
     ensures used_up { TellsBound reader.new writer.new result }
+    ensures breaks_off { result ≡ Next.Ends Ended.Bound → IsUsedUp most_reads reader.new
+        ⊎ ExchangeBounded M.represents M.is_intact number reader.old.bytes reader.new.bytes
+        writer.old.bytes writer.new office.old buffer.old.items office.new }
     ensures calls { TakesCalls most_reads reader.old reader.new }
     ensures same { writer.new.name ≡ writer.old.name }
 {
@@ -279,6 +291,8 @@ fn talk_with<R: Read, W: Write, M: Machine>(
     ensures write_fault { TellsWriteFault writer.old writer.new (Next.Ends result) }
     ensures bound { reader.new.interrupted ≡ false → writer.new.interrupted ≡ false → result ≢ Ended.Bound }
     ensures used_up { TellsBound reader.new writer.new (Next.Ends result) }
+    ensures breaks_off { result ≡ Ended.Bound → TalksBounded M.represents M.is_intact reader.old.bytes reader.new
+        writer.old.bytes writer.new office.old office.new }
     ensures calls { TakesCalls (most_answers * most_reads) reader.old reader.new }
     ensures same { writer.new.name ≡ writer.old.name }
 {
@@ -318,6 +332,8 @@ pub fn talk<R: Read, W: Write, M: Machine>(
     ensures write_fault { TellsWriteFault writer.old writer.new (Next.Ends result) }
     ensures bound { reader.new.interrupted ≡ false → writer.new.interrupted ≡ false → result ≢ Ended.Bound }
     ensures used_up { TellsBound reader.new writer.new (Next.Ends result) }
+    ensures breaks_off { result ≡ Ended.Bound → TalksBounded M.represents M.is_intact reader.old.bytes reader.new
+        writer.old.bytes writer.new office.old office.new }
     ensures quiet { IsQuiet reader.new → IsQuiet writer.new → HasEnded result }
     ensures calls { TakesCalls (most_answers * most_reads) reader.old reader.new }
     ensures same { writer.new.name ≡ writer.old.name }
