@@ -141,8 +141,8 @@ fn is_bare(block: &[u8], head: Head) -> bool
     is_bare_method(head.method.of(block))
 }
 
-/// Answers a whole message. The answer borrows the buffer until it is written, so nothing here can take memory while
-/// it is written.
+/// Answers a whole message. Until the answer is written, it borrows the buffer, and the functions that write it get no
+/// allocator. That no memory is taken meanwhile can be read here, and is tested.
 fn act<W: Write, M: Machine>(
     means: &Means,
     writer: &mut Sink<'_, W>,

@@ -89,6 +89,32 @@ impl Machine for Counter {
     }
 }
 
+/// A machine that notes how often it has answered. If it is refused memory, it has not.
+#[derive(Drop)]
+pub struct Noting {
+    pub answers: u64,
+}
+
+impl Machine for Noting {
+    ghost represents = { λ office s. ⊥ };
+
+    ghost is_intact = { λ office. Prim.Unit {0} };
+
+    ghost is_open = { λ office. Prim.Unit {0} };
+
+    fn apply(&mut self, alloc: Global, _command: Command) -> Result<Reply, Busy> {
+        let reply = registered(alloc, 1)?;
+        self.answers = self.answers.wrapping_add(1);
+        Ok(reply)
+    }
+
+    fn ask(&mut self, alloc: Global, _query: Query) -> Result<Answer, Busy> {
+        let answer = one_fonds(alloc)?;
+        self.answers = self.answers.wrapping_add(1);
+        Ok(answer)
+    }
+}
+
 /// How reads or writes go on once all bytes are given, or no room is left.
 #[derive(Clone, Copy, PartialEq, Eq, Drop)]
 pub enum Then {
