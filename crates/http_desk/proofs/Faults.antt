@@ -1,13 +1,14 @@
 -- Which faults are told after a sending, what was flushed, and how many calls were made.
 use Rattle.std.proofs.Common.{◌≡◌, refl, ap, ◌∙◌, ℕ, ◌+◌, ◌≤◌, sym, true, false, subst, arith}
 use Rattle.std.proofs.Math.Nat.{min-le_left}
-use Rattle.std.specs.Prelude.{◌||◌, Bool}
+use Rattle.std.specs.Prelude.{◌||◌, Bool, Result, Ok, Err, MatchResult}
+use Rattle.isad_core.specs.Texts.{Bytes}
 use Rattle.http_desk.specs.declared.session_end.Next.{Next}
 use Rattle.http_desk.specs.declared.session_end.Next.TheVariants.{Goes, Ends}
 use Rattle.http_desk.specs.declared.session_end.Ended.TheVariants as ends
 use Rattle.http_desk.specs.declared.output.Sent.{Sent}
 use Rattle.http_desk.specs.declared.output.Sent.TheVariants.{All, Failed, Bound}
-use Rattle.http_desk.specs.StreamFaults.{is_read_fault, is_write_fault, send_failed, IsFlushed, IsUsedUp, TakesTurns, TellsWriteBound}
+use Rattle.http_desk.specs.StreamFaults.{is_read_fault, is_write_fault, send_failed, IsFlushed, IsUsedUp, TakesTurns, TellsSomeWriteBound, TellsWriteBound, TextIsUsedUp}
 use Rattle.http_desk.specs.Streams.{Stream, counted}
 use Rattle.http_desk.specs.Exchanges.{IsNoEnd, after_answer, after_sending}
 
@@ -45,14 +46,14 @@ counted_at_most : (n : ℕ) → counted n ≤ n + 1
 counted_at_most n = min-le_left (n + 1) 18446744073709551615
 
 -- one call more
-pub one_more : (a b c : Stream) → TakesTurns a b → c.name ≡ b.name → c.calls ≡ counted b.calls → c.turns + 1 ≡ b.turns → TakesTurns a c
-one_more a b c (same, few) again more one =
+pub one_more : (a b c : Stream) → TakesTurns a b → c.name ≡ b.name → c.calls ≡ counted b.calls → c.turns + 1 ≡ b.turns → c.given ≡ b.given → TakesTurns a c
+one_more a b c (same, few, none) again more one given =
     let most : c.calls ≤ b.calls + 1 = subst (λ n. n ≤ b.calls + 1) (sym more) (counted_at_most b.calls) in
-    (again ∙ same, omega (arith, few, most, one))
+    (again ∙ same, omega (arith, few, most, one), given ∙ none)
 
 -- calls, and more calls
 pub takes_on : (a b c : Stream) → TakesTurns a b → TakesTurns b c → TakesTurns a c
-takes_on a b c (same, few) (again, more) = (again ∙ same, omega arith)
+takes_on a b c (same, few, none) (again, more, given) = (again ∙ same, omega arith, given ∙ none)
 
 -- where nothing waits to be flushed, that holds whatever comes next
 pub flushed_then : (writer : Stream) (next : Next) → writer.flushed ≡ true → IsFlushed writer next
@@ -81,22 +82,28 @@ not_all_sent writer sent next result n e = flushed_after writer sent next result
 -- ---- bounds
 
 -- turns are used up, where they would be left without an interruption
-pub used_up : (stream : Stream) → (stream.interrupted ≡ false → ⊥) → stream.turns ≡ 0 → IsUsedUp stream
-used_up stream never none = (none, interrupted stream.interrupted refl)
+pub used_up : (most : ℕ) (stream : Stream) → stream.given ≡ most → (stream.interrupted ≡ false → ⊥) → stream.turns ≡ 0 → IsUsedUp most stream
+used_up most stream given never none = (given, none, interrupted stream.interrupted refl)
   where
     interrupted : (b : Bool) → stream.interrupted ≡ b → stream.interrupted ≡ true
     interrupted true e = e
     interrupted false e = absurd (never e)
 
-bound_sent : (sent : Sent) (next : Next) → (next ≡ Ends ends.Bound → ⊥) → after_sending sent next ≡ Ends ends.Bound → sent ≡ Bound
+pub bound_sent : (sent : Sent) (next : Next) → (next ≡ Ends ends.Bound → ⊥) → after_sending sent next ≡ Ends ends.Bound → sent ≡ Bound
 bound_sent All next n e = absurd (n e)
 bound_sent Failed next n e = cc
 bound_sent Bound next n e = refl
 
 -- a bound after a sending is the sending's
-pub tells_bound : (writer : Stream) (sent : Sent) (next result : Next) → (next ≡ Ends ends.Bound → ⊥) → result ≡ after_sending sent next
-    → (sent ≡ Bound → IsUsedUp writer) → TellsWriteBound writer result
-tells_bound writer sent next result n e used bound = used (bound_sent sent next n (sym e ∙ bound))
+pub tells_bound : (text : Bytes) (writer : Stream) (sent : Sent) (next result : Next) → (next ≡ Ends ends.Bound → ⊥) → result ≡ after_sending sent next
+    → (sent ≡ Bound → TextIsUsedUp text writer) → TellsWriteBound text writer result
+tells_bound text writer sent next result n e used bound = used (bound_sent sent next n (sym e ∙ bound))
+
+-- one of two texts
+pub some_bound : {A E : Type 0} (made : Result A E) (text : A → Bytes) (other : Bytes) (writer : Stream) (next : Next)
+    → MatchResult made (λ a. TellsWriteBound (text a) writer next) (λ why. TellsWriteBound other writer next) → TellsSomeWriteBound writer next
+some_bound (Ok a) text other writer next told bound = (text a, told bound)
+some_bound (Err why) text other writer next told bound = (other, told bound)
 
 pub closed_no_bound : Ends ends.Closed ≡ Ends ends.Bound → ⊥
 closed_no_bound e = cc

@@ -61,7 +61,7 @@ written_of a b full All s = (full, s, refl)
 written_of a b full Failed (front, f, s) = (front, s, f)
 written_of a b full OutOfTurns (front, f, s) = (front, s, f)
 
-front_after : (before front full : Bytes) → IsFront front full → IsFront (before ++ front) (before ++ full)
+pub front_after : (before front full : Bytes) → IsFront front full → IsFront (before ++ front) (before ++ full)
 front_after before front full (rest, e) = (rest, ap (λ l. before ++ l) e ∙ sym (append_assoc before front rest))
 
 -- the answer that closes was sent, or broken off
@@ -134,7 +134,7 @@ module _ {M : Type 0} (represents : M → State → Type 0) (is_intact is_open :
   abbrev pub body_at : Bytes → ℕ → ℕ → Bytes
   body_at items size n = take n (drop size items)
 
-  message_at : (items : Bytes) (size n : ℕ) (request : Request) (rest : Bytes)
+  pub message_at : (items : Bytes) (size n : ℕ) (request : Request) (rest : Bytes)
       → HasHead items (take size items) (Accepted request) (drop size items) → size + n ≤ length items → n ≡ body_length request → rest ≡ drop (size + n) items
       → Begins items (record { request = request; body = body_at items size n }) rest
   message_at items size n request rest h within e r =

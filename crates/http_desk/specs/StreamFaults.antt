@@ -1,5 +1,6 @@
 -- Which calls of a reader or a writer have failed, and what holds if none was interrupted.
-use Rattle.std.specs.Prelude.{◌≡◌, ◌≢◌, ℕ, ◌+◌, ◌<◌, ◌≤◌, ◌⊎◌, ◌||◌, Bool, Result, Ok, Err, true, false}
+use Rattle.std.specs.Prelude.{◌≡◌, ◌≢◌, ℕ, ◌+◌, ◌<◌, ◌≤◌, ◌⊎◌, ◌||◌, Bool, Result, Ok, Err, true, false, length}
+use Rattle.isad_core.specs.Texts.{Bytes}
 use Rattle.http_desk.specs.declared.input_buffer.Filled.{Filled}
 use Rattle.http_desk.specs.declared.input_buffer.Filled.TheVariants.{More, AtEnd, Failed, Bound, NoMemory}
 use Rattle.http_desk.specs.declared.message_input.FoundHead.{FoundHead}
@@ -11,7 +12,7 @@ use Rattle.http_desk.specs.declared.output.Sent.TheVariants as sents
 use Rattle.http_desk.specs.declared.session_end.Ended.TheVariants as ends
 use Rattle.http_desk.specs.declared.session_end.Next.{Next}
 use Rattle.http_desk.specs.declared.session_end.Next.TheVariants.{Goes, Ends}
-use Rattle.http_desk.specs.Streams.{Stream}
+use Rattle.http_desk.specs.Streams.{Stream, more_writes, most_reads}
 
 -- a read took one turn; the result is a bound only if no turn was left
 abbrev pub QuietFill : Filled → ℕ → ℕ → Type 0
@@ -118,26 +119,36 @@ NoBound reader reader_after writer writer_after next =
 abbrev pub NoWriteBound : Stream → Stream → Next → Type 0
 NoWriteBound old new next = new.interrupted ≡ false → (old.interrupted ≡ false) × (next ≢ Ends ends.Bound)
 
--- no turn is left, and a call was interrupted
-abbrev pub IsUsedUp : Stream → Type 0
-IsUsedUp stream = (stream.turns ≡ 0) × (stream.interrupted ≡ true)
+-- so many turns were given for this message, or for this text, all of them were taken, and a call was interrupted
+abbrev pub IsUsedUp : ℕ → Stream → Type 0
+IsUsedUp most stream = (stream.given ≡ most) × (stream.turns ≡ 0) × (stream.interrupted ≡ true)
 
--- a bound is told only if the turns of the reader or those of the writer are used up
+-- the same of a text: it had one turn for each of its bytes and 16 more
+abbrev pub TextIsUsedUp : Bytes → Stream → Type 0
+TextIsUsedUp text writer = IsUsedUp (length text + more_writes) writer
+
+-- a bound is told only if all turns of a message were taken by reads, or all turns of a text by writes and flushes
 abbrev pub TellsBound : Stream → Stream → Next → Type 0
-TellsBound reader writer next = next ≡ Ends ends.Bound → IsUsedUp reader ⊎ IsUsedUp writer
+TellsBound reader writer next =
+    next ≡ Ends ends.Bound → IsUsedUp most_reads reader ⊎ ((text : Bytes) × TextIsUsedUp text writer)
 
--- the same for a writer alone
-abbrev pub TellsWriteBound : Stream → Next → Type 0
-TellsWriteBound writer next = next ≡ Ends ends.Bound → IsUsedUp writer
+-- the same for a writer alone, and the text that it was to write
+abbrev pub TellsWriteBound : Bytes → Stream → Next → Type 0
+TellsWriteBound text writer next = next ≡ Ends ends.Bound → TextIsUsedUp text writer
+
+-- the same, whichever text it was
+abbrev pub TellsSomeWriteBound : Stream → Next → Type 0
+TellsSomeWriteBound writer next = next ≡ Ends ends.Bound → (text : Bytes) × TextIsUsedUp text writer
 
 -- no call has failed, and none was interrupted
 pub record IsQuiet (stream : Stream) : Type 0 where
   pub none_failed : stream.failed ≡ false
   pub none_interrupted : stream.interrupted ≡ false
 
--- it is the same reader or writer, and no more calls were made than there were turns
+-- it is the same reader or writer, no more calls were made than there were turns, and no turns were given
 abbrev pub TakesTurns : Stream → Stream → Type 0
-TakesTurns old new = (new.name ≡ old.name) × (new.calls + new.turns ≤ old.calls + old.turns)
+TakesTurns old new =
+    (new.name ≡ old.name) × (new.calls + new.turns ≤ old.calls + old.turns) × (new.given ≡ old.given)
 
 -- it is the same reader or writer, and at most this number of calls were made
 abbrev pub TakesCalls : ℕ → Stream → Stream → Type 0

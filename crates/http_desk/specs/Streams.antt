@@ -11,7 +11,8 @@ pub record Stream : Type 0 where
   pub failed : Bool  -- a call has failed, or a write has taken nothing
   pub interrupted : Bool  -- a call was interrupted
   pub calls : ℕ  -- so many were made; the count stops at 2^64 - 1
-  pub turns : ℕ  -- so many more may be made for this message, or for this text
+  pub given : ℕ  -- so many may be made for this message, or for this text, in all
+  pub turns : ℕ  -- so many of them are left
   pub flushed : Bool  -- all that was written was flushed, as of a reader, which writes nothing
 
 -- it has not been called yet

@@ -120,7 +120,8 @@ pub fn send<W: Write>(writer: &mut Sink<'_, W>, pieces: &[&[u8]]) -> Sent
     ensures flushed { result ≡ Sent.All → writer.new.flushed ≡ true }
     ensures failed { writer.new.failed ≡ (send_failed result || writer.old.failed) }
     ensures bound { writer.new.interrupted ≡ false → (writer.old.interrupted ≡ false) × (result ≢ Sent.Bound) }
-    ensures used_up { result ≡ Sent.Bound → IsUsedUp writer.new }
+    ensures used_up { result ≡ Sent.Bound
+        → IsUsedUp (length (flat_map (λ p. p.now) pieces.now) + more_writes) writer.new }
     ensures calls { TakesCalls (length (flat_map (λ p. p.now) pieces.now) + more_writes) writer.old writer.new }
     ensures front { (written : List ℕ) × IsFront written (flat_map (λ p. p.now) pieces.now)
         × Appends writer.old.bytes writer.new.bytes written }

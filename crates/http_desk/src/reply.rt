@@ -5,7 +5,7 @@ ghost use Rattle.http_messages.specs.Replies.{viewed};
 ghost use Rattle.http_desk.specs.AnswerOutput.{Sends};
 ghost use Rattle.http_desk.specs.Parts.{parts_text};
 ghost use Rattle.http_desk.specs.Streams.{more_writes};
-ghost use Rattle.http_desk.specs.StreamFaults.{IsUsedUp, TakesCalls, send_failed};
+ghost use Rattle.http_desk.specs.StreamFaults.{TakesCalls, TextIsUsedUp, send_failed};
 
 use crate::output::{Sent, send};
 use crate::streams::Sink;
@@ -31,7 +31,7 @@ fn send_parts<W: Write>(writer: &mut Sink<'_, W>, parts: Parts<'_>) -> Sent
     ensures flushed { result ≡ Sent.All → writer.new.flushed ≡ true }
     ensures failed { writer.new.failed ≡ (send_failed result || writer.old.failed) }
     ensures bound { writer.new.interrupted ≡ false → (writer.old.interrupted ≡ false) × (result ≢ Sent.Bound) }
-    ensures used_up { result ≡ Sent.Bound → IsUsedUp writer.new }
+    ensures used_up { result ≡ Sent.Bound → TextIsUsedUp (parts_text parts.entry) writer.new }
     ensures calls { TakesCalls (length (parts_text parts.entry) + more_writes) writer.old writer.new }
     ensures sends { Sends writer.old.bytes writer.new.bytes (parts_text parts.entry) result }
 {
@@ -65,7 +65,8 @@ pub fn send_answer<W: Write>(
     ensures flushed { result ≡ Sent.All → writer.new.flushed ≡ true }
     ensures failed { writer.new.failed ≡ (send_failed result || writer.old.failed) }
     ensures bound { writer.new.interrupted ≡ false → (writer.old.interrupted ≡ false) × (result ≢ Sent.Bound) }
-    ensures used_up { result ≡ Sent.Bound → IsUsedUp writer.new }
+    ensures used_up { result ≡ Sent.Bound
+        → TextIsUsedUp (answer_text bare closing (viewed answer.entry)) writer.new }
     ensures calls { TakesCalls (length (answer_text bare closing (viewed answer.entry)) + more_writes)
         writer.old writer.new }
     ensures sends { Sends writer.old.bytes writer.new.bytes
@@ -93,7 +94,7 @@ pub fn send_continue<W: Write>(writer: &mut Sink<'_, W>) -> Sent
     ensures flushed { result ≡ Sent.All → writer.new.flushed ≡ true }
     ensures failed { writer.new.failed ≡ (send_failed result || writer.old.failed) }
     ensures bound { writer.new.interrupted ≡ false → (writer.old.interrupted ≡ false) × (result ≢ Sent.Bound) }
-    ensures used_up { result ≡ Sent.Bound → IsUsedUp writer.new }
+    ensures used_up { result ≡ Sent.Bound → TextIsUsedUp continue_text writer.new }
     ensures calls { TakesCalls (length continue_text + more_writes) writer.old writer.new }
     ensures sends { Sends writer.old.bytes writer.new.bytes continue_text result }
 {

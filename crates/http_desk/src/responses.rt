@@ -72,7 +72,7 @@ fn of_told(told: Answer) -> Answered
     }
 }
 
-/// Carries out a command.
+/// Carries out a command, and takes no memory once the office has answered.
 fn done<M: Machine>(alloc: Global, office: &mut M, command: Command) -> Result<Answered, Busy>
     ensures intact { M.is_intact office.new → M.is_intact office.old }
     ensures was_open { M.is_intact office.new → M.is_open office.new → M.is_open office.old }
@@ -88,7 +88,7 @@ fn done<M: Machine>(alloc: Global, office: &mut M, command: Command) -> Result<A
     }
 }
 
-/// Answers a question.
+/// Answers a question, and takes no memory once the office has answered.
 fn asked<M: Machine>(alloc: Global, office: &mut M, query: Query) -> Result<Answered, Busy>
     ensures intact { M.is_intact office.new → M.is_intact office.old }
     ensures was_open { M.is_intact office.new → M.is_open office.new → M.is_open office.old }

@@ -1,23 +1,24 @@
 //! A session with one peer.
-ghost use Rattle.std.specs.Prelude.{◌≢◌, ◌||◌, ◌<◌, true, false, ◌≡◌, ◌≤◌, ◌+◌, ◌*◌, ◌++◌};
+ghost use Rattle.std.specs.Prelude.{◌≢◌, ◌||◌, ◌⊎◌, ◌<◌, true, false, ◌≡◌, ◌≤◌, ◌+◌, ◌*◌, ◌++◌};
 ghost use Rattle.std.specs.Prelude.{length, take, drop, unwrap_or, nat_eq, MatchResult};
 ghost use Rattle.std.specs.Io.KnownBytes.{Appends};
 ghost use Rattle.httparse.specs.Spans.{IsWithin, span_bytes};
 ghost use Rattle.isad_core.specs.Texts.{Bytes};
-ghost use Rattle.http_messages.specs.Answers.{answer_text};
+ghost use Rattle.http_messages.specs.Answers.{answer_text, continue_text, error};
 ghost use Rattle.http_messages.specs.Heads.{Accepted, is_head};
 ghost use Rattle.http_messages.specs.HeadVerdict.{request_in};
 ghost use Rattle.http_messages.specs.Replies.{viewed};
 ghost use Rattle.http_desk.specs.Laws.{HasEnded};
 ghost use Rattle.http_desk.specs.Messages.{HasHead};
 ghost use Rattle.http_desk.specs.AnswerOutput.{Sends};
-ghost use Rattle.http_desk.specs.Session.{continue_if, most_answers};
+ghost use Rattle.http_desk.specs.Bounds.{ExchangeBounded, StopsBounded, TalksBounded};
+ghost use Rattle.http_desk.specs.Session.{continue_if, most_answers, refusal};
 ghost use Rattle.http_desk.specs.Streams.{most_reads};
 ghost use Rattle.http_desk.specs.Exchanges.{Turn, Through, Exchange, Talks, TalksWhole, AtEndIf, IsNoEnd};
 ghost use Rattle.http_desk.specs.Exchanges.{Refused, Replies, after_sending};
-ghost use Rattle.http_desk.specs.StreamFaults.{FlushesAll, IsFlushed, IsQuiet, NoBound, NoWriteBound};
-ghost use Rattle.http_desk.specs.StreamFaults.{TellsBound, TellsReadFault, TellsWriteBound, TellsWriteFault};
-ghost use Rattle.http_desk.specs.StreamFaults.{IsUsedUp, TakesCalls, TakesTurns, send_failed};
+ghost use Rattle.http_desk.specs.StreamFaults.{FlushesAll, IsFlushed, IsQuiet, IsUsedUp, NoBound, NoWriteBound};
+ghost use Rattle.http_desk.specs.StreamFaults.{TellsBound, TellsReadFault, TellsSomeWriteBound, TellsWriteBound};
+ghost use Rattle.http_desk.specs.StreamFaults.{TakesCalls, TakesTurns, TellsWriteFault, TextIsUsedUp, send_failed};
 
 use crate::message_input::{FoundBody, FoundHead, body_len, gather_body, gather_head};
 use crate::output::Sent;
@@ -52,7 +53,7 @@ fn refuse<W: Write>(writer: &mut Sink<'_, W>, bare: bool, status: Status) -> Nex
     ensures flushed { IsFlushed writer.new result }
     ensures writes { TellsWriteFault writer.old writer.new result }
     ensures turns { NoWriteBound writer.old writer.new result }
-    ensures used_up { TellsWriteBound writer.new result }
+    ensures used_up { TellsWriteBound (refusal bare (error status)) writer.new result }
     ensures same { writer.new.name ≡ writer.old.name }
 {
     let sent = send_answer(writer, bare, true, AnswerView::fixed(status));
@@ -71,7 +72,7 @@ fn reply<W: Write>(
     ensures flushed { IsFlushed writer.new result }
     ensures writes { TellsWriteFault writer.old writer.new result }
     ensures turns { NoWriteBound writer.old writer.new result }
-    ensures used_up { TellsWriteBound writer.new result }
+    ensures used_up { TellsWriteBound (answer_text bare closing (viewed answer.entry)) writer.new result }
     ensures same { writer.new.name ≡ writer.old.name }
 {
     let sent = send_answer(writer, bare, closing, answer);
@@ -97,7 +98,9 @@ fn reply_or_refuse<W: Write>(
     ensures flushed { IsFlushed writer.new result }
     ensures writes { TellsWriteFault writer.old writer.new result }
     ensures turns { NoWriteBound writer.old writer.new result }
-    ensures used_up { TellsWriteBound writer.new result }
+    ensures used_up { MatchResult answered.entry
+        (λ view. TellsWriteBound (answer_text bare closing (viewed view)) writer.new result)
+        (λ _. TellsWriteBound (refusal false (error Status.Busy)) writer.new result) }
     ensures same { writer.new.name ≡ writer.old.name }
 {
     match answered {
@@ -110,7 +113,8 @@ fn reply_or_refuse<W: Write>(
 fn allow_body<W: Write>(writer: &mut Sink<'_, W>, head: Head) -> Sent
     ensures writes { writer.new.failed ≡ (send_failed result || writer.old.failed) }
     ensures turns { writer.new.interrupted ≡ false → (writer.old.interrupted ≡ false) × (result ≢ Sent.Bound) }
-    ensures used_up { result ≡ Sent.Bound → IsUsedUp writer.new }
+    ensures used_up { result ≡ Sent.Bound → TextIsUsedUp continue_text writer.new }
+    ensures due { result ≡ Sent.Bound → head.waits ≡ true }
     ensures same { writer.new.name ≡ writer.old.name }
     ensures sends { Sends writer.old.bytes writer.new.bytes (continue_if head.waits) result }
     ensures flushed { result ≡ Sent.All → writer.old.flushed ≡ true → writer.new.flushed ≡ true }
@@ -137,8 +141,8 @@ fn is_bare(block: &[u8], head: Head) -> bool
     is_bare_method(head.method.of(block))
 }
 
-/// Answers a whole message. The answer borrows the buffer until it is written, so nothing here can take memory while
-/// it is written.
+/// Answers a whole message. Until the answer is written, it borrows the buffer, and the functions that write it get no
+/// allocator. That no memory is taken meanwhile can be read here, and is tested.
 fn act<W: Write, M: Machine>(
     means: &Means,
     writer: &mut Sink<'_, W>,
@@ -163,7 +167,11 @@ fn act<W: Write, M: Machine>(
     ensures flushed { IsFlushed writer.new result }
     ensures writes { TellsWriteFault writer.old writer.new result }
     ensures turns { NoWriteBound writer.old writer.new result }
-    ensures used_up { TellsWriteBound writer.new result }
+    ensures used_up { TellsSomeWriteBound writer.new result }
+    ensures breaks_off { result ≡ Next.Ends Ended.Bound
+        → (written : Bytes) × Appends writer.old.bytes writer.new.bytes written
+        × Through M.represents M.is_intact office.old office.new (λ s t. StopsBounded number s buffer.old.items
+        (continue_if head.waits ++ written) t writer.new) }
     ensures same { writer.new.name ≡ writer.old.name }
 {
     let closing = is_closing(head, number);
@@ -186,6 +194,7 @@ fn receive<R: Read, W: Write, M: Machine>(
     number: u32,
 ) -> Next
     requires within { size ≤ length buffer.old.items }
+    requires given { reader.old.given ≡ most_reads }
     requires turns { reader.old.interrupted ≡ false
         → size + unwrap_or head.length 0 < reader.old.turns + length buffer.old.items }
     requires method { IsWithin (length (take size buffer.old.items)) head.method }
@@ -202,6 +211,9 @@ fn receive<R: Read, W: Write, M: Machine>(
     ensures writes { TellsWriteFault writer.old writer.new result }
     ensures turns { NoBound reader.old reader.new writer.old writer.new result }
     ensures used_up { TellsBound reader.new writer.new result }
+    ensures breaks_off { result ≡ Next.Ends Ended.Bound → IsUsedUp most_reads reader.new
+        ⊎ ExchangeBounded M.represents M.is_intact number reader.old.bytes reader.new.bytes
+        writer.old.bytes writer.new office.old buffer.old.items office.new }
     ensures calls { TakesTurns reader.old reader.new }
     ensures same { writer.new.name ≡ writer.old.name }
 {
@@ -219,8 +231,9 @@ fn receive<R: Read, W: Write, M: Machine>(
     }
 }
 
-/// Reads one message, answers it, and returns what comes next.
-fn exchange<R: Read, W: Write, M: Machine>(
+/// Reads one message, answers it, and returns what comes next. The buffer has what was read before and not yet answered.
+/// A message takes no more reads than the longest head and body have bytes, and one more.
+pub fn exchange<R: Read, W: Write, M: Machine>(
     means: &Means,
     reader: &mut Source<'_, R>,
     writer: &mut Sink<'_, W>,
@@ -238,6 +251,9 @@ fn exchange<R: Read, W: Write, M: Machine>(
     ensures writes { TellsWriteFault writer.old writer.new result }
     ensures turns { NoBound reader.old reader.new writer.old writer.new result }
     ensures used_up { TellsBound reader.new writer.new result }
+    ensures breaks_off { result ≡ Next.Ends Ended.Bound → IsUsedUp most_reads reader.new
+        ⊎ ExchangeBounded M.represents M.is_intact number reader.old.bytes reader.new.bytes
+        writer.old.bytes writer.new office.old buffer.old.items office.new }
     ensures calls { TakesCalls most_reads reader.old reader.new }
     ensures same { writer.new.name ≡ writer.old.name }
 {
@@ -275,6 +291,8 @@ fn talk_with<R: Read, W: Write, M: Machine>(
     ensures write_fault { TellsWriteFault writer.old writer.new (Next.Ends result) }
     ensures bound { reader.new.interrupted ≡ false → writer.new.interrupted ≡ false → result ≢ Ended.Bound }
     ensures used_up { TellsBound reader.new writer.new (Next.Ends result) }
+    ensures breaks_off { result ≡ Ended.Bound → TalksBounded M.represents M.is_intact reader.old.bytes reader.new
+        writer.old.bytes writer.new office.old office.new }
     ensures calls { TakesCalls (most_answers * most_reads) reader.old reader.new }
     ensures same { writer.new.name ≡ writer.old.name }
 {
@@ -307,11 +325,15 @@ pub fn talk<R: Read, W: Write, M: Machine>(
     // All that was written was flushed, unless a fault of the writer or a bound ends the session.
     ensures flushed { FlushesAll writer.old writer.new (Next.Ends result) }
     // If no such call had failed before, a read or write fault is returned exactly if one failed now. A bound is
-    // returned only if a call was interrupted, and the turns of a message or of an answer are used up.
+    // returned only if a call was interrupted, and as many calls were made as the message, or the text that broke off,
+    // may have: one read for each byte of the longest message and one more, or one write or flush for each byte of the
+    // text and 16 more.
     ensures read_fault { TellsReadFault reader.old reader.new (Next.Ends result) }
     ensures write_fault { TellsWriteFault writer.old writer.new (Next.Ends result) }
     ensures bound { reader.new.interrupted ≡ false → writer.new.interrupted ≡ false → result ≢ Ended.Bound }
     ensures used_up { TellsBound reader.new writer.new (Next.Ends result) }
+    ensures breaks_off { result ≡ Ended.Bound → TalksBounded M.represents M.is_intact reader.old.bytes reader.new
+        writer.old.bytes writer.new office.old office.new }
     ensures quiet { IsQuiet reader.new → IsQuiet writer.new → HasEnded result }
     ensures calls { TakesCalls (most_answers * most_reads) reader.old reader.new }
     ensures same { writer.new.name ≡ writer.old.name }

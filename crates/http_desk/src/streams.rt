@@ -33,6 +33,7 @@ pub struct Source<'a, R: Read> {
     failed: bool,
     interrupted: bool,
     calls: u64,
+    given: u32,
     turns: u32,
 }
 
@@ -48,6 +49,7 @@ impl<'a, R: Read> Model for Source<'a, R> {
       failed = s.failed;
       interrupted = s.interrupted;
       calls = s.calls;
+      given = s.given;
       turns = s.turns;
       flushed = true;
     } };
@@ -65,6 +67,7 @@ impl<'a, R: Read> Source<'a, R> {
             failed: false,
             interrupted: false,
             calls: 0,
+            given: 0,
             turns: 0,
         }
     }
@@ -80,15 +83,17 @@ impl<'a, R: Read> Source<'a, R> {
 
     /// Allows the turns of one message.
     pub fn begin_message(&mut self)
-        ensures { self.new ≡ record self.old { turns = most_reads } }
+        ensures { self.new ≡ record self.old { given = most_reads; turns = most_reads } }
     {
+        self.given = READS;
         self.turns = READS;
     }
 
     /// Allows the turns of a stream that is read to its end.
     pub fn begin_stream(&mut self)
-        ensures { self.new ≡ record self.old { turns = most_calls } }
+        ensures { self.new ≡ record self.old { given = most_calls; turns = most_calls } }
     {
+        self.given = CALLS;
         self.turns = CALLS;
     }
 
@@ -130,6 +135,7 @@ impl<'a, R: Read> Source<'a, R> {
         ensures failed { self.new.failed ≡ (has_failed result || self.old.failed) }
         ensures interrupted { self.new.interrupted ≡ (was_interrupted result || self.old.interrupted) }
         ensures calls { self.new.calls ≡ counted self.old.calls }
+        ensures given { self.new.given ≡ self.old.given }
         ensures turns { self.new.turns + 1 ≡ self.old.turns }
     {
         self.turns -= 1;
@@ -156,6 +162,7 @@ pub struct Sink<'a, W: Write> {
     failed: bool,
     interrupted: bool,
     calls: u64,
+    given: u64,
     turns: u64,
     flushed: bool,
 }
@@ -171,6 +178,7 @@ impl<'a, W: Write> Model for Sink<'a, W> {
       failed = s.failed;
       interrupted = s.interrupted;
       calls = s.calls;
+      given = s.given;
       turns = s.turns;
       flushed = s.flushed;
     } };
@@ -188,6 +196,7 @@ impl<'a, W: Write> Sink<'a, W> {
             failed: false,
             interrupted: false,
             calls: 0,
+            given: 0,
             turns: 0,
             flushed: true,
         }
@@ -205,15 +214,17 @@ impl<'a, W: Write> Sink<'a, W> {
     /// Allows the turns of a text of `len` bytes.
     pub fn begin_text(&mut self, len: u64)
         requires { len + more_writes < 2 ^ 64 }
-        ensures { self.new ≡ record self.old { turns = len + more_writes } }
+        ensures { self.new ≡ record self.old { given = len + more_writes; turns = len + more_writes } }
     {
+        self.given = len + MORE_WRITES;
         self.turns = len + MORE_WRITES;
     }
 
     /// Allows the turns of a text that is no answer, or those of its flush.
     pub fn begin_stream(&mut self)
-        ensures { self.new ≡ record self.old { turns = most_calls } }
+        ensures { self.new ≡ record self.old { given = most_calls; turns = most_calls } }
     {
+        self.given = CALLS as u64;
         self.turns = CALLS as u64;
     }
 
@@ -264,6 +275,7 @@ impl<'a, W: Write> Sink<'a, W> {
         ensures failed { self.new.failed ≡ (has_failed result || self.old.failed) }
         ensures interrupted { self.new.interrupted ≡ (was_interrupted result || self.old.interrupted) }
         ensures calls { self.new.calls ≡ counted self.old.calls }
+        ensures given { self.new.given ≡ self.old.given }
         ensures turns { self.new.turns + 1 ≡ self.old.turns }
     {
         self.turns -= 1;
@@ -298,6 +310,7 @@ impl<'a, W: Write> Sink<'a, W> {
         ensures failed { self.new.failed ≡ (has_failed result || self.old.failed) }
         ensures interrupted { self.new.interrupted ≡ (was_interrupted result || self.old.interrupted) }
         ensures calls { self.new.calls ≡ counted self.old.calls }
+        ensures given { self.new.given ≡ self.old.given }
         ensures turns { self.new.turns + 1 ≡ self.old.turns }
     {
         self.turns -= 1;

@@ -1,7 +1,7 @@
 //! Sessions over readers and writers that give and take in pieces, fail, or are interrupted.
 
 use crate::streams::{
-    Again, Counter, Halves, Long, Narrow, Pieces, Telling, Then, Waiting, talk_over,
+    Again, Counter, Disturbed, Halves, Long, Narrow, Pieces, Telling, Then, Waiting, talk_over,
 };
 use http_desk::session_end::Ended;
 use std::alloc::Global;
@@ -146,6 +146,57 @@ fn calls_without_end(rt: HostRuntime) -> Result<(), Fail> {
         assert_eq!(rt; talked.writes, 136);
         assert_eq!(rt; writer.held.len(), room);
     }
+    Ok(())
+}
+
+// An interruption at a write or a flush of one answer takes nothing from another: each is 120 writes and a flush.
+#[test]
+fn an_interruption_at_each_call(rt: HostRuntime) -> Result<(), Fail> {
+    for once in 1..243u64 {
+        let mut desk = Counter { tickets: 0 };
+        let mut reader = Pieces::new(TWO, 1000, Then::Ends);
+        let mut writer = Disturbed::new(rt.alloc(), once, u64::MAX);
+        let talked = talk_over(rt.alloc(), &mut reader, &mut writer, &mut desk);
+        assert_eq!(rt; talked.ended, Ended::End, "{once}");
+        assert_eq!(rt; writer.held.len(), 240);
+        assert!(rt; writer.held.starts_with(FONDS));
+        assert!(rt; writer.held.ends_with(FONDS));
+        assert_eq!(rt; talked.writes, 243);
+        assert!(rt; talked.interrupted);
+        assert!(rt; talked.flushed);
+    }
+    Ok(())
+}
+
+// After an interruption of the first answer, the second has as many calls as it would have without: its 120 bytes and
+// 16 more. The first takes 122 calls.
+#[test]
+fn calls_without_end_after_an_interruption(rt: HostRuntime) -> Result<(), Fail> {
+    for once in [1u64, 60, 120, 121] {
+        for (from, held) in [(123u64, 120usize), (124, 121), (235, 232), (243, 240)] {
+            let mut desk = Counter { tickets: 0 };
+            let mut reader = Pieces::new(TWO, 1000, Then::Ends);
+            let mut writer = Disturbed::new(rt.alloc(), once, from);
+            let talked = talk_over(rt.alloc(), &mut reader, &mut writer, &mut desk);
+            assert_eq!(rt; talked.ended, Ended::Bound);
+            assert_eq!(rt; talked.writes, 258, "{once} {from}");
+            assert_eq!(rt; writer.held.len(), held);
+        }
+    }
+    Ok(())
+}
+
+// The same for reads: the first message takes two, of which one is interrupted.
+#[test]
+fn reads_without_end_after_an_interruption(rt: HostRuntime) -> Result<(), Fail> {
+    let mut desk = Counter { tickets: 0 };
+    let mut reader = Pieces::new(ONE, 1000, Then::Waits);
+    reader.shy = true;
+    let mut writer = Narrow::new(rt.alloc(), 1000, 1000, Then::Fails);
+    let talked = talk_over(rt.alloc(), &mut reader, &mut writer, &mut desk);
+    assert_eq!(rt; talked.ended, Ended::Bound);
+    assert_eq!(rt; talked.reads, 8_404_995);
+    assert_eq!(rt; writer.held.len(), 120);
     Ok(())
 }
 

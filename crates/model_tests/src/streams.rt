@@ -89,6 +89,32 @@ impl Machine for Counter {
     }
 }
 
+/// A machine that notes how often it has answered. If it is refused memory, it has not.
+#[derive(Drop)]
+pub struct Noting {
+    pub answers: u64,
+}
+
+impl Machine for Noting {
+    ghost represents = { λ office s. ⊥ };
+
+    ghost is_intact = { λ office. Prim.Unit {0} };
+
+    ghost is_open = { λ office. Prim.Unit {0} };
+
+    fn apply(&mut self, alloc: Global, _command: Command) -> Result<Reply, Busy> {
+        let reply = registered(alloc, 1)?;
+        self.answers = self.answers.wrapping_add(1);
+        Ok(reply)
+    }
+
+    fn ask(&mut self, alloc: Global, _query: Query) -> Result<Answer, Busy> {
+        let answer = one_fonds(alloc)?;
+        self.answers = self.answers.wrapping_add(1);
+        Ok(answer)
+    }
+}
+
 /// How reads or writes go on once all bytes are given, or no room is left.
 #[derive(Clone, Copy, PartialEq, Eq, Drop)]
 pub enum Then {
@@ -206,6 +232,50 @@ impl Write for Narrow {
         self.calls = self.calls.wrapping_add(1);
         self.flushes = self.flushes.wrapping_add(1);
         if self.flushes_wait {
+            return Err(io::Error::from(ErrorKind::Interrupted));
+        }
+        Ok(())
+    }
+}
+
+/// A writer that takes one byte at each write. The call with the number `once` is interrupted, and so are all from the
+/// number `from` on.
+#[derive(Drop)]
+pub struct Disturbed {
+    pub held: Vec<u8>,
+    pub once: u64,
+    pub from: u64,
+    pub calls: u64,
+}
+
+impl Disturbed {
+    pub fn new(alloc: Global, once: u64, from: u64) -> Disturbed {
+        Disturbed {
+            held: Vec::new(alloc),
+            once,
+            from,
+            calls: 0,
+        }
+    }
+
+    fn is_interrupted(&mut self) -> bool {
+        self.calls = self.calls.wrapping_add(1);
+        self.calls == self.once || self.calls >= self.from
+    }
+}
+
+impl Write for Disturbed {
+    fn write(&mut self, buf: &[u8]) -> io::Result<usize> {
+        if self.is_interrupted() {
+            return Err(io::Error::from(ErrorKind::Interrupted));
+        }
+        let n = buf.len().min(1);
+        self.held.extend_from_slice(&buf[..n])?;
+        Ok(n)
+    }
+
+    fn flush(&mut self) -> io::Result<()> {
+        if self.is_interrupted() {
             return Err(io::Error::from(ErrorKind::Interrupted));
         }
         Ok(())

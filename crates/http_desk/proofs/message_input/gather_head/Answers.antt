@@ -43,7 +43,7 @@ loop-size-init g c = record {
   led = nothing_seen;
   failed = refl;
   bound = λ q. (q, omega arith);
-  calls = (refl, omega arith);
+  calls = (refl, omega arith, refl);
 }
 
 pub returns-in-Whole-clause-found : goal.returns-in-Whole-clause-found

@@ -28,6 +28,7 @@ loop-piece-preserved g c =
       );
       failed = c.in-All.ensures.failed ∙ c.loop-piece.invariant.failed;
       bound = λ q. c.loop-piece.invariant.bound (c.in-All.ensures.bound q).0;
+      given = c.in-All.ensures.calls.2 ∙ c.loop-piece.invariant.given;
       calls = (c.in-All.ensures.calls.0 ∙ c.loop-piece.invariant.calls.0, omega (arith, c.in-All.ensures.calls.1, c.loop-piece.invariant.calls.1));
     }
 
@@ -45,10 +46,10 @@ returns-in_default g c =
       flushed = λ e. absurd (c.in_default.not-All e);
       failed = c.gather_or_send.ensures.failed ∙ ap (λ b. send_failed c.gather_or_send.result || b) (rw c.begin_text.ensures at c.loop-piece.invariant.failed);
       bound = λ q. ((rw c.begin_text.ensures at c.loop-piece.invariant.bound) (c.gather_or_send.ensures.bound q).0, never q);
-      used_up = λ e. used_up c.gather_or_send.new.writer (λ q. never q e) (c.gather_or_send.ensures.used_up e);
+      used_up = λ e. used_up _ c.gather_or_send.new.writer (c.gather_or_send.ensures.calls.2 ∙ c.loop-piece.invariant.given) (λ q. never q e) (c.gather_or_send.ensures.used_up e);
       calls =
           let (same, few) = rw c.begin_text.ensures at c.loop-piece.invariant.calls in
-          let (again, more) = c.gather_or_send.ensures.calls in
+          let (again, more, none) = c.gather_or_send.ensures.calls in
           (again ∙ same, omega arith);
       front = (
         written ++ front,
@@ -74,7 +75,8 @@ returns-in-All-send_piece-clause-used_up g c =
     let e = sym (all_pieces (λ p. p.now) c.args.pieces.now c.loop-piece.piece-index c.loop-piece-test.false) ∙ split in
     let l = ap length e ∙ length-append written c.loop-piece.lot.items in
     let k = ap length c.as_slice.ensures.value in
-    λ bound. used_up c.flush.new.writer (λ q.
+    let given = c.flush.ensures.calls.2 ∙ c.in-All-send_piece.ensures.calls.2 ∙ c.loop-piece.invariant.given in
+    λ bound. used_up _ c.flush.new.writer given (λ q.
     let (before, here) = c.flush.ensures.bound q in
     let (first, took) = c.in-All-send_piece.ensures.bound before in
     let kept = quiet first in
@@ -98,10 +100,10 @@ returns-in_default-send_piece g c =
       flushed = λ e. absurd (c.in_default-send_piece.not-All e);
       failed = c.send_piece.ensures.failed ∙ ap (λ b. send_failed c.send_piece.result || b) (rw c.begin_text.ensures at c.loop-piece.invariant.failed);
       bound = λ q. ((rw c.begin_text.ensures at c.loop-piece.invariant.bound) (c.send_piece.ensures.bound q).0, never q);
-      used_up = λ e. used_up c.send_piece.new.writer (λ q. never q e) (c.send_piece.ensures.used_up e);
+      used_up = λ e. used_up _ c.send_piece.new.writer (c.send_piece.ensures.calls.2 ∙ c.loop-piece.invariant.given) (λ q. never q e) (c.send_piece.ensures.used_up e);
       calls =
           let (same, few) = rw c.begin_text.ensures at c.loop-piece.invariant.calls in
-          let (again, more) = c.send_piece.ensures.calls in
+          let (again, more, none) = c.send_piece.ensures.calls in
           (again ∙ same, omega arith);
       front = (written ++ front, front_at_end _ written lot front e here_front, Appends-trans _ _ _ _ _ appended added);
     }

@@ -11,5 +11,6 @@ invariant-loop-piece g l = record {
       × (l.writer.interrupted ≡ false → length (flat_map (λ p. p.now) l.pieces) + 16 ≤ l.writer.turns + length written);
   failed : l.writer.failed ≡ l.initial.writer.failed;
   bound : l.writer.interrupted ≡ false → l.initial.writer.interrupted ≡ false;
+  given : l.writer.given ≡ length (flat_map (λ p. p.now) l.pieces) + 16;
   calls : (l.writer.name ≡ l.initial.writer.name) × (l.writer.calls + l.writer.turns ≤ l.initial.writer.calls + (length (flat_map (λ p. p.now) l.pieces) + 16));
 }

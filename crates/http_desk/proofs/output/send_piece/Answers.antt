@@ -17,5 +17,5 @@ loop-rest-preserved-in-Ok g c =
           let before = sym c.in-Ok.ensures.interrupted ∙ q in
           let (a, b) = c.loop-rest.invariant.bound before in
           (a, shrinks rest n c.args.writer.now.turns c.loop-rest.writer.turns c.write.new.self.turns (length c.args.piece.now) within some c.in-Ok.ensures.turns b);
-      calls = one_more c.args.writer.now c.loop-rest.writer c.write.new.self c.loop-rest.invariant.calls c.in-Ok.ensures.same c.in-Ok.ensures.calls c.in-Ok.ensures.turns;
+      calls = one_more c.args.writer.now c.loop-rest.writer c.write.new.self c.loop-rest.invariant.calls c.in-Ok.ensures.same c.in-Ok.ensures.calls c.in-Ok.ensures.turns c.in-Ok.ensures.given;
     }

@@ -9,3 +9,7 @@ returns-clause-sends g c = sends _ _ _ c.send.result c.send.ensures.all c.send.e
 pub returns-clause-calls : goal.returns-clause-calls
 unfolding continue_text
 returns-clause-calls g c = c.send.ensures.calls
+
+pub returns-clause-used_up : goal.returns-clause-used_up
+unfolding continue_text
+returns-clause-used_up g c = c.send.ensures.used_up

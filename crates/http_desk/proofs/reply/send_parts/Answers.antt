@@ -7,3 +7,6 @@ returns-clause-sends g c = rw (← append-nil c.args.parts.body.now) (sends _ _ 
 
 pub returns-clause-calls : goal.returns-clause-calls
 returns-clause-calls g c = rw (← append-nil c.args.parts.body.now) c.send.ensures.calls
+
+pub returns-clause-used_up : goal.returns-clause-used_up
+returns-clause-used_up g c = rw (← append-nil c.args.parts.body.now) c.send.ensures.used_up

@@ -8,6 +8,8 @@ use Rattle.http_desk.specs.Messages.{IsBlank, IsHeadCut, IsTooLong, NoHead, Refu
 use Rattle.http_desk.specs.Exchanges.{Turn, Through}
 use Rattle.http_desk.proofs.Turns.{refused, head_found, may_fail, bound_here, stops_early}
 use Rattle.http_desk.proofs.Faults.{used_up}
+use Rattle.http_desk.specs.Bounds.{StopsBounded}
+use Rattle.http_desk.proofs.Bounds.{refused_to_bound}
 use Rattle.http_desk.proofs.session.exchange.Goals as goal
 
 pub receive-requires-clause-accepted : goal.receive-requires-clause-accepted
@@ -77,17 +79,68 @@ returns-in-NoMemory-clause-turn g c =
     (got, written, consumed, appended, through)
 
 pub returns-in-Refused-clause-used_up : goal.returns-in-Refused-clause-used_up
-returns-in-Refused-clause-used_up g c = λ e. inr (c.refuse.ensures.used_up e)
+returns-in-Refused-clause-used_up g c = λ e. inr (_, c.refuse.ensures.used_up e)
 
 pub returns-in-TooLong-clause-used_up : goal.returns-in-TooLong-clause-used_up
-returns-in-TooLong-clause-used_up g c = λ e. inr (c.refuse-in-TooLong.ensures.used_up e)
+returns-in-TooLong-clause-used_up g c = λ e. inr (_, c.refuse-in-TooLong.ensures.used_up e)
 
 -- without an interruption the turns would have been enough
 pub returns-in-Bound-clause-used_up : goal.returns-in-Bound-clause-used_up
 returns-in-Bound-clause-used_up g c = λ e.
-    inl (used_up c.gather_head.new.reader (λ q.
+    inl (used_up _ c.gather_head.new.reader ((rw c.begin_message.ensures at c.gather_head.ensures.calls).2) (λ q.
     let (before, few) = (rw c.begin_message.ensures at c.in-Bound.ensures.bound) q in
     omega arith) (c.in-Bound.ensures.used_up refl))
 
 pub returns-in-NoMemory-clause-used_up : goal.returns-in-NoMemory-clause-used_up
-returns-in-NoMemory-clause-used_up g c = λ e. inr (c.refuse-in-NoMemory.ensures.used_up e)
+returns-in-NoMemory-clause-used_up g c = λ e. inr (_, c.refuse-in-NoMemory.ensures.used_up e)
+
+pub returns-in-Refused-clause-breaks_off : goal.returns-in-Refused-clause-breaks_off
+returns-in-Refused-clause-breaks_off g c = λ bound.
+    let items = c.gather_head.new.buffer.items in
+    let (got, consumed, e) = rw c.begin_message.ensures at c.gather_head.ensures.got in
+    let (found, within, limit) = c.in-Whole.ensures.found in
+    let status = c.in-Refused.status in
+    let bare = c.in-Refused.bare in
+    let j = subst (λ v. Judges (take c.in-Whole.size c.deref.result.now) (verdict_in (take c.in-Whole.size c.deref.result.now) v)) c.in-Refused.is c.judge.ensures.judged in
+    let head = head_found items c.in-Whole.size (heads.Refused status bare) found within (subst (λ b. Judges (take c.in-Whole.size b) (heads.Refused status bare)) c.deref.ensures.value j) in
+    let (written, appended, through) = refused_to_bound g.M.Machine.represents g.M.Machine.is_intact g.M.Machine.is_open c.args.number c.args.office.now c.args.office.now (c.args.buffer.now.items ++ got) [] (Refuses status bare) bare status _ _ _ c.refuse.new.writer c.refuse.ensures.sent c.refuse.ensures.used_up
+    (subst (λ i. (block more : List ℕ) × HasHead i block (heads.Refused status bare) more) e (take c.in-Whole.size items, drop c.in-Whole.size items, head)) refl (λ s. refl) (λ s. (refl, refl)) (λ i s h. h) bound in
+    inr (got, written, consumed, appended, through)
+
+pub returns-in-Accepted-clause-breaks_off : goal.returns-in-Accepted-clause-breaks_off
+returns-in-Accepted-clause-breaks_off g c = λ bound.
+    let items = c.args.buffer.now.items in
+    let number = c.args.number in
+    let writer = c.receive.new.writer in
+    let office = c.args.office.now in
+    let (got, consumed, e) = rw c.begin_message.ensures at c.gather_head.ensures.got in
+    elim (c.receive.ensures.breaks_off bound) [
+      | inl reads ↦ inl reads
+      | inr (more, written, consumed2, appended, through) ↦ inr (
+        got ++ more,
+        written,
+        Consumes-trans _ _ _ _ _ consumed consumed2,
+        appended,
+        subst (λ input. Through g.M.Machine.represents g.M.Machine.is_intact office c.receive.new.office (λ s t. StopsBounded number s input written t writer)) (ap (λ l. l ++ more) e ∙ append_assoc items got more) through,
+      )
+    ]
+
+pub returns-in-TooLong-clause-breaks_off : goal.returns-in-TooLong-clause-breaks_off
+returns-in-TooLong-clause-breaks_off g c = λ bound.
+    let (got, consumed, e) = rw c.begin_message.ensures at c.gather_head.ensures.got in
+    let (written, appended, through) = refused_to_bound g.M.Machine.represents g.M.Machine.is_intact g.M.Machine.is_open c.args.number c.args.office.now c.args.office.now (c.args.buffer.now.items ++ got) [] NoHead false BadRequest _ _ _ c.refuse-in-TooLong.new.writer c.refuse-in-TooLong.ensures.sent c.refuse-in-TooLong.ensures.used_up
+    (subst IsTooLong e c.in-TooLong.ensures.found) refl (λ s. refl) (λ s. (refl, refl)) (λ i s h. h) bound in
+    inr (got, written, consumed, appended, through)
+
+pub returns-in-Bound-clause-breaks_off : goal.returns-in-Bound-clause-breaks_off
+returns-in-Bound-clause-breaks_off g c = λ e.
+    inl (used_up _ c.gather_head.new.reader ((rw c.begin_message.ensures at c.gather_head.ensures.calls).2) (λ q.
+    let (before, few) = (rw c.begin_message.ensures at c.in-Bound.ensures.bound) q in
+    omega arith) (c.in-Bound.ensures.used_up refl))
+
+pub returns-in-NoMemory-clause-breaks_off : goal.returns-in-NoMemory-clause-breaks_off
+returns-in-NoMemory-clause-breaks_off g c = λ bound.
+    let (got, consumed, e) = rw c.begin_message.ensures at c.gather_head.ensures.got in
+    let (written, appended, through) = refused_to_bound g.M.Machine.represents g.M.Machine.is_intact g.M.Machine.is_open c.args.number c.args.office.now c.args.office.now (c.args.buffer.now.items ++ got) [] (Fails false false) false Busy _ _ _ c.refuse-in-NoMemory.new.writer c.refuse-in-NoMemory.ensures.sent c.refuse-in-NoMemory.ensures.used_up
+    (may_fail (c.args.buffer.now.items ++ got)) refl (λ s. refl) (λ s. (refl, refl)) (λ i s h. h) bound in
+    inr (got, written, consumed, appended, through)

@@ -1,7 +1,8 @@
-use Rattle.std.proofs.Common.{◌≡◌, ◌≢◌, ◌<◌, ◌+◌, ◌++◌, length, take, drop, refl, ap, sym, subst, inl, inr, arith, false}
+use Rattle.std.proofs.Common.{◌≡◌, ◌≢◌, ◌<◌, ◌+◌, ◌++◌, length, take, drop, refl, ap, ◌∙◌, sym, subst, inl, inr, arith, false}
 use Rattle.std.specs.Prelude.{unwrap_or, ◌||◌}
 use Rattle.std.proofs.KnownBytes.{Appends-trans}
 use Rattle.http_messages.specs.HeadVerdict.{request_in}
+use Rattle.http_messages.specs.Answers.{continue_text}
 use Rattle.http_messages.specs.Heads.{Accepted}
 use Rattle.http_desk.specs.Messages.{HasHead, Fails}
 use Rattle.http_desk.specs.Session.{continue_if}
@@ -14,6 +15,8 @@ use Rattle.http_desk.specs.declared.session_end.Next.TheVariants.{Ends}
 use Rattle.http_desk.specs.declared.output.Sent.{Sent}
 use Rattle.http_desk.specs.declared.output.Sent.TheVariants.{All as SendAll, Failed as SendFailed, Bound as SendBound}
 use Rattle.http_desk.proofs.Faults.{closed_no_bound, no_read_told, not_all_sent, tells_bound, used_up, writes_told}
+use Rattle.http_desk.specs.Bounds.{StopsBounded}
+use Rattle.http_desk.proofs.Bounds.{leave_to_bound, refused_to_bound}
 use Rattle.http_desk.proofs.session.receive.Goals as goal
 
 no_bound : (sent : Sent) (next : Next) → next ≡ after_sending sent (Ends Closed) → (sent ≢ SendBound)
@@ -45,8 +48,12 @@ returns-in_default g c =
       turns = λ p q.
           let (before, here) = c.allow_body.ensures.turns q in
           (p, before, no_bound c.allow_body.result _ c.after.ensures here);
-      used_up = λ e. inr (tells_bound c.allow_body.new.writer c.allow_body.result (Ends Closed) c.after.result closed_no_bound c.after.ensures c.allow_body.ensures.used_up e);
-      calls = (refl, omega arith);
+      used_up = λ e. inr (continue_text, tells_bound continue_text c.allow_body.new.writer c.allow_body.result (Ends Closed) c.after.result closed_no_bound c.after.ensures c.allow_body.ensures.used_up e);
+      breaks_off = λ bound.
+          inr (leave_to_bound g.M.Machine.represents g.M.Machine.is_intact g.M.Machine.is_open c.args.number c.args.office.now items block
+          (drop size items) (request_in block c.args.head) _ _ c.allow_body.new.writer c.allow_body.result c.after.result c.after.ensures c.requires.accepted
+          c.allow_body.ensures.sends c.allow_body.ensures.due c.allow_body.ensures.used_up bound);
+      calls = (refl, omega arith, refl);
       same = c.allow_body.ensures.same;
     }
 
@@ -125,10 +132,39 @@ returns-in-Whole-clause-used_up g c = λ e. inr (c.act.ensures.used_up e)
 -- without an interruption the turns would have been enough
 pub returns-in-Bound-clause-used_up : goal.returns-in-Bound-clause-used_up
 returns-in-Bound-clause-used_up g c = λ e.
-    inl (used_up c.gather_body.new.reader (λ q.
+    inl (used_up _ c.gather_body.new.reader (c.gather_body.ensures.calls.2 ∙ c.requires.given) (λ q.
     let (before, few) = c.in-Bound.ensures.bound q in
     let enough = c.requires.turns before in
     omega arith) (c.in-Bound.ensures.used_up refl))
 
 pub returns-in-NoMemory-clause-used_up : goal.returns-in-NoMemory-clause-used_up
-returns-in-NoMemory-clause-used_up g c = λ e. inr (c.refuse.ensures.used_up e)
+returns-in-NoMemory-clause-used_up g c = λ e. inr (_, c.refuse.ensures.used_up e)
+
+pub returns-in-Whole-clause-breaks_off : goal.returns-in-Whole-clause-breaks_off
+returns-in-Whole-clause-breaks_off g c = λ bound.
+    let (got, consumed, e) = c.gather_body.ensures.got in
+    let (written, appended, through) = c.act.ensures.breaks_off bound in
+    inr (
+      got,
+      continue_if c.args.head.waits ++ written,
+      consumed,
+      Appends-trans _ _ _ _ _ c.in-All.ensures.sends appended,
+      subst (λ input. Through g.M.Machine.represents g.M.Machine.is_intact c.args.office.now c.act.new.office (λ s t. StopsBounded c.args.number s input (continue_if c.args.head.waits ++ written) t c.act.new.writer)) e through,
+    )
+
+pub returns-in-Bound-clause-breaks_off : goal.returns-in-Bound-clause-breaks_off
+returns-in-Bound-clause-breaks_off g c = λ e.
+    inl (used_up _ c.gather_body.new.reader (c.gather_body.ensures.calls.2 ∙ c.requires.given) (λ q.
+    let (before, few) = c.in-Bound.ensures.bound q in
+    let enough = c.requires.turns before in
+    omega arith) (c.in-Bound.ensures.used_up refl))
+
+pub returns-in-NoMemory-clause-breaks_off : goal.returns-in-NoMemory-clause-breaks_off
+returns-in-NoMemory-clause-breaks_off g c = λ bound.
+    let items = c.args.buffer.now.items in
+    let size = c.args.size in
+    let (got, consumed, e) = c.gather_body.ensures.got in
+    let there = head_more items (take size items) (Accepted (request_in (take size items) c.args.head)) (drop size items) got c.requires.accepted in
+    let (written, appended, through) = refused_to_bound g.M.Machine.represents g.M.Machine.is_intact g.M.Machine.is_open c.args.number c.args.office.now c.args.office.now (items ++ got) (continue_if c.args.head.waits) (Fails c.args.head.waits false) false Busy _ _ _ c.refuse.new.writer c.refuse.ensures.sent c.refuse.ensures.used_up
+    (may_fail_after (items ++ got) (take size items) (drop size items ++ got) (request_in (take size items) c.args.head) there) refl (λ s. refl) (λ s. (refl, refl)) (λ i s h. h) bound in
+    inr (got, continue_if c.args.head.waits ++ written, consumed, Appends-trans _ _ _ _ _ c.in-All.ensures.sends appended, through)

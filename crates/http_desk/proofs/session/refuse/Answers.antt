@@ -1,6 +1,8 @@
-use Rattle.std.proofs.Common.{refl, subst, true}
+use Rattle.std.proofs.Common.{◌≡◌, refl, subst, true}
 use Rattle.http_messages.specs.Answers.{answer_text}
 use Rattle.http_desk.specs.AnswerOutput.{Sends}
+use Rattle.http_desk.specs.StreamFaults.{TextIsUsedUp}
+use Rattle.http_desk.specs.declared.output.Sent.TheVariants.{Bound}
 use Rattle.http_desk.proofs.Faults.{closed_no_bound, flushed_after, tells_bound, writes_told}
 use Rattle.http_desk.proofs.session.refuse.Goals as goal
 
@@ -19,4 +21,8 @@ returns-clause-sent g c =
     )
 
 pub returns-clause-used_up : goal.returns-clause-used_up
-returns-clause-used_up g c = tells_bound c.send_answer-sent.new.writer c.send_answer-sent.result _ c.after.result closed_no_bound c.after.ensures c.send_answer-sent.ensures.used_up
+returns-clause-used_up g c =
+    let sent = c.send_answer-sent.result in
+    let writer = c.send_answer-sent.new.writer in
+    tells_bound _ writer sent _ c.after.result closed_no_bound c.after.ensures
+    (subst (λ a. sent ≡ Bound → TextIsUsedUp (answer_text c.args.bare true a) writer) c.fixed.ensures c.send_answer-sent.ensures.used_up)

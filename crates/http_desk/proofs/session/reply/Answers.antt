@@ -15,7 +15,7 @@ pub returns-else-closing-clause-flushed : goal.returns-else-closing-clause-flush
 returns-else-closing-clause-flushed g c = flushed_after c.send_answer-sent.new.writer c.send_answer-sent.result _ c.after-else-closing.result c.after-else-closing.ensures c.send_answer-sent.ensures.flushed
 
 pub returns-then-closing-clause-used_up : goal.returns-then-closing-clause-used_up
-returns-then-closing-clause-used_up g c = tells_bound c.send_answer-sent.new.writer c.send_answer-sent.result _ c.after.result closed_no_bound c.after.ensures c.send_answer-sent.ensures.used_up
+returns-then-closing-clause-used_up g c = tells_bound _ c.send_answer-sent.new.writer c.send_answer-sent.result _ c.after.result closed_no_bound c.after.ensures c.send_answer-sent.ensures.used_up
 
 pub returns-else-closing-clause-used_up : goal.returns-else-closing-clause-used_up
-returns-else-closing-clause-used_up g c = tells_bound c.send_answer-sent.new.writer c.send_answer-sent.result _ c.after-else-closing.result goes_no_bound c.after-else-closing.ensures c.send_answer-sent.ensures.used_up
+returns-else-closing-clause-used_up g c = tells_bound _ c.send_answer-sent.new.writer c.send_answer-sent.result _ c.after-else-closing.result goes_no_bound c.after-else-closing.ensures c.send_answer-sent.ensures.used_up

@@ -1,8 +1,10 @@
-use Rattle.std.proofs.Common.{◌≡◌, arith, subst, refl, ap, ◌∙◌}
+use Rattle.std.proofs.Common.{◌≡◌, arith, subst, refl, ap, ◌∙◌, inl, inr}
 use Rattle.std.specs.Prelude.{◌||◌}
 use Rattle.http_desk.specs.StreamFaults.{IsFlushed, is_read_fault, is_write_fault}
 use Rattle.http_desk.specs.declared.session_end.Ended.TheVariants.{Closed}
 use Rattle.http_desk.proofs.Sessions.{Carried, carried_none, carried_on, carried_to_end, carried_over}
+use Rattle.http_desk.specs.declared.session_end.Next.TheVariants.{Ends}
+use Rattle.http_desk.proofs.Bounds.{carried_to_bound}
 use Rattle.http_desk.proofs.session.talk_with.Goals as goal
 
 pub loop-number-init : goal.loop-number-init
@@ -62,3 +64,10 @@ returns-clause-session g c =
 
 pub returns-in-Ends-clause-used_up : goal.returns-in-Ends-clause-used_up
 returns-in-Ends-clause-used_up g c = λ e. c.exchange.ensures.used_up (c.in-Ends.is ∙ e)
+
+pub returns-in-Ends-clause-breaks_off : goal.returns-in-Ends-clause-breaks_off
+returns-in-Ends-clause-breaks_off g c = λ e.
+    elim (c.exchange.ensures.breaks_off (c.in-Ends.is ∙ ap Ends e)) [
+      | inl reads ↦ inl reads
+      | inr place ↦ inr (carried_to_bound g.M.Machine.represents g.M.Machine.is_intact g.M.Machine.is_open _ _ _ _ _ c.exchange.new.writer c.args.office.now c.loop-number.office c.exchange.new.office c.loop-number.number c.loop-number.buffer.items c.exchange.ensures.intact c.loop-number.invariant.carried place)
+    ]
