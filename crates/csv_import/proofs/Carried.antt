@@ -45,10 +45,11 @@ use Rattle.refinement.proofs.Frames.{desk_kept}
 use Rattle.refinement.proofs.Tellings.{looked_crash}
 use Rattle.csv_import.specs.Arrivals.{IsReady}
 use Rattle.csv_import.specs.RowEntry.{RepresentsLegible, counts_of, entered}
-use Rattle.csv_import.specs.CatalogueImport.{FitsIn, HasNumbered, judged, told_of}
+use Rattle.csv_import.specs.CatalogueImport.{CanBePlaced, FitsIn, HasNumbered, has_room, judged, next_with_room, told_of}
 use Rattle.csv_import.specs.KnownUnits.{KnowsUnits}
 use Rattle.csv_import.specs.Remarks.{HaveUnits}
 use Rattle.csv_import.specs.declared.row_entry.Counts.{Counts}
+use Rattle.csv_import.proofs.Counting.{room_there}
 use Rattle.csv_import.proofs.Imports.{after_is, can_enter, entered_is, has_imported, now, refusal_is, same_desk, texts_stay, told_is}
 use Rattle.refinement.proofs.Passing.{if_ok_with}
 
@@ -65,6 +66,14 @@ have_units source file units s within has rows same told alike =
 -- the tables can be read as those of a catalogue that takes rows
 pub shown_legible : (places : Trees → Forest ℕ → Type 0) (version : Version) (db : Database) (s : State) → IsSoundOffice s → RepresentsState places version db s → RepresentsLegible places version db (office_of s) s.catalogue
 shown_legible places version db s g it = record { tables = it.catalogue; settings = settings_shown s (office_settings s g) }
+
+-- rows that can be placed and for which there is room, by the next number
+pub fits_now : (source : Bytes) (file : File) (today : ℤ) (numbers : Bytes → Option ℕ) (new next : ℕ) (s : State) → (today ≡ s.day) × (is_source source ≡ true) × CanBePlaced source file new s × KnowsUnits s.catalogue source file.rows numbers → Some next ≡ next_with_room new s.catalogue
+    → (today ≡ s.day) × (is_source source ≡ true) × FitsIn source file s × KnowsUnits s.catalogue source file.rows numbers × (next ≡ s.catalogue.next)
+fits_now source file today numbers new next s so is =
+    let placed = so.2 in
+    let room = room_there new s.catalogue next is in
+    (so.0, so.1, record { faults = placed.faults; room = ap (λ n. has_room n s.catalogue) (sym placed.new_is) ∙ room.0 }, so.3, room.1)
 
 -- a step that is refused for too many containers, or on which the gate has the last word
 judged_step : (places : Trees → Forest ℕ → Type 0) (version : Version) (s t : State) (asked : Command) (db : Database) → after s asked ≡ t

@@ -43,8 +43,8 @@ abbrev pub or_there : Option ℕ → Option ℕ → Option ℕ
 or_there None there = there
 or_there (Some depth) there = Some depth
 
--- `below` gives the depth of a row right below each of the new rows above, and below each catalogued unit whose path was
--- read; below any other parent it is as in the catalogue
+-- `below` gives the depth of a row right below each of the new rows above, and below each catalogued unit whose path
+-- was read; below any other parent it is as in the catalogue
 abbrev pub KnowsDepths : Forest Unit → Bytes → List Row → (Bytes → Option ℕ) → Type 0
 KnowsDepths f source above below =
     (parent : Bytes) → depth_under f source (Some parent) above ≡ or_there (below parent) (depth_under f source (Some parent) [])

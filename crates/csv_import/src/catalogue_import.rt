@@ -15,7 +15,7 @@ ghost use Rattle.catalogue_statements.specs.Settings.{AreLegibleSettings};
 ghost use Rattle.catalogue_statements.specs.Representation.{RepresentsSettings};
 ghost use Rattle.refinement.specs.CommandSteps.{CarriesOut};
 ghost use Rattle.refinement.specs.AccessConditions.{RepresentsWhole};
-ghost use Rattle.csv_import.specs.CatalogueImport.{CanBePlaced, FitsIn, HasNumbered, judged, told_of};
+ghost use Rattle.csv_import.specs.CatalogueImport.{CanBePlaced, HasNumbered, judged, told_of};
 ghost use Rattle.csv_import.specs.CatalogueImport as spec;
 ghost use Rattle.csv_import.specs.KnownUnits.{KnowsUnits};
 
@@ -109,31 +109,9 @@ fn judge<P: Places, S: Alter>(
     pass::<P, S>(alloc, conn, today, done)
 }
 
-/// Imports rows that can all be placed and for which there is room. `catalogued` has the numbers of the catalogued units
-/// among those of the rows and their parents. `next` is the next new number.
-fn import_rows<P: Places, S: Alter>(
-    alloc: Global,
-    conn: &mut Connection<S>,
-    today: Day,
-    source: &Text,
-    catalogued: &ByLegacy,
-    next: u64,
-    file: &File,
-) -> Result<Result<Done, Refusal>, StoreFault>
-    requires inside { InTransaction P.version (state S.Store conn.old) }
-    requires low { (legacy : Bytes) → IfSome (get_by_text catalogued.now legacy) IsNumber }
-    ensures { (bytes : Bytes) → file_of bytes ≡ Ok file.now → CarriesOut P.represents P.version
-        (λ s. (today ≡ s.day) × (is_source source.now ≡ true) × FitsIn source.now file.now s
-        × KnowsUnits s.catalogue source.now file.now.rows (get_by_text catalogued.now) × (next ≡ s.catalogue.next))
-        (command.Import source.now bytes) (state S.Store conn.old) (state S.Store conn.new) result }
-{
-    let outcome = enter_rows::<P, S>(alloc, conn, source, catalogued, next, file.rows.as_slice())?;
-    judge::<P, S>(alloc, conn, today, file, &outcome)
-}
-
 /// Imports rows that can all be placed, of which `new` are new, or refuses if there is no room for them. `catalogued`
 /// has the numbers of the catalogued units among those of the rows and their parents.
-fn import_placed<P: Places, S: Alter>(
+fn import_rows<P: Places, S: Alter>(
     alloc: Global,
     conn: &mut Connection<S>,
     today: Day,
@@ -152,35 +130,11 @@ fn import_placed<P: Places, S: Alter>(
     let Some(next) = next_with_room::<P, S>(alloc, conn, new)? else {
         return Ok(Err(Refusal::Full));
     };
-    import_rows::<P, S>(alloc, conn, today, source, catalogued, next, file)
+    let outcome = enter_rows::<P, S>(alloc, conn, source, catalogued, next, file.rows.as_slice())?;
+    judge::<P, S>(alloc, conn, today, file, &outcome)
 }
 
-/// Imports a file that was read. `catalogued` has the numbers of the catalogued units among those of the rows and their
-/// parents.
-fn import_known<P: Places, S: Alter>(
-    alloc: Global,
-    conn: &mut Connection<S>,
-    today: Day,
-    source: &Text,
-    catalogued: &ByLegacy,
-    file: &File,
-) -> Result<Result<Done, Refusal>, StoreFault>
-    requires inside { InTransaction P.version (state S.Store conn.old) }
-    requires low { (legacy : Bytes) → IfSome (get_by_text catalogued.now legacy) IsNumber }
-    ensures { (bytes : Bytes) → file_of bytes ≡ Ok file.now → CarriesOut P.represents P.version
-        (λ s. (today ≡ s.day) × (is_source source.now ≡ true)
-        × KnowsUnits s.catalogue source.now file.now.rows (get_by_text catalogued.now))
-        (command.Import source.now bytes) (state S.Store conn.old) (state S.Store conn.new) result }
-{
-    match plan::<P, S>(alloc, conn, catalogued, file.rows.as_slice())? {
-        Planned::Fits { new } => import_placed::<P, S>(
-            alloc, conn, today, source, catalogued, file, new,
-        ),
-        Planned::Faulty { row, cause } => Ok(Err(Refusal::BadFile { row, cause })),
-    }
-}
-
-/// Imports a file that was read.
+/// Imports a file that was read, or refuses it if one of its rows cannot be placed.
 fn import_read<P: Places, S: Alter>(
     alloc: Global,
     conn: &mut Connection<S>,
@@ -194,7 +148,12 @@ fn import_read<P: Places, S: Alter>(
         (state S.Store conn.old) (state S.Store conn.new) result }
 {
     let catalogued = known_units::<P, S>(alloc, conn, source, file.rows.as_slice())?;
-    import_known::<P, S>(alloc, conn, today, source, &catalogued, file)
+    match plan::<P, S>(alloc, conn, &catalogued, file.rows.as_slice())? {
+        Planned::Fits { new } => {
+            import_rows::<P, S>(alloc, conn, today, source, &catalogued, file, new)
+        }
+        Planned::Faulty { row, cause } => Ok(Err(Refusal::BadFile { row, cause })),
+    }
 }
 
 /// Imports a file of a source into the catalogue: units that exist get the file's values, and new units are added.

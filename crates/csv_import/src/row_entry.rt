@@ -291,8 +291,8 @@ fn enter_with_places<P: Places, S: Alter>(
 }
 
 /// Enters the rows of a file from a source, one after another: the unit of a row gets the row's values, or is added
-/// with the next number, which is `next` for the first. `catalogued` has the numbers of the catalogued units among those
-/// of the rows and their parents.
+/// with the next number, which is `next` for the first. `catalogued` has the numbers of the catalogued units among
+/// those of the rows and their parents.
 pub(crate) fn enter_rows<P: Places, S: Alter>(
     alloc: Global,
     conn: &mut Connection<S>,

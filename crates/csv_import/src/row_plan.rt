@@ -53,7 +53,8 @@ enum Placing {
 }
 
 /// How deep a new row lies: 1 for a top; none if its parent does not exist. The path of a catalogued parent is read
-/// once, because many rows of a file may have the same parent. `catalogued` has the parent's number if it is catalogued.
+/// once, because many rows of a file may have the same parent. `catalogued` has the parent's number if it is
+/// catalogued.
 fn depth_of<P: Places, S: Alter>(
     alloc: Global,
     conn: &mut Connection<S>,
@@ -95,8 +96,8 @@ fn placed(depth: Option<u64>) -> Placing
     }
 }
 
-/// How a row is placed, after the new rows above it in the file. `catalogued` has the numbers of its unit and its parent
-/// if these are catalogued.
+/// How a row is placed, after the new rows above it in the file. `catalogued` has the numbers of its unit and its
+/// parent if these are catalogued.
 fn place<P: Places, S: Alter>(
     alloc: Global,
     conn: &mut Connection<S>,
