@@ -13,7 +13,7 @@ import textwrap
 WIDTH = 128
 LONGEST = 44
 INDENT = "    "
-MARK = re.compile(r"(<!-- (laws|calls): ([\w: ]+) -->)\n.*?(<!-- end -->)", re.S)
+MARK = re.compile(r"(<!-- (laws|calls): ([\w: ]+) -->)\n(?:(?!<!-- ).)*(<!-- end -->)", re.S)
 FUNCTION = re.compile(r"(pub )?(?:pub\([^)]*\) )?(?:const |unsafe )*fn (\w+)")
 OWNER = re.compile(r"(pub )?(impl|trait)\b(.*?)\{?$")
 
@@ -153,4 +153,6 @@ def written(top, text):
             lines = [line for crate, begin in crates.items() for line in (f"`{crate}`", "", *laws(top, crate, begin), "")]
         return "\n".join([found[1], "", *lines, found[4]])
 
+    if len(MARK.findall(text)) != len(re.findall("<!-- (?:laws|calls):", text)):
+        sys.exit("a mark of laws or calls has no end, or cannot be read")
     return MARK.sub(block, text)
