@@ -1,23 +1,26 @@
 #!/usr/bin/env python3
-"""Compares random sessions about boxes that many units name with a plain office: boxes.py PROGRAM [FIRST [COUNT]]
+"""Compares random sessions about boxes that many units name with a plain office:
 
-These are sessions as in sessions.py, with other catalogues and other choices. A session begins with twenty to sixty units that
-share a few boxes: side by side, in turns or anyhow, below one fonds, in series or in a deep tree. In one of forty sessions
-there are thousands of units without a box between them. Then boxes are ordered, fetched and issued, while units in and above
-them are closed, withdrawn, moved, removed, imported again and opened to readers. `trial` must answer to the byte as
-acceptance/plain does.
+    boxes.py [--program PROGRAM] [--first SEED] [--count COUNT]
 
-The script prints how many sessions were equal, how often each command was accepted or refused, and what was so of the boxes
-that an order, a run, an issue or the gate judged. It ends with 1 and the first different answer if a session differs, and
-also if, in a hundred sessions or more, something came less often than LEAST says. The sessions of KEPT come too: each finds a
-wrong way to read a box in one pass."""
+These are sessions as in sessions.py, with other catalogues and other choices. A session begins with twenty to sixty
+units that share a few boxes: side by side, in turns or anyhow, below one fonds, in series or in a deep tree. In one of
+forty sessions there are thousands of units without a box between them. Then boxes are ordered, fetched and issued,
+while units in and above them are closed, withdrawn, moved, removed, imported again and opened to readers. `trial` must
+answer to the byte as acceptance/plain does.
+
+The script prints how many sessions were equal, how often each command was accepted or refused, and what was so of the
+boxes that an order, a run, an issue or the gate judged. It ends with 1 and the first different answer if a session
+differs, and also if, in a hundred sessions or more, something came less often than LEAST says. The sessions of KEPT
+come too: each finds a wrong way to read a box in one pass."""
 import itertools
 import json
 import sys
 
+import client
 import plain
 import sessions
-from sessions import count, days
+from sessions import count
 
 LEAST = 10
 KEPT = {
@@ -111,7 +114,7 @@ class BoxSession(sessions.Session):
 
     def some_settings(self):
         chosen = {"seats": "200", "daily": "50", "hands": self.random.choice(["3", "10"]), "run": self.random.choice("1359")}
-        return days.USUAL | chosen
+        return client.SETTINGS | chosen
 
     def beginning(self):
         """A catalogue, readers, in half of the sessions closed units that are open to a reader, and boxes that go out."""
@@ -239,21 +242,16 @@ class BoxSession(sessions.Session):
     }
 
 
-def main(program, first=0, number=200):
-    seeds = sorted(set(KEPT) | set(range(int(first), int(first) + int(number))))
-    held = sum(sessions.is_held(program, BoxSession(seed)) for seed in seeds)
+def main():
+    given = client.seeded(__doc__, 200).parse_args()
+    seeds = sorted(set(KEPT) | set(range(given.first, given.first + given.count)))
+    held = sum(sessions.is_held(given.program, BoxSession(seed)) for seed in seeds)
     print(f"of {len(seeds)} random sessions about boxes, {len(KEPT)} of kept seeds, {held} were answered as by a plain office")
     judged = {kind: count.pop(("judged", kind), 0) for kind in KINDS}
-    asked = ((f"{path} {code or ''}".strip(), times) for (path, code), times in sorted(count.items()) if path.startswith("/"))
-    print(f"commands, and those refused by number: {sessions.listed(asked)}")
+    sessions.tell_commands()
     print(f"what was so of boxes that were judged: {sessions.listed(judged.items())}")
-    rare = [kind for kind, times in judged.items() if times < LEAST] if int(number) >= 100 else []
-    if rare:
-        print(f"came less than {LEAST} times: {rare}")
-    return bool(rare) or held != len(seeds)
+    return not sessions.is_enough(judged, LEAST, given.count) or held != len(seeds)
 
 
 if __name__ == "__main__":
-    if len(sys.argv) < 2:
-        sys.exit(__doc__)
-    sys.exit(main(*sys.argv[1:]))
+    sys.exit(main())

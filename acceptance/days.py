@@ -1,10 +1,10 @@
 #!/usr/bin/env python3
-"""Plays days of an office with the program: days.py PROGRAM ROOM [DAY STORE]
+"""Plays days of an office with the program: days.py [--program PROGRAM] [--room DIRECTORY] [DAY STORE]
 
-Each file days/*.day is given to `trial`, in one piece and byte by byte, and to `talk` on a new store. Each must print the
-answers of the file, and the store must be sound afterwards. With DAY and STORE only this day is played, on that store. The
-script prints how many days it played. It ends with 1 if a result is wrong, there is no day, or less than a third of the days
-have other settings than the usual ones. A day has these lines:
+Each file days/*.day is given to `trial`, in one piece and byte by byte, and to `talk` on a new store. Each must print
+the answers of the file, and the store must be sound afterwards. With DAY and STORE only this day is played, on that
+store. The script prints how many days it played. It ends with 1 if a result is wrong, there is no day, or less than a
+third of the days have other settings than the usual ones. A day has these lines:
 
     # what it is about
     with NAME VALUE ..  settings other than country GB, repo 0999, seats 2, daily 3, hands 1, run 2, day 2024-03-01
@@ -29,55 +29,13 @@ import threading
 from pathlib import Path
 from urllib.parse import unquote_to_bytes
 
+import client
+from client import Ended, Office
+
 HERE = Path(__file__).parent
-USUAL = {"country": "GB", "repo": "0999", "seats": "2", "daily": "3", "hands": "1", "run": "2", "day": "2024-03-01"}
-PHRASES = {"200": "OK", "400": "Bad Request", "404": "Not Found", "409": "Conflict"}
 ENDED = {"end": (0, b""), "closed": (0, b""), "cut": (3, b"cut\n")}
 ENDS = {"": b"\r\n", "$": b"\n", "^": b"\r", "|": b""}
-
-
-def options(settings):
-    return [word for name, value in settings.items() for word in (f"--{name}", value)]
-
-
-SETTINGS = options(USUAL)
-
-
-def post(path, body):
-    return f"POST {path} HTTP/1.1\r\nHost: x\r\nContent-Length: {len(body)}\r\n\r\n".encode() + body
-
-
-def get(path):
-    return f"GET {path} HTTP/1.1\r\nHost: x\r\n\r\n".encode()
-
-
-def answer(status, kind, body):
-    head = f"HTTP/1.1 {status} {PHRASES[status]}\r\nContent-Type: {kind}\r\nContent-Length: {len(body)}\r\n\r\n"
-    return head.encode() + body
-
-
-def whole(words, said):
-    """Runs the program with the whole input; returns its status, output and message."""
-    done = subprocess.run([PROGRAM, *words], input=said, capture_output=True, timeout=300)
-    return done.returncode, done.stdout, done.stderr
-
-
-def by_bytes(words, said):
-    """The same, but each read gets one byte, a packet of a socket."""
-    ours, theirs = socket.socketpair(socket.AF_UNIX, socket.SOCK_SEQPACKET)
-
-    def feed():
-        with ours, contextlib.suppress(BrokenPipeError, ConnectionResetError):
-            for byte in said:
-                ours.send(bytes([byte]))
-
-    with theirs:
-        program = subprocess.Popen([PROGRAM, *words], stdin=theirs, stdout=subprocess.PIPE, stderr=subprocess.PIPE)
-    feeding = threading.Thread(target=feed)
-    feeding.start()
-    printed, told = program.communicate(timeout=60)
-    feeding.join()
-    return program.returncode, printed, told
+LONGEST = 300
 
 
 class Day:
@@ -86,7 +44,7 @@ class Day:
     If no line is raw, `asked` has each request with its answer: method, path, body, status and text."""
 
     def __init__(self, name, folder, text):
-        self.name, self.folder, self.settings = name, folder, dict(USUAL)
+        self.name, self.folder, self.settings = name, folder, dict(client.SETTINGS)
         self.said = self.answered = self.told = b""
         self.status, self.kept, self.asked, self.is_raw = 0, [], [], False
         self.filled, self.weight = None, 0
@@ -111,16 +69,16 @@ class Day:
         elif word in ("GET", "POST"):
             self.ask(word, rest, lines)
         else:
-            self.take(word, rest or lines, "application/json" if rest else "text/plain; charset=utf-8")
+            self.take(word, rest or lines, client.JSON if rest else client.TEXT)
 
     def ask(self, method, rest, lines):
         path, _, body = rest.partition(" ")
         said = (self.folder / body[1:]).read_bytes() if body[:1] == "@" else (body or lines).encode()
-        self.said += get(path) if method == "GET" else post(path, said)
+        self.said += client.get(path) if method == "GET" else client.post(path, said)
         self.asked.append([method, path, said])
 
     def take(self, status, text, kind):
-        self.answered += answer(status, kind, text.encode())
+        self.answered += client.reply(int(status), text.encode(), kind)
         if self.asked:
             self.asked[-1] += [int(status), text]
 
@@ -136,18 +94,12 @@ class Day:
         else:
             self.answered += rest.encode() + ENDS[word[1:]]
 
-    def is_held(self, *words, run=whole):
-        """Whether the program answers as the day says; prints the difference if it does not."""
-        told, wanted = run(words, self.said), (self.status, self.answered, self.told)
-        if told != wanted:
-            print(f"WRONG {self.name} by {words[0]}, {run.__name__}: {parted(told, wanted)}")
-        return told == wanted
-
-    def is_tried(self, run=whole):
-        return self.is_held("trial", *options(self.settings), run=run)
+    def wanted(self):
+        """How a session with the program must end."""
+        return Ended(self.status, self.answered, self.told)
 
     def has_other_settings(self):
-        return any(self.settings[it] != USUAL[it] for it in ("seats", "daily", "hands", "run"))
+        return any(self.settings[it] != client.SETTINGS[it] for it in ("seats", "daily", "hands", "run"))
 
     def is_kept(self, store):
         """Whether the tables of a store have what the day says."""
@@ -161,46 +113,109 @@ class Day:
         return True
 
 
-def parted(told, wanted):
-    """Where two results differ, from some bytes before the first difference."""
-    place = next((n for n, (a, b) in enumerate(zip(told[1], wanted[1])) if a != b), min(len(told[1]), len(wanted[1])))
-    first = max(0, place - 200)
-    return f"{told[0]}, {told[1][first:place + 200]}, {told[2]}, wanted {wanted[0]}, {wanted[1][first:place + 200]}, {wanted[2]}"
-
-
-def does(day, *words):
-    done = subprocess.run([PROGRAM, *words], capture_output=True, timeout=300)
-    if done.returncode:
-        print(f"WRONG {day.name}, {words[0]}: {done.returncode}, {done.stdout + done.stderr}")
-    return not done.returncode
-
-
-def is_kept(day, store):
-    """Whether the day goes as written on a new store, which then is sound and has what the day says."""
-    opened = "--store", store
-    made = does(day, "init", *opened, *options(day.settings)) and day.is_held("talk", *opened)
-    return made and does(day, "check", *opened) and day.is_kept(store)
-
-
 def written():
+    """The days in the files of days/."""
     return [Day.of(it) for it in sorted((HERE / "days").glob("*.day"))]
 
 
-def main(room, day=None, store=None):
-    if day:
-        return not Day.of(Path(day)).is_held("talk", "--store", store)
+def of_table(table, prefix=""):
+    """Days that a script makes: the name of each with its lines."""
+    return [Day(f"{prefix}{name}", None, "".join(f"{it}\n" for it in lines)) for name, lines in table.items()]
+
+
+# ---- days with the program
+
+
+def is_answered(day, ended, how):
+    """Whether the program answered as the day says; prints the difference if it did not."""
+    if ended != day.wanted():
+        print(f"WRONG {day.name} by {how}: {client.first_difference(ended, day.wanted())}")
+    return ended == day.wanted()
+
+
+def does(day, ended, command, output=b""):
+    """Whether a command ended well."""
+    if ended != Ended(0, output, b""):
+        print(f"WRONG {day.name}, {command}: {ended}")
+    return ended == Ended(0, output, b"")
+
+
+def is_tried(program, day):
+    """Whether `trial` answers the whole input."""
+    return is_answered(day, program.trial(day.said, day.settings, LONGEST), "trial")
+
+
+def is_read_by_bytes(program, day):
+    """The same, but each read gets one byte, a packet of a socket."""
+    ours, theirs = socket.socketpair(socket.AF_UNIX, socket.SOCK_SEQPACKET)
+
+    def feed():
+        with ours, contextlib.suppress(BrokenPipeError, ConnectionResetError):
+            for byte in day.said:
+                ours.send(bytes([byte]))
+
+    with theirs:
+        words = [program.path, "trial", *client.option_words(day.settings)]
+        running = subprocess.Popen(words, stdin=theirs, stdout=subprocess.PIPE, stderr=subprocess.PIPE)
+    feeding = threading.Thread(target=feed)
+    feeding.start()
+    printed, told = running.communicate(timeout=client.PATIENCE)
+    feeding.join()
+    return is_answered(day, Ended(running.returncode, printed, told), "trial, byte by byte")
+
+
+def is_talked(day, office):
+    """Whether `talk` on this office answers."""
+    return is_answered(day, office.talk(day.said, timeout=LONGEST), "talk")
+
+
+def is_sound(day, office):
+    return does(day, office.check(timeout=LONGEST), "check", b"sound\n")
+
+
+def is_kept(program, day, room):
+    """Whether the day goes as written on a new store, which then is sound and has what the day says."""
+    office = Office(program, room / f"{day.name}.db")
+    made = does(day, office.init(day.settings), "init") and is_talked(day, office)
+    return made and is_sound(day, office) and day.is_kept(office.store)
+
+
+def play(text, made, what, is_by_bytes=False):
+    """Plays the days that a script makes; prints how many were held in every way, and returns the exit status."""
+    given, held = client.options(text).parse_args(), 0
+    with client.temporary(given.room) as room:
+        for day in made:
+            is_held = is_tried(given.program, day) and (not is_by_bytes or is_read_by_bytes(given.program, day))
+            held += is_held and is_kept(given.program, day, room)
+    ways = "by trial, byte by byte and over a store" if is_by_bytes else "by trial and over a store"
+    print(f"of {len(made)} days {what} {held} were held {ways}")
+    return not made or held != len(made)
+
+
+def play_written(program, room):
+    """Plays the days of the files, and returns the exit status."""
     days = written()
-    tried = sum(day.is_tried() for day in days)
-    read = sum(day.is_tried(by_bytes) for day in days)
-    kept = sum(is_kept(day, f"{room}/{day.name}.db") for day in days)
+    tried = sum(is_tried(program, day) for day in days)
+    read = sum(is_read_by_bytes(program, day) for day in days)
+    kept = sum(is_kept(program, day, room) for day in days)
     other = sum(day.has_other_settings() for day in days)
     print(f"of {len(days)} days {tried} were held by trial, {read} byte by byte, and {kept} over a store")
     print(f"{other} of them have other settings than 2 seats, 3 orders a day, 1 in hands and 2 a run")
     return not days or {tried, read, kept} != {len(days)} or 3 * other < len(days)
 
 
+def main():
+    words = client.options(__doc__)
+    words.add_argument("on_store", nargs="*", type=Path, metavar="DAY STORE")
+    given = words.parse_args()
+    if given.on_store:
+        if len(given.on_store) != 2:
+            words.error("a DAY needs its STORE")
+        day, store = given.on_store
+        return not is_talked(Day.of(day), Office(given.program, store))
+    with client.temporary(given.room) as room:
+        return play_written(given.program, room)
+
+
 if __name__ == "__main__":
-    if len(sys.argv) < 3:
-        sys.exit(__doc__)
-    PROGRAM = sys.argv[1]
-    sys.exit(main(*sys.argv[2:]))
+    sys.exit(main())

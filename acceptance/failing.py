@@ -1,47 +1,35 @@
 #!/usr/bin/env python3
-"""Makes the disk fail while the program goes on: failing.py PROGRAM ROOM [HOW:KEPT ..]
+"""Makes the disk fail while the program goes on:
 
-It runs a new office, an import, a session of every command, a migration, a server with three connections, and a check and a
-session on a store whose long log is written into the file. Each is run with a disk that fails at the first, second, .. call
-by which the program changes its files, until a run meets no failure. stop.c makes the failures and explains HOW and KEPT; if
-no pair is named, all are tried.
+    failing.py [--program PROGRAM] [--room DIRECTORY] [HOW:KEPT ..]
 
-The program must end by itself: as without a failure; with `store fault` and 3; or, in a session, with 503 after the same
-answers as an undisturbed session gives. Then `check` and `talk` open the store on a disk that works. It must be sound, and
-show the office after all commands that were answered as done, and after at most the one more that was reported as failed. An
-`init` that failed leaves no file, and succeeds when it is called again. The script prints a line for each of them, and ends
-with 1 if a result is wrong.
-"""
+It runs a new office, an import, a session of every command, a migration, a server with three connections, and a check
+and a session on a store whose long log is written into the file. Each is run with a disk that fails at the first,
+second, .. call by which the program changes its files, until a run meets no failure. stop.c makes the failures and
+explains HOW and KEPT; if no pair is named, all are tried.
+
+The program must end by itself: as without a failure; with `store fault` and 3; or, in a session, with 503 after the
+same answers as an undisturbed session gives. Then `check` and `talk` open the store on a disk that works. It must be
+sound, and show the office after all commands that were answered as done, and after at most the one more that was
+reported as failed. An `init` that failed leaves no file, and succeeds when it is called again. The script prints a line
+for each of them, and ends with 1 if a result is wrong."""
 import contextlib
 import itertools
 import os
 import shutil
 import socket
-import subprocess
 import sys
-import tempfile
 from concurrent.futures import ThreadPoolExecutor
-from pathlib import Path
 
+import client
 import stopped
-from stopped import Command, copied, perform
+from client import BUSY, Ended, Office, get, post
+from stopped import LONGEST, Command, copied
 
 PAIRS = [f"{how}:{kept}" for how in ("broken", "once", "late", "full") for kept in stopped.KEPT] + ["unread:all"]
-BUSY = (
-    b"HTTP/1.1 503 Service Unavailable\r\nContent-Type: application/json\r\n"
-    b'Content-Length: 16\r\nConnection: close\r\n\r\n{"error":"busy"}'
-)
-FAULT = 3, b"", b"store fault\n"
-SOUND = 0, b"sound\n"
-PORTS = itertools.count(20_000 + os.getpid() % 10_000)
-
-
-def get(path):
-    return f"GET {path} HTTP/1.1\r\nHost: x\r\n\r\n".encode()
-
-
-def post(path, body=""):
-    return stopped.post(path, body).asked
+FAULT = Ended(3, b"", b"store fault\n")
+TAKEN = b"net fault\n"
+SOUND = client.SOUND[:2]
 
 
 def register(name):
@@ -79,60 +67,62 @@ def every_command(units):
     ]
 
 
-def talk(store, asked, **disk):
-    return perform(Command(["talk"], b"".join(asked)), store, **disk)
+def talk(office, asked, **disk):
+    return office.talk(*asked, timeout=LONGEST, **disk)
 
 
-def look(store):
-    """What `check` says of a store, its tables as sqlite3 reads them, and answers to questions."""
-    return stopped.look(store), talk(store, [QUESTIONS])
+def look(office):
+    """What `check` says of an office, its tables as sqlite3 reads them, and answers to questions."""
+    return stopped.look(office), talk(office, [QUESTIONS])
 
 
 class Tries:
-    """Runs of one kind on copies of a store, with a disk that fails."""
+    """Runs of one kind on copies of an office, with a disk that fails."""
 
     def __init__(self, name, before, room):
         self.name, self.before, self.room = name, before, room
         self.fates, self.wrong = [], []
 
     def looked(self, *asked):
-        """A look at a copy of the store after these requests, and their answers."""
-        store = copied(self.before, self.room)
-        answers = talk(store, asked)[1] if asked else b""
-        return look(store), answers
+        """A look at a copy of the office after these requests, and their answers."""
+        office = copied(self.before, self.room)
+        answers = talk(office, asked).output if asked else b""
+        return look(office), answers
 
-    def run(self, store, **disk):
-        """How a run ended, and what the store may show then. The first entry is the office after all that was answered as done."""
+    def run(self, office, **disk):
+        """How a run ended, and what the office may show then; first what it is after all that was answered as done."""
         raise NotImplementedError
 
-    def is_left_well(self, store, ended):
+    def is_left_well(self, office, ended):
         return True
 
-    def fail(self, number, how, kept):
-        """Makes the disk fail at this call, and looks at the store. False if there was no such call."""
-        store = copied(self.before, self.room)
-        mark = store.parent / "failed"
-        ended, may_show = self.run(store, LD_PRELOAD=SHIM, FAIL=str(number), HOW=how, KEPT=kept, FAILED=str(mark))
-        has_failed, seen = mark.exists(), look(store)
-        if seen not in may_show or not self.is_left_well(store, ended):
+    def fail(self, shim, number, how, kept):
+        """Makes the disk fail at this call, and looks at the office. False if there was no such call."""
+        office = copied(self.before, self.room)
+        mark = office.store.parent / "failed"
+        disk = {"LD_PRELOAD": shim, "FAIL": str(number), "HOW": how, "KEPT": kept, "FAILED": str(mark)}
+        ended, may_show = self.run(office, **disk)
+        has_failed, seen = mark.exists(), look(office)
+        if seen not in may_show or not self.is_left_well(office, ended):
             self.wrong.append(f"WRONG {self.name}, {how} at call {number}, kept {kept}: {ended}, {seen[0][:2]}")
         elif has_failed:
             self.fates += self.fates_of(ended, seen != may_show[0])
-        shutil.rmtree(store.parent)
+        shutil.rmtree(office.store.parent)
         return has_failed
 
     def fates_of(self, ended, is_done):
-        is_told = ended[2] == FAULT[2] or BUSY in ended[1]
+        is_told = ended[2] == FAULT.message or BUSY in ended[1]
         return ["failure", *["told"] * is_told, *["done"] * is_done]
 
-    def all_failures(self, how, kept):
+    def all_failures(self, shim, how, kept):
         for number in itertools.count(1):
-            if not self.fail(number, how, kept):
+            if not self.fail(shim, number, how, kept):
                 return
 
     def lines(self):
         failures, told, done = (self.fates.count(it) for it in ("failure", "told", "done"))
-        return [f"{self.name}: {failures} failures, {told} were told, {done} of these were done all the same", *self.wrong]
+        counts = f"{failures} failures, {told} were told, {done} of these were done all the same"
+        return [f"{self.name}: {counts}", *self.wrong]
 
 
 class Commands(Tries):
@@ -141,20 +131,20 @@ class Commands(Tries):
     def __init__(self, name, before, room, *words):
         super().__init__(name, before, room)
         self.command, self.after = Command([name, *words]), copied(before, room)
-        self.whole = perform(self.command, self.after)
+        self.whole = self.command.perform(self.after)
         self.found, self.left = self.looked()[0], look(copied(self.after, room))
-        assert self.whole[0] == 0 and self.left[0][:2] == SOUND, (name, self.whole, self.left)
+        assert self.whole.status == 0 and self.left[0][:2] == SOUND, (name, self.whole, self.left)
 
-    def run(self, store, **disk):
-        ended = perform(self.command, store, **disk)
+    def run(self, office, **disk):
+        ended = self.command.perform(office, **disk)
         if ended == self.whole:
             return ended, [self.left]
         if ended != FAULT:
             return ended, []
         return ended, [self.found] if self.name == "init" else [self.found, self.left]
 
-    def is_left_well(self, store, ended):
-        return self.name != "init" or ended != FAULT or perform(self.command, store) == self.whole
+    def is_left_well(self, office, ended):
+        return self.name != "init" or ended != FAULT or self.command.perform(office) == self.whole
 
 
 class Sessions(Tries):
@@ -167,8 +157,8 @@ class Sessions(Tries):
         assert all(it[0][:2] == SOUND for it in self.looks), name
         assert self.answers[-1].count(b"HTTP/1.1 200 OK") == len(asked) - refused, self.answers
 
-    def run(self, store, **disk):
-        ended = talk(store, self.asked, **disk)
+    def run(self, office, **disk):
+        ended = talk(office, self.asked, **disk)
         if ended == FAULT:
             return ended, self.looks[:1]
         if ended == (0, self.answers[-1], b""):
@@ -179,25 +169,22 @@ class Sessions(Tries):
         return ended, []
 
 
-def ask(port, asked):
+def ask(server, asked):
     """Asks on a new connection; returns the answer, or nothing if the connection breaks."""
-    with contextlib.suppress(OSError), socket.create_connection(("127.0.0.1", port), 20) as it:
+    with contextlib.suppress(OSError), server.connected(20) as it:
         it.sendall(asked)
         it.shutdown(socket.SHUT_WR)
         return b"".join(iter(lambda: it.recv(4096), b""))
     return b""
 
 
-def serve(store, asked, **disk):
+def serve(office, asked, **disk):
     """Asks a server, each request on its own connection; returns its status, answers and message."""
-    port = next(PORTS)
-    words = ["serve", "--store", store, "--port", str(port), "--connections", str(len(asked))]
-    streams = {"stdout": subprocess.PIPE, "stderr": subprocess.PIPE}
-    with subprocess.Popen(["timeout", "120", stopped.PROGRAM, *words], env={**os.environ, **disk}, **streams) as program:
-        listens = program.stdout.readline() == f"listening {port}\n".encode()
-        answers = [ask(port, it) for it in asked] if listens else []
-        told = program.stderr.read()
-    return serve(store, asked, **disk) if told == b"net fault\n" else (program.returncode, answers, told)
+    with office.served(len(asked), **disk) as server:
+        listens = server.said == b"listening %d\n" % server.port
+        answers = [ask(server, it) for it in asked] if listens else []
+        ended = server.ended(LONGEST)
+    return serve(office, asked, **disk) if ended.message == TAKEN else (ended.status, answers, ended.message)
 
 
 class Servers(Tries):
@@ -212,16 +199,16 @@ class Servers(Tries):
             self.looks[there], said = self.looked(*there)
             self.answers |= {(there, it): self.looked(*there, it)[1][len(said) :] for it in self.ASKED}
 
-    def run(self, store, **disk):
-        status, answers, told = ended = serve(store, self.ASKED, **disk)
-        if (status, told) == (0, b"") or (status, answers, told) == (3, [], FAULT[2]):
+    def run(self, office, **disk):
+        status, answers, told = ended = serve(office, self.ASKED, **disk)
+        if (status, told) == (0, b"") or (status, answers, told) == (3, [], FAULT.message):
             return ended, [self.looks[it] for it in self.registered(answers)]
         return ended, []
 
     def registered(self, answers):
-        """The readers who may be registered then, as a list of possibilities. The first has those who were answered. After a
-        registration that got 503 there is a second, with that reader; an answer to a later request rules it out. A question
-        that gets 503 shows that the store is shut: no later request may be answered."""
+        """The readers who may be registered then, as a list of possibilities. The first has those who were answered.
+        After a registration that got 503 there is a second, with that reader; a later answer rules it out.
+        A question that gets 503 shows that the store is shut: no later request may be answered."""
         there, maybe, is_shut = (), [], False
         for asked, answer in zip(self.ASKED, answers):
             after = there if asked == READER else (*there, asked)
@@ -242,71 +229,62 @@ class Servers(Tries):
         return [f"{first}; {self.fates.count('shut')} times the store was shut", *wrong]
 
 
-def body_of_answer(stream):
-    length = 0
-    for line in iter(stream.readline, b"\r\n"):
-        length = int(line.partition(b"Content-Length: ")[2] or length)
-    return stream.read(length)
-
-
-def registers(store, most):
-    """Registers up to this many readers, kills the program, and returns their number. It stops early when the log is written
-    into the file."""
-    words, streams = [stopped.PROGRAM, "talk", "--store", store], {"stdin": subprocess.PIPE, "stdout": subprocess.PIPE}
-    with subprocess.Popen(words, **streams) as program:
+def registers(office, most):
+    """Registers up to this many readers, kills the program, and returns their number. It stops early when the log is
+    written into the file."""
+    with office.session() as session:
         made, written = 0, set()
         while made < most and len(written) < 2:
-            program.stdin.write(ANN)
-            program.stdin.flush()
-            body_of_answer(program.stdout)
-            written.add(os.stat(store).st_mtime_ns)
+            session.ask(ANN)
+            written.add(os.stat(office.store).st_mtime_ns)
             made += 1
-        program.kill()
     return made
 
 
 def long_log(before, room):
-    """A store whose program was killed, with a log that the next command writes into the file."""
+    """An office whose program was killed, with a log that the next command writes into the file."""
     most = 5000
     made = registers(copied(before, room), most)
     assert made < most
-    store = copied(before, room)
-    registers(store, made - 1)
-    return store
+    office = copied(before, room)
+    registers(office, made - 1)
+    return office
 
 
-def all_tries(room):
-    """What is tried, each on the store that an earlier one left; and separately what has a long log, which takes many reads."""
+def all_tries(program, room):
+    """What is tried, each on the office that an earlier one left; and what has a long log, which takes many reads."""
     units = room / "units.csv"
     units.write_text(stopped.file_of_units())
-    made = Commands("init", room / "none.db", room, *stopped.SETTINGS)
+    made = Commands("init", Office(program, room / "none.db"), room, *stopped.SETTINGS)
     taken = Commands("import", made.after, room, "--source", "a", str(units))
     long = long_log(taken.after, room)
     return [
         made,
         taken,
         Sessions("talk", taken.after, room, every_command(units.read_text()), refused=1),
-        Commands("migrate", stopped.HERE / "version1.db", room),
+        Commands("migrate", Office(program, stopped.HERE / "version1.db"), room),
         Servers(taken.after, room),
     ], [Commands("check", long, room), Sessions("talk, a long log", long, room, [ANN, READER, BEN])]
 
 
-def main(room, pairs):
-    short, long = all_tries(room)
-    runs = [(it, *pair.split(":")) for pair in pairs for it in short + long if it in short or pair != "unread:all"]
-    with ThreadPoolExecutor(os.cpu_count()) as pool:
-        for it in [pool.submit(it.all_failures, *how) for it, *how in runs]:
-            it.result()
-    tried = dict.fromkeys(it for it, *_ in runs)
+def main():
+    words = client.options(__doc__)
+    words.add_argument("pairs", nargs="*", type=client.one_of(PAIRS), metavar="HOW:KEPT", help=", ".join(PAIRS))
+    given = words.parse_args()
+    with client.temporary(given.room) as room:
+        short, long = all_tries(given.program, room)
+        shim, pairs = stopped.built_shim(room), given.pairs or PAIRS
+        runs = [(it, *pair.split(":")) for pair in pairs for it in short + long if it in short or pair != "unread:all"]
+        with ThreadPoolExecutor(os.cpu_count()) as pool:
+            for it in [pool.submit(it.all_failures, shim, *how) for it, *how in runs]:
+                it.result()
+    tried = list(dict.fromkeys(it for it, *_ in runs))
     for it in tried:
         print("\n".join(it.lines()))
+    failures = sum(it.fates.count("failure") for it in tried)
+    print(f"{failures} failures in {len(tried)} kinds of runs, {sum(len(it.wrong) for it in tried)} of them wrong")
     return any(it.wrong or not it.fates for it in tried)
 
 
 if __name__ == "__main__":
-    if len(sys.argv) < 3:
-        sys.exit(__doc__)
-    stopped.PROGRAM = str(Path(sys.argv[1]).resolve())
-    with tempfile.TemporaryDirectory(dir=sys.argv[2]) as where:
-        SHIM = stopped.built_shim(Path(where))
-        sys.exit(main(Path(where), sys.argv[3:] or PAIRS))
+    sys.exit(main())

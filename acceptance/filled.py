@@ -1,20 +1,21 @@
 #!/usr/bin/env python3
-"""Days of offices that are nearly full: filled.py PROGRAM ROOM [NAME ..]
+"""Days of offices that are nearly full: filled.py [--program PROGRAM] [--room DIRECTORY] [NAME ..]
 
-Requests would take too long to reach the limits on units, their numbers, containers, tickets, runs and orders. So `init`
-makes a store, SQLite fills a table up to some rows below its limit, and `check` must find it sound. Then `talk` is asked for
-the last row that there is room for, and for one more. That one must be refused as Full, unless an earlier check refuses it.
-Then comes `check` again. The script prints how long each day took, and ends with 1 if a result is wrong.
+Requests would take too long to reach the limits on units, their numbers, containers, tickets, runs and orders. So
+`init` makes a store, SQLite fills a table up to some rows below its limit, and `check` must find it sound. Then `talk`
+is asked for the last row that there is room for, and for one more. That one must be refused as Full, unless an earlier
+check refuses it. Then comes `check` again. The script prints how long each day took, and ends with 1 if a result is
+wrong.
 
-There may be ten million orders, so their day is played only if it is named: a slow build of the program took more than a
-minute to open 300,000. mutation/rules.py plays all these days with the office of acceptance/plain, in which the rows that
-SQLite would write are only counted."""
+There may be ten million orders, so their day is played only if it is named: a slow build of the program took more than
+a minute to open 300,000. mutation/rules.py plays all these days with the office of acceptance/plain, in which the rows
+that SQLite would write are only counted."""
 import contextlib
 import sqlite3
 import sys
 import time
-from pathlib import Path
 
+import client
 import days
 
 UNTIL = 'until":"2024-12-31"}'
@@ -241,6 +242,7 @@ def fill(office, day):
 
 
 def made():
+    """The days, each with the name of what fills its office."""
     made = []
     for name, text in DAYS.items():
         day = days.Day(f"filled_{name}", None, text)
@@ -249,35 +251,35 @@ def made():
     return made
 
 
-def is_filled(day, store):
-    with contextlib.closing(sqlite3.connect(store)) as connection:
+def is_filled(day, office):
+    """Fills the tables of an office; whether it is sound then."""
+    with contextlib.closing(sqlite3.connect(office.store)) as connection:
         connection.execute("PRAGMA foreign_keys = ON")
         for statement in SQL[day.filled]:
             connection.execute(statement)
         connection.commit()
-    return days.does(day, "check", "--store", store)
+    return days.is_sound(day, office)
 
 
-def is_held(day, room):
-    store, begun = f"{room}/{day.name}.db", time.time()
-    opened = "--store", store
-    held = days.does(day, "init", *opened, *days.options(day.settings)) and is_filled(day, store)
-    held = held and day.is_held("talk", *opened) and days.does(day, "check", *opened)
-    print(f"{day.filled}: {time.time() - begun:.0f} s")
-    for it in Path(room).glob(f"{day.name}.db*"):
-        it.unlink()
+def is_held(program, day, where):
+    """Whether the day goes as written on a new office; prints how long it took."""
+    with client.temporary(where) as room:
+        office, begun = client.Office(program, room / "office.db"), time.time()
+        held = days.does(day, office.init(day.settings), "init") and is_filled(day, office)
+        held = held and days.is_talked(day, office) and days.is_sound(day, office)
+        print(f"{day.filled}: {time.time() - begun:.0f} s")
     return held
 
 
-def main(room, *names):
-    wanted = [it for it in made() if (it.filled in names if names else it.filled not in BY_HAND)]
-    held = sum(is_held(day, room) for day in wanted)
+def main():
+    words = client.options(__doc__)
+    words.add_argument("names", nargs="*", type=client.one_of(DAYS), metavar="NAME", help=", ".join(DAYS))
+    given = words.parse_args()
+    wanted = [it for it in made() if (it.filled in given.names if given.names else it.filled not in BY_HAND)]
+    held = sum(is_held(given.program, day, given.room) for day in wanted)
     print(f"of {len(wanted)} days of offices that are nearly full {held} were held")
     return not wanted or held != len(wanted)
 
 
 if __name__ == "__main__":
-    if len(sys.argv) < 3:
-        sys.exit(__doc__)
-    days.PROGRAM = sys.argv[1]
-    sys.exit(main(*sys.argv[2:]))
+    sys.exit(main())

@@ -1,10 +1,10 @@
 #!/usr/bin/env python3
-"""Heads of requests, each answered by its rule: heads.py PROGRAM ROOM
+"""Heads of requests, each answered by its rule: heads.py [--program PROGRAM] [--room DIRECTORY]
 
-Most of these heads end the connection, so each would need a day of its own; they are made here from tables, in the form that
-days.py describes. After each head comes a question, which is answered if the connection stays open and not if it is closed.
-Each day is given to `trial`, in one piece and byte by byte, and to `talk` on a new store in ROOM. The script prints how many
-days it played, and ends with 1 if a result is wrong."""
+Most of these heads end the connection, so each would need a day of its own; they are made here from tables, in the form
+that days.py describes. After each head comes a question, which is answered if the connection stays open and not if it
+is closed. Each day is given to `trial`, in one piece and byte by byte, and to `talk` on a new store. The script prints
+how many days it played, and ends with 1 if a result is wrong."""
 import sys
 
 import days
@@ -203,21 +203,8 @@ DAYS["an_empty_line_of_one_byte"][2:2] = NOTHING
 
 
 def made():
-    return [days.Day(f"heads_{name}", None, "".join(f"{it}\n" for it in lines)) for name, lines in DAYS.items()]
-
-
-def is_held(day, room):
-    return day.is_tried() and day.is_tried(days.by_bytes) and days.is_kept(day, f"{room}/{day.name}.db")
-
-
-def main(room):
-    held = sum(is_held(day, room) for day in made())
-    print(f"of {len(DAYS)} days of heads {held} were held by trial, byte by byte and over a store")
-    return held != len(DAYS)
+    return days.of_table(DAYS, "heads_")
 
 
 if __name__ == "__main__":
-    if len(sys.argv) < 3:
-        sys.exit(__doc__)
-    days.PROGRAM = sys.argv[1]
-    sys.exit(main(*sys.argv[2:]))
+    sys.exit(days.play(__doc__, made(), "of heads", is_by_bytes=True))

@@ -1,24 +1,23 @@
 #!/usr/bin/env python3
-"""Plays a day around a box of 4,000 items: large_box.py PROGRAM ROOM
+"""Plays a day around a box of 4,000 items: large_box.py [--program PROGRAM] [--room DIRECTORY]
 
-Each row of the file names its box. Box 2 holds 4,000 items that lie side by side in a series, and six more behind a series of
-2,500 items without a box; every hundredth of its items lies in box 3 too. Box 1 is that of a series whose items name none, save
-some that lie in boxes of their own. The day orders, fetches, issues and returns these boxes, and closes, withdraws, moves,
-removes and imports units in them, above them and beside them.
+Each row of the file names its box. Box 2 holds 4,000 items that lie side by side in a series, and six more behind a
+series of 2,500 items without a box; every hundredth of its items lies in box 3 too. Box 1 is that of a series whose
+items name none, save some that lie in boxes of their own. The day orders, fetches, issues and returns these boxes, and
+closes, withdraws, moves, removes and imports units in them, above them and beside them.
 
-The program plays the day by `talk` on a store in ROOM. Each answer must be that of acceptance/plain to the byte, the store must
-be sound afterwards, and all must be done within a minute. The script ends with 1 if not."""
+The program plays the day by `talk` on a new store. Each answer must be that of acceptance/plain to the byte, the store
+must be sound afterwards, and all must be done within a minute. The script ends with 1 if not."""
 import subprocess
 import sys
 import time
-from pathlib import Path
 
-import days
+import client
 import plain
 import sessions
 
 SECONDS = 60
-SETTINGS = days.USUAL | {"seats": "3", "daily": "20", "hands": "3", "run": "3"}
+SETTINGS = client.SETTINGS | {"seats": "3", "daily": "20", "hands": "3", "run": "3"}
 FONDS, LARGE, APART, LATER, HOUSE = 1, 2, 3, 4, 5
 ITEMS, BESIDE, LAST, BELOW = 4000, 2500, 6, 300
 FIRST_ITEM = HOUSE + 1
@@ -167,15 +166,15 @@ class Day:
             self.question(path)
 
     def command(self, code, word, members):
-        path = "/public/orders" if word == "orders" else f"/desk/{word}"
+        path = client.path_of(word)
         body = members if isinstance(members, str) else plain.as_json(members)
         status, told = self.office.post(path, body.encode())
         if told.get("code", 0) != code:
             raise Unlike(f"{path} {body[:100]}: {told}, wanted refusal {code}")
-        self.keep(days.post(path, body.encode()), status, told)
+        self.keep(client.post(path, body), status, told)
 
     def question(self, path):
-        self.keep(days.get(path), *self.office.get(path))
+        self.keep(client.get(path), *self.office.get(path))
 
     def keep(self, request, status, told):
         self.said.append(request)
@@ -192,27 +191,30 @@ def first_wrong(day, printed):
     return None if place == len(printed) else f"more than was asked: {printed[place:place + 400]}"
 
 
-def main(program, room):
-    day, store = Day(plain.Office(**SETTINGS)), str(Path(room) / "large_box.db")
+def played(program, store, day):
+    """The office, how a session of the day ended, and the seconds that both took."""
     begun = time.monotonic()
-    try:
-        subprocess.run([program, "init", "--store", store, *days.options(SETTINGS)], check=True, timeout=SECONDS)
-        talk = [program, "talk", "--store", store]
-        done = subprocess.run(talk, input=b"".join(day.said), capture_output=True, timeout=SECONDS)
-    except subprocess.TimeoutExpired:
-        print(f"WRONG a day around a box of {ITEMS:,} items takes more than {SECONDS} seconds")
-        return True
-    taken = time.monotonic() - begun
-    wrong = first_wrong(day, done.stdout)
-    if wrong or done.returncode or done.stderr:
-        print(f"WRONG a day around a box of {ITEMS:,} items: {done.returncode}, {done.stderr}, {wrong}")
-        return True
-    told = subprocess.run([program, "check", "--store", store], capture_output=True, timeout=SECONDS).stdout
-    print(f"{len(day.said)} requests around a box of {ITEMS:,} items were answered as by a plain office in {taken:.1f} s")
-    return told != b"sound\n" or taken > SECONDS
+    office = client.Office.made(program, store, SETTINGS, timeout=SECONDS)
+    ended = office.talk(*day.said, timeout=SECONDS)
+    return office, ended, time.monotonic() - begun
+
+
+def main():
+    given, day = client.options(__doc__).parse_args(), Day(plain.Office(**SETTINGS))
+    what = f"around a box of {ITEMS:,} items"
+    with client.temporary(given.room) as room:
+        try:
+            office, ended, taken = played(given.program, room / "office.db", day)
+        except subprocess.TimeoutExpired:
+            print(f"WRONG a day {what} takes more than {SECONDS} seconds")
+            return True
+        wrong = first_wrong(day, ended.output)
+        if wrong or ended.status or ended.message:
+            print(f"WRONG a day {what}: {ended.status}, {ended.message}, {wrong}")
+            return True
+        print(f"{len(day.said)} requests {what} were answered as by a plain office in {taken:.1f} s")
+        return office.check(timeout=SECONDS) != client.SOUND or taken > SECONDS
 
 
 if __name__ == "__main__":
-    if len(sys.argv) < 3:
-        sys.exit(__doc__)
-    sys.exit(main(*sys.argv[1:]))
+    sys.exit(main())

@@ -1,10 +1,12 @@
 #!/usr/bin/env python3
-"""What an office, a file and a connection take at most, and one more: limits.py PROGRAM ROOM
+"""What an office, a file and a connection take at most, and one more:
 
-The limits are those on permits of a ticket, settings, rows of a file, bytes of a field, fields and bytes of a head, and messages
-of a connection. Such days are too long to be written down, so they are made here from the rules, in the form that days.py
-describes. Each is given to `trial`, and to `talk` on a new store in ROOM. The script prints how many days it played, and ends
-with 1 if a result is wrong."""
+    limits.py [--program PROGRAM] [--room DIRECTORY]
+
+The limits are those on permits of a ticket, settings, rows of a file, bytes of a field, fields and bytes of a head, and
+messages of a connection. Such days are too long to be written down, so they are made here from the rules, in the form
+that days.py describes. Each is given to `trial`, and to `talk` on a new store. The script prints how many days it
+played, and ends with 1 if a result is wrong."""
 import sys
 
 import days
@@ -172,21 +174,8 @@ DAYS = {
 
 
 def made():
-    return [days.Day(name, None, "".join(f"{it}\n" for it in lines)) for name, lines in DAYS.items()]
-
-
-def is_held(day, room):
-    return day.is_tried() and days.is_kept(day, f"{room}/{day.name}.db")
-
-
-def main(room):
-    held = sum(is_held(day, room) for day in made())
-    print(f"of {len(DAYS)} days at a limit {held} were held by trial and over a store")
-    return held != len(DAYS)
+    return days.of_table(DAYS)
 
 
 if __name__ == "__main__":
-    if len(sys.argv) < 3:
-        sys.exit(__doc__)
-    days.PROGRAM = sys.argv[1]
-    sys.exit(main(*sys.argv[2:]))
+    sys.exit(days.play(__doc__, made(), "at a limit"))

@@ -1,23 +1,22 @@
 #!/usr/bin/env python3
-"""The lists for the staff, over an office that the program made, with titles and names that try to be markup or formulas:
+"""The lists for the staff, over an office that the program made, with titles and names that try to be markup or
+formulas:
 
-    acceptance/lists.py PROGRAM [FOLDER]
+    lists.py [--program PROGRAM] [--room DIRECTORY] [--folder FOLDER]
 
-The lists stay in FOLDER, if one is given. Which orders no run can fetch is compared with what runs of the program leave.
-The last line is `N passed, M failed`.
-"""
+The lists stay in FOLDER, if one is given. Which orders no run can fetch is compared with what runs of the program
+leave. The last line is `N passed, M failed`."""
 
 import csv
 import html.parser
-import json
 import pathlib
 import subprocess
 import sys
-import tempfile
 
-TOP = pathlib.Path(__file__).resolve().parent.parent
-LISTS = TOP / "packaging" / "lists"
-SETTINGS = "--country GB --repo 0999 --seats 12 --daily 8 --hands 2 --run 20 --day 2024-03-01".split()
+import client
+
+LISTS = client.TOP / "packaging" / "lists"
+SETTINGS = client.SETTINGS | {"seats": "12", "daily": "8", "hands": "2", "run": "20"}
 COLUMNS = "legacyId,parentId,identifier,title,levelOfDescription,publicationStatus,physicalObjectName,physicalObjectLocation\n"
 MARKUP = "</td></table><script>alert(1)</script>&amp;"
 FORMULA = "=HYPERLINK('http://example.org')"
@@ -59,18 +58,6 @@ COMMANDS = [
 ]
 
 
-class Checks:
-    def __init__(self):
-        self.passed = self.failed = 0
-
-    def same(self, what, found, wanted):
-        if found == wanted:
-            self.passed += 1
-        else:
-            self.failed += 1
-            print(f"{what}: {found!r} is not {wanted!r}")
-
-
 class Shown(html.parser.HTMLParser):
     """The cells of a page's body, row by row, and the names of its elements."""
 
@@ -91,22 +78,15 @@ class Shown(html.parser.HTMLParser):
             self.rows[-1][-1] += text.strip("\n")
 
 
-def request(path, body):
-    body = (body if isinstance(body, str) else json.dumps(body)).encode()
-    path = "/public/orders" if path == "orders" else f"/desk/{path}"
-    return b"POST %s HTTP/1.1\r\nHost: x\r\nContent-Length: %d\r\n\r\n%s" % (path.encode(), len(body), body)
-
-
-def make_office(program, folder, checks):
-    """An office in which each list has something, and its copy."""
-    store = folder / "office.db"
-    subprocess.run([program, "init", "--store", store, *SETTINGS], check=True)
-    messages = b"".join(request(path, body) for path, body, _ in [("import/a", FIRST, 200), *COMMANDS])
-    told = subprocess.run([program, "talk", "--store", store], input=messages, capture_output=True, check=True).stdout.decode()
-    statuses = [int(part[:3]) for part in told.split("HTTP/1.1 ")[1:]]
-    checks.same("the answers of the session", statuses, [200] + [status for _, _, status in COMMANDS])
-    subprocess.run([program, "check", "--store", store], check=True, capture_output=True)
-    return store
+def make_office(program, room, checks):
+    """An office in which each list has something."""
+    office = client.Office.made(program, room / "office.db", SETTINGS)
+    said = [("import/a", FIRST, 200), *COMMANDS]
+    ended = office.talk(*(client.post(client.path_of(word), body) for word, body, _ in said))
+    statuses = [reply.status for reply in client.replies(ended.output)]
+    checks.same("the answers of the session", statuses, [status for _, _, status in said])
+    checks.same("the office", office.check(), client.SOUND)
+    return office
 
 
 def make_lists(copy, folder, *words):
@@ -170,30 +150,27 @@ def check_pages(checks, folder):
         checks.same(f"{page.name} has readers' names", has_names, named)
 
 
-def waiting_orders(program, store):
+def waiting_orders(office):
     """The orders that still wait, as the program tells them."""
-    messages = b"".join(b"GET /desk/queue/%d HTTP/1.1\r\nHost: x\r\n\r\n" % container for container in range(1, 8))
-    told = subprocess.run([program, "talk", "--store", store], input=messages, capture_output=True, check=True).stdout.decode()
-    queues = [json.loads(part.split("HTTP/1.1")[0]) for part in told.split("\r\n\r\n")[1:]]
-    return sorted(line["order"] for queue in queues for line in queue["waiting"])
+    ended = office.talk(*(client.get(f"/desk/queue/{container}") for container in range(1, 8)))
+    return sorted(line["order"] for queue in client.replies(ended.output) for line in queue.json()["waiting"])
 
 
-def main(program, folder=None):
-    checks = Checks()
-    memory = pathlib.Path("/dev/shm")  # where no sync waits for a disk
-    with tempfile.TemporaryDirectory(dir=memory if memory.is_dir() else None) as room:
-        room = pathlib.Path(room)
-        folder = pathlib.Path(folder or room / "lists")
+def main():
+    words = client.options(__doc__)
+    words.add_argument("--folder", type=pathlib.Path, help="where the lists are written, and stay")
+    given, checks = words.parse_args(), client.Checks()
+    with client.temporary(given.room) as room:
+        folder = given.folder or room / "lists"
         folder.mkdir(parents=True, exist_ok=True)
-        store = make_office(pathlib.Path(program).resolve(), room, checks)
+        office = make_office(given.program, room, checks)
         (room / "newest.csv").write_text(NEWEST)
-        make_lists(store, folder, "--source", "a", "--file", room / "newest.csv")
-        make_lists(store, folder)
-        check_lists(checks, folder, waiting_orders(pathlib.Path(program).resolve(), store))
+        make_lists(office.store, folder, "--source", "a", "--file", room / "newest.csv")
+        make_lists(office.store, folder)
+        check_lists(checks, folder, waiting_orders(office))
         check_pages(checks, folder)
-    print(f"{checks.passed} passed, {checks.failed} failed")
-    return 1 if checks.failed else 0
+    return checks.ends()
 
 
 if __name__ == "__main__":
-    sys.exit(main(*sys.argv[1:]))
+    sys.exit(main())

@@ -1,17 +1,20 @@
 #!/usr/bin/env python3
-"""Compares random heads of requests with a plain office: random_heads.py PROGRAM [FIRST [COUNT]]
+"""Compares random heads of requests with a plain office:
 
-Each of COUNT inputs (100) has its own seed, from FIRST (0) on. An input is up to forty requests: methods, targets, versions,
-lengths, fields and bodies are drawn from pools in which most are right. In every other input some requests end the connection:
-by their version, hosts, length or fields, or by a byte that the head lost, gained or changed. `trial` must write the bytes that
-acceptance/plain writes, and end as it ends. The script prints how often each status and each end came. It ends with 1 if an
-input differs, or if, in a hundred inputs or more, a status or an end did not come."""
+    random_heads.py [--program PROGRAM] [--first SEED] [--count COUNT]
+
+Each of COUNT inputs (100) has its own seed, from SEED (0) on. An input is up to forty requests: methods, targets,
+versions, lengths, fields and bodies are drawn from pools in which most are right. In every other input some requests
+end the connection: by their version, hosts, length or fields, or by a byte that the head lost, gained or changed.
+`trial` must write the bytes that acceptance/plain writes, and end as it ends. The script prints how often each status
+and each end came. It ends with 1 if an input differs, or if, in a hundred inputs or more, a status or an end did not
+come."""
 import collections
 import random
 import re
-import subprocess
 import sys
 
+import client
 import days
 import plain
 
@@ -111,26 +114,24 @@ def is_held(program, seed):
     output, ended = plain.talk(plain.Office(), said)
     count.update(it.decode() for it in re.findall(rb"HTTP/1\.1 ([0-9]{3}) ", output))
     count[ended] += 1
-    done = subprocess.run([program, "trial", *days.SETTINGS], input=said, capture_output=True, timeout=60)
     status, message = days.ENDED[ended]
-    told, wanted = (done.returncode, done.stdout, done.stderr), (status, output, message)
-    if told != wanted:
-        print(f"WRONG input {seed}: {days.parted(told, wanted)}")
-    return told == wanted
+    found, wanted = program.trial(said), client.Ended(status, output, message)
+    if found != wanted:
+        print(f"WRONG input {seed}: {client.first_difference(found, wanted)}")
+    return found == wanted
 
 
-def main(program, first=0, number=100):
-    held = sum(is_held(program, seed) for seed in range(int(first), int(first) + int(number)))
-    print(f"of {number} random inputs {held} were answered as by a plain office")
+def main():
+    given = client.seeded(__doc__, 100).parse_args()
+    held = sum(is_held(given.program, seed) for seed in range(given.first, given.first + given.count))
+    print(f"of {given.count} random inputs {held} were answered as by a plain office")
     print("what came: " + ", ".join(f"{name} {times}" for name, times in sorted(count.items())))
     names = ["100", "200", "400", "404", "405", "409", "411", "413", "501", *days.ENDED]
-    missing = [it for it in names if not count[it]] if int(number) >= 100 else []
+    missing = [it for it in names if not count[it]] if given.count >= 100 else []
     if missing:
         print(f"did not come: {missing}")
-    return bool(missing) or held != int(number)
+    return bool(missing) or held != given.count
 
 
 if __name__ == "__main__":
-    if len(sys.argv) < 2:
-        sys.exit(__doc__)
-    sys.exit(main(*sys.argv[1:]))
+    sys.exit(main())

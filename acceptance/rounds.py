@@ -1,14 +1,15 @@
 #!/usr/bin/env python3
-"""Fifty rounds of every command and every question as one session: rounds.py PROGRAM
+"""Fifty rounds of every command and every question as one session: rounds.py [--program PROGRAM]
 
 Each round imports a file, has a reader order, sit, be served and leave, and asks for all that it made. Every answer is
 computed here from the rules. The script ends with 1 if an answer differs or is missing."""
 import json
-import subprocess
 import sys
 
-SETTINGS = "--country GB --repo 0999 --seats 2 --daily 3 --hands 1 --run 2 --day 2024-03-01".split()
-ROUNDS = 50
+import client
+from client import get, post
+
+ROUNDS, LONGEST = 50, 300
 EVER = "9999-12-31"
 BOXES = """legacyId,identifier,title,publicationStatus,physicalObjectName,physicalObjectLocation
 1,A,Plans,Published,Box 1,Strongroom 2
@@ -16,19 +17,10 @@ BOXES = """legacyId,identifier,title,publicationStatus,physicalObjectName,physic
 3,C,Maps,Published,Box 3,Strongroom 1
 4,D,Deeds,Published,Box 4,Strongroom 1
 """
-TEXT, JSON = "text/plain; charset=utf-8", "application/json"
 
 
-def get(path):
-    return f"GET {path} HTTP/1.1\r\nHost: x\r\n\r\n"
-
-
-def post(path, body):
-    return f"POST {path} HTTP/1.1\r\nHost: x\r\nContent-Length: {len(body)}\r\n\r\n{body}"
-
-
-def answer(body, kind=JSON):
-    return f"HTTP/1.1 200 OK\r\nContent-Type: {kind}\r\nContent-Length: {len(body)}\r\n\r\n{body}"
+def answer(body, kind=client.JSON):
+    return client.reply(200, body.encode(), kind)
 
 
 def told(**members):
@@ -36,7 +28,7 @@ def told(**members):
 
 
 def asked(path, **members):
-    return post(path, json.dumps(members))
+    return post(path, members)
 
 
 def day_of(round):
@@ -75,10 +67,10 @@ def at_the_desk(round):
         (asked("/public/orders", ticket=ticket, container=1), told(order=first)),
         (asked("/public/orders", ticket=ticket, container=2), told(order=second)),
         (asked("/desk/cancel", order=second), told(order=second)),
-        (post("/desk/run", ""), told(run=round + 1, taken=1)),
+        (post("/desk/run"), told(run=round + 1, taken=1)),
         (asked("/desk/issue", container=1, ticket=ticket), told(order=first)),
         (asked("/desk/return", container=1), told(order=first)),
-        (post("/desk/reshelve", ""), told(containers=[1])),
+        (post("/desk/reshelve"), told(containers=[1])),
         (asked("/desk/leave", ticket=ticket), told(seat=1)),
         (asked("/desk/revoke", ticket=ticket, unit=unit), told(unit=unit)),
     ]
@@ -96,37 +88,32 @@ def questions(round):
     queue = {"container": 1, "name": "Box 1", "out": None, "place": "shelf", "waiting": []}
     reader = {"name": "Ann", "orders": [], "seat": None, "ticket": ticket, "until": EVER}
     return [
-        (get("/public/fonds"), answer(fonds, TEXT)),
-        (get(f"/public/aid/{unit}"), answer(aid, TEXT)),
-        (get(f"/public/units/{unit}"), answer(page, TEXT)),
+        (get("/public/fonds"), answer(fonds, client.TEXT)),
+        (get(f"/public/aid/{unit}"), answer(aid, client.TEXT)),
+        (get(f"/public/units/{unit}"), answer(page, client.TEXT)),
         (get(f"/desk/readers/{ticket}"), told(**reader)),
         (get("/desk/queue/1"), told(**queue)),
-        (get(f"/desk/runs/{round + 1}"), answer(slip, TEXT)),
+        (get(f"/desk/runs/{round + 1}"), answer(slip, client.TEXT)),
         (get("/desk/issued"), answer("[]")),
         (get(f"/desk/permits/{ticket}"), answer("[]")),
     ]
 
 
-def main(program):
+def main():
+    program, at = client.options(__doc__).parse_args().program, 0
     parts = [part for round in range(ROUNDS) for part in in_the_catalogue(round) + at_the_desk(round) + questions(round)]
-    session = "".join(request for request, _ in parts)
-    ended = subprocess.run(
-        [program, "trial", *SETTINGS], input=session.encode(), capture_output=True, timeout=300, check=False
-    )
-    said, at = ended.stdout.decode(), 0
+    ended = program.trial(b"".join(request for request, _ in parts), timeout=LONGEST)
     for request, wanted in parts:
-        if not said.startswith(wanted, at):
-            print(f"WRONG: {request!r} was answered {said[at : at + len(wanted) + 60]!r}, wanted {wanted!r}")
+        if not ended.output.startswith(wanted, at):
+            print(f"WRONG: {request!r} was answered {ended.output[at : at + len(wanted) + 60]!r}, wanted {wanted!r}")
             return 1
         at += len(wanted)
-    if ended.returncode != 0 or at != len(said) or ended.stderr:
-        print(f"WRONG end of fifty rounds: {ended.returncode}, {said[at:]!r}, {ended.stderr!r}")
+    if ended.status != 0 or at != len(ended.output) or ended.message:
+        print(f"WRONG end of fifty rounds: {ended.status}, {ended.output[at:]!r}, {ended.message!r}")
         return 1
     print(f"fifty rounds: {len(parts)} requests in one session, each answered as its rule says")
     return 0
 
 
 if __name__ == "__main__":
-    if len(sys.argv) < 2:
-        sys.exit(__doc__)
-    sys.exit(main(sys.argv[1]))
+    sys.exit(main())

@@ -1,22 +1,24 @@
 #!/usr/bin/env python3
-"""Compares random sessions of the program with a plain office: sessions.py PROGRAM [FIRST [COUNT]]
+"""Compares random sessions of the program with a plain office:
 
-Each of COUNT sessions (200) has its own seed, from FIRST (0) on. The sessions of the seeds in seeds.txt come too. A seed
-chooses the settings, what rows may say, and how often each command comes. A session has seventy commands, chosen so that many
-are accepted and most refusals come, and three questions after each. Some sessions begin with a chain of units, with a ticket
-that has a hundred permits, or with a file that is not text. `trial` must answer to the byte as acceptance/plain does.
+    sessions.py [--program PROGRAM] [--first SEED] [--count COUNT]
 
-The script prints how many sessions were equal, how often each command was accepted or refused, and how often each refusal,
-cause, remark, state of a container and kind of permit came. It ends with 1 and the first different answer if a session
-differs, and also if, in a hundred sessions or more, something came less often than LEAST says."""
+Each of COUNT sessions (200) has its own seed, from SEED (0) on. The sessions of the seeds in seeds.txt come too. A seed
+chooses the settings, what rows may say, and how often each command comes. A session has seventy commands, chosen so
+that many are accepted and most refusals come, and three questions after each. Some sessions begin with a chain of
+units, with a ticket that has a hundred permits, or with a file that is not text. `trial` must answer to the byte as
+acceptance/plain does.
+
+The script prints how many sessions were equal, how often each command was accepted or refused, and how often each
+refusal, cause, remark, state of a container and kind of permit came. It ends with 1 and the first different answer if a
+session differs, and also if, in a hundred sessions or more, something came less often than LEAST says."""
 import collections
 import json
 import random
-import subprocess
 import sys
 from pathlib import Path
 
-import days
+import client
 import plain
 
 DAYS = ["2024-02-28", "2024-02-29", "2024-03-01", "2024-03-02", "2024-03-03", "2024-03-04", "2024-03-05", "2030-01-01"]
@@ -51,7 +53,7 @@ KEPT = Path(__file__).parent / "seeds.txt"
 STATES = ["shelf", "desk", "out"]
 PERMITS = ["new", "longer", "as it was", "expired", "revoked", "gone with its unit", "opens a closure", "below a closure"]
 CAUSES = [1, 2, 3, 4, 5, 6, 7, 8, 11, 12]
-LEAST, PATIENCE = 5, 60
+LEAST, ENOUGH = 5, 100
 count = collections.Counter()
 
 
@@ -73,9 +75,9 @@ class Session:
     def some_settings(self):
         """The usual settings in one session of three, random ones in the others."""
         if self.happens(0.35):
-            return dict(days.USUAL)
+            return dict(client.SETTINGS)
         chosen = {"seats": SEATS, "daily": DAILY, "hands": HANDS, "run": RUN, "country": ["GB", "DE"], "repo": ["0999", "x/1"]}
-        return days.USUAL | {name: str(self.random.choice(pool)) for name, pool in chosen.items()}
+        return client.SETTINGS | {name: str(self.random.choice(pool)) for name, pool in chosen.items()}
 
     def fewer(self, pool):
         """A part of a pool, or all of it."""
@@ -123,17 +125,17 @@ class Session:
         status, told = self.office.post(path, body)
         count["/".join(path.split("/")[:3]), told.get("code", 0)] += 1
         seen.command(self.office, path, body, told)
-        yield path, body, days.post(path, body), self.answer(status, told)
+        yield path, body, client.post(path, body), self.answer(status, told)
         for path in self.random.sample(self.questions(), 3):
             status, told = self.office.get(path)
             seen.question(self.office, path, status, told)
-            yield path, None, days.get(path), self.answer(status, told)
+            yield path, None, client.get(path), self.answer(status, told)
 
     @staticmethod
     def answer(status, told):
         if isinstance(told, str):
-            return days.answer(str(status), "text/plain; charset=utf-8", told.encode())
-        return days.answer(str(status), "application/json", plain.as_json(told).encode())
+            return client.reply(status, told.encode(), client.TEXT)
+        return client.reply(status, plain.as_json(told).encode())
 
     # ---- files
 
@@ -317,8 +319,7 @@ class Session:
         """The path and the body of a command: an import if there are no units, then a registration if there is no reader."""
         first = Session.import_file if not self.office.units else Session.register if not self.office.readers else None
         word, members = (first or self.random.choices(list(self.OFTEN), self.weights)[0])(self)
-        path = f"/public/{word}" if word == "orders" else f"/desk/{word}"
-        return path, members if isinstance(members, str) else json.dumps(members)
+        return client.path_of(word), members if isinstance(members, str) else json.dumps(members)
 
     def questions(self):
         office = self.office
@@ -372,17 +373,18 @@ class Seen:
 
 def is_held(program, session):
     """Whether the program answers a session as the plain office does; prints the difference if it does not."""
-    said = b"".join(it for _, _, it, _ in session.said)
-    words = [program, "trial", *days.options(session.settings)]
-    done = subprocess.run(words, input=said, capture_output=True, timeout=PATIENCE)
+    ended = program.trial(b"".join(it for _, _, it, _ in session.said), session.settings)
     place = 0
     for path, body, _, wanted in session.said:
-        if done.stdout[place : place + len(wanted)] != wanted:
-            told = done.stdout[place : place + 400]
-            print(f"WRONG session {session.seed}, {path} {body!r}: {done.returncode}, {told}, wanted {wanted}")
+        if ended.output[place : place + len(wanted)] != wanted:
+            told = ended.output[place : place + 400]
+            print(f"WRONG session {session.seed}, {path} {body!r}: {ended.status}, {told}, wanted {wanted}")
             return False
         place += len(wanted)
-    return (done.returncode, done.stderr, len(done.stdout)) == (0, b"", place)
+    if (ended.status, ended.message, len(ended.output)) != (0, b"", place):
+        print(f"WRONG end of session {session.seed}: {ended.status}, {ended.output[place:place + 400]}, {ended.message}")
+        return False
+    return True
 
 
 def wanted_counts():
@@ -395,22 +397,31 @@ def listed(counts):
     return ", ".join(f"{name} {times}" for name, times in counts)
 
 
-def main(program, first=0, number=200):
+def tell_commands():
+    """Prints how often each command was accepted, and refused by number."""
+    asked = ((f"{path} {code or ''}".strip(), times) for (path, code), times in sorted(count.items()) if path[0] == "/")
+    print(f"commands, and those refused by number: {listed(asked)}")
+
+
+def is_enough(came, least, number):
+    """Whether all that must come in a hundred sessions came so often."""
+    rare = [name for name, times in came.items() if times < least] if number >= ENOUGH else []
+    if rare:
+        print(f"came less than {least} times: {rare}")
+    return not rare
+
+
+def main():
+    given = client.seeded(__doc__, 200).parse_args()
     kept = {int(it.split()[0]) for it in KEPT.read_text().splitlines() if it and not it.startswith("#")}
-    seeds = sorted(kept | set(range(int(first), int(first) + int(number))))
-    held = sum(is_held(program, Session(seed)) for seed in seeds)
+    seeds = sorted(kept | set(range(given.first, given.first + given.count)))
+    held = sum(is_held(given.program, Session(seed)) for seed in seeds)
     print(f"of {len(seeds)} random sessions, {len(kept)} of kept seeds, {held} were answered as by a plain office")
     came = wanted_counts()
-    asked = ((f"{path} {code or ''}".strip(), times) for (path, code), times in sorted(count.items()))
-    print(f"commands, and those refused by number: {listed(asked)}")
+    tell_commands()
     print(f"what came: {listed(came.items())}")
-    rare = [name for name, times in came.items() if times < LEAST] if int(number) >= 100 else []
-    if rare:
-        print(f"came less than {LEAST} times: {rare}")
-    return bool(rare) or held != len(seeds)
+    return not is_enough(came, LEAST, given.count) or held != len(seeds)
 
 
 if __name__ == "__main__":
-    if len(sys.argv) < 2:
-        sys.exit(__doc__)
-    sys.exit(main(*sys.argv[1:]))
+    sys.exit(main())

@@ -1,47 +1,40 @@
 #!/usr/bin/env python3
-"""Asks a server over its sockets: sockets.py PROGRAM [PORT]
+"""Asks a server over its sockets: sockets.py [--program PROGRAM] [--room DIRECTORY] [--port PORT] [NAME ..]
 
 It tests:
 
-  - how many writes an answer takes, if strace is there, and how long 1,000 requests take on one connection, by Python and curl;
-  - that an answer that closes reaches a client that has sent more than is read, and that a client that then goes on sending a
-    little, or is silent, delays nobody for more than LAST seconds;
-  - that the server leaves clients that send nothing, stop inside a message or read nothing after PATIENCE seconds, and does not
-    carry out what they began;
+  - how many writes an answer takes, if strace is there, and how long 1,000 requests take on one connection, by Python
+    and curl;
+  - that an answer that closes reaches a client that has sent more than is read, and that a client that then goes on
+    sending a little, or is silent, delays nobody for more than LAST seconds;
+  - that the server leaves clients that send nothing, stop inside a message or read nothing after PATIENCE seconds, and
+    does not carry out what they began;
   - that nobody can connect after the last connection is taken, nor to another address of this machine.
 
-It takes some 90 seconds, nearly all of them waiting, and ends with 1 if a result is wrong."""
+With NAME only the tests of these names are made. All take some 90 seconds, nearly all of them waiting. The script
+prints how many results were right, and ends with 1 if one is wrong."""
 import contextlib
-import os
 import re
 import shutil
 import signal
 import socket
 import subprocess
 import sys
-import tempfile
 import threading
 import time
+
+import client
+from client import HOST, Reply
 
 PATIENCE = 10
 LATE = 5
 LAST = 30
 LAST_SILENCE = 4
-HERE = "127.0.0.1"
-SETTINGS = "--country GB --repo 0999 --seats 2 --daily 3 --hands 1 --run 2 --day 2024-03-01".split()
-FONDS = b"GET /public/fonds HTTP/1.1\r\nHost: x\r\n\r\n"
-AID = b"GET /public/aid/1 HTTP/1.1\r\nHost: x\r\n\r\n"
-ANN = b'{"name":"Ann","until":"2024-12-31"}'
-REGISTERED = b"POST /desk/register HTTP/1.1\r\nHost: x\r\nContent-Length: %d\r\n\r\n%s" % (len(ANN), ANN)
+FONDS, AID = client.get("/public/fonds"), client.get("/public/aid/1")
+REGISTERED = client.post("/desk/register", '{"name":"Ann","until":"2024-12-31"}')
 REFUSED = b"POST /desk/register HTTP/1.1\r\nHost: x\r\nContent-Length: +5\r\n\r\n"
-BAD = b'{"error":"bad request"}'
-wrong = []
-
-
-def same(what, found, wanted):
-    if found != wanted:
-        wrong.append(what)
-        print(f"WRONG {what}: {found}, wanted {wanted}")
+OK, BAD = b"HTTP/1.1 200 OK", b"HTTP/1.1 400 Bad Request"
+BROKEN = Reply(0, b"", b"")
 
 
 def rows(count):
@@ -51,205 +44,195 @@ def rows(count):
     return head + first + "".join(f"{it},1,{it},{'Minutes ' * 120},Series,Published\n" for it in range(2, count + 2))
 
 
-class Server:
-    """A server for this many connections, with a new office."""
+class Talk:
+    """A client of a server: a connection whose answers are read one by one."""
 
-    def __init__(self, program, port, connections, units=1):
-        self.room = tempfile.TemporaryDirectory()
-        self.store = f"{self.room.name}/office.db"
-        with open(f"{self.room.name}/file.csv", "w", encoding="utf-8") as file:
-            file.write(rows(units))
-        words = [program, "init", "--store", self.store, *SETTINGS]
-        subprocess.run(words, check=True, stdin=subprocess.DEVNULL)
-        words = [program, "import", "--store", self.store, "--source", "a", file.name]
-        subprocess.run(words, check=True, stdin=subprocess.DEVNULL, stdout=subprocess.DEVNULL)
-        words = [program, "serve", "--store", self.store, "--port", str(port), "--connections", str(connections)]
-        self.port, self.it = port, subprocess.Popen(words, stdin=subprocess.DEVNULL, stdout=subprocess.PIPE)
-        same("what a server says", self.it.stdout.readline(), b"listening %d\n" % port)
+    def __init__(self, connection):
+        self.connection, self.answers = connection, connection.makefile("rb")
 
     def __enter__(self):
         return self
 
     def __exit__(self, *_):
-        self.it.kill()
-        self.it.wait()
-        self.it.stdout.close()
-        self.room.cleanup()
+        self.answers.close()
+        self.connection.close()
 
-    def client(self, patience=60):
-        return socket.create_connection((HERE, self.port), patience)
+    def send(self, said):
+        self.connection.sendall(said)
 
-    def ends_well(self, what):
-        same(what, self.it.wait(timeout=60), 0)
-
-
-def message(client, held=b""):
-    """One answer: its head, its body and what came after it."""
-    while b"\r\n\r\n" not in held:
-        more = client.recv(65536)
-        if not more:
-            return held, b"", b""
-        held += more
-    head, rest = held.split(b"\r\n\r\n", 1)
-    size = int(re.search(rb"Content-Length: (\d+)", head)[1])
-    while len(rest) < size:
-        more = client.recv(65536)
-        if not more:
-            break
-        rest += more
-    return head, rest[:size], rest[size:]
+    def ask(self, request):
+        self.send(request)
+        return client.read_reply(self.answers)
 
 
-def status(head):
-    return head.split(b"\r\n")[0]
+class Tests:
+    """What is tried, each with servers of new offices."""
 
+    def __init__(self, given):
+        self.program, self.room, self.port, self.checks = given.program, given.room, given.port, client.Checks()
+        self.same = self.checks.same
 
-def asked(server, what, request=FONDS):
-    """Whether a new client is answered at once."""
-    with server.client(PATIENCE * 12) as client:
+    @contextlib.contextmanager
+    def server(self, connections, units=1):
+        """A server for this many connections, with a new office."""
+        with client.temporary(self.room) as room:
+            office, file = client.Office.made(self.program, room / "office.db"), room / "file.csv"
+            file.write_text(rows(units))
+            self.same("the end of an import", office.import_file("a", file).status, 0)
+            with office.served(connections, self.port) as server:
+                self.same("what a server says", server.said, b"listening %d\n" % server.port)
+                yield server
+
+    def ends_well(self, server, what):
+        self.same(what, server.ended(), client.Ended(0, b"", b""))
+
+    def next_client(self, server, what, request=FONDS):
+        """Asks with a new client, which must be answered; returns the seconds that it took and the answer."""
+        with Talk(server.connected(PATIENCE * 12)) as it:
+            begun = time.monotonic()
+            answer = it.ask(request)
+            self.same(f"{what}: the next client", answer.line, OK)
+            return time.monotonic() - begun, answer
+
+    # ---- many requests on one connection
+
+    def kept_open(self):
+        """1,000 requests on one connection, by Python and by curl."""
+        with self.server(9) as server:
+            with Talk(server.connected()) as it:
+                it.ask(FONDS)
+                begun = time.monotonic()
+                for _ in range(1000):
+                    it.ask(FONDS)
+                taken = time.monotonic() - begun
+            print(f"an answer on a connection that is kept open, by Python: {taken:.3f} ms")
+            self.same("1,000 answers come within 10 seconds", taken < 10, True)
+            if shutil.which("curl"):
+                self.kept_open_by_curl(server)
+
+    def kept_open_by_curl(self, server):
         begun = time.monotonic()
-        client.sendall(request)
-        head, body, _ = message(client)
-        same(f"{what}: the next client", status(head), b"HTTP/1.1 200 OK")
-        return time.monotonic() - begun, body
+        url = f"http://{HOST}:{server.port}/public/fonds?[1-1000]"
+        told = subprocess.run(["curl", "-s", "-S", url], capture_output=True, check=False).stdout
+        taken = time.monotonic() - begun
+        print(f"the same, by curl: {taken:.3f} ms")
+        self.same("what curl is told", told.count(b"\n"), 1000)
+        self.same("curl has 1,000 answers within 10 seconds", taken < 10, True)
 
+    def writes(self):
+        """How many writes the answers of 1,000 small and 3 large requests take, as strace counts them."""
+        if not shutil.which("strace"):
+            print("skipped: strace is not installed")
+            return
+        with self.server(9, 20) as server, client.temporary(self.room) as room:
+            calls, traced = room / "calls", "trace=sendto,write,writev,sendmsg"
+            words = ["strace", "-f", "-q", "-e", traced, "-o", calls, "-p", str(server.process.pid)]
+            tracer = subprocess.Popen(words)
+            time.sleep(1)
+            with Talk(server.connected()) as it:
+                for request in [FONDS] * 1000 + [AID] * 3:
+                    it.ask(request)
+            tracer.send_signal(signal.SIGINT)
+            tracer.wait()
+            lines = calls.read_text(encoding="utf-8", errors="replace").splitlines()
+            sent = [line for line in lines if re.search(r"(sendto|write|writev|sendmsg)\(", line)]
+            self.same("an answer that fits is one write, a long one two", len(sent), 1000 + 2 * 3)
 
-def kept_open(program, port):
-    """1,000 requests on one connection, by Python and by curl."""
-    with Server(program, port, 9) as server:
-        with server.client() as client:
-            message_of(client, FONDS)
-            begun = time.monotonic()
-            for _ in range(1000):
-                message_of(client, FONDS)
-            taken = time.monotonic() - begun
-        print(f"an answer on a connection that is kept open, by Python: {taken:.3f} ms")
-        same("1,000 answers come within 10 seconds", taken < 10, True)
-        if shutil.which("curl"):
-            begun = time.monotonic()
-            url = f"http://{HERE}:{port}/public/fonds?[1-1000]"
-            told = subprocess.run(["curl", "-s", "-S", url], capture_output=True, check=False).stdout
-            taken = time.monotonic() - begun
-            print(f"the same, by curl: {taken:.3f} ms")
-            same("what curl is told", told.count(b"\n"), 1000)
-            same("curl has 1,000 answers within 10 seconds", taken < 10, True)
+    # ---- answers that close
 
+    def not_lost(self):
+        """An answer that closes, to a client that has sent much more than is read."""
+        with self.server(6) as server:
+            for more in (0, 1, 100_000, 4_000_000, 8_388_608):
+                answer, rest = BROKEN, b""
+                with Talk(server.connected()) as it:
+                    with contextlib.suppress(ConnectionError):
+                        it.send(REFUSED + b"x" * more)
+                    try:
+                        answer = client.read_reply(it.answers)
+                        rest = it.answers.read()
+                    except ConnectionError as error:
+                        rest = str(error).encode()
+                self.same(f"the answer that closes, with {more} bytes more", answer.line, BAD)
+                whole = b'{"error":"bad request"}', b""
+                self.same(f"all of it, with {more} bytes more", (answer.body, rest), whole)
+            _, answer = self.next_client(server, "after these")
+            self.same("then the next", answer.body, b"1 GB 0999 HUL [Fonds] Hull Dock Company\n")
+            self.ends_well(server, "the end after these")
 
-def message_of(client, request):
-    client.sendall(request)
-    return message(client)
+    def trickling(self):
+        """After an answer that closes, a client that is silent, and one that sends a byte forty times a second."""
+        with self.server(4) as server:
+            with Talk(server.connected()) as it:
+                self.same("the answer that closes", it.ask(REFUSED).line, BAD)
+                taken, _ = self.next_client(server, "silent after its last answer")
+                what = f"silent after its last answer: left within {LAST_SILENCE} seconds"
+                self.same(what, taken < LAST_SILENCE, True)
+            with Talk(server.connected()) as it:
+                self.same("the answer that closes", it.ask(REFUSED).line, BAD)
+                over = threading.Event()
+                sender = threading.Thread(target=trickle, args=(it, over))
+                sender.start()
+                taken, _ = self.next_client(server, "a byte at a time after its last answer")
+                over.set()
+                sender.join()
+                self.same(f"a byte at a time after its last answer: left within {LAST} seconds", taken < LAST, True)
+            self.ends_well(server, "the end after these")
 
+    # ---- clients that the server leaves
 
-def writes(program, port):
-    """How many writes the answers of 1,000 small and 3 large requests take, as strace counts them."""
-    if not shutil.which("strace"):
-        print("left out what wants strace, which is not here")
-        return
-    with Server(program, port, 9, 20) as server:
-        said = f"{server.room.name}/calls"
-        words = ["strace", "-f", "-q", "-e", "trace=sendto,write,writev,sendmsg", "-o", said, "-p", str(server.it.pid)]
-        tracer = subprocess.Popen(words)
-        time.sleep(1)
-        with server.client() as client:
-            for _ in range(1000):
-                message_of(client, FONDS)
-            for _ in range(3):
-                message_of(client, AID)
-        tracer.send_signal(signal.SIGINT)
-        tracer.wait()
-        with open(said, encoding="utf-8", errors="replace") as file:
-            sent = [line for line in file if re.search(r"(sendto|write|writev|sendmsg)\(", line)]
-        same("an answer that fits is one write, a long one two", len(sent), 1000 + 2 * 3)
+    def silent(self):
+        """Clients that send nothing, or not all of a message, and one that sends nothing after its answer."""
+        begun = {"nothing": b"", "a part of a message": REGISTERED[:-5], "one message": REGISTERED}
+        with self.server(6) as server:
+            for what, said in begun.items():
+                with Talk(server.connected()) as it:
+                    it.send(said)
+                    if what == "one message":
+                        self.same("the first ticket", client.read_reply(it.answers).body, b'{"ticket":1}')
+                    taken, _ = self.next_client(server, what)
+                    is_in_time = PATIENCE - 1 < taken < PATIENCE + LATE
+                    self.same(f"{what}: left after {PATIENCE} seconds", is_in_time, True)
+            self.ends_well(server, "the end after silent clients")
 
-
-def not_lost(program, port):
-    """An answer that closes, to a client that has sent much more than is read."""
-    with Server(program, port, 6) as server:
-        for more in (0, 1, 100_000, 4_000_000, 8_388_608):
-            with server.client() as client:
-                with contextlib.suppress(ConnectionError):
-                    client.sendall(REFUSED + b"x" * more)
-                try:
-                    head, body, after = message(client)
-                    end = client.recv(1)
-                except ConnectionError as error:
-                    head, body, after, end = b"", b"", str(error).encode(), b""
-                same(f"the answer that closes, with {more} bytes more", status(head), b"HTTP/1.1 400 Bad Request")
-                same(f"all of it, with {more} bytes more", (body, after, end), (BAD, b"", b""))
-        same("then the next", asked(server, "after these")[1], b"1 GB 0999 HUL [Fonds] Hull Dock Company\n")
-        server.ends_well("the end after these")
-
-
-def trickling(program, port):
-    """After an answer that closes, a client that sends nothing more, and one that sends a byte forty times a second."""
-    with Server(program, port, 4) as server:
-        with server.client() as client:
-            same("the answer that closes", status(message_of(client, REFUSED)[0]), b"HTTP/1.1 400 Bad Request")
-            taken, _ = asked(server, "silent after its last answer")
-            same(f"silent after its last answer: left within {LAST_SILENCE} seconds", taken < LAST_SILENCE, True)
-        with server.client() as client:
-            same("the answer that closes", status(message_of(client, REFUSED)[0]), b"HTTP/1.1 400 Bad Request")
-            over = threading.Event()
-            sender = threading.Thread(target=trickle, args=(client, over))
-            sender.start()
-            taken, _ = asked(server, "a byte at a time after its last answer")
-            over.set()
-            sender.join()
-            same(f"a byte at a time after its last answer: left within {LAST} seconds", taken < LAST, True)
-        server.ends_well("the end after these")
-
-
-def trickle(client, over):
-    with contextlib.suppress(OSError):
-        while not over.wait(0.025):
-            client.sendall(b"x")
-
-
-def silent(program, port):
-    """Clients that send nothing, or not all of a message, and one that sends nothing after its answer."""
-    with Server(program, port, 6) as server:
-        for what, begun in (("nothing", b""), ("a part of a message", REGISTERED[:-5]), ("one message", REGISTERED)):
-            with server.client() as client:
-                client.sendall(begun)
-                if what == "one message":
-                    same("the first ticket", message(client)[1], b'{"ticket":1}')
-                taken, _ = asked(server, what)
-                same(f"{what}: left after {PATIENCE} seconds", PATIENCE - 1 < taken < PATIENCE + LATE, True)
-        server.ends_well("the end after silent clients")
-
-
-def unread(program, port):
-    """A client that asks for much and reads nothing."""
-    with Server(program, port, 2, 500) as server:
-        client = socket.socket()
-        with client:
-            client.setsockopt(socket.SOL_SOCKET, socket.SO_RCVBUF, 4096)
-            client.connect((HERE, port))
-            client.sendall(AID * 20)
-            taken, _ = asked(server, "read nothing")
+    def unread(self):
+        """A client that asks for much and reads nothing."""
+        with self.server(2, 500) as server:
+            with socket.socket() as it:
+                it.setsockopt(socket.SOL_SOCKET, socket.SO_RCVBUF, 4096)
+                it.connect((HOST, server.port))
+                it.sendall(AID * 20)
+                taken, _ = self.next_client(server, "read nothing")
             # after a write that moved some bytes in its time there is another write, so more than one may time out
             print(f"a client that reads nothing of long answers is left after {taken:.0f} s")
-            same(f"read nothing: left after {PATIENCE} seconds or more", PATIENCE - 1 < taken < 10 * PATIENCE, True)
-        server.ends_well("the end after a client that reads nothing")
+            is_in_time = PATIENCE - 1 < taken < 10 * PATIENCE
+            self.same(f"read nothing: left after {PATIENCE} seconds or more", is_in_time, True)
+            self.ends_well(server, "the end after a client that reads nothing")
+
+    def nobody_else(self):
+        """The server listens on no other address of this machine, and on none after the last connection is taken."""
+        with self.server(1) as server:
+            for address in ("127.0.0.2", *others()):
+                where = "of the loop" if address == "127.0.0.2" else "of a card"
+                self.same(f"another address, {where}", is_refused(address, server.port), True)
+            with Talk(server.connected()) as it:
+                it.ask(FONDS)
+                self.same("nobody connects once the last is taken", is_refused(HOST, server.port), True)
+            self.ends_well(server, "the end of one connection")
 
 
-def refused(address, port):
+def trickle(it, over):
+    with contextlib.suppress(OSError):
+        while not over.wait(0.025):
+            it.send(b"x")
+
+
+def is_refused(address, port):
     try:
         with socket.create_connection((address, port), 5):
             return False
     except ConnectionRefusedError:
         return True
-
-
-def nobody_else(program, port):
-    """The server listens on no other address of this machine, and on none after the last connection is taken."""
-    with Server(program, port, 1) as server:
-        for address in ("127.0.0.2", *others()):
-            same(f"another address, {'of the loop' if address == '127.0.0.2' else 'of a card'}", refused(address, port), True)
-        with server.client() as client:
-            message_of(client, FONDS)
-            same("nobody connects once the last is taken", refused(HERE, port), True)
-        server.ends_well("the end of one connection")
 
 
 def others():
@@ -260,13 +243,19 @@ def others():
     return []
 
 
+NAMES = ["kept_open", "writes", "not_lost", "trickling", "silent", "unread", "nobody_else"]
+
+
 def main():
-    program = os.path.realpath(sys.argv[1])
-    port = int(sys.argv[2]) if len(sys.argv) > 2 else 20000 + os.getpid() % 20000
-    for test in (kept_open, writes, not_lost, trickling, silent, unread, nobody_else):
-        test(program, port)
-    sys.exit(1 if wrong else 0)
+    words = client.options(__doc__)
+    words.add_argument("--port", type=int, default=next(client.PORTS))
+    words.add_argument("names", nargs="*", type=client.one_of(NAMES), metavar="NAME", help=", ".join(NAMES))
+    given = words.parse_args()
+    tests = Tests(given)
+    for name in given.names or NAMES:
+        getattr(tests, name)()
+    return tests.checks.ends()
 
 
 if __name__ == "__main__":
-    main()
+    sys.exit(main())

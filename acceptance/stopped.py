@@ -1,13 +1,14 @@
 #!/usr/bin/env python3
-"""Stops the program after each call by which it changes its files: stopped.py PROGRAM ROOM [KEPT ..]
+"""Stops the program after each call by which it changes its files:
+
+    stopped.py [--program PROGRAM] [--room DIRECTORY] [KEPT ..]
 
 A new office, an import, a closure, a move, an order, a run, an issue, a return and a migration are each stopped after
-their first, second, .. such call, until a run ends by itself. stop.c, loaded before the C library, stops them and leaves the
-files as KEPT says: whole, as when the program is killed, or without some of the unsynced data, as when the power fails. Then
-`check` opens the store. Its tables must be those before the command or those after it; if the command was answered, those
-after it. What a stopped `init` leaves may also be no office, which `check` reports as a store fault. The script prints a line
-for each command, and ends with 1 if a result is wrong.
-"""
+their first, second, .. such call, until a run ends by itself. stop.c, loaded before the C library, stops them and
+leaves the files as KEPT says: whole, as when the program is killed, or without some of the unsynced data, as when the
+power fails. Then `check` opens the store. Its tables must be those before the command or those after it; if the command
+was answered, those after it. What a stopped `init` leaves may also be no office, which `check` reports as a store
+fault. The script prints a line for each command, and ends with 1 if a result is wrong."""
 import itertools
 import os
 import shutil
@@ -19,20 +20,27 @@ from concurrent.futures import ThreadPoolExecutor
 from pathlib import Path
 from typing import NamedTuple
 
+import client
+from client import Office, post
+
 HERE = Path(__file__).resolve().parent
-SETTINGS = "--country GB --repo 0999 --seats 2 --daily 3 --hands 1 --run 2 --day 2024-03-01".split()
+SETTINGS = client.option_words(client.SETTINGS)
 KEPT = ["all", "none", "odd", "even", "torn", "junk"]
 KILLED = -9
 UNMADE = 3, b"store fault\n", None
-UNITS = 40
+UNITS, LONGEST = 40, 120
 
 
 class Command(NamedTuple):
-    """A command on a store: its words without the store, its input, and a name if it is stopped."""
+    """A command on an office: its words without the store, its input, and a name if it is stopped."""
 
     words: list
-    asked: bytes = b""
+    said: bytes = b""
     name: str = ""
+
+    def perform(self, office, **environment):
+        """Runs the command to its end."""
+        return office.perform(*self.words, said=self.said, timeout=LONGEST, **environment)
 
 
 def file_of_units():
@@ -44,9 +52,9 @@ def file_of_units():
     return "\n".join([f"{header},physicalObjectName", *rows]) + "\n"
 
 
-def post(path, body, name=""):
-    request = f"POST {path} HTTP/1.1\r\nHost: x\r\nContent-Length: {len(body)}\r\n\r\n{body}"
-    return Command(["talk"], request.encode(), name)
+def asked(path, body="", name=""):
+    """A session of one command."""
+    return Command(["talk"], post(path, body), name)
 
 
 def day(units):
@@ -54,55 +62,47 @@ def day(units):
     return [
         Command(["init", *SETTINGS], name="init"),
         Command(["import", "--source", "a", str(units)], name="import"),
-        post("/desk/closure", '{"unit":2,"until":"2030-01-01"}', "closure"),
-        post("/desk/move", '{"unit":3,"parent":2}', "move"),
-        post("/desk/register", '{"name":"Ann","until":"2024-12-31"}'),
-        post("/public/orders", '{"ticket":1,"container":9}', "order"),
-        post("/desk/run", "", "run"),
-        post("/desk/seat", '{"ticket":1}'),
-        post("/desk/issue", '{"container":9,"ticket":1}', "issue"),
-        post("/desk/return", '{"container":9}', "return"),
+        asked("/desk/closure", '{"unit":2,"until":"2030-01-01"}', "closure"),
+        asked("/desk/move", '{"unit":3,"parent":2}', "move"),
+        asked("/desk/register", '{"name":"Ann","until":"2024-12-31"}'),
+        asked("/public/orders", '{"ticket":1,"container":9}', "order"),
+        asked("/desk/run", "", "run"),
+        asked("/desk/seat", '{"ticket":1}'),
+        asked("/desk/issue", '{"container":9,"ticket":1}', "issue"),
+        asked("/desk/return", '{"container":9}', "return"),
     ]
 
 
-def copied(store, room):
-    """A copy of a store, with the log beside it, in a folder of its own."""
-    copy = Path(tempfile.mkdtemp(dir=room)) / "office.db"
+def copied(office, room):
+    """A copy of an office, with the log beside it, in a folder of its own."""
+    copy = Office(office.program, Path(tempfile.mkdtemp(dir=room)) / "office.db")
     for end in ("", "-wal"):
-        if os.path.exists(f"{store}{end}"):
-            shutil.copyfile(f"{store}{end}", f"{copy}{end}")
+        if os.path.exists(f"{office.store}{end}"):
+            shutil.copyfile(f"{office.store}{end}", f"{copy.store}{end}")
     return copy
 
 
-def perform(command, store, **environment):
-    """Runs a command of the program on a store; returns its status, output and message."""
-    words = [PROGRAM, command.words[0], "--store", str(store), *command.words[1:]]
-    how = {"input": command.asked, "capture_output": True, "timeout": 120}
-    done = subprocess.run(words, env={**os.environ, **environment}, **how)
-    return done.returncode, done.stdout, done.stderr
-
-
-def look(store):
-    """What `check` says of a store, and all its tables as sqlite3 then reads them."""
-    status, said, told = perform(Command(["check"]), store)
-    if status == 3:
-        return status, told, None
-    tables = subprocess.run(["sqlite3", store, ".dump"], check=True, capture_output=True)
-    return status, said, tables.stdout
+def look(office):
+    """What `check` says of an office, and all its tables as sqlite3 then reads them."""
+    ended = office.check(timeout=LONGEST)
+    if ended.status == 3:
+        return ended.status, ended.message, None
+    tables = subprocess.run(["sqlite3", office.store, ".dump"], check=True, capture_output=True)
+    return ended.status, ended.output, tables.stdout
 
 
 class Stops:
-    """A command that is stopped on copies of a store, and the results."""
+    """A command that is stopped on copies of an office, and the results."""
 
     def __init__(self, command, before, shim, room):
         self.command, self.before, self.shim, self.room = command, before, shim, room
         self.after = copied(before, room)
-        self.status, self.answer, _ = perform(command, self.after)
+        self.status, self.answer, _ = command.perform(self.after)
         self.found, self.left = (look(copied(it, room)) for it in (before, self.after))
         self.counts, self.wrong = Counter(), []
 
     def place(self, seen, answered):
-        """Which of the allowed states a stopped store is in, or nothing."""
+        """Which of the allowed states a stopped office is in, or nothing."""
         if seen == self.left:
             return "answered" if answered else "after"
         if answered:
@@ -112,11 +112,11 @@ class Stops:
         return "no office" if seen == UNMADE and self.command.name == "init" else None
 
     def stop(self, number, kept):
-        """Stops the command after this many calls and looks at the store. False if it ended by itself."""
-        store = copied(self.before, self.room)
-        status, answer, _ = perform(self.command, store, LD_PRELOAD=self.shim, STOP=str(number), KEPT=kept)
-        seen = look(store)
-        shutil.rmtree(store.parent)
+        """Stops the command after this many calls and looks at the office. False if it ended by itself."""
+        office = copied(self.before, self.room)
+        status, answer, _ = self.command.perform(office, LD_PRELOAD=self.shim, STOP=str(number), KEPT=kept)
+        seen = look(office)
+        shutil.rmtree(office.store.parent)
         place = self.place(seen, answer != b"")
         if status != KILLED:
             if (status, answer, place) != (self.status, self.answer, "answered" if answer else "after"):
@@ -142,30 +142,34 @@ def built_shim(room):
     return str(room / "stop.so")
 
 
-def all_commands(shim, room):
+def all_commands(program, shim, room):
     """The named commands of a day, and the migration of the store of version 1 in this directory."""
-    units, store, commands = room / "units.csv", room / "none.db", []
+    units, office, commands = room / "units.csv", Office(program, room / "none.db"), []
     units.write_text(file_of_units())
     for command in day(units):
-        commands.append(Stops(command, store, shim, room))
-        store = commands[-1].after
-    commands.append(Stops(Command(["migrate"], name="migrate"), HERE / "version1.db", shim, room))
+        commands.append(Stops(command, office, shim, room))
+        office = commands[-1].after
+    old = Office(program, HERE / "version1.db")
+    commands.append(Stops(Command(["migrate"], name="migrate"), old, shim, room))
     return [it for it in commands if it.command.name]
 
 
-def main(room, kept):
-    commands = all_commands(built_shim(room), room)
-    with ThreadPoolExecutor(os.cpu_count()) as pool:
-        for it in [pool.submit(command.all_stops, how) for how in kept for command in commands]:
-            it.result()
+def main():
+    words = client.options(__doc__)
+    words.add_argument("kept", nargs="*", type=client.one_of(KEPT), metavar="KEPT", help=", ".join(KEPT))
+    given = words.parse_args()
+    with client.temporary(given.room) as room:
+        commands = all_commands(given.program, built_shim(room), room)
+        with ThreadPoolExecutor(os.cpu_count()) as pool:
+            tried = [(command, how) for how in given.kept or KEPT for command in commands]
+            for it in [pool.submit(command.all_stops, how) for command, how in tried]:
+                it.result()
     for command in commands:
         print("\n".join(command.lines()))
+    stops = sum(command.counts.total() for command in commands)
+    print(f"{stops} stops of {len(commands)} commands, {sum(len(it.wrong) for it in commands)} of them wrong")
     return any(command.wrong or command.status or not command.counts for command in commands)
 
 
 if __name__ == "__main__":
-    if len(sys.argv) < 3:
-        sys.exit(__doc__)
-    PROGRAM = str(Path(sys.argv[1]).resolve())
-    with tempfile.TemporaryDirectory(dir=sys.argv[2]) as where:
-        sys.exit(main(Path(where), sys.argv[3:] or KEPT))
+    sys.exit(main())

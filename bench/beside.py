@@ -11,14 +11,12 @@ for one answer, of the processor and by the clock. The ratios and the growth are
 machine; the last column has the ratio by the clock. --cpu binds both programs to one processor. With several sizes, a last
 table says how many times as long an answer takes in the largest office as in the smallest.
 """
-import argparse
 import datetime
 import os
-import tempfile
 import time
 
 import measure
-from measure import Archive, Program, Session, get, post
+from measure import Archive, Program, Session, client, get, post
 
 SIZES = [2000, 20000, 60000, 200000]
 EACH_DAY = 50
@@ -92,11 +90,9 @@ def milliseconds(seconds):
 
 def file_of(archive, file, room):
     """The request that brings a file."""
-    name = f"{room}/rows.csv"
+    name = room / "rows.csv"
     archive.write(file, name)
-    with open(name, "rb") as it:
-        rows = it.read()
-    return b"POST /desk/import/s%d HTTP/1.1\r\nHost: x\r\nContent-Length: %d\r\n\r\n%s" % (file, len(rows), rows)
+    return client.post(f"/desk/import/s{file}", name.read_bytes())
 
 
 def take_in(bench, archive, room):
@@ -169,10 +165,10 @@ def beside(ours, other, room, units):
     """Both programs with offices of this many units, and what ours took."""
     archive = Archive(units)
     print(f"\n### {units:,} units, {time.strftime('%Y-%m-%d %H:%M')}, load {os.getloadavg()[0]:.1f}\n")
-    with tempfile.TemporaryDirectory(dir=room) as folder:
-        rooms = [f"{folder}/ours", f"{folder}/other"]
+    with client.temporary(room) as folder:
+        rooms = [folder / "ours", folder / "other"]
         for it in rooms:
-            os.mkdir(it)
+            it.mkdir()
         bench = Bench(Side(ours, rooms[0]), Side(other, rooms[1]))
         by_clock = "Ours by the clock", "Other by the clock", "Ratio by the clock"
         measure.say("What", "Ours", "Other", "Ratio", "Wanted", *by_clock)
@@ -199,19 +195,15 @@ def tell_growth(first, last, few, many):
 
 
 def main():
-    words = argparse.ArgumentParser(description=__doc__, formatter_class=argparse.RawDescriptionHelpFormatter)
-    words.add_argument("--program", default=measure.BUILT)
-    words.add_argument("--room")
-    words.add_argument("--cpu")
-    words.add_argument("other", metavar="OTHER")
-    words.add_argument("units", nargs="*", type=int, metavar="UNITS")
-    told = words.parse_args()
-    if not set(told.units) <= set(SIZES):
-        words.error(f"UNITS is one of {SIZES}")
-    bound = ["taskset", "-c", told.cpu] if told.cpu else []
-    ours, other = [[*bound, os.path.realpath(it)] for it in (told.program, told.other)]
-    sizes = sorted(told.units) or SIZES[1:]
-    took = [beside(ours, other, told.room, units) for units in sizes]
+    words = client.options(__doc__, in_memory=False)
+    words.add_argument("--cpu", metavar="N", help="the processor to which both programs are bound")
+    words.add_argument("other", type=client.Program, metavar="OTHER")
+    words.add_argument("units", nargs="*", type=client.one_of(SIZES), metavar="UNITS", help=f"of {SIZES}")
+    given = words.parse_args()
+    bound = ["taskset", "-c", given.cpu] if given.cpu else []
+    ours, other = [[*bound, it.path] for it in (given.program, given.other)]
+    sizes = sorted(given.units) or SIZES[1:]
+    took = [beside(ours, other, given.room, units) for units in sizes]
     if len(sizes) > 1:
         tell_growth(took[0], took[-1], sizes[0], sizes[-1])
 

@@ -8,12 +8,10 @@ the table has the maximum memory of the program, how many bytes each byte of the
 before, and the seconds of the processor. The rows are sorted, the worst first. With words, only bodies whose names have one of
 them are sent. Every answer must be 200 (nothing but blank lines), 400, 409, or 503 (a lack of memory).
 """
-import argparse
 import os
-import tempfile
 import time
 
-from measure import BUILT, Program, Session, fail, say
+from measure import Program, Session, client, fail, say
 
 MIB_8 = 8 * 1024 * 1024
 DEEPEST = 124
@@ -81,7 +79,7 @@ def spent(program, path, body):
     """What a body takes of memory and of the processor's seconds, and what the program had before."""
     session = Session(program.program, program.store)
     memory, seconds = session.memory(), session.processor()
-    session.send(b"POST %s HTTP/1.1\r\nHost: x\r\nContent-Length: %d\r\n\r\n" % (path.encode(), len(body)) + body)
+    session.send(client.post(path, body))
     status = session.running.stdout.readline()
     if status.removeprefix(b"HTTP/1.1 ").strip() not in STATUSES:
         fail(f"{path} {body[:40]!r}: {status!r}")
@@ -92,20 +90,18 @@ def spent(program, path, body):
 
 
 def main():
-    words = argparse.ArgumentParser(description=__doc__, formatter_class=argparse.RawDescriptionHelpFormatter)
-    words.add_argument("--program", default=BUILT)
-    words.add_argument("--room")
-    words.add_argument("--bytes", type=int, default=MIB_8)
-    words.add_argument("names", nargs="*", metavar="NAME")
-    told = words.parse_args()
+    words = client.options(__doc__, in_memory=False)
+    words.add_argument("--bytes", type=int, default=MIB_8, metavar="N", help="the size of a body; else 8 MiB")
+    words.add_argument("names", nargs="*", metavar="NAME", help="a part of a body's name")
+    given = words.parse_args()
     print(f"{time.strftime('%Y-%m-%d %H:%M')}, load {os.getloadavg()[0]:.1f}\n")
     rows = []
-    with tempfile.TemporaryDirectory(dir=told.room) as room:
-        program = Program(os.path.realpath(told.program), room)
+    with client.temporary(given.room) as room:
+        program = Program(given.program.path, room)
         program.begin()
         for name, (path, made) in BODIES.items():
-            if not told.names or any(word in name for word in told.names):
-                body = made(told.bytes)
+            if not given.names or any(word in name for word in given.names):
+                body = made(given.bytes)
                 memory, before, seconds = spent(program, path, body)
                 rows.append((memory, name, (memory - before) / len(body), seconds))
     say("A body", "Memory", "Bytes for each byte", "Processor")

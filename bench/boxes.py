@@ -21,19 +21,17 @@ A cell of the first table has our figure, the other program's, and the ratio. Th
 out and with none, and the third says how many times as long an answer takes with 4,000 items in a box as with 1,000. What
 misses its goal is in bold and listed at the end; then the script ends with 1.
 """
-import argparse
 import datetime
 import os
 import sys
-import tempfile
 import time
 
 import measure
 from beside import Side
-from measure import OK, REFUSED, get, post, say
+from measure import OK, REFUSED, client, get, post, say
 
 IN_HANDS = IN_A_RUN = 10
-SETTINGS = "--country GB --repo 0999 --seats 200 --daily 50 --hands 10 --run 10 --day 2024-03-01".split()
+SETTINGS = client.option_words(client.LARGE | {"run": "10"})
 FIRST_DAY = datetime.date(2024, 3, 1)
 MOST = 8
 MOST_OUT = {"status": 10, "closure": 10, "opening": 1.2}
@@ -174,14 +172,12 @@ class Office:
         self.keep(kind, [side.reopen() for side in self.sides])
 
     def take_in(self, folder):
-        name = f"{folder}/rows.csv"
+        name = folder / "rows.csv"
         self.shape.write(name)
-        with open(name, "rb") as it:
-            rows = it.read()
-        head = b"POST /desk/import/s HTTP/1.1\r\nHost: x\r\nContent-Length: %d\r\n\r\n" % len(rows)
+        rows = client.post("/desk/import/s", name.read_bytes())
         moves = [post("/desk/move", unit=unit, parent=self.shape.units[unit - 1][0]) for unit in self.shape.moved]
         readers = [post("/desk/register", name=f"Reader {n}", until="2030-12-31") for n in self.tickets]
-        self.quietly([head + rows, *moves, *readers])
+        self.quietly([rows, *moves, *readers])
 
     def harmless(self, kind):
         """Changes of one unit that withhold nothing: that of status leaves it published, the closure is past."""
@@ -231,11 +227,11 @@ class Office:
 
 def measured(shape, programs, room, rounds):
     """The office of this shape, after so many rounds."""
-    with tempfile.TemporaryDirectory(dir=room) as folder:
+    with client.temporary(room) as folder:
         sides = []
         for nth, program in enumerate(programs):
-            os.mkdir(f"{folder}/{nth}")
-            sides.append(Side([program], f"{folder}/{nth}", SETTINGS))
+            (folder / str(nth)).mkdir()
+            sides.append(Side([program.path], folder / str(nth), SETTINGS))
         office = Office(shape, sides)
         office.take_in(folder)
         for _ in range(rounds):
@@ -299,31 +295,35 @@ def tell_growth(goals, few, many):
     say("one box", *cells)
 
 
-def main():
-    words = argparse.ArgumentParser(description=__doc__, formatter_class=argparse.RawDescriptionHelpFormatter)
-    words.add_argument("--program", default=measure.BUILT)
-    words.add_argument("--room")
-    words.add_argument("--cpu", type=int, default=max(os.sched_getaffinity(0)))
-    words.add_argument("--rounds", type=int, default=5)
-    words.add_argument("other", metavar="OTHER")
-    words.add_argument("shapes", nargs="*", metavar="SHAPE")
-    told = words.parse_args()
-    if not set(told.shapes) <= set(SHAPES):
-        words.error(f"SHAPE is one of {', '.join(SHAPES)}")
-    os.sched_setaffinity(0, {told.cpu})
-    programs = [os.path.realpath(it) for it in (told.program, told.other)]
-    print(f"{time.strftime('%Y-%m-%d %H:%M')}, load {os.getloadavg()[0]:.1f}\n")
+def options():
+    words = client.options(__doc__, in_memory=False)
+    words.add_argument("--cpu", type=int, default=max(os.sched_getaffinity(0)), metavar="N", help="a processor; else the last")
+    words.add_argument("--rounds", type=int, default=5, metavar="N", help="how many rounds; else 5")
+    words.add_argument("other", type=client.Program, metavar="OTHER")
+    words.add_argument("shapes", nargs="*", type=client.one_of(SHAPES), metavar="SHAPE", help=", ".join(SHAPES))
+    return words.parse_args()
+
+
+def tell(given, goals):
+    """Measures the offices, and prints the tables."""
     say("Ours; the other; ratio", *COLUMNS.values())
     say(*["---"] * (1 + len(COLUMNS)))
-    goals, offices = Goals(), {}
-    for name in told.shapes or SHAPES:
-        offices[name] = measured(SHAPES[name](), programs, told.room, told.rounds)
+    offices = {}
+    for name in given.shapes or SHAPES:
+        offices[name] = measured(SHAPES[name](), (given.program, given.other), given.room, given.rounds)
         tell_row(goals, offices[name])
     print()
     tell_out(goals, offices.values())
     if {"1000", "4000"} <= set(offices):
         print()
         tell_growth(goals, offices["1000"], offices["4000"])
+
+
+def main():
+    given, goals = options(), Goals()
+    os.sched_setaffinity(0, {given.cpu})
+    print(f"{time.strftime('%Y-%m-%d %H:%M')}, load {os.getloadavg()[0]:.1f}\n")
+    tell(given, goals)
     print(f"\n{time.strftime('%H:%M')}, load {os.getloadavg()[0]:.1f}")
     for it in goals.missed:
         print(f"missed: {it}")

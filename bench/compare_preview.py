@@ -8,6 +8,7 @@ the row and the cause are compared. A file on which they differ is kept next to 
 with 1 if they differ, or if no file had finding aids.
 """
 
+import argparse
 import pathlib
 import random
 import re
@@ -120,7 +121,17 @@ def answer(ran):
 
 
 def main():
-    files, seed, plain, program = int(sys.argv[1]), int(sys.argv[2]), sys.argv[3], sys.argv[4:]
+    words = argparse.ArgumentParser(description=__doc__, formatter_class=argparse.RawDescriptionHelpFormatter)
+    words.add_argument("files", type=int, metavar="FILES")
+    words.add_argument("seed", type=int, metavar="SEED")
+    words.add_argument("plain", metavar="PLAIN")
+    words.add_argument("program", nargs=argparse.REMAINDER, metavar="PROGRAM [WORD ..]")
+    given = words.parse_args()
+    return compared(given.files, given.seed, given.plain, given.program)
+
+
+def compared(files, seed, plain, program):
+    """Compares two programs on so many files; returns the exit status."""
     random.seed(seed)
     faults, told, differ = {}, 0, 0
     with tempfile.TemporaryDirectory() as room:
@@ -142,4 +153,5 @@ def main():
     return 1 if differ or not told else 0
 
 
-sys.exit(main())
+if __name__ == "__main__":
+    sys.exit(main())

@@ -11,23 +11,22 @@ tickets must be there, each once. Nothing else may use the program. The script n
 anything is lost.
 """
 
-import argparse
 import base64
 import http.client
 import json
 import os
-import pathlib
 import shutil
 import socket
 import subprocess
 import sys
-import tempfile
 import threading
 import time
 
 sys.dont_write_bytecode = True
-from front_servers import PASSWORD, TOP, Office  # noqa: E402
+from front_servers import PASSWORD, Office  # noqa: E402
 from measure import SETTINGS, Archive  # noqa: E402
+
+from client import options, temporary  # noqa: E402
 
 CLIENTS = 8
 AUTH = {"Authorization": "Basic " + base64.b64encode(":".join(PASSWORD).encode()).decode()}
@@ -180,37 +179,36 @@ def fill(program, store, units):
         subprocess.run([program, "import", "--store", store, "--source", f"a{file + 1}", f"{store}.csv"], check=True, stdout=subprocess.DEVNULL)
 
 
-def measure(words, room):
-    store = f"{room}/office.db"
-    if words.store:
-        shutil.copy(words.store, store)
+def measure(given, room):
+    """Prints the table: undisturbed, killed, slow, beside the desk, and while the program ends."""
+    store, program = f"{room}/office.db", given.program.path
+    if given.store:
+        shutil.copy(given.store, store)
     else:
-        fill(words.program, store, words.units)
-    many = 600 if words.units > 2000 else 60
+        fill(program, store, given.units)
+    many = 600 if given.units > 2000 else 60
     print("| | requests | a second | p50 | p99 | longest | lost |\n|---|---|---|---|---|---|---|", flush=True)
-    with Office(words.program, store, f"{room}/long", words.port, 10000, NO_LIMITS) as office:
-        steady(office, words.units, many)
-        kills(office, words.units, many * 2)
-        slow(office, words.units)
-        desk = Desk(office, 350 if words.units > 2000 else 40)
-        clients, took = crowd(office, words.units, many, desk.run)
+    with Office(program, store, f"{room}/long", given.port, 10000, NO_LIMITS) as office:
+        steady(office, given.units, many)
+        kills(office, given.units, many * 2)
+        slow(office, given.units)
+        desk = Desk(office, 350 if given.units > 2000 else 40)
+        clients, took = crowd(office, given.units, many, desk.run)
         desk.say()
         say("the eight readers beside the desk", clients, took)
-    with Office(words.program, store, f"{room}/short", words.port + 10, 1, NO_LIMITS) as office:
-        ends(office, words.units, 2600 if words.units > 2000 else 1300)
+    with Office(program, store, f"{room}/short", given.port + 10, 1, NO_LIMITS) as office:
+        ends(office, given.units, 2600 if given.units > 2000 else 1300)
 
 
 def main():
-    words = argparse.ArgumentParser()
-    words.add_argument("--program", default=TOP / "crates/record_office/out/record_office", type=pathlib.Path)
-    words.add_argument("--room")
-    words.add_argument("--port", type=int, default=21100)
-    words.add_argument("--store")
-    words.add_argument("units", nargs="?", type=int, default=20000)
-    words = words.parse_args()
+    words = options(__doc__, in_memory=False)
+    words.add_argument("--port", type=int, default=21100, metavar="FIRST", help="the first of some ports; else 21100")
+    words.add_argument("--store", help="an office of so many units, which is copied")
+    words.add_argument("units", nargs="?", type=int, default=20000, metavar="UNITS")
+    given = words.parse_args()
     os.environ["PATH"] += ":/usr/sbin"
-    with tempfile.TemporaryDirectory(dir=words.room) as room:
-        measure(words, room)
+    with temporary(given.room) as room:
+        measure(given, room)
     sys.exit(1 if LOST else 0)
 
 

@@ -3,9 +3,9 @@
 Each fonds has 500 units down to items, some of them draft. The same numbers give the same file.
 """
 
+import argparse
 import csv
 import random
-import sys
 
 COLUMNS = """legacyId parentId qubitParentSlug accessionNumber identifier title levelOfDescription
 extentAndMedium repository archivalHistory acquisition scopeAndContent appraisal accruals arrangement
@@ -78,7 +78,15 @@ def row(number, parent, depth):
 
 
 def main():
-    rows, path = int(sys.argv[1]), sys.argv[2]
+    words = argparse.ArgumentParser(description=__doc__, formatter_class=argparse.RawDescriptionHelpFormatter)
+    words.add_argument("rows", type=int, metavar="ROWS")
+    words.add_argument("path", metavar="FILE")
+    given = words.parse_args()
+    write(given.rows, given.path)
+
+
+def write(rows, path):
+    """Writes a file of so many rows."""
     random.seed(rows)
     depths = []
     with open(path, "w", newline="", encoding="utf-8") as file:
@@ -92,4 +100,5 @@ def main():
             writer.writerow(row(number, parent, depth))
 
 
-main()
+if __name__ == "__main__":
+    main()

@@ -14,19 +14,20 @@ after one small question. Seconds are counted from its answer to the last one, s
 of the session. Memory is the maximum of the process, with the opening. Every answer must be a 200, and every import must
 report the right number of new or same units; otherwise the script ends with 1.
 """
-import argparse
 import json
 import os
 import re
 import subprocess
 import sys
-import tempfile
 import threading
 import time
+from pathlib import Path
 
-HERE = os.path.dirname(os.path.abspath(__file__))
-BUILT = f"{HERE}/../crates/record_office/out/record_office"
-SETTINGS = "--country GB --repo 0999 --seats 200 --daily 50 --hands 10 --run 1 --day 2024-03-01".split()
+sys.path.append(str(Path(__file__).resolve().parents[1] / "acceptance"))
+import client  # noqa: E402
+from client import get  # noqa: E402
+
+SETTINGS = client.option_words(client.LARGE | {"run": "1"})
 HEADER = (
     "legacyId,parentId,identifier,title,levelOfDescription,publicationStatus,eventDates,extentAndMedium,"
     "scopeAndContent,physicalObjectName,physicalObjectLocation\n"
@@ -229,13 +230,9 @@ class Session:
         return int(re.search(r"VmHWM:\s*(\d+) kB", self.told("status"))[1]) * 1024
 
 
-def get(path):
-    return f"GET {path} HTTP/1.1\r\nHost: x\r\n\r\n".encode()
-
-
 def post(path, **members):
-    body = json.dumps(members)
-    return f"POST {path} HTTP/1.1\r\nHost: x\r\nContent-Length: {len(body)}\r\n\r\n{body}".encode()
+    """A command with these members."""
+    return client.post(path, members)
 
 
 def seconds(value):
@@ -347,8 +344,8 @@ def tell_requests(program, archive):
 
 def measure(built, room, units):
     archive = Archive(units)
-    with tempfile.TemporaryDirectory(dir=room) as folder:
-        program = Program(built, folder)
+    with client.temporary(room) as folder:
+        program = Program(built.path, folder)
         print(f"\n### {units:,} units, {time.strftime('%Y-%m-%d %H:%M')}, load {os.getloadavg()[0]:.1f}\n")
         tell_commands(program, archive)
         print()
@@ -358,16 +355,17 @@ def measure(built, room, units):
         print(f"\nThe store has {size:.0f} MB and is sound; {time.strftime('%H:%M')}, load {os.getloadavg()[0]:.1f}.")
 
 
+def options(text, sizes):
+    """The options of a script that measures offices of so many units, on the disk unless another room is named."""
+    words = client.options(text, in_memory=False)
+    words.add_argument("units", nargs="*", type=client.one_of(sizes), metavar="UNITS", help=f"of {sizes}")
+    return words
+
+
 def main():
-    words = argparse.ArgumentParser(description=__doc__, formatter_class=argparse.RawDescriptionHelpFormatter)
-    words.add_argument("--program", default=BUILT)
-    words.add_argument("--room")
-    words.add_argument("units", nargs="*", type=int, metavar="UNITS")
-    told = words.parse_args()
-    if not set(told.units) <= set(SIZES):
-        words.error(f"UNITS is one of {SIZES}")
-    for units in told.units or SIZES[-2:]:
-        measure(os.path.realpath(told.program), told.room, units)
+    given = options(__doc__, SIZES).parse_args()
+    for units in given.units or SIZES[-2:]:
+        measure(given.program, given.room, units)
 
 
 if __name__ == "__main__":

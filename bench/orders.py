@@ -11,18 +11,15 @@ Then, for each of ORDERS (by default 100000 and 1000000; 10000000 takes some min
 100,000 tickets for 10,000 boxes, each fetched by a line of a run of a hundred. Python's own SQLite writes the rows. Processor
 seconds and the maximum memory of the process are printed next to those of the same office without orders.
 """
-import argparse
 import datetime
 import glob
 import os
 import sqlite3
-import sys
-import tempfile
 
-sys.path.insert(0, os.path.dirname(os.path.abspath(__file__)))
 import measure
-from measure import BUILT, Program, get, post, say
+from measure import Program, client, get, post, say
 
+SETTINGS = client.option_words(client.LARGE)
 UNITS, TICKETS, IN_A_RUN = 20000, 100000, 100
 TODAY = 19783  # the first of March 2024
 QUESTIONS = 9000  # a session has at most 10,000 messages
@@ -58,12 +55,9 @@ def write_orders(store, orders):
 
 
 def begin(program, settings):
-    for file in glob.glob(program.store + "*"):
+    for file in glob.glob(f"{program.store}*"):
         os.remove(file)
     program.spent(["init", "--store", program.store, *settings])
-
-
-SETTINGS = "--country GB --repo 0999 --seats 200 --daily 50 --hands 10 --run 100 --day 2024-03-01".split()
 
 
 def check_orders(program, archive, counts):
@@ -111,13 +105,11 @@ def readers(program, archive):
 
 
 def main():
-    words = argparse.ArgumentParser(description=__doc__, formatter_class=argparse.RawDescriptionHelpFormatter)
-    words.add_argument("--program", default=BUILT)
-    words.add_argument("--room", default=None)
+    words = client.options(__doc__, in_memory=False)
     words.add_argument("orders", type=int, nargs="*", metavar="ORDERS")
     given = words.parse_args()
-    with tempfile.TemporaryDirectory(dir=given.room) as room:
-        program = Program(os.path.abspath(given.program), room)
+    with client.temporary(given.room) as room:
+        program = Program(given.program.path, room)
         archive = measure.Archive(UNITS)
         readers(program, archive)
         print()

@@ -1,13 +1,12 @@
 #!/usr/bin/env python3
 """Measures the search in all archives over a large office:
 
-    bench/search.py PROGRAM FOLDER [--units N] [--fonds N] [--rest TIMES]
+    bench/search.py [--program PROGRAM] [--room DIRECTORY] [--units N] [--fonds N] [--rest TIMES]
 
 The office has N units in fonds of so many. It prints rows of markdown: how long a first round, a round without changes and one
 after a change take, what a desk command and a reader's page wait beside them, how large index and memory are, and how long
 questions take, without nginx and the service. With --rest 0, rounds ask without a pause."""
 
-import argparse
 import http.client
 import json
 import multiprocessing
@@ -18,8 +17,10 @@ import sys
 import time
 
 sys.dont_write_bytecode = True
-sys.path.insert(0, str(pathlib.Path(__file__).resolve().parent.parent / "acceptance" / "front"))
+ACCEPTANCE = pathlib.Path(__file__).resolve().parent.parent / "acceptance"
+sys.path[:0] = [str(ACCEPTANCE / "front"), str(ACCEPTANCE)]
 
+import client  # noqa: E402
 import searched  # noqa: E402
 from office import fresh  # noqa: E402
 
@@ -131,25 +132,28 @@ def questions(office, db, units):
         print(f"| {name} | {spread(times)} | {ask.asked / QUESTIONS:.0f} |", flush=True)
 
 
-def main():
-    words = argparse.ArgumentParser(description=__doc__, formatter_class=argparse.RawDescriptionHelpFormatter)
-    words.add_argument("program")
-    words.add_argument("folder")
-    words.add_argument("--units", type=int, default=20_000)
-    words.add_argument("--fonds", type=int, default=2_000, help="units of a fonds")
-    words.add_argument("--rest", type=float, default=0)
-    words = words.parse_args()
-    office = searched.Searched(fresh(words.folder), words.program).init()
-    lines = list(rows(words.units, words.fonds))
-    for at in range(0, words.units, 20_000):
+def measure(given, office):
+    """Fills an office, and measures rounds and questions."""
+    lines = list(rows(given.units, given.fonds))
+    for at in range(0, given.units, 20_000):
         (office.folder / "part.csv").write_text(HEADER + "".join(lines[at:at + 20_000]))
         office.take_in("a", office.folder / "part.csv")
     with office:
         office.tell("/desk/register", {"name": "A reader", "until": "2099-12-31"})
-        ask, db = searched.Asking(office.queue, words.rest), searched.index.made(str(office.index), True)
-        print(f"{words.units} units in fonds of {words.fonds}; one aid: {aid(searched.Asking(office.queue), 1)}")
-        rounds(office, ask, db, words.units)
-        questions(office, db, words.units)
+        ask, db = searched.Asking(office.queue, given.rest), searched.index.made(str(office.index), True)
+        print(f"{given.units} units in fonds of {given.fonds}; one aid: {aid(searched.Asking(office.queue), 1)}")
+        rounds(office, ask, db, given.units)
+        questions(office, db, given.units)
+
+
+def main():
+    words = client.options(__doc__)
+    words.add_argument("--units", type=int, default=20_000, metavar="N")
+    words.add_argument("--fonds", type=int, default=2_000, metavar="N", help="units of a fonds")
+    words.add_argument("--rest", type=float, default=0, metavar="TIMES")
+    given = words.parse_args()
+    with client.temporary(given.room) as room:
+        measure(given, searched.Searched(fresh(room / "office"), given.program.path).init())
 
 
 if __name__ == "__main__":

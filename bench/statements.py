@@ -3,14 +3,20 @@
 
     bench/statements.py [UNITS ..]
 
-It repeats the calls of `nested_sets` and `catalogue_store` on numbers in memory, so it must be changed when they are. It leaves out
-the three statements of each question for its transaction and the row of the office, and the moves of branches.
+It repeats the calls of `nested_sets` and `catalogue_store` on numbers in memory, so it must be changed when they are. It reads
+from `neighbours.rt` how far each round of a search goes. It leaves out the three statements of each question for its transaction and the row of the office, and the moves of branches.
 """
-import sys
+import argparse
+import re
 
-from measure import BELOW, Archive
+from measure import BELOW, Archive, client
 
-FEW, STRETCH, SHORTER = 4, 64, 8
+NEIGHBOURS = client.TOP / "crates" / "nested_sets" / "src" / "neighbours.rt"
+CONSTANTS = dict(re.findall(r"^const (\w+): u32 = (\d+);$", NEIGHBOURS.read_text(encoding="utf-8"), re.M))
+FEW, FURTHER, STRETCH, SHORTER, FIRST_NUMBER = (
+    int(CONSTANTS[name]) for name in ("FEW", "FURTHER", "STRETCH", "SHORTER", "FIRST_NUMBER")
+)
+# the statements of a unit's head, of its values and boxes, and of its mark in an aid
 HEAD, VALUES, MARK = 2, 4, 2
 
 
@@ -60,9 +66,9 @@ class Places:
             start = max(before - (stretch // SHORTER if begun - before > stretch else stretch), 0)
             over = [self.from_first[number] for number in range(start, before) if number in self.from_first]
             statements, rows = statements + 1, rows + len(over)
-            if start <= 1 or any(self.last[it] > self.last[elder] for it in over):
+            if start <= FIRST_NUMBER or any(self.last[it] > self.last[elder] for it in over):
                 return statements, rows
-            before, few = start, 2 * few
+            before, few = start, FURTHER * few
 
     def path(self, unit):
         """The same for a whole path, and the number of its units."""
@@ -101,6 +107,12 @@ def count(units):
     print(f"| the list of {tops} fonds | {1 + tops + HEAD * tops} | 0 | 0 |")
 
 
-if __name__ == "__main__":
-    for units in map(int, sys.argv[1:] or ["60000", "200000"]):
+def main():
+    words = argparse.ArgumentParser(description=__doc__, formatter_class=argparse.RawDescriptionHelpFormatter)
+    words.add_argument("units", nargs="*", type=int, default=[60000, 200000], metavar="UNITS")
+    for units in words.parse_args().units:
         count(units)
+
+
+if __name__ == "__main__":
+    main()

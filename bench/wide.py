@@ -7,12 +7,11 @@ One fonds has five series, and each of these has EACH files right below it (3998
 places among the files the script prints the milliseconds that a page takes by the clock and of the processor: the mean of fifty
 requests of one session, without the opening. Every answer must be a 200.
 """
-import argparse
 import os
-import tempfile
 import time
 
 import measure
+from measure import client
 
 SERIES = 5
 REQUESTS = 50
@@ -46,14 +45,12 @@ class Wide:
 
 
 def main():
-    words = argparse.ArgumentParser(description=__doc__, formatter_class=argparse.RawDescriptionHelpFormatter)
-    words.add_argument("--program", default=measure.BUILT)
-    words.add_argument("--room")
-    words.add_argument("each", nargs="?", type=int, default=3998)
-    told = words.parse_args()
-    office = Wide(told.each)
-    with tempfile.TemporaryDirectory(dir=told.room) as folder:
-        program = measure.Program(os.path.realpath(told.program), folder)
+    words = client.options(__doc__, in_memory=False)
+    words.add_argument("each", nargs="?", type=int, default=3998, metavar="EACH")
+    given = words.parse_args()
+    office = Wide(given.each)
+    with client.temporary(given.room) as folder:
+        program = measure.Program(given.program.path, folder)
         program.begin()
         program.import_file(office, 0, "new")
         print(f"{office.rows:,} units, {time.strftime('%Y-%m-%d %H:%M')}, load {os.getloadavg()[0]:.1f}")

@@ -1,16 +1,17 @@
 #!/usr/bin/env python3
-"""Changes the rules of the plain office, one at a time: a fixed day must refuse each change. mutation/rules.py [WORD ..]
+"""Changes the rules of the plain office, one at a time: a fixed day must refuse each change. mutation/rules.py [WORD
+..]
 
-The rules are the modules of acceptance/plain, except tables.py and __init__.py. A *turn* is a wrong rule: turning.py makes
-them at each place of the modules; rules_told.py and rules_of_heads.py list more. All fixed days of the rules are replayed: those of
-acceptance/days, limits.py and heads.py, and those of filled.py, on an office that is nearly full. Each is read from its first
-byte to its last, so that the rules of heads and of how a connection ends are turned too. First the unchanged rules must answer
-each day as it is written.
+The rules are the modules of acceptance/plain, except tables.py and __init__.py. A *turn* is a wrong rule: turning.py
+makes them at each place of the modules; rules/MODULE.rules have more, as records.py reads them. All fixed days of the
+rules are replayed: those of acceptance/days, limits.py and heads.py, and those of filled.py, on an office that is
+nearly full. Each is read from its first byte to its last, so that the rules of heads and of how a connection ends are
+turned too. First the unchanged rules must answer each day as it is written.
 
-A day fails if an answer differs or is missing. Of the days that call the changed function the shortest are tried first, and
-the first that fails is named. Turns that mean the same are listed in rules_same.py, with the reason: they must pass. A turn
-that leaves a table unreadable does not count. With words, only turns whose names have one of them are tried. Two run at a time.
-The last line is `N passed, M failed`; the script ends with 1 if one failed."""
+A day fails if an answer differs or is missing. Of the days that call the changed function the shortest are tried first,
+and the first that fails is named. Turns that mean the same are listed in rules_same.py, with the reason: they must
+pass. A turn that leaves a table unreadable does not count. With words, only turns whose names have one of them are
+tried. Two run at a time. The last line is `N passed, M failed`; the script ends with 1 if one failed."""
 import ast
 import importlib.util
 import itertools
@@ -27,9 +28,8 @@ import days  # noqa: E402
 import filled  # noqa: E402
 import heads  # noqa: E402
 import limits  # noqa: E402
-import rules_of_heads  # noqa: E402
+import records  # noqa: E402
 import rules_same  # noqa: E402
-import rules_told  # noqa: E402
 import turning  # noqa: E402
 
 PLAIN = ROOT / "acceptance" / "plain"
@@ -79,7 +79,8 @@ def last_only(things):
     return list(things)[-1:]
 
 
-CALLED = {it.__name__: it for it in (wrong, another, insert_first, remove_another, reversed_list, first_only, last_only)}
+CALLABLE = wrong, another, insert_first, remove_another, reversed_list, first_only, last_only
+CALLED = {it.__name__: it for it in CALLABLE}
 
 
 # ---- an office by turned rules
@@ -128,7 +129,7 @@ def is_answered(plain, day):
 
 
 def calls_of(day):
-    """Whether a day is answered as written, and the functions that it calls, by module and name, or none of a long one."""
+    """Whether a day is answered as written, and the functions that it calls, by module and name; none of a long one."""
     called = set()
 
     def seen(frame, event, _):
@@ -149,9 +150,18 @@ def calls_of(day):
     return is_so, called
 
 
-def told_turns():
-    """The turns that are told by hand, each with what makes its module: its text stands there once."""
-    for name, module, old, new in rules_told.TURNS + rules_of_heads.HEADS:
+def written():
+    """The turns that are written by hand: a name, a module, the old text and the new one."""
+    modules = {"init": "__init__"}
+    for path in sorted((ROOT / "mutation" / "rules").glob("*.rules")):
+        module = modules.get(path.stem, path.stem)
+        for it in records.of_file(path, path.parent):
+            yield it.name, module, it.old, it.new
+
+
+def written_turns():
+    """The same, each with what makes its module: its text stands there once."""
+    for name, module, old, new in written():
         is_there = TEXTS[module].count(old) == 1
         yield name, module, "", (lambda text=TEXTS[module].replace(old, new): ast.parse(text)) if is_there else None
 
@@ -245,7 +255,8 @@ class Trial:
             for name in sorted(rules_same.SAME.keys() - self.same):
                 self.failed += 1
                 print(f"LISTED AS THE SAME, but no turn | {name}")
-        print(f"{len(self.same)} mean the same; {len(self.by)} days refuse the others; {self.unread} left tables that nothing reads")
+        refused = f"{len(self.by)} days refuse the others"
+        print(f"{len(self.same)} mean the same; {refused}; {self.unread} left tables that nothing reads")
         print(f"{self.passed} passed, {self.failed} failed")
         return self.failed > 0
 
@@ -255,7 +266,7 @@ def all_days():
 
 
 def is_reached(function, called):
-    """Whether a day that calls these functions can notice a turn. A long day may call all, and a table is in no function."""
+    """Whether a day that calls these functions can notice a turn. A long day may call all; a table is in none."""
     return called is None or "." not in function or function in called
 
 
@@ -269,7 +280,7 @@ def main(*words):
         return 1
     written.sort(key=lambda it: it.weight)
     running = {}
-    for name, module, function, tree in itertools.chain(told_turns(), made_turns()):
+    for name, module, function, tree in itertools.chain(written_turns(), made_turns()):
         if not trial.is_wanted(name):
             continue
         if tree is None:

@@ -1,16 +1,18 @@
 #!/usr/bin/env python3
 """Looks for random sessions that find wrong rules: mutation/seeds.py [FIRST [COUNT]]
 
-Makes the sessions of acceptance/sessions.py for COUNT seeds (200) from FIRST (0) on, by the right rules, and replays each with
-each wrong rule of rules_told.py. For each rule it prints the first two seeds whose sessions are answered differently. If few
-seeds find a rule, add one to acceptance/seeds.txt, which sessions.py always uses. After a change of what a seed makes, look for
-seeds again. CI does not run this script: it takes some minutes."""
+Makes the sessions of acceptance/sessions.py for COUNT seeds (200) from FIRST (0) on, by the right rules, and replays
+each with each wrong rule of rules/catalogue.rules, desk.rules, init.rules and shown.rules. For each rule it prints the
+first two seeds whose sessions are answered differently. If few seeds find a rule, add one to acceptance/seeds.txt,
+which sessions.py always uses. After a change of what a seed makes, look for seeds again. CI does not run this script:
+it takes some minutes."""
 import itertools
 import sys
 
 import rules
-import rules_told
 import sessions
+
+MODULES = {"catalogue", "desk", "__init__", "shown"}
 
 
 def replayed(plain, settings, said):
@@ -38,8 +40,9 @@ def main(first=0, number=200):
     for seed in range(int(first), int(first) + int(number)):
         session = sessions.Session(seed)
         made.append((seed, session.settings, session.said))
-    for name, module, old, new in rules_told.TURNS:
-        print(f"{name}: {list(itertools.islice(found(made, module, old, new), 2))}", flush=True)
+    for name, module, old, new in rules.written():
+        if module in MODULES:
+            print(f"{name}: {list(itertools.islice(found(made, module, old, new), 2))}", flush=True)
 
 
 if __name__ == "__main__":

@@ -5,35 +5,35 @@
   wrong_rules.py --dry [WORD ..]
   wrong_rules.py --covered [CRATE ..]
 
-The changes are those of wrong_rules_told.py; with WORD, those whose label has one of the words. Each is made in copies of the
-modules between the definition and the worked rows or the law that are named for it (side_by_side.py). If none is named, all
-worked rows are tried, and then all laws. Only what the same copies prove without the change counts. The libraries are those in
-crates/*/out/rlib of --over, or of this checkout, as `rt check` and `rt ci` leave them.
+The changes are the records of wrong_rules/CRATE/SUBJECT.rules (records.py says how they are written), and those that
+wrong_rules_made.py makes; with WORD, those whose name has one of the words. Each with `refused by` is made in copies of
+the modules between the definition and the worked rows or the law that it names (side_by_side.py). What these let
+through is tried by all worked rows, and then by all laws. Only what the same copies prove without the change counts.
+The libraries are those in crates/*/out/rlib of --over, or of this checkout, as `rt check` and `rt ci` leave them.
 
-A line says for each rule that it is `refused`, with the rows or lemmas that fail; `LET THROUGH`; `unreadable`, if the wrong
-text does not parse; `not applied`, if the old text does not occur once in its file; or `no verdict`. With --log these lines
-are added to FILE, and rules that are refused in FILE are skipped. --jobs checks run at once, each of --cases rules. The last
-line has the counts; the script ends with 1 if a rule was not refused.
+A line says for each rule that it is `refused`, with the rows or lemmas that fail; `LET THROUGH`; `unreadable`, if the
+wrong text does not parse; `not applied`, if the old text does not occur once in its file; or `no verdict`. With --log
+these lines are added to FILE, and rules that are refused in FILE are skipped. --jobs checks run at once, each of
+--cases rules. The last line has the counts; the script ends with 1 if a rule was not refused.
 
-With --dry it only looks for the old texts, also those of wrong_rules_of_http.py, wrong_rules_of_trees.py and
-wrong_rules_of_files.py, and for the row or the day that is named for each of these; the prover does not try them. With
---covered it counts for each crate how many definitions some rule changes; with CRATE it lists those of the crate that none
-changes."""
+With --dry it only looks for the old texts, also of the records with `seen in`, which the prover does not try, and for
+the row, the day or the law that is named there. With --covered it counts for each crate how many definitions some rule
+changes; with CRATE it lists those of the crate that none changes."""
 
 import argparse
+import itertools
 import os
 import re
 import sys
 import tempfile
 import time
+from collections import Counter
 from concurrent.futures import ThreadPoolExecutor
 from pathlib import Path
 
+import records
 import side_by_side
-import wrong_rules_of_files
-import wrong_rules_of_http
-import wrong_rules_of_trees
-from wrong_rules_told import WRONG
+import wrong_rules_made
 
 TOP = os.path.dirname(os.path.dirname(os.path.abspath(__file__)))
 ROWS = "Replies Desk Catalogue Shown Checks Settings Imports Texts Answers".split()
@@ -42,22 +42,36 @@ ROW_CAUSES = [f"Rattle.state_encoding.proofs.Worked{it}" for it in ("CatalogueCa
 OF_CAUSES = re.compile(r"state_encoding|office_tables|/(Desk|Catalogue)Causes\.antt")
 
 
+def path_of(record):
+    """The file that a rule changes."""
+    return f"crates/{record.folder}/{record.file}"
+
+
+def lacking(record):
+    """Why a rule cannot be made, or nothing."""
+    times = Path(TOP, path_of(record)).read_text(encoding="utf-8").count(record.old)
+    if times != 1 or record.old == record.new:
+        return f"the old text stands {times} times in {path_of(record)}"
+    return ""
+
+
 class Rule:
     """A wrong rule, the modules that must refuse it, and its verdict."""
 
-    def __init__(self, modules, label, file, old, new, named=None):
-        self.label, self.module, self.verdict, self.why = label, modules.of_path(file), "", ""
-        self.named, self.crate = named, "state_encoding" if OF_CAUSES.search(file) else "office_core"
-        text = open(f"{TOP}/{file}", encoding="utf-8").read()
-        if text.count(old) != 1:
-            self.verdict, self.why = "not applied", f"the old text stands {text.count(old)} times in {file}"
-        self.text = modules.text[self.module].replace(old, readable(new, text), 1)
+    def __init__(self, modules, record):
+        file = path_of(record)
+        self.label, self.module, self.verdict, self.why = record.name, modules.of_path(file), "", ""
+        self.named, self.crate = record.refused_by, "state_encoding" if OF_CAUSES.search(file) else "office_core"
+        self.why = lacking(record)
+        self.verdict = "not applied" if self.why else ""
+        text = Path(TOP, file).read_text(encoding="utf-8")
+        self.text = modules.text[self.module].replace(record.old, readable(record.new, text), 1)
 
     def asked(self, modules, what):
-        """The modules that are tried: what is named for the rule, else all rows; all rows; or all laws."""
+        """The modules that are tried: what is named for the rule; all rows; or all laws."""
         if what == "laws":
             return tuple(all_laws(modules, self.crate))
-        if what == "beside" and self.named:
+        if what == "beside":
             return tuple(of_function(self.named))
         return tuple(ROW_CAUSES if self.crate == "state_encoding" else OFFICE_ROWS)
 
@@ -85,7 +99,8 @@ def of_function(name):
 def all_laws(modules, crate):
     """The modules of the lemmas of every law of a crate and of the crates that it depends on."""
     found = []
-    for it in ["catalogue_core", "desk_core", "office_core", *(["state_encoding"] if crate == "state_encoding" else [])]:
+    above = ["state_encoding"] if crate == "state_encoding" else []
+    for it in ["catalogue_core", "desk_core", "office_core", *above]:
         for folder, _, files in os.walk(f"{TOP}/crates/{it}/proofs"):
             inner = os.path.relpath(folder, f"{TOP}/crates/{it}/proofs").split("/")
             if "Answers.antt" in files and inner[0].startswith("laws"):
@@ -117,7 +132,8 @@ class Run:
         asked = [rule.asked(self.modules, what) for rule in rules]
         grounds = [(rule.crate, rule.module, it) for rule, it in zip(rules, asked)]
         unturned = [it for it in dict.fromkeys(grounds) if it not in self.clean]
-        self.go(f"{what}_as_it_is", [(None, crate, module, self.modules.text[module], it) for crate, module, it in unturned])
+        as_it_is = [(None, crate, module, self.modules.text[module], it) for crate, module, it in unturned]
+        self.go(f"{what}_as_it_is", as_it_is)
         self.go(what, [(rule, rule.crate, rule.module, rule.text, it) for rule, it in zip(rules, asked)])
 
     def go(self, sign, cases):
@@ -160,14 +176,23 @@ class Run:
                 out.write(rule.line() + "\n")
 
 
-def chosen(modules, given):
+def written(words=()):
+    """All rules, or those with one of these words in their names: those that the prover tries, and the others."""
+    every = records.read(Path(TOP, "mutation", "wrong_rules")) + wrong_rules_made.made()
+    wanted = [it for it in every if not words or any(word in it.name for word in words)]
+    for it in wanted:
+        if bool(it.refused_by) == bool(it.seen_in):
+            raise ValueError(f"{it.name}: a rule is refused by something or seen in something")
+    return [it for it in wanted if it.refused_by], [it for it in wanted if it.seen_in]
+
+
+def not_refused_before(rules, log):
+    """The rules that an earlier run has not seen refused."""
     done = set()
-    if given.log and os.path.isfile(given.log):
-        lines = [it.split(" | ") for it in open(given.log, encoding="utf-8")]
+    if log and os.path.isfile(log):
+        lines = [it.split(" | ") for it in open(log, encoding="utf-8")]
         done = {it[1] for it in lines if it[0] == "refused"}
-    told = [it for it in WRONG if not given.words or any(word in it[0] for word in given.words)]
-    rules = [Rule(modules, *it) for it in told if it[0] not in done]
-    return rules, len(told) - len(rules)
+    return [it for it in rules if it.name not in done]
 
 
 # ---- rules that the prover does not try
@@ -181,11 +206,6 @@ def days_of_acceptance():
     import limits
 
     return {day.name for day in days.written() + heads.made() + limits.made()}
-
-
-def untried():
-    """The rules that the prover does not try."""
-    return wrong_rules_of_http.written(Path(TOP)) + wrong_rules_of_trees.written() + wrong_rules_of_files.written()
 
 
 def has_field(row):
@@ -210,18 +230,19 @@ def is_there(told, named_days):
     return Path(TOP, "crates", crate, "proofs", *path).is_dir()
 
 
-def wrong_untried(given):
-    """The untried rules that do not apply or whose row or day is not there, and the number of all."""
-    named_days = days_of_acceptance()
-    rules = [it for it in untried() if not given.words or any(word in it[0] for word in given.words)]
-    wrong = []
-    for label, file, old, new, told in rules:
-        times = Path(TOP, file).read_text(encoding="utf-8").count(old)
-        if times != 1 or old == new:
-            wrong.append(f"not applied | {label} | the old text stands {times} times in {file}")
-        elif not is_there(told, named_days):
-            wrong.append(f"not applied | {label} | there is no {told}")
-    return wrong, len(rules)
+def look_for(tried, untried):
+    """Prints the rules that do not apply, or whose row, day or law is not there; says whether all do."""
+    named_days, wrong = days_of_acceptance(), []
+    for it in tried + untried:
+        why = lacking(it)
+        if not why and it.seen_in and not is_there(it.seen_in, named_days):
+            why = f"there is no {it.seen_in}"
+        if why:
+            wrong.append(f"not applied | {it.name} | {why}")
+    print("".join(f"{it}\n" for it in wrong), end="")
+    number = len(tried) + len(untried)
+    print(f"{number} rules, {len(wrong)} not applied")
+    return not wrong and number > 0
 
 
 # ---- which definitions are changed
@@ -237,12 +258,17 @@ def definitions(path):
 def changed_definitions():
     """The definitions that some rule changes, as (file, name)."""
     changed = set()
-    for _, file, old, *_ in [*WRONG, *untried()]:
-        path = Path(TOP, file)
-        place = path.read_text(encoding="utf-8").find(old)
-        before = [name for begin, name in definitions(path) if begin < place + len(old)]
+    for it in itertools.chain(*written()):
+        path = Path(TOP, path_of(it))
+        place = path.read_text(encoding="utf-8").find(it.old)
+        before = [name for begin, name in definitions(path) if begin < place + len(it.old)]
         changed |= {(path, before[-1])} if before else set()
     return changed
+
+
+def is_of_the_model(file):
+    """Whether a file has definitions that are no worked rows and are not made from the code."""
+    return "declared" not in file.parts and not file.name.startswith("Worked")
 
 
 def cover(crates):
@@ -250,7 +276,7 @@ def cover(crates):
     changed, total = changed_definitions(), [0, 0]
     for folder in sorted(Path(TOP, "crates").glob("*/specs")):
         crate = folder.parent.name
-        files = [it for it in sorted(folder.rglob("*.antt")) if "declared" not in it.parts and not it.name.startswith("Worked")]
+        files = sorted(it for it in folder.rglob("*.antt") if is_of_the_model(it))
         names = [(file, name) for file in files for _, name in definitions(file)]
         mine = [it for it in names if it in changed]
         total = [total[0] + len(names), total[1] + len(mine)]
@@ -263,7 +289,7 @@ def cover(crates):
     print(f"{total[1]} of {total[0]} definitions are changed by a rule")
 
 
-def main():
+def options():
     words = argparse.ArgumentParser(prog="wrong_rules.py", description=__doc__.split("\n")[0])
     words.add_argument("--dry", action="store_true", help="only look whether each old text stands once in its file")
     words.add_argument("--covered", action="store_true", help="count the definitions that some rule changes")
@@ -273,34 +299,36 @@ def main():
     words.add_argument("--log", help="a file that keeps a line for each rule")
     words.add_argument("--keep", help="a folder that keeps what was checked and said")
     words.add_argument("words", nargs="*", metavar="WORD")
-    given = words.parse_args()
-    if given.covered:
-        return cover(given.words)
-    modules = side_by_side.Modules(TOP)
-    rules, before = chosen(modules, given)
-    if given.dry:
-        missing = [it for it in rules if it.verdict]
-        for it in missing:
-            print(it.line())
-        wrong, number = wrong_untried(given)
-        print("".join(f"{it}\n" for it in wrong), end="")
-        print(f"{len(rules) + number} rules, {len(missing) + len(wrong)} not applied")
-        return 1 if missing or wrong or not rules and not number else 0
+    return words.parse_args()
+
+
+def tried(given, modules, rules):
+    """Gives each rule a verdict, and prints it."""
     with tempfile.TemporaryDirectory(prefix="rules-") as room:
         run = Run(modules, given, given.keep or room)
         for it in rules:
             if it.verdict:
                 run.say(it)
         run.ask([it for it in rules if not it.verdict], "beside")
-        run.ask([it for it in rules if it.verdict == "LET THROUGH" and it.named], "rows")
+        run.ask([it for it in rules if it.verdict == "LET THROUGH"], "rows")
         run.ask([it for it in rules if it.verdict == "LET THROUGH"], "laws")
         for it in rules:
             if not it.verdict:
                 it.verdict, it.why = "no verdict", "the check did not end"
                 run.say(it)
-    counts = {}
-    for it in rules:
-        counts[it.verdict] = counts.get(it.verdict, 0) + 1
+
+
+def main():
+    given = options()
+    if given.covered:
+        return cover(given.words)
+    of_prover, others = written(given.words)
+    if given.dry:
+        return 0 if look_for(of_prover, others) else 1
+    modules = side_by_side.Modules(TOP)
+    rules = [Rule(modules, it) for it in not_refused_before(of_prover, given.log)]
+    tried(given, modules, rules)
+    before, counts = len(of_prover) - len(rules), Counter(it.verdict for it in rules)
     said = ", ".join(f"{number} {verdict}" for verdict, number in counts.items())
     print(f"{len(rules)} tried: {said or 'none'}" + (f"; {before} were refused before" if before else ""))
     return 1 if set(counts) - {"refused"} or not (rules or before) else 0

@@ -8,18 +8,17 @@ FOLDER, to `talk`, in turn. Of N runs the script prints the least processor time
 memory of the process, and how many answers had which status. It ends with 1 if a session broke off, or if trial and file gave
 different answers.
 """
-import argparse
 import collections
 import re
 import subprocess
 import sys
-import tempfile
 from pathlib import Path
 
-import requests
+import requests  # it finds the client
 
-BUILT = Path(__file__).resolve().parents[2] / "crates/record_office/out/record_office"
-SETTINGS = "--country GB --repo 0999 --seats 200 --daily 50 --hands 10 --run 100 --day 2024-03-01".split()
+import client
+
+SETTINGS = client.option_words(client.LARGE)
 SESSIONS = "import 1000 import 20000 moves 20000 boxes 3000 pages 1000 orders 1000 small 9000 body 8388608".split()
 STATUS = re.compile(rb"HTTP/1\.1 (\d+) [A-Z]")
 
@@ -73,9 +72,7 @@ def measure(program, room, runs, what, number):
 
 
 def main():
-    parser = argparse.ArgumentParser(description=__doc__, formatter_class=argparse.RawDescriptionHelpFormatter)
-    parser.add_argument("--program", type=Path, default=BUILT)
-    parser.add_argument("--room", type=Path, default=Path("/dev/shm"), metavar="FOLDER")
+    parser = client.options(__doc__)
     parser.add_argument("--runs", type=int, default=3, metavar="N")
     parser.add_argument("sessions", nargs="*", default=SESSIONS, metavar="WHAT N")
     given = parser.parse_args()
@@ -83,9 +80,9 @@ def main():
         parser.error("each WHAT needs its N")
     say("Session", "Trial", "File", "Ratio", "Memory of the trial", "Of the file", "Answers")
     say(*["---"] * 7)
-    with tempfile.TemporaryDirectory(dir=given.room) as room:
+    with client.temporary(given.room) as room:
         for what, number in zip(given.sessions[::2], given.sessions[1::2]):
-            measure(given.program.resolve(), Path(room), given.runs, what, int(number))
+            measure(given.program.path, room, given.runs, what, int(number))
 
 
 if __name__ == "__main__":

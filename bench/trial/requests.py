@@ -15,6 +15,10 @@ small N    N questions for what is out
 body N     a command whose body has N bytes, which are not looked at
 """
 import sys
+from pathlib import Path
+
+sys.path.append(str(Path(__file__).resolve().parents[2] / "acceptance"))
+from client import get, post  # noqa: E402
 
 TEXT = (
     "Papers of the dock company on the building and the upkeep and the use of the locks and basins and quays; "
@@ -65,14 +69,6 @@ def move(unit):
     """A move of a unit without children to another of the series of one fonds."""
     series = (unit - 1 + SERIES // 2) % SERIES + 2
     return post("/desk/move", b'{"unit":%d,"parent":%d}' % (unit, series))
-
-
-def post(path, body):
-    return b"POST %s HTTP/1.1\r\nHost: x\r\nContent-Length: %d\r\n\r\n" % (path.encode(), len(body)) + body
-
-
-def get(path):
-    return b"GET %s HTTP/1.1\r\nHost: x\r\n\r\n" % path.encode()
 
 
 def taken_in(*args, **kinds):

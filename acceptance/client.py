@@ -1,0 +1,301 @@
+"""The built program as the scripts of acceptance and bench use it: requests and replies, an office in a file, checks,
+options.
+
+    with client.temporary(given.room) as room:
+        office = client.Office.made(given.program, room / "office.db")
+        ended = office.talk(client.get("/public/fonds"), client.post("/desk/run"))
+        [fonds, run] = client.replies(ended.output)
+"""
+import argparse
+import contextlib
+import io
+import itertools
+import json
+import os
+import re
+import socket
+import subprocess
+import tempfile
+from pathlib import Path
+from typing import NamedTuple
+
+TOP = Path(__file__).resolve().parents[1]
+BUILT = TOP / "crates" / "record_office" / "out" / "record_office"
+MEMORY = Path("/dev/shm")
+SETTINGS = {"country": "GB", "repo": "0999", "seats": "2", "daily": "3", "hands": "1", "run": "2", "day": "2024-03-01"}
+LARGE = SETTINGS | {"seats": "200", "daily": "50", "hands": "10", "run": "100"}
+HOST = "127.0.0.1"
+PATIENCE = 60
+# ports that the system does not give to those who connect
+PORTS = itertools.count(20_000 + os.getpid() % 10_000)
+
+# ---- requests and replies
+
+TEXT, JSON = "text/plain; charset=utf-8", "application/json"
+PHRASES = {200: "OK", 400: "Bad Request", 404: "Not Found", 409: "Conflict", 503: "Service Unavailable"}
+
+
+def get(path):
+    """A question."""
+    return f"GET {path} HTTP/1.1\r\nHost: x\r\n\r\n".encode()
+
+
+def post(path, body=b""):
+    """A command. Its body is bytes, a text, or members that are sent as JSON."""
+    if isinstance(body, dict):
+        body = json.dumps(body)
+    if isinstance(body, str):
+        body = body.encode()
+    return f"POST {path} HTTP/1.1\r\nHost: x\r\nContent-Length: {len(body)}\r\n\r\n".encode() + body
+
+
+def path_of(word):
+    """The path of a command; readers give their orders themselves."""
+    return "/public/orders" if word == "orders" else f"/desk/{word}"
+
+
+def reply(status, body, kind=JSON, *fields):
+    """The bytes of a reply, with these fields after its length."""
+    lines = [f"HTTP/1.1 {status} {PHRASES[status]}", f"Content-Type: {kind}", f"Content-Length: {len(body)}", *fields]
+    return "".join(f"{line}\r\n" for line in [*lines, ""]).encode() + body
+
+
+BUSY = reply(503, b'{"error":"busy"}', JSON, "Connection: close")
+
+
+class Reply(NamedTuple):
+    """A reply that was read: the number of its status, its first line, its body."""
+
+    status: int
+    line: bytes
+    body: bytes
+
+    def json(self):
+        """What the body tells as JSON."""
+        return json.loads(self.body)
+
+
+def read_reply(stream):
+    """The next reply of a binary stream, as far as it is there; the status is 0 if its first line is no such line."""
+    line, length = stream.readline(), 0
+    status = re.fullmatch(rb"HTTP/1\.1 (\d{3}) .+\r\n", line)
+    for field in iter(stream.readline, b"\r\n"):
+        if not field:
+            break
+        said = re.fullmatch(rb"Content-Length: (\d+)\r\n", field)
+        length = int(said[1]) if said else length
+    return Reply(int(status[1]) if status else 0, line.rstrip(b"\r\n"), stream.read(length))
+
+
+def replies(output):
+    """All replies of an output."""
+    stream, found = io.BytesIO(output), []
+    while stream.tell() < len(output):
+        found.append(read_reply(stream))
+    return found
+
+
+# ---- the program and its offices
+
+
+class Ended(NamedTuple):
+    """How a command ended: its exit status, its output, and its message on standard error."""
+
+    status: int
+    output: bytes
+    message: bytes
+
+
+SOUND = Ended(0, b"sound\n", b"")
+
+
+class Program:
+    """The built program; each call runs one of its commands to the end."""
+
+    def __init__(self, path):
+        self.path = Path(path).resolve()
+
+    def run(self, *words, said=b"", timeout=PATIENCE, **environment):
+        """Runs a command that reads `said`, with these variables in its environment."""
+        how = {"input": said, "capture_output": True, "timeout": timeout, "env": os.environ | environment}
+        done = subprocess.run([self.path, *words], **how)
+        return Ended(done.returncode, done.stdout, done.stderr)
+
+    def trial(self, said, settings=None, timeout=PATIENCE):
+        """A session with a new office that is kept nowhere."""
+        return self.run("trial", *option_words(settings or SETTINGS), said=said, timeout=timeout)
+
+
+def option_words(settings):
+    """The words of the command line for these settings."""
+    return [word for name, value in settings.items() for word in (f"--{name}", str(value))]
+
+
+class Office:
+    """An office that the program keeps in a file."""
+
+    def __init__(self, program, store):
+        self.program, self.store = program, Path(store)
+
+    @classmethod
+    def made(cls, program, store, settings=None, **how):
+        """A new office, which must not fail."""
+        office = cls(program, store)
+        ended = office.init(settings, **how)
+        if ended != Ended(0, b"", b""):
+            raise RuntimeError(f"init of {store}: {ended}")
+        return office
+
+    def perform(self, command, *words, **how):
+        """Runs a command on the file to its end."""
+        return self.program.run(command, "--store", str(self.store), *words, **how)
+
+    def init(self, settings=None, **how):
+        """Makes the office, with the usual settings if none are given."""
+        return self.perform("init", *option_words(settings or SETTINGS), **how)
+
+    def check(self, **how):
+        """Asks whether the file holds a sound office."""
+        return self.perform("check", **how)
+
+    def import_file(self, source, file, **how):
+        """Takes in a file of this source."""
+        return self.perform("import", "--source", source, str(file), **how)
+
+    def talk(self, *requests, **how):
+        """A session of these requests, one right after the other."""
+        return self.perform("talk", said=b"".join(requests), **how)
+
+    def session(self):
+        """A running session."""
+        return Session(self)
+
+    def served(self, connections, port=None, **environment):
+        """A running server for so many connections."""
+        return Server(self, connections, port or next(PORTS), environment)
+
+
+class Running:
+    """A command of the program while it runs. It is killed at the end of `with`, if it has not ended."""
+
+    def __init__(self, office, *words, environment=None, **streams):
+        command = [office.program.path, words[0], "--store", office.store, *words[1:]]
+        self.process = subprocess.Popen(command, env=os.environ | (environment or {}), **streams)
+
+    def __enter__(self):
+        return self
+
+    def __exit__(self, *_):
+        self.stop()
+
+    def stop(self):
+        """Kills the program, as `kill -9` does."""
+        self.process.kill()
+        self.process.communicate()
+
+
+class Session(Running):
+    """A running session: each request is sent when the one before is answered."""
+
+    def __init__(self, office):
+        super().__init__(office, "talk", stdin=subprocess.PIPE, stdout=subprocess.PIPE)
+
+    def ask(self, request):
+        """Sends a request; returns its reply."""
+        self.process.stdin.write(request)
+        self.process.stdin.flush()
+        return read_reply(self.process.stdout)
+
+
+class Server(Running):
+    """A running server. `said` is its first line, which tells that it listens, or nothing."""
+
+    def __init__(self, office, connections, port, environment):
+        words = ["serve", "--port", str(port), "--connections", str(connections)]
+        streams = {"stdin": subprocess.DEVNULL, "stdout": subprocess.PIPE, "stderr": subprocess.PIPE}
+        # without a buffer, so that `ended` finds all that comes after the first line
+        super().__init__(office, *words, environment=environment, bufsize=0, **streams)
+        self.port, self.said = port, self.process.stdout.readline()
+
+    def connected(self, patience=PATIENCE):
+        """A connection to the server."""
+        return socket.create_connection((HOST, self.port), patience)
+
+    def ended(self, timeout=PATIENCE):
+        """Waits until the server ends by itself. Its output is what it wrote after its first line."""
+        output, message = self.process.communicate(timeout=timeout)
+        return Ended(self.process.returncode, output, message)
+
+
+# ---- checks
+
+
+class Checks:
+    """Results that were compared. Each wrong one is printed."""
+
+    def __init__(self):
+        self.passed = self.failed = 0
+
+    def same(self, what, found, wanted):
+        """Compares a result; says whether it is right."""
+        if found == wanted:
+            self.passed += 1
+            return True
+        self.failed += 1
+        print(f"WRONG {what}: {found!r}, wanted {wanted!r}", flush=True)
+        return False
+
+    def ends(self):
+        """Prints how many results were right; returns the exit status. Without a check nothing was shown."""
+        print(f"{self.passed} passed, {self.failed} failed")
+        return 1 if self.failed or not self.passed else 0
+
+
+def first_difference(found, wanted):
+    """Two ends of a command from some bytes before the first difference of their outputs."""
+    pairs = enumerate(zip(found.output, wanted.output))
+    place = next((n for n, (a, b) in pairs if a != b), min(len(found.output), len(wanted.output)))
+    near = slice(max(0, place - 200), place + 200)
+    shown = [f"{it.status}, {it.output[near]}, {it.message}" for it in (found, wanted)]
+    return ", wanted ".join(shown)
+
+
+# ---- options and rooms
+
+
+def options(text, in_memory=True):
+    """The options of every script; `text` is what the script says about itself. Its stores are made in memory, where no
+    sync waits for a disk, or where temporary files are."""
+    words = argparse.ArgumentParser(description=text, formatter_class=argparse.RawDescriptionHelpFormatter)
+    words.add_argument("--program", type=Program, default=str(BUILT), help="the built program; else that of `rt ci`")
+    room = MEMORY if in_memory and os.access(MEMORY, os.W_OK) else Path(tempfile.gettempdir())
+    told = f"where stores are made; else {room}"
+    words.add_argument("--room", type=Path, default=room, metavar="DIRECTORY", help=told)
+    return words
+
+
+def seeded(text, count):
+    """The same for a script of random sessions or inputs, each made from a seed."""
+    words = options(text)
+    words.add_argument("--first", type=int, default=0, metavar="SEED", help="the first seed; else 0")
+    words.add_argument("--count", type=int, default=count, help=f"how many seeds; else {count}")
+    return words
+
+
+def one_of(known):
+    """The type of a word that is one of these names or numbers."""
+    by_word = {str(it): it for it in known}
+
+    def found(word):
+        if word not in by_word:
+            raise argparse.ArgumentTypeError(f"{word} is none of {', '.join(by_word)}")
+        return by_word[word]
+
+    return found
+
+
+@contextlib.contextmanager
+def temporary(room):
+    """A new directory in a room; it is removed afterwards."""
+    with tempfile.TemporaryDirectory(dir=room) as directory:
+        yield Path(directory)
