@@ -1,11 +1,11 @@
 """The search in all archives in a real browser, with a service of its own."""
 
-import time
 import urllib.parse
 
 from catalogue import ODD, dock_company, many
 from office import TOP
 from searched import Searched
+from waits import until
 
 BOXES = "document.querySelectorAll('form.find').length"
 TOLD = ".told"
@@ -23,13 +23,14 @@ def office_of(program, folder):
     return office
 
 
-def play(checks, program, folder, browser, shot):
+def play(checks, program, folder, browser, shot, only=None):
+    """All parts, or the first, which begins the service, and one other."""
     folder.mkdir(parents=True, exist_ok=True)
     with office_of(program, folder) as office:
         page = browser.page()
         for part in (absent, box, results, more, filters, odd_texts, phone, away):
-            checks.part(f"search pages: {part.__name__}", part, checks, office, page, shot)
-
+            if only in (None, part.__name__) or part is absent:
+                checks.part(f"search pages: {part.__name__}", part, checks, office, page, shot)
 
 
 def absent(checks, office, page, _):
@@ -39,9 +40,7 @@ def absent(checks, office, page, _):
     page.open(office.public, "/search?q=minutes")
     page.see("The search does not answer just now.", TOLD)
     office.serve_search("--every", ".3", "--rest", "0")
-    end = time.time() + 60
-    while b'"unit"' not in office.found("q=minutes")[1] and time.time() < end:
-        time.sleep(.6)
+    until(lambda: b'"unit"' in office.found("q=minutes")[1], "a first round has found the minutes")
     page.complaints()
 
 
@@ -136,7 +135,12 @@ def away(checks, office, page, _):
     with office.without_program():
         page.js("document.querySelector('form.find input').value = 'away'")
         page.press("Search")
-        page.see("Please try again in a minute.", TOLD, 30)
+        page.see("Please try again in a minute.", TOLD)
     checks.check("an office that is away is told", True)
     page.press("Try again")
-    page.see("Nothing found.", TOLD, 60)
+    page.see("Nothing found.", TOLD)
+    page.answer_with("*/public/search*", 429, b"{}")
+    page.press("Search")
+    page.see("Too many searches came from your address.", TOLD)
+    page.answer_with(None, 0, b"")
+    checks.check("too many searches are told", True)
