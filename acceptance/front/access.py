@@ -129,6 +129,7 @@ class Access:
         page = getattr(self, site)
         page.size(*DESK)
         if address.startswith("/search"):
+            page.visit(self.sites[site] + "/help")
             page.answer_with("*/public/search*", 200, json.dumps(FOUND).encode())
         if site == "desk":
             page.open(self.sites[site], address)

@@ -5,6 +5,8 @@ import pathlib
 import time
 
 import catalogue
+from browser import TWO_FRAMES
+from waits import until
 
 SETTINGS = ("--country", "GB", "--repo", "0999", "--seats", "4", "--daily", "50", "--hands", "2", "--run", "20", "--day", "2024-03-01")
 MORE_ORDERS = (("rate=6r/m", "rate=600r/m"),)
@@ -16,6 +18,13 @@ MOST_QUESTIONS = 40  # for the way to a unit
 
 INSIDE = """((selector) => { const box = document.querySelector(selector).getBoundingClientRect();
   return box.height > 0 && box.top >= 0 && box.bottom <= innerHeight + 1; })"""
+# The middle of what begins with these words, or of its first 60 px; `isMet` is true once it was clicked.
+TARGET = """(words) => { const text = (one) => (one.labels?.[0] ?? one).textContent.replace(/\\s+/g, ' ').trim();
+  const one = [...document.querySelectorAll('a, button, summary, input')].find((it) => it.offsetParent && text(it).startsWith(words));
+  window.isMet = false; one.addEventListener('click', () => { window.isMet = true; }, { once: true });
+  one.scrollIntoView({ block: 'nearest' }); const { left, top, width, height } = one.getBoundingClientRect();
+  const [x, y] = [left + Math.min(width, 60) / 2, top + height / 2];
+  return { x, y, height, free: one.contains(document.elementFromPoint(x, y)) }; }"""
 FIRST_ROW = """(() => { const under = document.querySelector('.search.bar').getBoundingClientRect().bottom;
   return [...document.querySelectorAll('.aid [data-depth]')].findIndex((row) => row.getBoundingClientRect().bottom > under + 8); })()"""
 
@@ -60,15 +69,15 @@ class Journeys:
         self.checks.check(f"what has the focus is seen: {words}", seen)
 
     def tap(self, words):
-        """A thumb on what begins with these words: nothing may lie over it, and it is large enough."""
-        box = self.page.js("((words) => { const text = (one) => (one.labels?.[0] ?? one).textContent.replace(/\\s+/g, ' ').trim();"
-                           "const one = [...document.querySelectorAll('a, button, summary, input')].find((it) => it.offsetParent && text(it).startsWith(words));"
-                           "one.scrollIntoView({ block: 'nearest' }); const { left, top, width, height } = one.getBoundingClientRect();"
-                           "const [x, y] = [left + Math.min(width, 60) / 2, top + height / 2];"
-                           "return { x, y, height, free: one.contains(document.elementFromPoint(x, y)) }; })" + f"({self.page.quoted(words)})")
-        self.checks.check(f"a thumb meets {words}", box["free"] and box["height"] >= 24, box)
-        for kind in ("mousePressed", "mouseReleased"):
-            self.page.call("Input.dispatchMouseEvent", type=kind, button="left", clickCount=1, x=box["x"], y=box["y"])
+        """A thumb on what begins with these words: nothing may lie over it, and it is large enough. What is added to the page just
+        then may move it away, so the thumb tries again until it has met it."""
+        def met():
+            box = self.page.js(f"({TARGET})({self.page.quoted(words)})")
+            for kind in ("mousePressed", "mouseReleased"):
+                self.page.call("Input.dispatchMouseEvent", type=kind, button="left", clickCount=1, x=box["x"], y=box["y"])
+            return box["free"] and self.page.js(f"{TWO_FRAMES}.then(() => window.isMet ?? true)") and box  # a page that was left has met it
+        box = until(met, f"a thumb meets {words}")
+        self.checks.check(f"large enough for a thumb: {words}", box["height"] >= 24, box)
 
     def is_inside(self, what, selector):
         self.checks.check(f"in the window: {what}", self.page.js(f"{INSIDE}({self.page.quoted(selector)})"), selector)
