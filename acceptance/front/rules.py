@@ -26,6 +26,23 @@ def raw(port, text, body=b"", source="127.0.0.1"):
     return got
 
 
+HTML, SCRIPT, STYLE = (f"{kind}; charset=utf-8" for kind in ("text/html", "application/javascript", "text/css"))
+TEXT, JSON = "text/plain; charset=utf-8", "application/json"
+# Of each kind of answer: the site, the path, the status, what it is, and how long it is kept.
+ANSWERS = (
+    ("readers", "/", 200, HTML, "no-cache"), ("readers", "/unit/1", 200, HTML, "no-cache"), ("readers", "/no", 404, HTML, "no-cache"),
+    ("readers", "/main.js", 200, SCRIPT, "no-cache"), ("readers", "/shared/dom.js", 200, SCRIPT, "no-cache"),
+    ("readers", "/public.css", 200, STYLE, "no-cache"), ("readers", "/shared/base.css", 200, STYLE, "no-cache"),
+    ("readers", "/public/fonds", 200, TEXT, "no-store"), ("readers", "/public/units/999999", 404, JSON, "no-store"),
+    ("readers", "/public/none", 404, JSON, None), ("readers", "/public/search?q=x", 503, JSON, None),
+    ("readers", "/public/orders", 405, JSON, "no-store"), ("desk", "/", 200, HTML, "no-cache"), ("desk", "/desk.css", 200, STYLE, "no-cache"),
+    ("desk", "/shared/dom.js", 200, SCRIPT, "no-cache"), ("desk", "/desk/issued", 200, JSON, "no-store"),
+    ("desk", "/desk/a/b/c", 404, JSON, None), ("desk", "/sign-out", 401, HTML, "no-cache"))
+# Commands that do not come to the program: the site, the path, a field, how many bytes, the status, how long the answer is kept.
+REFUSED = (
+    ("readers", "/public/orders", "Origin: http://evil.example\r\n", 2, 403, "no-store"), ("readers", "/public/orders", "", 6000, 413, None),
+    ("desk", "/desk/run", "Origin: http://evil.example\r\n", 2, 403, "no-store"),
+    ("desk", "/desk/import/x", "Sec-Fetch-Site: cross-site\r\n", 2, 403, "no-store"))
 POLICY = {
     "content-security-policy": "default-src 'none'; script-src 'self'; style-src 'self'; img-src 'self'; connect-src 'self'; form-action 'none'; "
                                "base-uri 'none'; frame-ancestors 'none'; require-trusted-types-for 'script'",
@@ -59,6 +76,7 @@ class Rules:
     def __init__(self, checks, asks, page):
         self.checks, self.asks, self.page = checks, asks, page
         self.public, self.staff = (asks.office.ports[name] for name in ("8080", "8081"))
+        self.ports = {"readers": self.public, "desk": self.staff}
 
     def play(self, only=None):
         for part in (self.odd_paths, self.readers_limits, self.password, self.staffs_limits, self.other_sites, self.other_names,
@@ -146,14 +164,20 @@ class Rules:
             got, _ = self.asks.call("POST", "/desk/cancel", b'{"order":1000}', True, fields)
             self.checks.same(f"a command with {dict(fields)}", got, 409 if wanted == 200 else wanted)
         self.checks.same("nothing was changed", self.state(), before)
-        for fields, wanted in (([("Sec-Fetch-Site", "none")], 200), ([("Sec-Fetch-Site", "cross-site")], 403), ([("Origin", own)], 200), ([("Origin", "http://evil.example")], 403)):
-            self.checks.same(f"a question of the desk with {dict(fields)}", self.asks.call("GET", "/desk/issued", None, True, fields)[0], wanted)
-            got = self.asks.call("POST", "/desk/import/x", b"legacyId", True, fields)[0]
-            self.checks.check(f"an import with {dict(fields)}", (got == 403) == (wanted == 403), got)
+        self.questions_and_files(own)
         here = f"http://127.0.0.1:{self.public}"
-        for fields, wanted in (([("Origin", "http://evil.example")], 403), ([("Sec-Fetch-Site", "cross-site")], 403), ([("Origin", here), ("Sec-Fetch-Site", "same-origin")], 409)):
+        for fields, wanted in (([("Origin", "http://evil.example")], [403]), ([("Sec-Fetch-Site", "cross-site")], [403]),
+                               ([("Origin", here), ("Sec-Fetch-Site", "same-origin")], [409, 429])):
             got = self.asks.call("POST", "/public/orders", b'{"ticket":999,"container":1}', False, fields)[0]
-            self.checks.check(f"an order with {dict(fields)}", got == wanted or wanted == 409 and got == 429, got)
+            self.checks.check(f"an order with {dict(fields)}", got in wanted, got)
+
+    def questions_and_files(self, own):
+        """What other sites' pages ask at the desk, and the files that they send there."""
+        for field, let_in in ((("Sec-Fetch-Site", "none"), True), (("Sec-Fetch-Site", "cross-site"), False), (("Origin", own), True),
+                              (("Origin", "http://evil.example"), False)):
+            asked = self.asks.call("GET", "/desk/issued", None, True, [field])[0]
+            sent = self.asks.call("POST", "/desk/import/x", b"legacyId", True, [field])[0]
+            self.checks.same(f"a question and a file with {field}", [asked != 403, sent != 403], [let_in] * 2)
 
     def other_names(self):
         password = SIGNED_IN["Authorization"]
@@ -162,27 +186,16 @@ class Rules:
 
     def heads(self):
         """What each answer tells a browser: scripts from here alone, and none made from texts; and what it is."""
-        large = b"{" + b" " * 6000 + b"}"
-        for port, path, wanted, kind, kept in (
-                (self.public, "/", 200, "text/html; charset=utf-8", "no-cache"), (self.public, "/unit/1", 200, "text/html; charset=utf-8", "no-cache"),
-                (self.public, "/main.js", 200, "application/javascript; charset=utf-8", "no-cache"), (self.public, "/shared/dom.js", 200, "application/javascript; charset=utf-8", "no-cache"),
-                (self.public, "/public.css", 200, "text/css; charset=utf-8", "no-cache"), (self.public, "/shared/base.css", 200, "text/css; charset=utf-8", "no-cache"),
-                (self.public, "/no", 404, "text/html; charset=utf-8", "no-cache"), (self.public, "/public/fonds", 200, "text/plain; charset=utf-8", "no-store"),
-                (self.public, "/public/units/999999", 404, "application/json", "no-store"), (self.public, "/public/none", 404, "application/json", None),
-                (self.public, "/public/search?q=x", 503, "application/json", None), (self.public, "/public/orders", 405, "application/json", "no-store"),
-                (self.staff, "/", 200, "text/html; charset=utf-8", "no-cache"), (self.staff, "/desk.css", 200, "text/css; charset=utf-8", "no-cache"),
-                (self.staff, "/shared/dom.js", 200, "application/javascript; charset=utf-8", "no-cache"), (self.staff, "/desk/issued", 200, "application/json", "no-store"),
-                (self.staff, "/desk/a/b/c", 404, "application/json", None), (self.staff, "/sign-out", 401, "text/html; charset=utf-8", "no-cache")):
-            got = self.of(port, "GET", path)
+        for site, path, wanted, kind, kept in ANSWERS:
+            got = self.of(self.ports[site], "GET", path)
             self.checks.same(f"status of {path}", status(got), wanted)
             policy_of(self.checks, path, got, kind, kept)
-        for port, path, fields, body, wanted in ((self.public, "/public/orders", "Origin: http://evil.example\r\n", b"{}", 403), (self.public, "/public/orders", "", large, 413),
-                                                 (self.staff, "/desk/run", "Origin: http://evil.example\r\n", b"{}", 403), (self.staff, "/desk/import/x", "Sec-Fetch-Site: cross-site\r\n", b"{}", 403)):
-            got = self.of(port, "POST", path, body, fields)
-            self.checks.same(f"status of a POST to {path} with {fields or 'a large body'}", status(got), wanted)
-            policy_of(self.checks, f"{path} {fields or 'too large'}", got, "application/json", "no-store" if wanted == 403 else None)
+        for site, path, fields, size, wanted, kept in REFUSED:
+            got = self.of(self.ports[site], "POST", path, b"{}".rjust(size), fields)
+            self.checks.same(f"status of {size} bytes to {path} {fields}", status(got), wanted)
+            policy_of(self.checks, f"{size} bytes to {path} {fields}", got, JSON, kept)
         got = raw(self.staff, f"GET / HTTP/1.1\r\nHost: 127.0.0.1:{self.staff}\r\nConnection: close\r\n\r\n")
-        policy_of(self.checks, "no password", got, "text/html; charset=utf-8", None)
+        policy_of(self.checks, "no password", got, HTML, None)
 
     def of(self, port, method, path, body=b"", fields=""):
         """The answer to a request of a member of staff, to either site."""
