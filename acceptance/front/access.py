@@ -180,7 +180,7 @@ class Access:
 
     def structure(self, page, at):
         wanted = {"language": "en", "title": True, "zoom": True, "lacking": [], "mains": 1, "h1": 1, "headings": True, "ids": [], "order": [], "silent": [],
-                  "loose": [], "groups": [], "tables": [], "pictures": [], "names": [], "fixed": [], "directions": []}
+                  "unlabelled": [], "loose": [], "groups": [], "tables": [], "pictures": [], "names": [], "fixed": [], "directions": []}
         self.checks.same(f"1.3.1, 2.4.2, 3.1.1, 4.1.3 parts of a page: {at}", self.value(page, "structure"), wanted)
 
     def names(self, page, at):

@@ -18,7 +18,7 @@ class Encrypted(Office):
     def __init__(self, folder, program):
         super().__init__(folder, program)
         self.ports.update(zip(("80", "443"), free_ports(2, PORTS + 900, PORTS + 999)))
-        subprocess.run(["openssl", "req", "-x509", "-newkey", "rsa:2048", "-nodes", "-days", "2", "-subj", f"/CN={READERS}",
+        subprocess.run(["openssl", "req", "-x509", "-newkey", "ec", "-pkeyopt", "ec_paramgen_curve:prime256v1", "-nodes", "-days", "2", "-subj", f"/CN={READERS}",
                         "-keyout", self.folder / "key.pem", "-out", self.folder / "certificate.pem"], check=True, capture_output=True)
 
     def ours(self, text):

@@ -96,7 +96,8 @@
       // 4.1.3: what is told later has the role of a status, and a fault that of an alert
       silent: all('.told, .outcome, .about, .seen-in-file').filter((node) => node.getAttribute('role') !== 'status')
         .concat(all('.wrong').filter((node) => node.getAttribute('role') !== 'alert')).map(told),
-      // 3.3.2: a hint is tied to its field
+      // 3.3.2: a field has a label (a title alone would count as a name), and a hint is tied to its field
+      unlabelled: all('input, select').filter((node) => node.labels.length === 0 && !node.getAttribute('aria-labelledby')).map(told),
       loose: all('.field .hint').filter((node) => !node.parentElement.querySelector('input, select')?.getAttribute('aria-describedby')?.split(' ').includes(node.id)).map(told),
       // 1.3.1: choices that belong together have a name, and tables their heads
       groups: all('fieldset').filter((node) => !node.querySelector('legend')?.textContent.trim()).map(told),
