@@ -13,12 +13,14 @@ The faults stand in mutation/front/*.faults, one after the other. A `\\n` in a t
     by: the part of acceptance/front/run.py that should notice it
     reason: in place of `by`, why no check can notice it, or why it does no harm
 
-Each part that is named is first played without a fault, and must pass. --dry only sees whether each fault can be planted.
+Each part that is named is first played without a fault, and must pass. Groups whose parts can be played again and again have one
+office for all their faults. --dry only sees whether each fault can be planted.
 It ends with 1 if a part did not pass, a fault cannot be planted, or one was not noticed."""
 
 import argparse
 import concurrent.futures
 import dataclasses
+import json
 import os
 import pathlib
 import queue
@@ -32,6 +34,9 @@ TOP = pathlib.Path(__file__).resolve().parent.parent
 RUN = TOP / "acceptance/front/run.py"
 PATIENCE = 20  # seconds that a check waits for what a fault may keep away
 LONGEST = 400  # seconds that a part may take
+NOT_PLAYED = "it was not played"
+GROUPS = {"access", "visit", "rules", "queue", "restarts"}  # with parts that can be played again and again in one office
+ONCE = {"queue:late", "rules:limit_of_orders", "rules:signing_out"}  # but these
 PORTS = 22000  # the first of a thousand ports for each job
 
 
@@ -43,6 +48,12 @@ class Fault:
     new: str = ""
     by: str = ""
     reason: str = ""
+
+    @property
+    def group(self):
+        """The group in whose office it is planted; nothing if it has an office of its own."""
+        name = self.by.split(":")[0]
+        return name if ":" in self.by and name in GROUPS and self.by not in ONCE else ""
 
     def planted(self, text):
         """The text of its file with the fault in it; None if that cannot be."""
@@ -69,8 +80,23 @@ def can_be_planted(fault):
     return fault.planted(text) is not None and bool(fault.by) != bool(fault.reason)
 
 
+def played_in_turn(program, group, ports, faults):
+    """Plays the parts of a group in one office, without a fault and with each. By part and fault (or None): what failed, or None."""
+    with tempfile.TemporaryDirectory() as room:
+        front, named = pathlib.Path(room) / "front", pathlib.Path(room) / "faults"
+        shutil.copytree(TOP / "front", front, ignore=shutil.ignore_patterns("__pycache__"))
+        named.write_text(json.dumps([dataclasses.asdict(fault) for fault in faults]), "utf-8")
+        words = [sys.executable, "-B", RUN, program, f"{room}/offices", f"{room}/shots", group, "--faults", named, "--patience", str(PATIENCE)]
+        environment = {**os.environ, "FRONT_FILES": str(front), "FRONT_PORTS": str(ports)}
+        done = subprocess.run(words, env=environment, stdout=subprocess.PIPE, stderr=subprocess.STDOUT, text=True, check=False)
+    told = [json.loads(line.removeprefix("TRIED ")) for line in done.stdout.splitlines() if line.startswith("TRIED ")]
+    if not told:
+        print(done.stdout[-2000:], flush=True)
+    return {(part, name): what for part, name, what in told}
+
+
 def played(program, part, ports, fault=None):
-    """Plays a part with a copy of the front. Whether all passed, and the first that did not."""
+    """Plays a part with a copy of the front. What failed first, or None."""
     with tempfile.TemporaryDirectory() as room:
         front = pathlib.Path(room) / "front"
         shutil.copytree(TOP / "front", front, ignore=shutil.ignore_patterns("__pycache__"))
@@ -84,9 +110,9 @@ def played(program, part, ports, fault=None):
                 told = process.communicate(timeout=LONGEST)[0]
             except subprocess.TimeoutExpired:
                 process.terminate()
-                return False, f"more than {LONGEST} s"
+                return f"more than {LONGEST} s"
         wrong = [line.removeprefix("WRONG ") for line in told.splitlines() if line.startswith("WRONG ")]
-        return process.returncode == 0, wrong[0][:150] if wrong else told[-300:]
+        return None if process.returncode == 0 else wrong[0][:150] if wrong else told[-300:]
 
 
 class Jobs:
@@ -97,16 +123,30 @@ class Jobs:
         for job in range(many):
             self.ports.put(PORTS + 1000 * job)
 
-    def play(self, part, fault=None):
+    def outcomes(self, faults):
+        """Yields each part that is named, with None, and then with each of its faults: (part, name of the fault, what failed or None)."""
+        tasks = [self.pool.submit(self.group, group, [fault for fault in faults if fault.group == group]) for group in sorted({fault.group for fault in faults} - {""})]
+        alone = [fault for fault in faults if not fault.group]
+        tasks += [self.pool.submit(self.one, part, None) for part in sorted({fault.by for fault in alone})]
+        tasks += [self.pool.submit(self.one, fault.by, fault) for fault in alone]
+        for task in concurrent.futures.as_completed(tasks):
+            yield from task.result()
+
+    def group(self, name, faults):
         ports = self.ports.get()
         try:
-            return played(self.program, part, ports, fault)
+            told = played_in_turn(self.program, name, ports, faults)
         finally:
             self.ports.put(ports)
+        wanted = [(part, None) for part in sorted({fault.by for fault in faults})] + [(fault.by, fault.fault) for fault in faults]
+        return [(part, fault, told.get((part, fault), NOT_PLAYED)) for part, fault in wanted]
 
-    def each(self, pairs):
-        """Pairs of a part and a fault, each with its outcome, in their order."""
-        return zip(pairs, self.pool.map(lambda pair: self.play(*pair), pairs))
+    def one(self, part, fault):
+        ports = self.ports.get()
+        try:
+            return [(part, fault and fault.fault, played(self.program, part, ports, fault))]
+        finally:
+            self.ports.put(ports)
 
 
 def main():
@@ -130,17 +170,16 @@ def main():
 def tried(faults, jobs):
     """What is wrong: parts that do not pass, and faults that nothing noticed."""
     began, wrong = time.monotonic(), []
-    for (part, _), (passed, told) in jobs.each([(part, None) for part in sorted({fault.by for fault in faults if fault.by})]):
-        if not passed:
-            wrong.append(part)
-            print(f"DOES NOT PASS WITHOUT A FAULT: {part}: {told}", flush=True)
     for fault in faults:
         if fault.reason:
             print(f"{fault.fault}: not tried: {fault.reason}", flush=True)
-    for (part, fault), (passed, told) in jobs.each([(fault.by, fault) for fault in faults if fault.by]):
-        if passed:
-            wrong.append(fault)
-        print(f"{fault.fault}: {'NOT NOTICED by' if passed else 'noticed by'} {part}{'' if passed else f': {told}'}", flush=True)
+    for part, fault, failed in jobs.outcomes([fault for fault in faults if fault.by]):
+        if (failed is None) == (fault is not None) or failed == NOT_PLAYED:
+            wrong.append(fault or part)
+        if fault is None and failed:
+            print(f"DOES NOT PASS WITHOUT A FAULT: {part}: {failed}", flush=True)
+        if fault is not None:
+            print(f"{fault}: {f'noticed by {part}: {failed}' if failed else f'NOT NOTICED by {part}'}", flush=True)
     print(f"{(time.monotonic() - began) / 60:.0f} minutes")
     return wrong
 

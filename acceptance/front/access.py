@@ -7,6 +7,7 @@ import pathlib
 from asks import Asks
 from catalogue import ODD, dock_company
 from office import FRONT, SIGNED_IN, TOP, Office
+from waits import until
 
 MEASURES = (pathlib.Path(__file__).parent / "measures.js").read_text("utf-8")
 DESK, ZOOMED = (1280, 800), (320, 256)  # a window of 1280 x 1024 at 400 % is the second
@@ -118,12 +119,16 @@ class Access:
     # What is measured
 
     def play(self, only=None):
-        self.checks.part("access: settle", self.settle)
         for site, name, address, prepare in self.states():
             if only in (None, site, name.replace(" ", "_")):
                 self.checks.part(f"access: {site}, {name}", self.measure, site, name, address, prepare)
         if only in (None, "signed_out"):
             self.checks.part("access: signed out", self.signed_out)
+
+    def again(self, checks, only):
+        """The same with other checks."""
+        self.checks = checks
+        self.play(only)
 
     def show(self, site, address, prepare):
         page = getattr(self, site)
@@ -186,12 +191,9 @@ class Access:
     def names(self, page, at):
         """4.1.2: what can have the focus has a role and a name for a screen reader."""
         page.call("Accessibility.enable")
-        nodes = [node for node in page.call("Accessibility.getFullAXTree")["nodes"] if not node.get("ignored")]
-        focusable = [node for node in nodes if any(one["name"] == "focusable" and one["value"].get("value") for one in node.get("properties", []))]
-        told = [(node["role"]["value"], node.get("name", {}).get("value", "").strip()) for node in focusable]
+        told = until(lambda: len(found := focusable_nodes(page)) > 3 and found, f"what can have the focus is told: {at}")
         self.checks.same(f"4.1.2 roles: {at}", sorted({role for role, _ in told} - ROLES), [])
         self.checks.same(f"4.1.2 names: {at}", [role for role, name in told if not name], [])
-        self.checks.check(f"something can have the focus: {at}", len(told) > 3, told)
         page.call("Accessibility.disable")
 
     def sizes(self, page, at):
@@ -206,11 +208,17 @@ class Access:
         page.size(*DESK)
 
     def walk(self, page, at):
-        """2.1.1, 2.4.7, 2.4.11: Tab comes to all that can be used, each with a ring that is seen, and nothing lies over it."""
+        """2.1.1, 2.4.7, 2.4.11: Tab comes to all that can be used, each with a ring that is seen, and nothing lies over it; and so
+        on the way back, where something stays at the top of the window."""
+        self.walk_one_way(page, at, False)
+        if page.js("document.querySelector('.search.bar') !== null"):
+            self.walk_one_way(page, f"{at}, back", True)
+
+    def walk_one_way(self, page, at, back):
         wanted, met = self.value(page, "stops"), []
         page.js("document.activeElement.blur(), scrollTo(0, 0)")
         for _ in range(len(wanted) + 12):  # a date has several stops
-            page.key("Tab")
+            page.key("Tab", shift=back)
             now = self.value(page, "focus")
             if met and now["key"] == met[0]["key"]:
                 break
@@ -232,6 +240,13 @@ class Access:
         self.same("2.4.2, 3.1.1 title and language", page, "[document.documentElement.lang, document.title]", ["en", "Signed out \u2013 The desk"])
 
 
+def focusable_nodes(page):
+    """Role and name of what can have the focus, from the browser's tree for screen readers."""
+    nodes = [node for node in page.call("Accessibility.getFullAXTree")["nodes"] if not node.get("ignored")]
+    return [(node["role"]["value"], node.get("name", {}).get("value", "").strip()) for node in nodes
+            if any(one["name"] == "focusable" and one["value"].get("value") for one in node.get("properties", []))]
+
+
 def play(checks, program, folder, browser, shot, only=None):
     folder.mkdir(parents=True, exist_ok=True)
     office = Office(folder / "office", program).init()
@@ -240,5 +255,6 @@ def play(checks, program, folder, browser, shot, only=None):
     office.take_in("catalogue", folder / "dock.csv")
     with office:
         access = Access(checks, office, browser, shot)
+        access.settle()
         access.play(only)
         checks.same("the browser complains of nothing", [said for page in (access.readers, access.desk) for said in page.complaints()], [])

@@ -209,11 +209,11 @@ class Page:
                 self.call("Input.dispatchKeyEvent", type=kind, key=digit, code=f"Digit{digit}", windowsVirtualKeyCode=ord(digit),
                           **({"text": digit} if kind == "keyDown" else {}))
 
-    def key(self, key, repeat=False):
+    def key(self, key, repeat=False, shift=False):
         code = {"Enter": 13, "Tab": 9, "Escape": 27, " ": 32}[key]
         text = {"text": "\r"} if key == "Enter" else {}
-        self.call("Input.dispatchKeyEvent", type="keyDown", key=key, code=key, windowsVirtualKeyCode=code, autoRepeat=repeat, **text)
-        self.call("Input.dispatchKeyEvent", type="keyUp", key=key, code=key, windowsVirtualKeyCode=code)
+        self.call("Input.dispatchKeyEvent", type="keyDown", key=key, code=key, windowsVirtualKeyCode=code, autoRepeat=repeat, modifiers=8 * shift, **text)
+        self.call("Input.dispatchKeyEvent", type="keyUp", key=key, code=key, windowsVirtualKeyCode=code, modifiers=8 * shift)
 
     def type(self, text):
         self.call("Input.insertText", text=text)

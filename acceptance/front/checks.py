@@ -12,7 +12,7 @@ class Checks:
     """ends_at_first: the first check that does not hold ends everything, by Enough."""
 
     def __init__(self, ends_at_first=False):
-        self.passed, self.wrong, self.ends_at_first = 0, [], ends_at_first
+        self.passed, self.wrong, self.told, self.ends_at_first = 0, [], [], ends_at_first
 
     def check(self, what, holds, seen=""):
         if holds:
@@ -23,6 +23,7 @@ class Checks:
 
     def fails(self, what, told):
         self.wrong.append(what)
+        self.told.append(told)
         print(told, flush=True)
         if self.ends_at_first:
             raise Enough

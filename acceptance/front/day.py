@@ -6,6 +6,13 @@ import catalogue
 from catalogue import BAD_FILE, ODD
 
 FAR = "2030-12-31"
+# Presses the button once more in the moment in which its outcome is shown.
+PRESSED_AGAIN = """new MutationObserver((_, seen) => {
+    if (!document.querySelector('.outcome').innerText.includes('Take these back')) return;
+    seen.disconnect();
+    document.querySelector('form.command button').click();
+    window.isPressedAgain = true;
+  }).observe(document.querySelector('main'), { childList: true, subtree: true })"""
 
 
 class Day:
@@ -242,13 +249,14 @@ class Day:
         page.press("Cancel order 2")
         page.see("Order 2 is cancelled.")
         page = self.at("/out")
+        page.js(PRESSED_AGAIN)
         page.press("Reshelve")
         page.see("Take these back to their shelves:")
         page.see("Box 1, container", ".outcome")
         self.shot(page, "desk-reshelve")
         self.shot(page, "desk-reshelve-printed", printed=True)
         self.checks.check("reshelving names what goes back", True)
-        page.press("Reshelve")
+        page.wait("window.isPressedAgain")
         page.js("fetch('/desk/issued').then((answer) => answer.text())")  # behind what may have been sent
         self.checks.same("the same again at once is not sent", page.sent("POST", "/desk/reshelve"), 1)
 

@@ -173,6 +173,18 @@ class Office:
             path.write_text(before)
             self.reload()
 
+    def takes(self, name):
+        """A file of front/ has changed: what reads it reads it anew."""
+        if name.startswith("server/"):
+            self.configure()
+            subprocess.run([program_path("nginx"), "-t", "-q", "-p", self.folder, "-c", self.folder / "main.conf"], check=True)
+            if not name.endswith(".conf"):
+                self.haproxy.terminate()
+                self.haproxy.wait(20)
+                self._begin_queue()
+            self.reload()
+            self.wait_for(self.public + "/public/fonds")
+
     def reload(self):
         """nginx reads its files anew; ends when no worker takes requests by the old ones any more."""
         old = self.workers()
@@ -263,6 +275,10 @@ class Office:
 PORT = r"((?:127\.0\.0\.1|localhost|\[::1\]|\*|" + re.escape(DESK_NAME) + r"):)(\d{4,5})\b"
 
 LISTEN = r"\blisten (\d{4,5})\b"
+
+
+def program_path(name):
+    return shutil.which(name, path=os.environ["PATH"] + ":/usr/sbin:/usr/local/sbin")
 
 
 def answers_to(url):

@@ -100,12 +100,16 @@ def away(checks, asks):
 
 
 def command_cut_off(checks, asks):
-    """A command that the program has received, and not answered, is not answered by the front either, and not sent again."""
+    """A command that the program has received, and not answered, is not answered by the front either, and not sent again: over
+    connections that are kept, and over new ones."""
     office, first = asks.office, next_ticket(asks)
-    client = registration(office, "Cut off")
-    kill_with_request_of(client, office)
-    checks.same("the command is not answered", client.got, [UNANSWERED])
-    checks.same("and not repeated: there is no ticket", asks.get(f"/desk/readers/{first}", True)[0], 404)
+    for kept in (True, False):
+        if not kept:
+            await_idle(office)
+        client = registration(office, "Cut off")
+        kill_with_request_of(client, office)
+        checks.same(f"the command is not answered, kept: {kept}", client.got, [UNANSWERED])
+        checks.same("and not repeated: there is no ticket", asks.get(f"/desk/readers/{first}", True)[0], 404)
     done = json.loads(asks.post("/desk/register", {"name": "Next", "until": "2030-01-01"})[1])
     checks.same("the next ticket has its number", done, {"ticket": first})
 
@@ -114,9 +118,17 @@ def question_cut_off(checks, asks):
     """A question that the program has received, and not answered, is put again."""
     office = asks.office
     wanted = asks.get("/public/fonds")
-    client = Client(office.ports["8080"], [("GET", "/public/fonds", None, {})])
-    kill_with_request_of(client, office)
-    checks.same("the question is answered", client.got, [(wanted[0], wanted[1].encode())])
+    for kept in (True, False):
+        if not kept:
+            await_idle(office)
+        client = Client(office.ports["8080"], [("GET", "/public/fonds", None, {})])
+        kill_with_request_of(client, office)
+        checks.same(f"the question is answered, kept: {kept}", client.got, [(wanted[0], wanted[1].encode())])
+
+
+def await_idle(office):
+    """Waits until queue and gate have closed the connections that they kept."""
+    until(lambda: not any(int(office.queue_state(*server)["idle_conn_cur"]) for server in (("office", "gate"), ("gate", "program"))), "no connection is kept")
 
 
 def kill_with_request_of(client, office):

@@ -1,18 +1,24 @@
 """Plays all parts in a real browser, or only those that are named:
 
-    run.py PROGRAM FOLDER SHOTS [--first] [--patience SECONDS] [PART ..]
+    run.py PROGRAM FOLDER SHOTS [--first] [--patience SECONDS] [--faults FILE] [PART ..]
 
 FOLDER is made anew and kept; SHOTS gets pictures of the pages. PART is one of looks, pages, access, rules, restarts, limits, queue,
 encrypted, stall, search, refusals, journeys; or GROUP:PART, one part of a group with an office of its own: of visit, day, first_year,
 access, rules, restarts, limits, queue, refusals, journeys, search, search_pages. A part that goes on from others is played after those.
---first ends at the first check that does not hold; --patience is how long anything is waited for (60).
+--first ends at the first check that does not hold; --patience is how long anything is waited for (60). With --faults, PART is access,
+visit, rules, queue or restarts, and mutation/front.py tells which faults are to be planted in a copy of front/.
 The last line is `N passed, M failed`; the exit status is 0 where none failed."""
 
 import argparse
+import contextlib
+import itertools
+import json
+import os
 import pathlib
 import shutil
 import signal
 import sys
+import time
 
 sys.dont_write_bytecode = True
 import access  # noqa: E402
@@ -36,7 +42,7 @@ from browser import Browser  # noqa: E402
 from checks import Checks, Enough  # noqa: E402
 from day import Day  # noqa: E402
 from first_year import FirstYear  # noqa: E402
-from office import SIGNED_IN, TOP, Office, fresh  # noqa: E402
+from office import FRONT, SIGNED_IN, TOP, Office, fresh  # noqa: E402
 from rules import Rules  # noqa: E402
 from visit import Visit  # noqa: E402
 
@@ -161,9 +167,9 @@ class Run:
 
     # One part of a group
 
-    def office_with_files(self):
+    def office_with_files(self, **values):
         """An office with the files that `pages` imports through its pages."""
-        office = Office(self.folder / "alone", self.program).init()
+        office = Office(self.folder / "alone", self.program, **values).init()
         (self.folder / "dock.csv").write_text("".join(catalogue.dock_company()))
         office.take_in("archives", TOP / "examples/archives.csv")
         office.take_in("catalogue", self.folder / "dock.csv")
@@ -211,7 +217,63 @@ class Run:
     def only_search_pages(self, name):
         search_pages.play(self.checks, self.program, self.folder / "pages", self.browser, self.shot, name)
 
+    # Faults in an office that goes on
+
+    def trials(self, group, faults):
+        """All faults of a group in one office, after its parts without a fault: each is planted, and the part that should notice it is
+        played. What came of each is printed."""
+        with self.office_with_files(changes=[("rate=6r/m", "rate=6000r/m")]) as office:
+            play = self.player(group, office)
+            for fault in [*({"by": by} for by in sorted({fault["by"] for fault in faults})), *faults]:
+                checks = Checks(ends_at_first=True)
+                with contextlib.suppress(Enough), planted(fault, office):
+                    checks.part(fault["by"], play, checks, fault["by"].split(":")[1])
+                self.checks.passed += 1
+                failed = None if checks.passed and not checks.told else first_line(checks.told)
+                print("TRIED " + json.dumps([fault["by"], fault.get("fault"), failed]), flush=True)
+
+    def player(self, group, office):
+        """play(checks, part) for a group whose parts can be played again and again."""
+        asks, page = Asks(office), self.browser and self.browser.page()
+        if group == "access":
+            opened = access.Access(self.checks, office, self.browser, self.shot)
+            opened.settle()
+            return opened.again
+        return {"visit": lambda checks, part: Visit(checks, asks, page, self.shot).play(part),
+                "rules": lambda checks, part: Rules(checks, asks, None).play(part),
+                "queue": lambda checks, part: getattr(queue_checks, part)(checks, office),
+                "restarts": lambda checks, part: restarts.play(checks, asks, part)}[group]
+
     only_access, only_limits, only_queue, only_refusals, only_journeys = access, limits, queue, refusals, journeys
+
+
+moments = itertools.count(int(time.time()))  # browsers know a file by its second and its size
+
+
+@contextlib.contextmanager
+def planted(fault, office):
+    """A context in which a fault is in the copy of front/ that the office serves."""
+    if "file" not in fault:
+        yield
+        return
+    path = FRONT / fault["file"]
+    before = path.read_bytes()
+    try:
+        change(office, fault["file"], before.decode().replace(fault["old"], fault["new"]).encode())
+        yield
+    finally:
+        change(office, fault["file"], before)
+
+
+def first_line(told):
+    return told[0].removeprefix("WRONG ").splitlines()[0][:150] if told else "nothing was checked"
+
+
+def change(office, name, data):
+    path, moment = FRONT / name, next(moments)
+    path.write_bytes(data)
+    os.utime(path, (moment, moment))
+    office.takes(name)
 
 
 def offices(checks, words):
@@ -220,7 +282,11 @@ def offices(checks, words):
     needs = {"rules:foreign_page", "rules:signing_out", "rules", "search"} & wanted
     browser = Browser(words.folder / "profile") if with_browser or needs and shutil.which("chromium") else None
     try:
-        Run(checks, browser, words.program, words.folder, words.shots).play(words.part or PARTS)
+        run = Run(checks, browser, words.program, words.folder, words.shots)
+        if words.faults:
+            run.trials(words.part[0], json.loads(words.faults.read_text("utf-8")))
+        else:
+            run.play(words.part or PARTS)
     finally:
         if browser:
             browser.end()
@@ -234,6 +300,7 @@ def main():
     words.add_argument("part", nargs="*")
     words.add_argument("--first", action="store_true")
     words.add_argument("--patience", type=float, default=60)
+    words.add_argument("--faults", type=pathlib.Path)
     words = words.parse_intermixed_args()
     signal.signal(signal.SIGTERM, lambda *_: sys.exit(143))  # so that what was started is ended
     waits.settings.patience = words.patience

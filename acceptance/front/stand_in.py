@@ -16,6 +16,8 @@ class StandIn:
         self.body, self.drops, self.silent = body, drops, silent
         self.requests, self.connections, self.closed = [], 0, []
         family = socket.AF_INET if isinstance(place, int) else socket.AF_UNIX
+        if family == socket.AF_UNIX:
+            place.unlink(missing_ok=True)
         self.listener = socket.socket(family)
         self.listener.setsockopt(socket.SOL_SOCKET, socket.SO_REUSEADDR, 1)
         self.listener.bind(("127.0.0.1", place) if isinstance(place, int) else str(place))
