@@ -47,9 +47,9 @@ def looks(port, first):
     return Client(port, [("GET", f"/public/units/{1 + (first + 7 * one) % 40}", None, {}) for one in range(MANY)])
 
 
-def registration(office, name):
+def registration(office, name, port="8081"):
     body = json.dumps({"name": name, "until": "2030-01-01"})
-    return Client(office.ports["8081"], [("POST", "/desk/register", body, SIGNED_IN)])
+    return Client(office.ports[port], [("POST", "/desk/register", body, SIGNED_IN)])
 
 
 def next_ticket(asks):
@@ -101,14 +101,14 @@ def away(checks, asks):
 
 def command_cut_off(checks, asks):
     """A command that the program has received, and not answered, is not answered by the front either, and not sent again: over
-    connections that are kept, and over new ones."""
+    connections that are kept, over new ones to the program, and over one that is new to the queue too."""
     office, first = asks.office, next_ticket(asks)
-    for kept in (True, False):
-        if not kept:
+    for new, port in (("nothing", "8081"), ("the program", "8081"), ("the queue", "8092")):
+        if new != "nothing":
             await_idle(office)
-        client = registration(office, "Cut off")
+        client = registration(office, "Cut off", port)
         kill_with_request_of(client, office)
-        checks.same(f"the command is not answered, kept: {kept}", client.got, [UNANSWERED])
+        checks.same(f"the command is not answered, the connection to {new} being new", client.got, [UNANSWERED])
         checks.same("and not repeated: there is no ticket", asks.get(f"/desk/readers/{first}", True)[0], 404)
     done = json.loads(asks.post("/desk/register", {"name": "Next", "until": "2030-01-01"})[1])
     checks.same("the next ticket has its number", done, {"ticket": first})
