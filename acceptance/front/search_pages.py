@@ -165,6 +165,7 @@ def ordering(checks, office, page, shot):
 
 def away(checks, office, page, _):
     checks.same("the browser complains of nothing", page.complaints(), [])
+    page.open(office.public, "/search?q=cafe")
     with office.without_program():
         page.js("document.querySelector('form.find input').value = 'away'")
         page.press("Search")
