@@ -1,7 +1,7 @@
 #!/usr/bin/env bash
 # A day of the reading room and a visit of a reader, played on the pages in a real browser, and the rules of the front.
 #   acceptance/front.sh [PROGRAM]
-# It starts the program and the front of front/server on free ports of 127.0.0.1, and ends them. It needs nginx and haproxy,
+# It starts the program and the front of front/server on free ports of 127.0.0.1, and ends them. It needs nginx, haproxy and openssl,
 # python3-waitress for the search in all archives and chromium for the pages, and tries to install them from Debian's packages.
 # If it cannot, it says what it leaves out; in CI that is wrong. Pictures of the pages go to acceptance/front/out, which is not
 # committed.
@@ -31,7 +31,7 @@ has() {
 has_waitress() { /usr/bin/python3 -c 'import waitress' 2>/dev/null; }
 
 missing=()
-for name in python3 nginx haproxy; do
+for name in python3 nginx haproxy openssl; do
     has "$name" || missing+=("$name")
 done
 if [ ${#missing[@]} -gt 0 ]; then
@@ -39,10 +39,10 @@ if [ ${#missing[@]} -gt 0 ]; then
     echo "0 passed, ${#missing[@]} failed"
     exit 1
 fi
-parts=(looks pages rules restarts stall search refusals journeys)
+parts=(looks pages access rules restarts limits queue encrypted stall search refusals journeys)
 if ! has chromium chromium fonts-liberation; then
     echo "left out the pages, their refusals and the page of another site: chromium is not here and cannot be installed"
-    parts=(looks rules restarts stall search)
+    parts=(looks rules restarts limits queue encrypted stall search)
 fi
 has_waitress || install python3 python3-waitress
 if ! has_waitress; then

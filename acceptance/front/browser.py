@@ -6,13 +6,16 @@ import json
 import os
 import select
 import subprocess
-import time
+
+from waits import settings, until
 
 FLAGS = ["--headless=new", "--remote-debugging-pipe", "--no-sandbox", "--disable-gpu", "--hide-scrollbars", "--no-first-run",
          "--disable-extensions", "--disable-background-networking", "--disable-component-update", "--disable-sync",
          "--force-prefers-reduced-motion"]
 
 ANSWERED_HERE = "/no/such/file/of/the/front"
+PAUSE = 650  # milliseconds: that of front/shared/form.js, and some more
+TWO_FRAMES = "new Promise((done) => requestAnimationFrame(() => requestAnimationFrame(done)))"
 
 
 class Browser:
@@ -56,7 +59,7 @@ class Browser:
 
     def _message(self):
         while b"\0" not in self.rest:
-            ready = select.select([self.read], [], [], 120)[0]
+            ready = select.select([self.read], [], [], 2 * settings.patience)[0]
             piece = os.read(self.read, 1 << 20) if ready else b""
             if not piece:
                 raise RuntimeError("the browser is gone, or says nothing")
@@ -101,18 +104,21 @@ class Page:
             raise RuntimeError(f"{code}: {got['exceptionDetails']['exception'].get('description')}")
         return got["result"].get("value")
 
-    def wait(self, condition, seconds=60):
-        """Waits until the condition holds. While another page loads there is none to ask, so it asks again."""
-        end = time.time() + seconds
-        while time.time() < end:
-            try:
-                if self.js(f"Boolean({condition})"):
-                    return
-            except RuntimeError as lost:
-                if not any(word in str(lost) for word in ("context", "navigated", "Cannot read properties of null")):
-                    raise
-            time.sleep(0.03)
-        raise AssertionError(f"not within {seconds} s: {condition}\n--- the page shows:\n{self.text()[:2000]}")
+    def wait(self, condition):
+        """Waits until the condition holds."""
+        try:
+            until(lambda: self.holds(condition), condition)
+        except AssertionError as late:
+            raise AssertionError(f"{late}\n--- the page shows:\n{self.text()[:2000]}") from None
+
+    def holds(self, condition):
+        """Whether the condition holds. While another page loads there is none to ask: then it does not."""
+        try:
+            return self.js(f"Boolean({condition})")
+        except RuntimeError as lost:
+            if not any(word in str(lost) for word in ("context", "navigated", "Cannot read properties of null")):
+                raise
+            return False
 
     def open(self, site, hash_, condition="document.querySelector('main h1')"):
         """Loads a page of the site again: the text after `?` differs each time, and nothing reads it."""
@@ -134,9 +140,9 @@ class Page:
     def arrive(self, condition):
         self.wait(f"!window.isLeft && document.readyState === 'complete' && {condition}")
 
-    def turn(self, address, condition="true"):
-        """To another page of the readers' site, as a link does it."""
-        self.js(f"import('/shared/router.js').then((router) => router.go({json.dumps(address)}))")
+    def turn(self, address, condition="true", waits=True):
+        """To another page of the readers' site, as a link does it; `waits`: until it is shown."""
+        self.js(f"import('/shared/router.js').then((router) => {{ const shown = router.go({json.dumps(address)}); return {json.dumps(waits)} && shown; }})")
         self.wait(condition)
 
     def go(self, hash_, condition="true"):
@@ -150,9 +156,9 @@ class Page:
     def text(self, selector="main"):
         return self.js(f"document.querySelector({json.dumps(selector)})?.innerText ?? ''")
 
-    def see(self, words, selector="main", seconds=60):
+    def see(self, words, selector="main"):
         quoted, place = json.dumps(words), json.dumps(selector)
-        self.wait(f"(document.querySelector({place})?.innerText ?? '').includes({quoted})", seconds)
+        self.wait(f"(document.querySelector({place})?.innerText ?? '').includes({quoted})")
 
     def fill(self, label, value, card=None):
         self.js(f"({FIND})({json.dumps(label)}, {json.dumps(card)}, (input) => {{ input.focus(); input.value = {json.dumps(value)}; }})")
@@ -163,14 +169,16 @@ class Page:
     def press(self, button, card=None):
         self.js(f"({PRESS})({json.dumps(button)}, {json.dumps(card)})")
 
-    def insist(self, button, words, seconds=30):
+    def insist(self, button, words, selector="main", card=None):
         """Presses a button again and again until the page says this: forms pass over what looks like a second click."""
-        end = time.time() + seconds
-        while words not in self.text():
-            if time.time() > end:
-                raise AssertionError(f"{button} does not lead to: {words}")
-            self.press(button)
-            time.sleep(0.1)
+        def said():
+            return words in self.text(selector) or self.press(button, card)
+        until(said, f"{button} leads to: {words}")
+
+    def pass_pause(self):
+        """Waits, by the page's clock, until no form takes what is done now for a repetition of what it answered last."""
+        began = self.js("performance.now()")
+        self.wait(f"performance.now() > {began} + {PAUSE}")
 
     def press_starting(self, words):
         self.js(f"[...document.querySelectorAll('summary, button, a')].find((one) => one.textContent.startsWith({json.dumps(words)})).click()")
@@ -178,14 +186,13 @@ class Page:
     def second_click(self, button):
         """Sends the second click of two to this button, wherever the first one was."""
         self.js("window.clicked = false; document.addEventListener('click', () => { window.clicked = true; }, { once: true, capture: true })")
-        end = time.time() + 60
-        while not self.js("window.clicked"):  # a page that moves just then takes none
-            if time.time() > end:
-                raise AssertionError(f"{button} cannot be clicked")
+
+        def clicked():  # a page that moves just then takes none
             place = self.js(f"({PLACE})({json.dumps(button)})")
             for kind in ("mousePressed", "mouseReleased"):
                 self.call("Input.dispatchMouseEvent", type=kind, button="left", clickCount=2, x=place[0], y=place[1])
-            time.sleep(0.3)
+            return self.js(TWO_FRAMES + ".then(() => window.clicked)")
+        until(clicked, f"{button} can be clicked")
 
     def key_in(self, label, key, card=None):
         self.js(f"({FIND})({json.dumps(label)}, {json.dumps(card)}, (input) => input.focus())")
@@ -202,11 +209,11 @@ class Page:
                 self.call("Input.dispatchKeyEvent", type=kind, key=digit, code=f"Digit{digit}", windowsVirtualKeyCode=ord(digit),
                           **({"text": digit} if kind == "keyDown" else {}))
 
-    def key(self, key, repeat=False):
+    def key(self, key, repeat=False, shift=False):
         code = {"Enter": 13, "Tab": 9, "Escape": 27, " ": 32}[key]
         text = {"text": "\r"} if key == "Enter" else {}
-        self.call("Input.dispatchKeyEvent", type="keyDown", key=key, code=key, windowsVirtualKeyCode=code, autoRepeat=repeat, **text)
-        self.call("Input.dispatchKeyEvent", type="keyUp", key=key, code=key, windowsVirtualKeyCode=code)
+        self.call("Input.dispatchKeyEvent", type="keyDown", key=key, code=key, windowsVirtualKeyCode=code, autoRepeat=repeat, modifiers=8 * shift, **text)
+        self.call("Input.dispatchKeyEvent", type="keyUp", key=key, code=key, windowsVirtualKeyCode=code, modifiers=8 * shift)
 
     def type(self, text):
         self.call("Input.insertText", text=text)
@@ -219,7 +226,7 @@ class Page:
         self.call("DOM.setFileInputFiles", files=[str(path)], objectId=found["result"]["objectId"])
 
     def shot(self, path, full=True):
-        time.sleep(0.1)
+        self.js(TWO_FRAMES)
         height = self.js("document.documentElement.scrollHeight")
         width = self.js("innerWidth")
         clip = {"clip": {"x": 0, "y": 0, "width": width, "height": height, "scale": 1}} if full else {}
@@ -238,11 +245,14 @@ class Page:
             self.call("Fetch.disable")
             return
         self.call("Fetch.enable", patterns=[{"urlPattern": pattern}, {"urlPattern": f"*{ANSWERED_HERE}"}])
-        end = time.time() + 60
-        while self.js(f"fetch('{ANSWERED_HERE}').then((answer) => answer.status)") != status:
-            if time.time() > end:
-                raise AssertionError(f"the browser does not answer {pattern}")
-            time.sleep(0.03)
+        until(lambda: self.js(f"fetch('{ANSWERED_HERE}').then((answer) => answer.status)") == status, f"the browser answers {pattern}")
+
+    def sent(self, method, part):
+        """How many requests with this method, and this part in their addresses, the page has sent so far."""
+        self.js("0")  # what was told before this is read
+        requests = [event["params"]["request"] for event in self.browser.events
+                    if event.get("sessionId") == self.session and event["method"] == "Network.requestWillBeSent"]
+        return sum(one["method"] == method and part in one["url"] for one in requests)
 
     def complaints(self):
         """What the browser said of the pages: blocked by their policy, scripts that failed, files that were not there."""

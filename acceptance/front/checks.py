@@ -4,17 +4,29 @@ import time
 import traceback
 
 
+class Enough(BaseException):
+    """Something does not hold, and nobody wants to know more."""
+
+
 class Checks:
-    def __init__(self):
-        self.passed, self.wrong, self.began = 0, [], time.time()
+    """ends_at_first: the first check that does not hold ends everything, by Enough."""
+
+    def __init__(self, ends_at_first=False):
+        self.passed, self.wrong, self.told, self.ends_at_first = 0, [], [], ends_at_first
 
     def check(self, what, holds, seen=""):
         if holds:
             self.passed += 1
         else:
-            self.wrong.append(what)
-            print(f"WRONG {what}: {seen}", flush=True)
+            self.fails(what, f"WRONG {what}: {seen}")
         return holds
+
+    def fails(self, what, told):
+        self.wrong.append(what)
+        self.told.append(told)
+        print(told, flush=True)
+        if self.ends_at_first:
+            raise Enough
 
     def same(self, what, is_now, wanted):
         return self.check(what, is_now == wanted, f"\n  is     {is_now!r}\n  wanted {wanted!r}")
@@ -24,8 +36,7 @@ class Checks:
         try:
             function(*values)
         except Exception as broken:  # noqa: BLE001 - whatever stops a part is told, and fails it
-            self.wrong.append(name)
-            print(f"WRONG {name} broke off: {broken}\n{''.join(traceback.format_tb(broken.__traceback__)[-3:])}", flush=True)
+            self.fails(name, f"WRONG {name} broke off: {broken}\n{''.join(traceback.format_tb(broken.__traceback__)[-3:])}")
         print(f"{name}: {self.passed - before} passed, {time.time() - began:.1f} s", flush=True)
 
     def end(self):

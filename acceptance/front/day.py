@@ -1,12 +1,18 @@
 """A day at the desk, played through the staff's pages."""
 
 import json
-import time
 
 import catalogue
 from catalogue import BAD_FILE, ODD
 
 FAR = "2030-12-31"
+# Presses the button once more in the moment in which its outcome is shown.
+PRESSED_AGAIN = """new MutationObserver((_, seen) => {
+    if (!document.querySelector('.outcome').innerText.includes('Take these back')) return;
+    seen.disconnect();
+    document.querySelector('form.command button').click();
+    window.isPressedAgain = true;
+  }).observe(document.querySelector('main'), { childList: true, subtree: true })"""
 
 
 class Day:
@@ -20,11 +26,14 @@ class Day:
         self.page.open(self.site, hash_)
         return self.page
 
-    def play(self):
+    def play(self, last=None):
+        """All parts, or those up to one."""
         for part in (self.registers, self.finds, self.reader_orders, self.desk_orders, self.fetches, self.counter, self.waits,
                      self.out, self.takes_back, self.permits, self.units, self.removes, self.next_day, self.keyboard, self.slow,
                      self.uncertain, self.every_form_is_held, self.second_clicks):
             self.checks.part(f"day: {part.__name__}", part)
+            if part.__name__ == last:
+                return
 
     # The catalogue comes in
 
@@ -75,7 +84,6 @@ class Day:
             page.js("(() => { const form = [...document.querySelectorAll('.card')].at(-1).querySelector('form');"
                     "form.requestSubmit(); form.requestSubmit(); })()")
             page.see(f"Registered: {name}, ticket", ".outcome")
-            time.sleep(0.65)
         self.shot(page, "desk-readers")
         self.checks.same("two presses register one reader", self.asks.get("/desk/readers/5", True)[0], 404)
         names = [json.loads(self.asks.text(f"/desk/readers/{ticket}", True))["name"] for ticket in (1, 4)]
@@ -123,7 +131,6 @@ class Day:
             page.fill("Container", container, "Place an order")
             page.press("Order", "Place an order")
             page.see(f"Order {order}:", ".outcome")
-            time.sleep(0.65)
         self.checks.check("orders are placed at the desk", True)
         page.fill("Order", "3", "Cancel an order")
         page.press("Cancel the order", "Cancel an order")
@@ -195,6 +202,7 @@ class Day:
         page.scan(box)
         page.see("The container is not at the desk")
         self.checks.same("the field that is wrong has the focus", page.focused(), "container")
+        self.checks.same("and is marked", page.js("[...document.querySelectorAll('[aria-invalid=true]')].map((field) => field.name).join()"), "container")
 
     def waits(self):
         page = self.at("/orders")
@@ -241,12 +249,16 @@ class Day:
         page.press("Cancel order 2")
         page.see("Order 2 is cancelled.")
         page = self.at("/out")
+        page.js(PRESSED_AGAIN)
         page.press("Reshelve")
         page.see("Take these back to their shelves:")
         page.see("Box 1, container", ".outcome")
         self.shot(page, "desk-reshelve")
         self.shot(page, "desk-reshelve-printed", printed=True)
         self.checks.check("reshelving names what goes back", True)
+        page.wait("window.isPressedAgain")
+        page.js("fetch('/desk/issued').then((answer) => answer.text())")  # behind what may have been sent
+        self.checks.same("the same again at once is not sent", page.sent("POST", "/desk/reshelve"), 1)
 
     # Units and permits
 
@@ -314,10 +326,10 @@ class Day:
         page.press("Move", "Move")
         page.see(f"It is now the last below unit {minutes}.")
         self.checks.check("it stands there for the public", "Letters of the secretary" in self.asks.text(f"/public/units/{minutes}"))
-        time.sleep(0.65)
         page.press("Make it a top unit", "Move")
         page.see("It is now the last of the top units.")
         self.checks.check("it is a top unit", self.asks.text("/public/fonds").endswith("Letters of the secretary\n"))
+        page = self.at(f"/units/{letters}")
         page.fill("Below which unit", minutes, "Move")
         page.press("Move", "Move")
         page.see(f"It is now the last below unit {minutes}.")
@@ -337,9 +349,7 @@ class Day:
         self.shot(page, "desk-remove", full=False)
         page.key("Escape")
         page.see("Nothing was removed.")
-        time.sleep(0.65)
-        page.press("Remove …", "Remove")
-        page.see("for good?", "dialog")
+        page.insist("Remove …", "for good?", "dialog", "Remove")
         page.press(f"Remove unit {minutes}", "dialog")
         page.see(f"Unit {minutes} is removed: 3 units in all.")
         self.checks.same("it is gone", self.asks.get(f"/public/units/{minutes}")[0], 404)
@@ -354,7 +364,7 @@ class Day:
         self.shot(page, "desk-day", full=False)
         page.press("Open no day", "dialog")
         page.see("No day was opened.")
-        time.sleep(0.65)
+        page.pass_pause()
         self.opens(page, "2024-03-02")
         page.see("2024-03-02 is open.")
         self.checks.same("no other day is offered then", page.js("document.querySelector('input[type=date]').value"), "")
@@ -398,9 +408,11 @@ class Day:
         """The form is shut until somebody has looked, also after another page and after loading it again."""
         page = self.at("/readers")
         page.answer_with("*/desk/register", status, body)
+        before = page.sent("POST", "/desk/register")
         self.types_a_name("Cid")
         page.see("The office did not say whether it was done. Look before you repeat it.")
         page.answer_with(None, 0, b"")
+        self.checks.same(f"after {status} nothing is sent by itself", page.sent("POST", "/desk/register") - before, 1)
         self.checks.same(f"after {status} looking has the focus", page.focused(), "Look now")
         for way in ("at once", "after another page", "after loading again"):
             if way == "after another page":
@@ -410,8 +422,9 @@ class Day:
             if way == "after loading again":
                 page = self.at("/readers")
             page.see("Look before you repeat it.")
-            time.sleep(0.65)
+            page.pass_pause()
             page.js("[...document.querySelectorAll('.card')].at(-1).querySelector('form').requestSubmit()")
+            page.js("fetch('/public/fonds').then((answer) => answer.text())")  # behind what the form may have sent
             self.checks.same(f"after {status} the form is shut {way}", self.asks.get("/desk/readers/5", True)[0], 404)
         page.press("Look now")
         page.see("The newest tickets:")
@@ -498,9 +511,7 @@ class Day:
         self.types_a_name("Cid")
         page.see("Your request was not passed on, and nothing was changed.")
         page.answer_with(None, 0, b"")
-        time.sleep(0.65)
-        page.press("Register", "Register a reader")
-        page.see("Registered: Cid, ticket", ".outcome")
+        page.insist("Register", "Registered: Cid, ticket", ".outcome", "Register a reader")
         self.checks.same("what was not passed on may be sent again, once", self.asks.get("/desk/readers/6", True)[0], 404)
 
 

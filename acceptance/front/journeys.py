@@ -5,15 +5,26 @@ import pathlib
 import time
 
 import catalogue
+from browser import TWO_FRAMES
+from waits import until
 
 SETTINGS = ("--country", "GB", "--repo", "0999", "--seats", "4", "--daily", "50", "--hands", "2", "--run", "20", "--day", "2024-03-01")
 MORE_ORDERS = (("rate=6r/m", "rate=600r/m"),)
 SHAPES = {"desk": (1280, 850, 1, False), "phone": (390, 844, 2, True), "200": (640, 425, 2, False)}
 
 UNITS = 20000  # of the long finding aid
+LEVELS = 64  # of the deep archive
+MOST_QUESTIONS = 40  # for the way to a unit
 
 INSIDE = """((selector) => { const box = document.querySelector(selector).getBoundingClientRect();
   return box.height > 0 && box.top >= 0 && box.bottom <= innerHeight + 1; })"""
+# The middle of what begins with these words, or of its first 60 px; `isMet` is true once it was clicked.
+TARGET = """(words) => { const text = (one) => (one.labels?.[0] ?? one).textContent.replace(/\\s+/g, ' ').trim();
+  const one = [...document.querySelectorAll('a, button, summary, input')].find((it) => it.offsetParent && text(it).startsWith(words));
+  window.isMet = false; one.addEventListener('click', () => { window.isMet = true; }, { once: true });
+  one.scrollIntoView({ block: 'nearest' }); const { left, top, width, height } = one.getBoundingClientRect();
+  const [x, y] = [left + Math.min(width, 60) / 2, top + height / 2];
+  return { x, y, height, free: one.contains(document.elementFromPoint(x, y)) }; }"""
 FIRST_ROW = """(() => { const under = document.querySelector('.search.bar').getBoundingClientRect().bottom;
   return [...document.querySelectorAll('.aid [data-depth]')].findIndex((row) => row.getBoundingClientRect().bottom > under + 8); })()"""
 
@@ -23,15 +34,17 @@ class Journeys:
         self.checks, self.asks, self.page, self.shot = checks, asks, page, shot
         self.site = asks.office.public
 
-    def play(self):
+    def play(self, only=None):
         self.asks.done("/desk/register", name="Ann", until="2030-01-01")
         for ticket, (name, shape) in enumerate(SHAPES.items(), 2):
             self.asks.done("/desk/register", name=name, until="2030-01-01")
-            self.page.size(*shape)
-            self.checks.part(f"journey: {name}", self.order, name, ticket, self.tap if name == "phone" else self.by_keys)
+            if only in (None, name):
+                self.page.size(*shape)
+                self.checks.part(f"journey: {name}", self.order, name, ticket, self.tap if name == "phone" else self.by_keys)
         self.page.size(1280, 850)
-        for part in (self.several, self.not_taken, self.each_line, self.changed, self.series, self.tree, self.without_container, self.copied, self.long_aid):
-            self.checks.part(f"journey: {part.__name__}", part)
+        for part in (self.several, self.not_taken, self.each_line, self.changed, self.series, self.tree, self.without_container, self.copied, self.deep, self.long_aid):
+            if only in (None, part.__name__):
+                self.checks.part(f"journey: {part.__name__}", part)
 
     def at(self, address):
         self.page.visit(self.site + address)
@@ -56,15 +69,15 @@ class Journeys:
         self.checks.check(f"what has the focus is seen: {words}", seen)
 
     def tap(self, words):
-        """A thumb on what begins with these words: nothing may lie over it, and it is large enough."""
-        box = self.page.js("((words) => { const text = (one) => (one.labels?.[0] ?? one).textContent.replace(/\\s+/g, ' ').trim();"
-                           "const one = [...document.querySelectorAll('a, button, summary, input')].find((it) => it.offsetParent && text(it).startsWith(words));"
-                           "one.scrollIntoView({ block: 'nearest' }); const { left, top, width, height } = one.getBoundingClientRect();"
-                           "const [x, y] = [left + Math.min(width, 60) / 2, top + height / 2];"
-                           "return { x, y, height, free: one.contains(document.elementFromPoint(x, y)) }; })" + f"({self.page.quoted(words)})")
-        self.checks.check(f"a thumb meets {words}", box["free"] and box["height"] >= 24, box)
-        for kind in ("mousePressed", "mouseReleased"):
-            self.page.call("Input.dispatchMouseEvent", type=kind, button="left", clickCount=1, x=box["x"], y=box["y"])
+        """A thumb on what begins with these words: nothing may lie over it, and it is large enough. What is added to the page just
+        then may move it away, so the thumb tries again until it has met it."""
+        def met():
+            box = self.page.js(f"({TARGET})({self.page.quoted(words)})")
+            for kind in ("mousePressed", "mouseReleased"):
+                self.page.call("Input.dispatchMouseEvent", type=kind, button="left", clickCount=1, x=box["x"], y=box["y"])
+            return box["free"] and self.page.js(f"{TWO_FRAMES}.then(() => window.isMet ?? true)") and box  # a page that was left has met it
+        box = until(met, f"a thumb meets {words}")
+        self.checks.check(f"large enough for a thumb: {words}", box["height"] >= 24, box)
 
     def is_inside(self, what, selector):
         self.checks.check(f"in the window: {what}", self.page.js(f"{INSIDE}({self.page.quoted(selector)})"), selector)
@@ -98,6 +111,12 @@ class Journeys:
         page.wait("document.activeElement.name === 'container-77'")
         page.js("document.activeElement.click()")
         use("Number of your reader\u2019s ticket")
+        self.checks.same(f"a phone offers digits, {name}", page.js("document.activeElement.inputMode"), "numeric")
+        page.type("999")
+        page.key("Enter")
+        page.see("There is no reader\u2019s ticket with this number.")
+        page.wait("document.activeElement.name === 'ticket'")
+        self.is_inside(f"the refusal, {name}", ".outcome .note")
         page.type(str(ticket))
         page.key("Enter")
         page.see("Ordered. Your order has the number", ".outcome")
@@ -148,8 +167,11 @@ class Journeys:
         page.insist("Order these containers", "You have ordered this container already.")
         self.checks.check("the other is explained", "Carton 77b: not ordered. You have ordered this container already." in page.text(".outcome"))
         self.shot(page, "journey-several")
+        before = page.sent("POST", "/public/orders")
         page.fill("Number of your reader\u2019s ticket", "4711")
-        page.insist("Order these containers", "There is no reader\u2019s ticket with this number.")
+        page.press("Order these containers")
+        page.see("There is no reader\u2019s ticket with this number.")
+        self.checks.same("a wrong ticket is tried once, not for each container", page.sent("POST", "/public/orders") - before, 1)
         self.checks.same("both orders stand", len(self.asks.text("/desk/readers/1", True).split('"order"')) - 1, 2)
 
     def not_taken(self):
@@ -256,6 +278,17 @@ class Journeys:
         page.see("No unit of this finding aid has \u201cnobody wrote this\u201d.", ".told")
         self.checks.same("no marks are left", page.js("document.querySelectorAll('.aid mark').length"), 0)
 
+    def deep(self):
+        """A unit far down that is opened directly: its way is searched for with so many questions, and no more."""
+        number = int(next(line for line in self.asks.text("/public/fonds").splitlines() if "Level 1" in line).split()[0])
+        before = self.page.sent("GET", "/public/units/")
+        page = self.at(f"/unit/{number + LEVELS - 1}")
+        page.see(f"Level {LEVELS}", "h1")
+        page.wait(f"performance.getEntriesByType('resource').filter((one) => one.name.includes('/public/units/')).length > {MOST_QUESTIONS}")
+        page.js("fetch('/public/fonds').then((answer) => answer.text())")
+        page.js("fetch('/public/fonds').then((answer) => answer.text())")
+        self.checks.same("questions for the way", page.sent("GET", "/public/units/") - before, MOST_QUESTIONS + 1)
+
     def long_aid(self):
         """A finding aid of 20,000 units: a search, Back to the same line, and one part of it printed."""
         page, text = self.page, "".join(catalogue.long_aid(UNITS))
@@ -282,10 +315,25 @@ class Journeys:
         parts = page.js("document.querySelectorAll('.print option').length")
         page.js("(() => { const list = document.querySelector('.print select'); list.value = '7'; list.dispatchEvent(new Event('change')); })()")
         self.checks.check("the part that is printed", 1 < parts and page.js("document.querySelectorAll('.block.printed').length") == 10, parts)
+        page.call("Emulation.setEmulatedMedia", media="print")
+        self.checks.same("no other part is", page.js("[...document.querySelectorAll('.block')].filter((block) => getComputedStyle(block).display !== 'none').length"), 10)
+        page.call("Emulation.setEmulatedMedia", media="")
         began = time.time()
         self.shot(page, "journey-part-printed", printed=True)
         print(f"printed one of {parts} parts of {UNITS} units: {time.time() - began:.1f} s", flush=True)
+        self.asked_again()
         page.answer_with(None, 0, b"")
+
+    def asked_again(self):
+        """The unit's page asks for dates and extent once; where that made the office write so much, then only if the reader wants it."""
+        page, address = self.page, f"/unit/{self.top()}"
+        before = page.sent("GET", "/public/aid/")
+        for _ in range(2):
+            page.turn(address, "document.querySelector('.contents')")
+            page.turn("/help")
+        page.turn(address, "document.querySelector('.contents')")
+        page.see("Show dates and extent", ".contents")
+        self.checks.same("a large aid is asked for once", page.sent("GET", "/public/aid/") - before, 1)
 
     def settled_row(self):
         """The line at the top of the window, once it stays the same."""
@@ -303,4 +351,10 @@ class Journeys:
 def catalogue_in(folder):
     path = pathlib.Path(folder) / "harbour.csv"
     path.write_text("".join(catalogue.harbour()))
+    return path
+
+
+def deep_archive_in(folder):
+    path = pathlib.Path(folder) / "deep.csv"
+    path.write_text("".join(catalogue.deep(LEVELS)))
     return path

@@ -4,7 +4,8 @@
         urllib.request.urlopen(office.public + "/public/fonds")
 
 The configuration is that of front/server, as it stands there: in the copy that is run, names, ports and folders are ours,
-and nothing else is changed. Each port that the files name gets a free one (`office.ports["8080"]`).
+the queue has a socket that tells its state, and nothing else is changed. Each port that the files name gets a free one
+(`office.ports["8080"]`).
 """
 
 import base64
@@ -22,11 +23,12 @@ import subprocess
 import sys
 import threading
 import time
-import urllib.error
 import urllib.request
 
+from waits import until
+
 TOP = pathlib.Path(__file__).resolve().parents[2]
-FRONT = TOP / "front"
+FRONT = pathlib.Path(os.environ.get("FRONT_FILES") or TOP / "front").resolve()  # mutation/front.py names copies of it
 PASSWORD = ("desk", "quiet-paper")
 SIGNED_IN = {"Authorization": "Basic " + base64.b64encode(":".join(PASSWORD).encode()).decode()}
 SETTINGS = ("--country", "GB", "--repo", "0999", "--seats", "12", "--daily", "8", "--hands", "2", "--run", "20",
@@ -36,13 +38,16 @@ DESK_NAME = "desk.example.org"
 # The configuration of a system's nginx around ours.
 NGINX = """daemon off; pid nginx.pid; error_log nginx.log warn; user {user}; worker_processes 1;
 events {{ worker_connections 1000; }}
-http {{ include {mime}; access_log off; client_body_temp_path tmp/body; proxy_temp_path tmp/proxy;
+http {{ include {mime}; access_log access.log; client_body_temp_path tmp/body; proxy_temp_path tmp/proxy;
 fastcgi_temp_path tmp/fastcgi; uwsgi_temp_path tmp/uwsgi; scgi_temp_path tmp/scgi;
 include office.conf; }}
 """
 
 
-def free_ports(many, first=20000, last=20999):
+PORTS = int(os.environ.get("FRONT_PORTS", 20000))  # the first of a thousand; the last hundred are for what is named otherwise
+
+
+def free_ports(many, first=PORTS, last=PORTS + 899):
     """Free ports of 127.0.0.1, from a random place on, so that two runs at a time seldom collide."""
     found, begin = [], random.randrange(first, last + 1)
     for port in [*range(begin, last + 1), *range(first, begin)]:
@@ -60,7 +65,7 @@ class Office:
     ports are looked for; preload: a library that is loaded with the program; changes: pairs of texts that are replaced in
     the configuration besides."""
 
-    def __init__(self, folder, program, settings=SETTINGS, connections=10000, first=20000, last=20999, preload=None, changes=()):
+    def __init__(self, folder, program, settings=SETTINGS, connections=10000, first=PORTS, last=PORTS + 899, preload=None, changes=()):
         self.folder = pathlib.Path(folder).resolve()
         self.program = pathlib.Path(program).resolve()
         self.settings, self.connections, self.preload, self.changes = settings, connections, preload, changes
@@ -102,18 +107,33 @@ class Office:
         self.keeper.start()
         self._begin_queue()
         self.nginx = self._run("nginx", "-p", str(self.folder), "-c", str(self.folder / "main.conf"))
-        self.wait_for(self.public + "/public/fonds")
+        try:
+            self.wait_for(self.public + "/public/fonds")
+        except BaseException:
+            self.end()
+            raise
         return self
 
-    def wait_for(self, url, seconds=90):
-        last = None
-        for _ in range(seconds * 10):
-            try:
-                return urllib.request.urlopen(url, timeout=seconds).read()
-            except (OSError, urllib.error.HTTPError) as lost:
-                last = lost
-            time.sleep(0.1)
-        raise RuntimeError(f"the front does not answer: {last}; see {self.folder}")
+    def wait_for(self, url):
+        """The answer to this question, once there is one."""
+        return until(lambda: answers_to(url), f"the front answers {url}; see {self.folder}")[0]
+
+    def queue_state(self, side="office", name="gate"):
+        """What HAProxy tells of one of its parts: numbers by their names, such as `qcur`, who waits there."""
+        with socket.socket(socket.AF_UNIX) as it:
+            it.connect(str(self.folder / "stats.sock"))
+            it.sendall(b"show stat\n")
+            text = b"".join(iter(lambda: it.recv(65536), b""))
+        names, *rows = [line.split(",") for line in text.decode().strip().splitlines()]
+        return dict(zip(names, next(row for row in rows if row[:2] == [side, name])))
+
+    def queued(self):
+        """How many requests wait in the queue."""
+        return sum(int(self.queue_state(name=name)["qcur"]) for name in ("BACKEND", "gate"))
+
+    def connections_made(self):
+        """How many connections the queue has made to the gate so far."""
+        return int(self.queue_state()["connect"])
 
     def end(self):
         self.running = False
@@ -153,11 +173,23 @@ class Office:
             path.write_text(before)
             self.reload()
 
+    def takes(self, name):
+        """A file of front/ has changed: what reads it reads it anew."""
+        if name.startswith("server/"):
+            self.configure()
+            subprocess.run([program_path("nginx"), "-t", "-q", "-p", self.folder, "-c", self.folder / "main.conf"], check=True)
+            if not name.endswith(".conf"):
+                self.haproxy.terminate()
+                self.haproxy.wait(20)
+                self._begin_queue()
+            self.reload()
+            self.wait_for(self.public + "/public/fonds")
+
     def reload(self):
         """nginx reads its files anew; ends when no worker takes requests by the old ones any more."""
         old = self.workers()
         self.nginx.send_signal(signal.SIGHUP)
-        self.until(lambda: self.workers() and not self.workers() & old)
+        until(lambda: self.workers() and not self.workers() & old, "nginx has read its files anew")
 
     def workers(self):
         """The workers of nginx that take requests."""
@@ -167,13 +199,6 @@ class Office:
             with contextlib.suppress(OSError):
                 titles[worker] = pathlib.Path(f"/proc/{worker}/cmdline").read_text()
         return {worker for worker, title in titles.items() if title and "shutting down" not in title}
-
-    def until(self, holds, seconds=20):
-        end = time.time() + seconds
-        while not holds():
-            if time.time() > end:
-                raise AssertionError(f"not within {seconds} s")
-            time.sleep(0.05)
 
     @contextlib.contextmanager
     def without_program(self):
@@ -220,7 +245,7 @@ class Office:
                 self.serving = subprocess.Popen(words, env=env, stdout=log, stderr=log)
             self.starts += 1
             self.serving.wait()
-            time.sleep(0 if time.time() - began > 0.5 else 0.2)
+            time.sleep(0 if time.time() - began > 0.5 else 0.2)  # a program that ends at once is not begun without end
 
     def configure(self):
         for path in self.sources:
@@ -238,7 +263,9 @@ class Office:
         text = re.sub(LISTEN, lambda found: f"listen 127.0.0.1:{self.ports[found[1]]}", text)
         text = text.replace(DESK_NAME, "127.0.0.1")
         for theirs, our in (("/usr/share/record-office/front", FRONT), ("/etc/record-office", self.folder),
-                            ("/run/record-office-queue", self.folder), ("/run/record-office-search/search", self.folder / "answers")):
+                            ("/run/record-office-queue", self.folder), ("/run/record-office-search/search", self.folder / "answers"),
+                            ("/var/cache/record-office", self.folder / "cache"),
+                            ("    default-path config\n", f"    default-path config\n    stats socket {self.folder}/stats.sock\n")):
             text = text.replace(theirs, str(our))
         for old, new in self.changes:
             text = text.replace(old, new)
@@ -248,6 +275,19 @@ class Office:
 PORT = r"((?:127\.0\.0\.1|localhost|\[::1\]|\*|" + re.escape(DESK_NAME) + r"):)(\d{4,5})\b"
 
 LISTEN = r"\blisten (\d{4,5})\b"
+
+
+def program_path(name):
+    return shutil.which(name, path=os.environ["PATH"] + ":/usr/sbin:/usr/local/sbin")
+
+
+def answers_to(url):
+    """The answer to a question, or none."""
+    try:
+        with urllib.request.urlopen(url, timeout=90) as answer:
+            return [answer.read()]
+    except OSError:
+        return []
 
 
 def ports_of(text):
@@ -274,8 +314,7 @@ def main(program, folder, *files):
         print(office.take_in("catalogue", path), end="")
     with office, contextlib.suppress(KeyboardInterrupt):
         print(f"readers {office.public}\nstaff   {office.staff}, name {PASSWORD[0]}, password {PASSWORD[1]}\nCtrl-C ends it", flush=True)
-        while True:
-            time.sleep(60)
+        signal.pause()
 
 
 if __name__ == "__main__":

@@ -9,6 +9,11 @@ from looks import RULES
 from office import TOP
 
 SETTINGS = ("--country", "GB", "--repo", "0999", "--seats", "2", "--daily", "3", "--hands", "1", "--run", "2", "--day", "2024-03-01")
+# What the text of each refusal must say, so that no text stands at another's number.
+TELLING = {1: "no unit", 2: "no ticket", 3: "no container", 4: "expired", 5: "not open", 6: "already", 7: "all the orders", 8: "Every seat", 9: "has a seat already",
+           10: "has no seat", 11: "still has containers", 12: "no order", 13: "no longer waiting", 14: "not at the desk", 15: "not the first", 16: "as many containers",
+           17: "not out", 18: "not later", 19: "still out", 20: "below itself", 21: "would close", 22: "not imported", 23: "limits", 24: "nothing to move", 25: "64 levels",
+           26: "no run", 27: "name cannot be used", 28: "no permit"}
 UNREACHED = {26}  # the program answers an unknown run with 404, which has words of its own
 
 
@@ -24,9 +29,12 @@ class Refusals:
         self.site = asks.office.staff
         self.met = set()
 
-    def play(self):
+    def play(self, last=None):
+        """All parts, or those up to one."""
         for part in (self.words, self.readers_words, self.settle, self.tickets, self.seats, self.orders, self.counter, self.catalogue, self.rest):
             self.checks.part(f"refusals: {part.__name__}", part)
+            if part.__name__ == last:
+                return
         self.checks.same("refusals that were met through the pages", sorted(set(listed()) - self.met), sorted(UNREACHED))
 
     def words(self):
@@ -40,6 +48,7 @@ class Refusals:
         for number, (means, todo) in table.items():
             whole = all(re.fullmatch(r"[A-Z“].*[.]", text, re.S) for text in (means, todo))
             self.checks.check(f"{number} {self.names[int(number)]} says what it means and what to do", whole, (means, todo))
+        self.checks.same("each text stands at its number", [number for number, words in TELLING.items() if words not in table[str(number)][0]], [])
         self.checks.same("no two say the same", len({means for means, _ in table.values()}), 28)
         self.checks.same("each cause of a bad file has its words", [int(one) for one in RULES["causes"]], list(range(1, 13)))
 

@@ -2,14 +2,20 @@
 
 import http.client
 import json
+import os
+import pathlib
+import signal
 import threading
 import time
 
 from office import SIGNED_IN
+from waits import until
 
 CLIENTS = 8
 MANY = 40
 TOO_MANY = 429
+AWAY = 6  # seconds: longer than a queue that tries three or four times to reach the program
+UNANSWERED = (502, b'{"error":"not answered"}')
 
 
 class Client(threading.Thread):
@@ -29,25 +35,35 @@ class Client(threading.Thread):
     @staticmethod
     def answer(connection, method, path, body, headers):
         """Returns the answer. If the front says that this address asks too often, it asks again."""
-        while True:
+        def put():
             connection.request(method, path, body, headers)
             answer = connection.getresponse()
-            status, text = answer.status, answer.read()
-            if status != TOO_MANY:
-                return status, text
-            time.sleep(0.3)
+            got = answer.status, answer.read()
+            return got if got[0] != TOO_MANY else None
+        return until(put, f"{path} is let through")
 
 
 def looks(port, first):
     return Client(port, [("GET", f"/public/units/{1 + (first + 7 * one) % 40}", None, {}) for one in range(MANY)])
 
 
-def play(checks, asks):
-    checks.part("restarts: the program is killed", killed, checks, asks)
-    checks.part("restarts: the program is away for a while", away, checks, asks)
+def registration(office, name, port="8081"):
+    body = json.dumps({"name": name, "until": "2030-01-01"})
+    return Client(office.ports[port], [("POST", "/desk/register", body, SIGNED_IN)])
+
+
+def next_ticket(asks):
+    return next(n for n in range(1, 99) if asks.get(f"/desk/readers/{n}", True)[0] == 404)
+
+
+def play(checks, asks, only=None):
+    for part in (killed, away, command_cut_off, question_cut_off):
+        if only in (None, part.__name__):
+            checks.part(f"restarts: {part.__name__}", part, checks, asks)
 
 
 def killed(checks, asks):
+    """The program is killed twice while clients ask."""
     office = asks.office
     wanted = {f"/public/units/{unit}": asks.get(f"/public/units/{unit}")[1].encode() for unit in range(1, 41)}
     clients = [looks(office.ports["8080"], k) for k in range(CLIENTS)]
@@ -55,8 +71,7 @@ def killed(checks, asks):
     for client in clients:
         client.start()
     for share in (0.25, 0.6):
-        while sum(len(client.got) for client in clients) < share * CLIENTS * MANY:
-            time.sleep(0.01)
+        until(lambda: sum(len(client.got) for client in clients) >= share * CLIENTS * MANY, f"{share} of the answers are there")
         office.kill_program()
     for client in clients:
         client.join(90)
@@ -69,17 +84,68 @@ def killed(checks, asks):
 
 def away(checks, asks):
     """Commands that come while the program is away are held, and each is done once."""
-    office = asks.office
-    first = next(n for n in range(1, 99) if asks.get(f"/desk/readers/{n}", True)[0] == 404)
-    body = json.dumps({"name": "Held", "until": "2030-01-01"})
-    clients = [Client(office.ports["8081"], [("POST", "/desk/register", body, SIGNED_IN)]) for _ in range(CLIENTS)]
+    office, first = asks.office, next_ticket(asks)
+    clients = [registration(office, "Held") for _ in range(CLIENTS)]
     with office.without_program():
         for client in clients:
             client.start()
-        time.sleep(1.5)
-        checks.same("nothing is answered while it is away", sum(len(client.got) for client in clients), 0)
+        until(lambda: office.queued() == CLIENTS - 1, "all but one wait in the queue")
+        time.sleep(AWAY)  # how long they are held is what is measured
+        checks.same("nothing is answered while it is away", [got for client in clients for got in client.got], [])
     for client in clients:
         client.join(90)
     tickets = sorted(json.loads(answer)["ticket"] for client in clients for status, answer in client.got if status == 200)
     checks.same("each was done once", tickets, list(range(first, first + CLIENTS)))
     checks.same("and no other", asks.get(f"/desk/readers/{first + CLIENTS}", True)[0], 404)
+
+
+def command_cut_off(checks, asks):
+    """A command that the program has received, and not answered, is not answered by the front either, and not sent again: over
+    connections that are kept, over new ones to the program, and over one that is new to the queue too."""
+    office, first = asks.office, next_ticket(asks)
+    for new, port in (("nothing", "8081"), ("the program", "8081"), ("the queue", "8092")):
+        if new != "nothing":
+            await_idle(office)
+        client = registration(office, "Cut off", port)
+        kill_with_request_of(client, office)
+        checks.same(f"the command is not answered, the connection to {new} being new", client.got, [UNANSWERED])
+        checks.same("and not repeated: there is no ticket", asks.get(f"/desk/readers/{first}", True)[0], 404)
+    done = json.loads(asks.post("/desk/register", {"name": "Next", "until": "2030-01-01"})[1])
+    checks.same("the next ticket has its number", done, {"ticket": first})
+
+
+def question_cut_off(checks, asks):
+    """A question that the program has received, and not answered, is put again."""
+    office = asks.office
+    wanted = asks.get("/public/fonds")
+    for kept in (True, False):
+        if not kept:
+            await_idle(office)
+        client = Client(office.ports["8080"], [("GET", "/public/fonds", None, {})])
+        kill_with_request_of(client, office)
+        checks.same(f"the question is answered, kept: {kept}", client.got, [(wanted[0], wanted[1].encode())])
+
+
+def await_idle(office):
+    """Waits until queue and gate have closed the connections that they kept."""
+    until(lambda: not any(int(office.queue_state(*server)["idle_conn_cur"]) for server in (("office", "gate"), ("gate", "program"))), "no connection is kept")
+
+
+def kill_with_request_of(client, office):
+    """The program is stopped, gets the client's request, and is killed. Ends when the client has its answer."""
+    stopped = office.serving
+    os.kill(stopped.pid, signal.SIGSTOP)
+    client.start()
+    until(lambda: unread(office.ports["8090"]) > 0, "the request has come to the program's socket")
+    stopped.kill()
+    client.join(90)
+
+
+def unread(port):
+    """How many bytes have come to the connections of this port of 127.0.0.1 that nobody has read yet."""
+    end, found = f":{port:04X}", 0
+    for line in pathlib.Path("/proc/net/tcp").read_text().splitlines()[1:]:
+        _, local, _, state, queues, *_ = line.split()
+        if local.endswith(end) and state == "01":
+            found += int(queues.split(":")[1], 16)
+    return found

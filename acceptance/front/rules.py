@@ -17,13 +17,55 @@ ODD_PATHS = [form.format(way) for way in ("desk/issued", "desk/run", "desk/regis
     "/%64esk/issued", "/DESK/issued", "/desk%2fissued", "/desk/issued%00", "/desk/issued?x=/public/fonds", "/public/units/1/..%2f..%2f..%2fdesk/issued"]
 
 
-def raw(port, text, body=b""):
-    with socket.create_connection(("127.0.0.1", port), 90) as it:
+def raw(port, text, body=b"", source="127.0.0.1"):
+    with socket.create_connection(("127.0.0.1", port), 90, (source, 0)) as it:
         it.sendall(text.encode("latin-1") + body)
         got = b""
         while piece := it.recv(65536):
             got += piece
     return got
+
+
+HTML, SCRIPT, STYLE = (f"{kind}; charset=utf-8" for kind in ("text/html", "application/javascript", "text/css"))
+TEXT, JSON = "text/plain; charset=utf-8", "application/json"
+# Of each kind of answer: the site, the path, the status, what it is, and how long it is kept.
+ANSWERS = (
+    ("readers", "/", 200, HTML, "no-cache"), ("readers", "/unit/1", 200, HTML, "no-cache"), ("readers", "/no", 404, HTML, "no-cache"),
+    ("readers", "/main.js", 200, SCRIPT, "no-cache"), ("readers", "/shared/dom.js", 200, SCRIPT, "no-cache"),
+    ("readers", "/public.css", 200, STYLE, "no-cache"), ("readers", "/shared/base.css", 200, STYLE, "no-cache"),
+    ("readers", "/public/fonds", 200, TEXT, "no-store"), ("readers", "/public/units/999999", 404, JSON, "no-store"),
+    ("readers", "/public/none", 404, JSON, None), ("readers", "/public/search?q=x", 503, JSON, None),
+    ("readers", "/public/orders", 405, JSON, "no-store"), ("desk", "/", 200, HTML, "no-cache"), ("desk", "/desk.css", 200, STYLE, "no-cache"),
+    ("desk", "/shared/dom.js", 200, SCRIPT, "no-cache"), ("desk", "/desk/issued", 200, JSON, "no-store"),
+    ("desk", "/desk/a/b/c", 404, JSON, None), ("desk", "/sign-out", 401, HTML, "no-cache"))
+# Commands that do not come to the program: the site, the path, a field, how many bytes, the status, how long the answer is kept.
+REFUSED = (
+    ("readers", "/public/orders", "Origin: http://evil.example\r\n", 2, 403, "no-store"), ("readers", "/public/orders", "", 6000, 413, None),
+    ("desk", "/desk/run", "Origin: http://evil.example\r\n", 2, 403, "no-store"),
+    ("desk", "/desk/import/x", "Sec-Fetch-Site: cross-site\r\n", 2, 403, "no-store"))
+POLICY = {
+    "content-security-policy": "default-src 'none'; script-src 'self'; style-src 'self'; img-src 'self'; connect-src 'self'; form-action 'none'; "
+                               "base-uri 'none'; frame-ancestors 'none'; require-trusted-types-for 'script'",
+    "x-content-type-options": "nosniff", "referrer-policy": "same-origin", "cross-origin-opener-policy": "same-origin",
+    "cross-origin-resource-policy": "same-origin", "permissions-policy": "camera=(), microphone=(), geolocation=()", "server": "nginx",
+}
+
+
+def fields_of(answer):
+    """The fields of an answer's head, by their names: a list of values each."""
+    found = {}
+    for line in answer.split(b"\r\n\r\n", 1)[0].decode("latin-1").split("\r\n")[1:]:
+        name, value = line.split(": ", 1)
+        found.setdefault(name.lower(), []).append(value)
+    return found
+
+
+def policy_of(checks, what, answer, kind, kept, transport=None):
+    """Each part of the policy once, and no more; the kind of the answer; and how long it is kept (None: it does not say)."""
+    found = fields_of(answer)
+    wanted = {name: [value] for name, value in POLICY.items()} | {"content-type": [kind], "cache-control": [kept] if kept else None,
+                                                                  "strict-transport-security": [transport] if transport else None}
+    checks.same(f"what a browser is told of {what}", {name: found.get(name) for name in wanted}, wanted)
 
 
 def status(answer):
@@ -34,12 +76,14 @@ class Rules:
     def __init__(self, checks, asks, page):
         self.checks, self.asks, self.page = checks, asks, page
         self.public, self.staff = (asks.office.ports[name] for name in ("8080", "8081"))
+        self.ports = {"readers": self.public, "desk": self.staff}
 
-    def play(self):
+    def play(self, only=None):
         for part in (self.odd_paths, self.readers_limits, self.password, self.staffs_limits, self.other_sites, self.other_names,
-                     self.heads, self.questions_of_heads, self.no_page, self.limit_of_orders, self.orders_from_elsewhere,
-                     *([self.foreign_page] if self.page else [])):
-            self.checks.part(f"rules: {part.__name__}", part)
+                     self.heads, self.pages_alone, self.lists, self.questions_of_heads, self.no_page, self.limit_of_orders,
+                     self.orders_from_elsewhere, *([self.foreign_page] if self.page else [])):
+            if only in (None, part.__name__):
+                self.checks.part(f"rules: {part.__name__}", part)
 
     def state(self):
         """What a stray command would change: tickets and runs."""
@@ -63,8 +107,13 @@ class Rules:
         for path, wanted in (("/public/units/1", 200), ("/public/units/01", 404), ("/public/units/1/", 404),
                              ("/public/units/99999999999", 404), ("/public/fonds/", 404), ("/public/orders", 405), ("/public/", 404)):
             self.checks.same(f"readers and {path}", self.asks.get(path)[0], wanted)
-        large = b"{" + b" " * 20000 + b"}"
-        self.checks.same("a large order is not taken", self.asks.call("POST", "/public/orders", large, False)[0], 413)
+        for size, wanted in ((4_000, 409), (4_200, 413)):
+            got = self.asks.call("POST", "/public/orders", b'{"ticket":999,"container":1}'.ljust(size), False)[0]
+            self.checks.same(f"an order of {size} bytes", got, wanted)
+        for what, head, wanted in (("a long address", f"GET /{'a' * 7000} HTTP/1.1\r\n", 404), ("a longer one", f"GET /{'a' * 9000} HTTP/1.1\r\n", 414),
+                                   ("a long line", f"GET / HTTP/1.1\r\nX: {'a' * 7000}\r\n", 200), ("a longer line", f"GET / HTTP/1.1\r\nX: {'a' * 9000}\r\n", 400),
+                                   ("many long lines", "GET / HTTP/1.1\r\n" + f"X: {'a' * 7000}\r\n" * 5, 400)):
+            self.checks.same(f"{what} in a request", status(raw(self.public, f"{head}Host: x\r\nConnection: close\r\n\r\n")), wanted)
 
     def password(self):
         for path in ("/", "/main.js", "/desk/issued", "/public/fonds"):
@@ -75,6 +124,13 @@ class Rules:
                               f"Authorization: Basic {wrong}\r\nConnection: close\r\n\r\n")
         self.checks.same("a wrong password", status(got), 401)
         self.checks.same("the right password", self.asks.get("/desk/issued", True), (200, "[]"))
+        for path, given in (("/", ""), ("/sign-out", ""), ("/sign-out", SIGNED_IN["Authorization"])):
+            began = time.monotonic()
+            got = raw(self.staff, f"GET {path} HTTP/1.1\r\nHost: 127.0.0.1:{self.staff}\r\nAuthorization: {given}\r\nConnection: close\r\n\r\n"
+                      .replace("Authorization: \r\n", ""))
+            self.checks.same(f"{path} asks for a password", (status(got), "www-authenticate" in fields_of(got)), (401, True))
+            self.checks.check(f"at once at {path} {'with a right one' * bool(given)}", time.monotonic() - began < 4, time.monotonic() - began)
+        self.checks.same("what is shown after signing out has no other way in", status(self.of(self.staff, "GET", "/signed-out.html")), 404)
         self.guesses(wrong)
         status_, page = self.asks.get("/sign-out", True)
         self.checks.check("signing out refuses the right password", status_ == 401 and "You have signed out" in page, (status_, page))
@@ -94,7 +150,8 @@ class Rules:
 
     def staffs_limits(self):
         """A command has up to 64 KiB, and a file 8 MiB."""
-        for path, size, wanted in (("/desk/cancel", 60_000, 409), ("/desk/cancel", 70_000, 413), ("/desk/import/x", 70_000, 409)):
+        for path, size, wanted in (("/desk/cancel", 60_000, 409), ("/desk/cancel", 70_000, 413), ("/desk/import/x", 70_000, 409),
+                                   ("/desk/import/x", 8 << 20, 409), ("/desk/import/x", (8 << 20) + 1, 413)):
             body = b'{"order":1000}'.ljust(size)
             self.checks.same(f"{size} bytes to {path}", self.asks.call("POST", path, body, True)[0], wanted)
 
@@ -107,6 +164,20 @@ class Rules:
             got, _ = self.asks.call("POST", "/desk/cancel", b'{"order":1000}', True, fields)
             self.checks.same(f"a command with {dict(fields)}", got, 409 if wanted == 200 else wanted)
         self.checks.same("nothing was changed", self.state(), before)
+        self.questions_and_files(own)
+        here = f"http://127.0.0.1:{self.public}"
+        for fields, wanted in (([("Origin", "http://evil.example")], [403]), ([("Sec-Fetch-Site", "cross-site")], [403]),
+                               ([("Origin", here), ("Sec-Fetch-Site", "same-origin")], [409, 429])):
+            got = self.asks.call("POST", "/public/orders", b'{"ticket":999,"container":1}', False, fields)[0]
+            self.checks.check(f"an order with {dict(fields)}", got in wanted, got)
+
+    def questions_and_files(self, own):
+        """What other sites' pages ask at the desk, and the files that they send there."""
+        for field, let_in in ((("Sec-Fetch-Site", "none"), True), (("Sec-Fetch-Site", "cross-site"), False), (("Origin", own), True),
+                              (("Origin", "http://evil.example"), False)):
+            asked = self.asks.call("GET", "/desk/issued", None, True, [field])[0]
+            sent = self.asks.call("POST", "/desk/import/x", b"legacyId", True, [field])[0]
+            self.checks.same(f"a question and a file with {field}", [asked != 403, sent != 403], [let_in] * 2)
 
     def other_names(self):
         password = SIGNED_IN["Authorization"]
@@ -114,15 +185,48 @@ class Rules:
         self.checks.same("another name for the desk", status(got), 421)
 
     def heads(self):
-        """What each answer tells a browser: scripts from here alone, and none made from texts."""
-        for port, path in ((self.public, "/"), (self.public, "/public/fonds"), (self.public, "/no"), (self.staff, "/desk/issued")):
-            got = raw(port, f"GET {path} HTTP/1.1\r\nHost: 127.0.0.1:{port}\r\n"
-                            f"Authorization: {SIGNED_IN['Authorization']}\r\nConnection: close\r\n\r\n")
-            head = got.split(b"\r\n\r\n", 1)[0].decode().lower()
-            policy = next((line for line in head.splitlines() if line.startswith("content-security-policy:")), "")
-            strict = all(part in policy for part in ("default-src 'none'", "script-src 'self'", "require-trusted-types-for 'script'"))
-            strict = strict and "unsafe" not in policy and "x-content-type-options: nosniff" in head
-            self.checks.check(f"a strict policy at {path}", strict, head)
+        """What each answer tells a browser: scripts from here alone, and none made from texts; and what it is."""
+        for site, path, wanted, kind, kept in ANSWERS:
+            got = self.of(self.ports[site], "GET", path)
+            self.checks.same(f"status of {path}", status(got), wanted)
+            policy_of(self.checks, path, got, kind, kept)
+        for site, path, fields, size, wanted, kept in REFUSED:
+            got = self.of(self.ports[site], "POST", path, b"{}".rjust(size), fields)
+            self.checks.same(f"status of {size} bytes to {path} {fields}", status(got), wanted)
+            policy_of(self.checks, f"{size} bytes to {path} {fields}", got, JSON, kept)
+        got = raw(self.staff, f"GET / HTTP/1.1\r\nHost: 127.0.0.1:{self.staff}\r\nConnection: close\r\n\r\n")
+        policy_of(self.checks, "no password", got, HTML, None)
+
+    def of(self, port, method, path, body=b"", fields=""):
+        """The answer to a request of a member of staff, to either site."""
+        return raw(port, f"{method} {path} HTTP/1.1\r\nHost: 127.0.0.1:{port}\r\nAuthorization: {SIGNED_IN['Authorization']}\r\n{fields}"
+                         f"Content-Length: {len(body)}\r\nConnection: close\r\n\r\n", body)
+
+    def pages_alone(self):
+        """Files are asked for, and asked for again only if they have changed; nothing is sent to them."""
+        for port, path in ((self.public, "/"), (self.public, "/main.js"), (self.public, "/shared/dom.js"), (self.staff, "/"), (self.staff, "/shared/dom.js"),
+                           (self.staff, "/lists/a.html")):
+            self.checks.same(f"nothing is posted to {path}", status(self.of(port, "POST", path)), 403)
+        for port, path in ((self.public, "/main.js"), (self.staff, "/main.js"), (self.public, "/unit/1")):
+            tag = fields_of(self.of(port, "GET", path)).get("etag", ["none"])[0]
+            self.checks.same(f"an unchanged {path} is not sent again", status(self.of(port, "GET", path, fields=f"If-None-Match: {tag}\r\n")), 304)
+        for path in ("/main.js", "/public.css", "/public/aid/1"):
+            got = fields_of(self.of(self.public, "GET", path, fields="Accept-Encoding: gzip\r\n"))
+            self.checks.same(f"{path} is sent packed", got.get("content-encoding"), ["gzip"])
+
+    def lists(self):
+        """The lists of each night, for staff alone."""
+        folder = self.asks.office.folder / "cache/lists"
+        folder.mkdir(parents=True, exist_ok=True)
+        for name in ("drafts.csv", "drafts.html"):
+            (folder / name).write_text("caf\u00e9\n", "utf-8")
+        for path, kind in (("/lists/drafts.csv", "text/csv; charset=utf-8"), ("/lists/drafts.html", "text/html; charset=utf-8")):
+            got = self.of(self.staff, "GET", path)
+            self.checks.same(f"status of {path}", (status(got), got.split(b"\r\n\r\n", 1)[1]), (200, "caf\u00e9\n".encode()))
+            policy_of(self.checks, path, got, kind, "no-cache")
+            self.checks.same(f"readers do not reach {path}", status(self.of(self.public, "GET", path)), 404)
+        got = raw(self.staff, f"GET /lists/drafts.csv HTTP/1.1\r\nHost: 127.0.0.1:{self.staff}\r\nConnection: close\r\n\r\n")
+        self.checks.same("nor does anybody without the password", status(got), 401)
 
     def questions_of_heads(self):
         """HEAD: the head of the answer to GET, and the connection goes on."""
@@ -150,6 +254,9 @@ class Rules:
         got = [self.order()[0] for _ in range(20)]
         self.checks.check("orders end in 429", got[0] in (409, 429) and got[-1] == 429 and 409 not in got[got.index(429):], got)
         self.checks.check("at most a dozen orders are taken at once", got.count(409) <= 12, got)
+        got = self.of(self.public, "POST", "/public/orders", b"{}")
+        self.checks.same("the answer to one too many", (status(got), got.split(b"\r\n\r\n", 1)[1]), (429, b'{"error":"too many"}'))
+        policy_of(self.checks, "one too many", got, "application/json", None)
         self.checks.same("pages are not held up by orders", self.asks.get("/public/fonds")[0], 200)
         self.checks.same("the desk orders on", self.asks.post("/public/orders", {"ticket": 999, "container": 1})[0], 409)
 

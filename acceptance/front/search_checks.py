@@ -21,6 +21,7 @@ sys.dont_write_bytecode = True
 from checks import Checks  # noqa: E402
 from office import TOP, fresh  # noqa: E402
 from searched import LOOKS, Asking, Searched, Unreached, index  # noqa: E402
+from waits import until  # noqa: E402
 
 HEADER = "legacyId,parentId,identifier,title,levelOfDescription,publicationStatus,eventDates,scopeAndContent\n"
 QUICK = ("--every", ".2", "--rest", "0")
@@ -181,7 +182,7 @@ class FakeOffice(threading.Thread):
                     status = self.statuses.get(head.split()[1].decode(), 200)
                     if status is None:
                         break
-                    time.sleep(.05)
+                    time.sleep(.05)  # what an answer takes, of which a round rests four times as long
                     it.sendall(f"HTTP/1.1 {status} x\r\nContent-Length: 5\r\n\r\nlines".encode())
 
 
@@ -199,10 +200,10 @@ def questions(checks, folder):
     for path in ("/broken", "/gone"):
         checks.same(f"{path} is no answer", failure(ask, path), "Unreached")
     reader = Asking(folder / "fake.sock")
-    reader.until = time.monotonic() + .3
+    reader.until = time.monotonic() + 30
     checks.same("a reader's question", reader("/reader"), "lines")
     checks.check("goes before rounds", "Record-Office-Round" not in fake.heads[-1], fake.heads[-1])
-    time.sleep(.3)
+    reader.until = time.monotonic()
     checks.same("a reader's time is over", failure(reader, "/late"), "Slow")
 
 
@@ -227,11 +228,7 @@ def hostile(checks, office):
 
 def patient(office, args):
     """The answer; if nginx says that this address asks too often, it asks again."""
-    while True:
-        status, body = office.found(args)
-        if status != 429:
-            return status, body
-        time.sleep(.1)
+    return until(lambda: (got := office.found(args))[0] != 429 and got, "the search is let through")
 
 
 def units(office):
@@ -241,13 +238,11 @@ def units(office):
     return {unit["unit"] for unit in answer["units"]} if answer.get("state") == "done" else None
 
 
-def is_found(office, wanted, seconds=60):
-    end = time.time() + seconds
-    while time.time() < end:
-        if units(office) == wanted:
-            return True
-        time.sleep(.2)
-    return False
+def is_found(office, wanted, minutes=1):
+    try:
+        return until(lambda: units(office) == wanted, "all is found again", minutes)
+    except AssertionError:
+        return False
 
 
 def kills(checks, office, turns=12):
@@ -259,23 +254,24 @@ def kills(checks, office, turns=12):
         harm(office, what, chance)
         if office.service.poll() is not None:
             office.serve_search(*QUICK)
-        time.sleep(chance.random())
+        time.sleep(chance.random())  # the question comes at a moment that nothing else chooses
         now = units(office)
         checks.check(f"never anything else after {what}, turn {turn}", now is None or now <= wanted, now)
         if turn % 3 == 2:
             checks.check(f"found again after {what}, turn {turn}", is_found(office, wanted), (units(office), wanted))
     await_rounds(office, 2)  # the first has checked the index
     DAMAGED_WORDS(office.index)
-    checks.check("found again after words were damaged", is_found(office, wanted, 180), units(office))
+    checks.check("found again after words were damaged", is_found(office, wanted, 3), units(office))
     checks.same("the index is private", oct(os.stat(office.index).st_mode & 0o777), "0o600")
 
 
-def await_rounds(office, many, seconds=60):
+def await_rounds(office, many):
     """Waits until so many more rounds have ended."""
     with contextlib.closing(index.opened(office.index)) as db:
-        wanted, end = db.execute("SELECT finished FROM round").fetchone()[0] + many, time.time() + seconds
-        while db.execute("SELECT finished FROM round").fetchone()[0] < wanted and time.time() < end:
-            time.sleep(.1)
+        def finished():
+            return db.execute("SELECT finished FROM round").fetchone()[0]
+        wanted = finished() + many
+        until(lambda: finished() >= wanted, f"{many} more rounds have ended")
 
 
 def harm(office, what, chance):
@@ -319,9 +315,7 @@ def with_service(checks, program, folder, parts):
     office.take_in("catalogue", TOP / "examples/archives.csv")
     with office:
         office.serve_search(*QUICK)
-        end = time.time() + 60
-        while not units(office) and time.time() < end:
-            time.sleep(.2)
+        until(lambda: units(office), "a first round has found something")
         for part in (hostile, kills, states):
             if part.__name__ in parts:
                 checks.part(f"search: {part.__name__}", part, checks, office)

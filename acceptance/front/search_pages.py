@@ -1,12 +1,16 @@
 """The search in all archives in a real browser, with a service of its own."""
 
-import time
+import json
 import urllib.parse
 
+from asks import Asks
 from catalogue import ODD, dock_company, many
+from journeys import SHAPES, Journeys
 from office import TOP
 from searched import Searched
+from waits import until
 
+MINUTES = "GB 0999 HUL/1 [Series] Minutes"
 BOXES = "document.querySelectorAll('form.find').length"
 TOLD = ".told"
 MARKS = "[...new Set([...document.querySelectorAll('.found mark')].map((mark) => mark.textContent.toLowerCase()))].sort().join()"
@@ -23,13 +27,14 @@ def office_of(program, folder):
     return office
 
 
-def play(checks, program, folder, browser, shot):
+def play(checks, program, folder, browser, shot, only=None):
+    """All parts, or the first, which begins the service, and one other."""
     folder.mkdir(parents=True, exist_ok=True)
     with office_of(program, folder) as office:
         page = browser.page()
-        for part in (absent, box, results, more, filters, odd_texts, phone, away):
-            checks.part(f"search pages: {part.__name__}", part, checks, office, page, shot)
-
+        for part in (absent, box, results, more, filters, odd_texts, phone, ordering, away):
+            if only in (None, part.__name__) or part is absent:
+                checks.part(f"search pages: {part.__name__}", part, checks, office, page, shot)
 
 
 def absent(checks, office, page, _):
@@ -39,9 +44,7 @@ def absent(checks, office, page, _):
     page.open(office.public, "/search?q=minutes")
     page.see("The search does not answer just now.", TOLD)
     office.serve_search("--every", ".3", "--rest", "0")
-    end = time.time() + 60
-    while b'"unit"' not in office.found("q=minutes")[1] and time.time() < end:
-        time.sleep(.6)
+    until(lambda: b'"unit"' in office.found("q=minutes")[1], "a first round has found the minutes")
     page.complaints()
 
 
@@ -131,12 +134,47 @@ def phone(checks, office, page, shot):
     page.size(1200, 850)
 
 
+def ordering(checks, office, page, shot):
+    """A reader who knows a subject: from the search in all archives to a unit, its order and the answer, by keys on a desk's screen
+    and at 200 %, and by thumb on a phone."""
+    asks, reader = Asks(office), Journeys(checks, Asks(office), page, shot)
+    for name, shape in SHAPES.items():
+        ticket = asks.done("/desk/register", name=name, until="2030-01-01")["ticket"]
+        page.size(*shape)
+        use = reader.tap if name == "phone" else reader.by_keys
+        reader.at("/")
+        page.wait(f"{BOXES} === 1")
+        use("Search in all archives")
+        page.type("minutes 1774")
+        page.key("Enter")
+        page.see("unit", TOLD)
+        shot(page, f"journey-{name}-found", full=False)
+        use(MINUTES)
+        page.see("Where it is kept")
+        use("Order")
+        page.wait("document.activeElement.name === 'ticket'")
+        page.type(str(ticket))
+        page.key("Enter")
+        page.see("Ordered. Your order has the number", ".outcome")
+        page.wait("document.activeElement.className === 'outcome'")
+        reader.is_inside(f"the answer, {name}", ".outcome")
+        shot(page, f"journey-{name}-found-and-ordered", full=False)
+        checks.same(f"the order stands, {name}", [one["state"] for one in json.loads(asks.text(f"/desk/readers/{ticket}", True))["orders"]], ["waiting"])
+    page.size(1200, 850)
+
+
 def away(checks, office, page, _):
     checks.same("the browser complains of nothing", page.complaints(), [])
+    page.open(office.public, "/search?q=cafe")
     with office.without_program():
         page.js("document.querySelector('form.find input').value = 'away'")
         page.press("Search")
-        page.see("Please try again in a minute.", TOLD, 30)
+        page.see("Please try again in a minute.", TOLD)
     checks.check("an office that is away is told", True)
     page.press("Try again")
-    page.see("Nothing found.", TOLD, 60)
+    page.see("Nothing found.", TOLD)
+    page.answer_with("*/public/search*", 429, b"{}")
+    page.press("Search")
+    page.see("Too many searches came from your address.", TOLD)
+    page.answer_with(None, 0, b"")
+    checks.check("too many searches are told", True)

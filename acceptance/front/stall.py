@@ -9,19 +9,23 @@ With --aids, readers who lag take so many aids, by this way, while desks registe
 registered must be there once, and one who was told `not reached` must not be. It prints what the commands waited."""
 
 import argparse
+import fcntl
 import http.client
 import json
 import multiprocessing
 import pathlib
 import random
 import socket
+import struct
 import sys
+import termios
 import threading
 import time
 
 sys.dont_write_bytecode = True
 from checks import Checks  # noqa: E402
 from office import Office, fresh  # noqa: E402
+from waits import until  # noqa: E402
 
 HEADER = "legacyId,parentId,identifier,title,levelOfDescription,publicationStatus,scopeAndContent\n"
 # Of the steps' aids. A socket holds some 100 to 213 kB, and the queue 16 kB, so one of the sizes is between the two.
@@ -63,6 +67,17 @@ class Socket(http.client.HTTPConnection):
         self.sock.connect(self.path)
 
 
+def rests(connection):
+    """Whether something has come that nobody has read yet, and in a tenth of a second no more: how long is what is measured."""
+    before = unread(connection)
+    time.sleep(0.1)
+    return 0 < before == unread(connection)
+
+
+def unread(connection):
+    return struct.unpack("i", fcntl.ioctl(connection, termios.FIONREAD, b"\0" * 4))[0]
+
+
 class Command(threading.Thread):
     """Registers a reader at the desk's way into the queue; `status` and the time when it was answered."""
 
@@ -86,21 +101,6 @@ def register(connection, name):
         return type(lost).__name__, b""
 
 
-def connections(office):
-    """How many connections the queue has made to the gate so far."""
-    with socket.socket(socket.AF_UNIX) as it:
-        it.connect(str(office.folder / "stats.sock"))
-        it.sendall(b"show stat\n")
-        text = b"".join(iter(lambda: it.recv(65536), b""))
-    names, *rows = [line.split(",") for line in text.decode().strip().splitlines()]
-    return next(int(row[names.index("connect")]) for row in rows if row[:2] == ["office", "gate"])
-
-
-def with_stats(folder):
-    """A change of the configuration that lets connections() ask."""
-    return "    default-path config\n", f"    default-path config\n    stats socket {folder}/stats.sock\n"
-
-
 def play(checks, program, folder):
     """The steps of CI."""
     office = Office(fresh(pathlib.Path(folder)), program).init()
@@ -116,10 +116,10 @@ def step(checks, office, number, size):
     """A reader asks for an aid of this size and leaves it alone until a command was sent. Whether the command was done before."""
     reader = Socket(office.folder / "search.sock")
     reader.request("GET", f"/public/aid/{number}")
-    time.sleep(0.15)
+    until(lambda: rests(reader.sock), "what can come of the aid has come")
     command = Command(office.ports["8092"], f"Reader of {size}")
     command.start()
-    time.sleep(0.15)
+    until(lambda: command.answered or office.queued() > 0, "the command is answered, or waits")
     was_done = command.answered is not None
     answer = reader.getresponse()
     checks.check(f"an aid of {size} bytes comes whole", answer.status == 200 and len(answer.read()) > size * 0.9, answer.status)
@@ -157,12 +157,12 @@ class Reader(multiprocessing.Process):
             if self.random.random() < 0.3:
                 connection.close()
             times.append(time.monotonic() - began)
-            time.sleep(self.random.random() / 50)
+            time.sleep(self.random.random() / 50)  # as a reader does
         self.tell.send((times, lost))
 
     def read(self, answer):
         while answer.read(self.crowd.words.burst):
-            time.sleep(self.random.random() * self.crowd.words.lag / 500)
+            time.sleep(self.random.random() * self.crowd.words.lag / 500)  # the lag
 
 
 class Desk(threading.Thread):
@@ -178,7 +178,7 @@ class Desk(threading.Thread):
             name, began = f"{self.number}-{len(self.waits)}", time.monotonic()
             self.told[name], _ = register(connection, name)
             self.waits.append(time.monotonic() - began)
-            time.sleep(0.02)
+            time.sleep(0.02)  # as a clerk does
 
 
 class Crowd:
@@ -187,7 +187,7 @@ class Crowd:
     def __init__(self, words):
         self.words, self.left, self.over = words, multiprocessing.Value("i", words.aids), threading.Event()
         folder = pathlib.Path(fresh(words.folder)).resolve()
-        self.office = Office(folder, words.program, first=words.ports, last=words.ports + 99, changes=[*NO_LIMITS, with_stats(folder)])
+        self.office = Office(folder, words.program, first=words.ports, last=words.ports + 99, changes=NO_LIMITS)
         self.heads = {"Accept-Encoding": "gzip"} if words.way == "nginx" else {}
 
     def take(self):
@@ -214,7 +214,7 @@ class Crowd:
             for one in (*readers, *desks):
                 one.start()
             for _ in range(self.words.kills):
-                time.sleep(self.words.between)
+                time.sleep(self.words.between)  # at a moment that nothing chooses
                 self.office.kill_program()
             told = [reader.told.recv() for reader in readers]
             self.over.set()
@@ -229,7 +229,7 @@ class Crowd:
         kinds = {str(kind): list(answers.values()).count(kind) for kind in sorted(set(answers.values()), key=str)}
         print(f"{len(times)} aids, the longest {times[-1]:.2f} s; {len(waits)} commands {kinds}, "
               f"p50 {waits[len(waits) // 2] * 1000:.1f} ms, p99 {waits[int(len(waits) * .99)] * 1000:.0f} ms, "
-              f"most {waits[-1] * 1000:.0f} ms; {connections(self.office)} connections to the gate", flush=True)
+              f"most {waits[-1] * 1000:.0f} ms; {self.office.connections_made()} connections to the gate", flush=True)
         checks.same("no aid is lost", [fault for _, lost in told for fault in lost], [])
         checks.same("nobody is registered twice", len(there), len(set(there)))
         checks.same("who was told to be is registered", {name for name, status in answers.items() if status == 200} - set(there), set())

@@ -32,10 +32,11 @@ class Visit:
         self.page.visit(self.site + address)
         return self.page
 
-    def play(self):
-        for part in (self.fonds, self.every_unit, self.hostile, self.way, self.aids, self.search, self.missing, self.addresses,
-                     self.keyboard):
-            self.checks.part(f"visit: {part.__name__}", part)
+    def play(self, only=None):
+        for part in (self.fonds, self.every_unit, self.hostile, self.way, self.aids, self.search, self.missing, self.addresses, self.links,
+                     self.keyboard, self.waits):
+            if only in (None, part.__name__):
+                self.checks.part(f"visit: {part.__name__}", part)
 
     def fonds(self):
         page = self.at("/")
@@ -173,6 +174,29 @@ class Visit:
         page.see("Finding aid", "h1")
         self.checks.same("and Back goes back", page.js("location.pathname"), f"/aid/{top}")
         self.checks.same("each module is asked for at once", page.js(PRELOADED), page.js(LOADED))
+
+    def links(self):
+        """The page that is shown is marked in the list of pages; a link opens another tab for who wants one."""
+        current = "[...document.querySelectorAll('nav [aria-current=page]')].map((link) => link.textContent).join()"
+        for address, name in (("/", "Archives"), ("/help", "How to order"), ("/unit/1", "")):
+            page = self.at(address)
+            self.checks.same(f"what is marked at {address}", page.js(current), name)
+        page = self.at("/")
+        for key, taken in (("none", True), ("ctrlKey", False), ("metaKey", False), ("shiftKey", False)):
+            page.js("window.addEventListener('click', (event) => { window.taken = event.defaultPrevented; event.preventDefault(); }, { once: true })")
+            page.js("document.querySelector('header nav a').dispatchEvent(new MouseEvent('click', { bubbles: true, cancelable: true, %s: true }))" % key)
+            self.checks.same(f"the page itself follows a link with {key}", page.js("window.taken"), taken)
+
+    def waits(self):
+        """While the office does not answer, that is told; and a late answer does not replace the page that was opened meanwhile."""
+        page = self.at("/help")
+        with self.asks.office.without_program():
+            page.turn("/unit/1", "true", False)
+            page.see("Waiting for the office")
+            self.checks.same("waiting is told", page.js("document.querySelector('main .waiting').getAttribute('role')"), "status")
+            page.turn("/help", "document.querySelector('h1')?.textContent === 'How to order'")
+        page.js("fetch('/public/units/1').then((answer) => answer.text())")  # behind the question of the page that was left
+        self.checks.same("a late answer changes nothing", page.text("h1"), "How to order")
 
     def keyboard(self):
         """From the top of the page by Tab and Enter alone to a unit, and to its order form."""

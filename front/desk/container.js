@@ -14,7 +14,7 @@ export async function containerPage(number) {
   await show(view);
   return { title: `Container ${number}`, content: [
     el('h1', {}, `Container ${number}`),
-    el('p', { class: 'no-print' }, link('#/counter', 'Back to the counter'), ' ', link(`#/counter/${number}/label`, 'A label to print')),
+    el('p', { class: 'links no-print' }, link('#/counter', 'Back to the counter'), ' ', link(`#/counter/${number}/label`, 'A label to print')),
     view.told, view.panel,
     card('Order it for a reader', orderForm(view)),
   ] };

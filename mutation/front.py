@@ -1,0 +1,188 @@
+#!/usr/bin/env python3
+"""Plants faults in the front, one at a time in a copy of front/, and sees whether a check of acceptance/front fails:
+
+    mutation/front.py PROGRAM [--only PART_OF_NAME] [--jobs N]
+    mutation/front.py --dry
+
+The faults stand in mutation/front/*.faults, one after the other. A `\\n` in a text stands for the end of a line:
+
+    fault: what is wrong then
+    file: the file in front/
+    old: a text that stands there once
+    new: what stands in its place; nothing if the text is left out
+    by: the part of acceptance/front/run.py that should notice it
+    reason: in place of `by`, why no check can notice it, or why it does no harm
+
+Each part that is named is first played without a fault, and must pass. Groups whose parts can be played again and again have one
+office for all their faults. --dry only sees whether each fault can be planted.
+It ends with 1 if a part did not pass, a fault cannot be planted, or one was not noticed."""
+
+import argparse
+import concurrent.futures
+import dataclasses
+import json
+import os
+import pathlib
+import queue
+import shutil
+import subprocess
+import sys
+import tempfile
+import time
+
+TOP = pathlib.Path(__file__).resolve().parent.parent
+RUN = TOP / "acceptance/front/run.py"
+PATIENCE = 20  # seconds that a check waits for what a fault may keep away
+LONGEST = 400  # seconds that a part may take
+NOT_PLAYED = "it was not played"
+GROUPS = {"access", "visit", "rules", "queue", "restarts"}  # with parts that can be played again and again in one office
+ONCE = {"queue:late", "rules:limit_of_orders", "rules:signing_out"}  # but these
+PORTS = 22000  # the first of a thousand ports for each job
+
+
+@dataclasses.dataclass
+class Fault:
+    fault: str
+    file: str
+    old: str
+    new: str = ""
+    by: str = ""
+    reason: str = ""
+
+    @property
+    def group(self):
+        """The group in whose office it is planted; nothing if it has an office of its own."""
+        name = self.by.split(":")[0]
+        return name if ":" in self.by and name in GROUPS and self.by not in ONCE else ""
+
+    def planted(self, text):
+        """The text of its file with the fault in it; None if that cannot be."""
+        return text.replace(self.old, self.new) if text.count(self.old) == 1 and self.old != self.new else None
+
+
+def faults_in(path):
+    """The faults of a file, in its order."""
+    found, members = [], {}
+    for line in [*path.read_text("utf-8").splitlines(), ""]:
+        if line.startswith("#"):
+            continue
+        if line:
+            name, _, value = line.partition(":")
+            members[name] = value.removeprefix(" ").replace("\\n", "\n")
+        elif members:
+            found.append(Fault(**members))
+            members = {}
+    return found
+
+
+def can_be_planted(fault):
+    text = (TOP / "front" / fault.file).read_bytes().decode()
+    return fault.planted(text) is not None and bool(fault.by) != bool(fault.reason)
+
+
+def played_in_turn(program, group, ports, faults):
+    """Plays the parts of a group in one office, without a fault and with each. By part and fault (or None): what failed, or None."""
+    with tempfile.TemporaryDirectory() as room:
+        front, named = pathlib.Path(room) / "front", pathlib.Path(room) / "faults"
+        shutil.copytree(TOP / "front", front, ignore=shutil.ignore_patterns("__pycache__"))
+        named.write_text(json.dumps([dataclasses.asdict(fault) for fault in faults]), "utf-8")
+        words = [sys.executable, "-B", RUN, program, f"{room}/offices", f"{room}/shots", group, "--faults", named, "--patience", str(PATIENCE)]
+        environment = {**os.environ, "FRONT_FILES": str(front), "FRONT_PORTS": str(ports)}
+        done = subprocess.run(words, env=environment, stdout=subprocess.PIPE, stderr=subprocess.STDOUT, text=True, check=False)
+    told = [json.loads(line.removeprefix("TRIED ")) for line in done.stdout.splitlines() if line.startswith("TRIED ")]
+    if not told:
+        print(done.stdout[-2000:], flush=True)
+    return {(part, name): what for part, name, what in told}
+
+
+def played(program, part, ports, fault=None):
+    """Plays a part with a copy of the front. What failed first, or None."""
+    with tempfile.TemporaryDirectory() as room:
+        front = pathlib.Path(room) / "front"
+        shutil.copytree(TOP / "front", front, ignore=shutil.ignore_patterns("__pycache__"))
+        if fault:
+            path = front / fault.file
+            path.write_bytes(fault.planted(path.read_bytes().decode()).encode())
+        words = [sys.executable, "-B", RUN, program, f"{room}/offices", f"{room}/shots", part, "--first", "--patience", str(PATIENCE)]
+        environment = {**os.environ, "FRONT_FILES": str(front), "FRONT_PORTS": str(ports)}
+        with subprocess.Popen(words, env=environment, stdout=subprocess.PIPE, stderr=subprocess.STDOUT, text=True) as process:
+            try:
+                told = process.communicate(timeout=LONGEST)[0]
+            except subprocess.TimeoutExpired:
+                process.terminate()
+                return f"more than {LONGEST} s"
+        wrong = [line.removeprefix("WRONG ") for line in told.splitlines() if line.startswith("WRONG ")]
+        return None if process.returncode == 0 else wrong[0][:150] if wrong else told[-300:]
+
+
+class Jobs:
+    """Plays parts, a few at a time, each with ports of its own."""
+
+    def __init__(self, program, many):
+        self.program, self.pool, self.ports = program, concurrent.futures.ThreadPoolExecutor(many), queue.Queue()
+        for job in range(many):
+            self.ports.put(PORTS + 1000 * job)
+
+    def outcomes(self, faults):
+        """Yields each part that is named, with None, and then with each of its faults: (part, name of the fault, what failed or None)."""
+        tasks = [self.pool.submit(self.group, group, [fault for fault in faults if fault.group == group]) for group in sorted({fault.group for fault in faults} - {""})]
+        alone = [fault for fault in faults if not fault.group]
+        tasks += [self.pool.submit(self.one, part, None) for part in sorted({fault.by for fault in alone})]
+        tasks += [self.pool.submit(self.one, fault.by, fault) for fault in alone]
+        for task in concurrent.futures.as_completed(tasks):
+            yield from task.result()
+
+    def group(self, name, faults):
+        ports = self.ports.get()
+        try:
+            told = played_in_turn(self.program, name, ports, faults)
+        finally:
+            self.ports.put(ports)
+        wanted = [(part, None) for part in sorted({fault.by for fault in faults})] + [(fault.by, fault.fault) for fault in faults]
+        return [(part, fault, told.get((part, fault), NOT_PLAYED)) for part, fault in wanted]
+
+    def one(self, part, fault):
+        ports = self.ports.get()
+        try:
+            return [(part, fault and fault.fault, played(self.program, part, ports, fault))]
+        finally:
+            self.ports.put(ports)
+
+
+def main():
+    words = argparse.ArgumentParser(description=__doc__, formatter_class=argparse.RawDescriptionHelpFormatter)
+    words.add_argument("program", nargs="?")
+    words.add_argument("--only", default="")
+    words.add_argument("--jobs", type=int, default=2)
+    words.add_argument("--dry", action="store_true")
+    words = words.parse_args()
+    faults = [fault for path in sorted((TOP / "mutation/front").glob("*.faults")) for fault in faults_in(path) if words.only in fault.fault]
+    wrong = [fault for fault in faults if not can_be_planted(fault)]
+    for fault in wrong:
+        print(f"CANNOT BE PLANTED: {fault.fault}")
+    if not words.dry and not wrong:
+        wrong = tried(faults, Jobs(pathlib.Path(words.program).resolve(), words.jobs))
+    with_reason = sum(bool(fault.reason) for fault in faults)
+    print(f"{len(faults)} faults, {with_reason} with a reason, {len(wrong)} wrong")
+    return 1 if wrong else 0
+
+
+def tried(faults, jobs):
+    """What is wrong: parts that do not pass, and faults that nothing noticed."""
+    began, wrong = time.monotonic(), []
+    for fault in faults:
+        if fault.reason:
+            print(f"{fault.fault}: not tried: {fault.reason}", flush=True)
+    for part, fault, failed in jobs.outcomes([fault for fault in faults if fault.by]):
+        if (failed is None) == (fault is not None) or failed == NOT_PLAYED:
+            wrong.append(fault or part)
+        if fault is None and failed:
+            print(f"DOES NOT PASS WITHOUT A FAULT: {part}: {failed}", flush=True)
+        if fault is not None:
+            print(f"{fault}: {f'noticed by {part}: {failed}' if failed else f'NOT NOTICED by {part}'}", flush=True)
+    print(f"{(time.monotonic() - began) / 60:.0f} minutes")
+    return wrong
+
+
+if __name__ == "__main__":
+    sys.exit(main())
