@@ -66,7 +66,7 @@ mkdir "$root"
 tar -C "$root" -xf "$tar" --exclude='./dev/*'
 cp /etc/resolv.conf "$root/etc/resolv.conf"
 cp "$deb" "$root/root/record-office.deb"
-cp "$here"/{try_inside.sh,try_busy.py} "$root/root"
+cp "$here"/{try_inside.sh,try_search.sh,try_busy.py} "$root/root"
 cp "$here/../examples/archives.csv" "$root/root"
 # A next version, in which each file that the package brings to /etc has changed.
 mv "$room/copy" "$room/next"
@@ -124,6 +124,7 @@ if boot && sleep 3; then
     is "systemd begins there" 0
     inside bash /root/try_inside.sh before
     operating package /root
+    inside bash /root/try_search.sh
     inside bash /root/try_inside.sh after
     grep -q '^to the end$' "$room/inside" || is "the trial inside came to its end" 1
     operating hand /root/top
