@@ -10,6 +10,7 @@
 set -euo pipefail
 here=$(cd "$(dirname "$0")" && pwd)
 [ $# -ge 1 ] || { echo "usage: packaging/try.sh PROGRAM [ROOT.tar]" >&2; exit 2; }
+program=$(realpath "$1")
 room=$(mktemp -d)
 chmod 755 "$room"
 tar=${2:-$room/root.tar}
@@ -40,7 +41,7 @@ is() {
     fi
 }
 
-deb=$("$here/deb.sh" "$1" "$room")
+deb=$("$here/deb.sh" "$program" "$room")
 lintian --fail-on error,warning "$deb" >"$room/lintian" 2>&1 && is "lintian finds no error and no warning" 0 || {
     cat "$room/lintian"
     is "lintian finds no error and no warning" 1
@@ -48,7 +49,7 @@ lintian --fail-on error,warning "$deb" >"$room/lintian" 2>&1 && is "lintian find
 
 mkdir "$room/copy"
 cp -r "$here/../front" "$here/../packaging" "$here/../docs" "$here/../examples" "$here/../CHANGELOG.md" "$room/copy"
-again=$(umask 077 && cd / && LC_ALL=C TZ=Asia/Tokyo "$room/copy/packaging/deb.sh" "$(realpath "$1")" "$room/copy/out")
+again=$(umask 077 && cd / && LC_ALL=C TZ=Asia/Tokyo "$room/copy/packaging/deb.sh" "$program" "$room/copy/out")
 how=0
 cmp "$deb" "$again" || how=1
 is "another build of the package is equal byte for byte" "$how"
@@ -72,10 +73,10 @@ cp "$here/../examples/archives.csv" "$root/root"
 mv "$room/copy" "$room/next"
 sed -i '0,/^## \[\([0-9.]*\)\]/s//## [\1.1]/' "$room/next/CHANGELOG.md"
 for file in "$room"/next/front/server/*.{conf,cfg} "$room/next/packaging/backup.conf"; do echo '# of the next version' >>"$file"; done
-cp "$("$room/next/packaging/deb.sh" "$1" "$room/next")" "$root/root/next.deb"
+cp "$("$room/next/packaging/deb.sh" "$program" "$room/next")" "$root/root/next.deb"
 mkdir -p "$root/root/top/crates/record_office/out"
 cp -r "$here/../front" "$here/../packaging" "$root/root/top"
-cp "$1" "$root/root/top/crates/record_office/out/record_office"
+cp "$program" "$root/root/top/crates/record_office/out/record_office"
 install() {
     unshare -mpf --kill-child bash -c "
         mount --bind '$root' '$root'; mount -t proc proc '$root/proc'; mount --rbind /dev '$root/dev'; mount -t tmpfs none '$root/run'
