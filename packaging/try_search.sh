@@ -21,9 +21,9 @@ same() {
 
 status() { curl -s -o /dev/null -m 30 -w '%{http_code}' "$@"; }
 
-# found WORD: waits until the site's search finds a unit for the word, or for half a minute
+# found WORD: waits until the site's search finds a unit for the word, or for two minutes
 found() {
-    for _ in $(seq 30); do
+    for _ in $(seq 120); do
         curl -s "$readers/public/search?q=$1" | grep -q '"unit"' && return
         sleep 1
     done
