@@ -72,7 +72,8 @@ sites() {
 second() {
     local before settings=/etc/record-office/harbour second_copies=/var/backups/record-office-harbour
     same 'the units of the second office run' "$(systemctl is-active $harbour_units | xargs)" 'active active active active'
-    is 'systemd finds nothing wrong with them' sh -c "test -z \"\$(systemd-analyze verify --man=no $harbour_units 2>&1 | tee /dev/stderr)\""
+    is 'systemd finds nothing wrong with them' sh -c 'test -z "$(systemd-analyze verify --man=no record-office@harbour.service \
+        record-office-queue@harbour.service record-office-search@harbour.service record-office-backup@harbour.timer 2>&1 | tee /dev/stderr)"'
     same 'each office answers for itself' "$(curl -s $harbour/public/fonds)" '1 GB 0998 HUL [Fonds] Hull Dock Company'
     same 'each has a password of its own' "$(status -u desk:quiet-water http://127.0.0.1:8181/desk/issued) \
 $(status -u desk:quiet-paper http://127.0.0.1:8181/desk/issued) $(status -u desk:quiet-water $desk/desk/issued)" '200 401 401'
