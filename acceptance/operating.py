@@ -9,7 +9,8 @@ a block says what the block is:
 
     <!-- file NAME -->      a file, which is written in every place
     <!-- package -->        an office of the installed package: run by packaging/try.sh, as root of a machine of its own
-    <!-- hand -->           an office that is set up by hand: the same
+    <!-- hand -->           an office that is set up by hand: the same, after the lines of packaging/README.md
+    <!-- package, hand -->  both
     <!-- elsewhere: .. -->  not run here, for the reason given
 
 All other blocks belong to the place `here`: a new folder of this machine, with PROGRAM as `record_office` and a free port for
@@ -35,6 +36,7 @@ import time
 TOP = pathlib.Path(__file__).resolve().parent.parent
 DOCUMENT = TOP / "docs" / "OPERATING.md"
 README = TOP / "README.md"
+BY_HAND = TOP / "packaging" / "README.md"
 BUILT = TOP / "crates" / "record_office" / "out" / "record_office"
 PORTS = range(8080, 8100)
 PLACES = ("here", "package", "hand")
@@ -165,8 +167,10 @@ def here_for_readme(program, folder):
     return shell, ours
 
 
-def place_of(block):
-    return block.mark if block.mark in PLACES else "here"
+def places_of(block):
+    """The places that a block belongs to."""
+    marked = [place for place in block.mark.split(", ") if place in PLACES]
+    return marked or ["here"]
 
 
 def run_block(block, shell, ours):
@@ -191,7 +195,7 @@ def run(all_blocks, place, shell, ours):
     for block in all_blocks:
         if block.mark.startswith("file "):
             write_file(block, shell)
-        elif place_of(block) == place and not block.mark.startswith("elsewhere"):
+        elif place in places_of(block) and not block.mark.startswith("elsewhere"):
             more, wrong = run_block(block, shell, ours)
             passed, failed = passed + more, failed + wrong
     return passed, failed
@@ -207,7 +211,8 @@ def run_all(all_blocks, place, shell, ours):
 
 def say_left_out(all_blocks, place):
     for other in PLACES:
-        many = sum(len(block.commands()) for block in all_blocks if place_of(block) == other and not block.mark.startswith("elsewhere"))
+        elsewhere = [block for block in all_blocks if other in places_of(block) and not block.mark.startswith("elsewhere")]
+        many = sum(len(block.commands()) for block in elsewhere if place not in places_of(block))
         if other != place and many:
             print(f"left out: {many} lines of the place '{other}'")
     for block in all_blocks:
@@ -229,7 +234,8 @@ def main():
     lacking = [tool for tool in ("curl", "sqlite3") if words.place == "here" and not shutil.which(tool)]
     if lacking:
         sys.exit(f"needs {' and '.join(lacking)}\n0 passed, 1 failed")
-    all_blocks = blocks(DOCUMENT.read_text(encoding="utf-8"))
+    by_hand = [block for block in blocks(BY_HAND.read_text(encoding="utf-8")) if block.mark == "hand"]
+    all_blocks = by_hand + blocks(DOCUMENT.read_text(encoding="utf-8"))
     passed = failed = 0
     with tempfile.TemporaryDirectory() as folder:
         if words.place == "here":

@@ -53,10 +53,14 @@ for file in "$top"/front/server/*; do
     nginx.conf) place 644 usr/share/record-office "$file" && mv "$root"/usr/share/record-office/{nginx.conf,site} ;;
     tls.conf) place 644 usr/share/doc/record-office/examples "$file" ;;
     orders-from.conf) own "$file" ;;
-    *) place 644 etc/record-office "$file" ;;
+    *)
+        place 644 etc/record-office "$file"
+        place 644 usr/share/record-office/server "$file" # for the offices that are added
+        ;;
     esac
 done
 place 644 lib/systemd/system "$top"/packaging/*.service "$top"/packaging/*.timer
+for unit in "$root"/lib/systemd/system/*; do sed -f "$top/packaging/template.sed" "$unit" >"${unit%.*}@.${unit##*.}"; done
 place 755 usr/sbin "$top"/packaging/tools/record-office-*
 place 644 usr/share/record-office/tools "$top"/packaging/tools/*.py
 place 755 usr/bin "$top/packaging/lists/record-office-lists"

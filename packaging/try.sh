@@ -10,6 +10,7 @@
 set -euo pipefail
 here=$(cd "$(dirname "$0")" && pwd)
 [ $# -ge 1 ] || { echo "usage: packaging/try.sh PROGRAM [ROOT.tar]" >&2; exit 2; }
+program=$(realpath "$1")
 room=$(mktemp -d)
 chmod 755 "$room"
 tar=${2:-$room/root.tar}
@@ -40,7 +41,7 @@ is() {
     fi
 }
 
-deb=$("$here/deb.sh" "$1" "$room")
+deb=$("$here/deb.sh" "$program" "$room")
 lintian --fail-on error,warning "$deb" >"$room/lintian" 2>&1 && is "lintian finds no error and no warning" 0 || {
     cat "$room/lintian"
     is "lintian finds no error and no warning" 1
@@ -48,7 +49,7 @@ lintian --fail-on error,warning "$deb" >"$room/lintian" 2>&1 && is "lintian find
 
 mkdir "$room/copy"
 cp -r "$here/../front" "$here/../packaging" "$here/../docs" "$here/../examples" "$here/../CHANGELOG.md" "$room/copy"
-again=$(umask 077 && cd / && LC_ALL=C TZ=Asia/Tokyo "$room/copy/packaging/deb.sh" "$(realpath "$1")" "$room/copy/out")
+again=$(umask 077 && cd / && LC_ALL=C TZ=Asia/Tokyo "$room/copy/packaging/deb.sh" "$program" "$room/copy/out")
 how=0
 cmp "$deb" "$again" || how=1
 is "another build of the package is equal byte for byte" "$how"
@@ -66,16 +67,16 @@ mkdir "$root"
 tar -C "$root" -xf "$tar" --exclude='./dev/*'
 cp /etc/resolv.conf "$root/etc/resolv.conf"
 cp "$deb" "$root/root/record-office.deb"
-cp "$here"/{try_inside.sh,try_busy.py} "$root/root"
+cp "$here"/{try_inside.sh,try_search.sh,try_busy.py} "$root/root"
 cp "$here/../examples/archives.csv" "$root/root"
 # A next version, in which each file that the package brings to /etc has changed.
 mv "$room/copy" "$room/next"
 sed -i '0,/^## \[\([0-9.]*\)\]/s//## [\1.1]/' "$room/next/CHANGELOG.md"
 for file in "$room"/next/front/server/*.{conf,cfg} "$room/next/packaging/backup.conf"; do echo '# of the next version' >>"$file"; done
-cp "$("$room/next/packaging/deb.sh" "$1" "$room/next")" "$root/root/next.deb"
+cp "$("$room/next/packaging/deb.sh" "$program" "$room/next")" "$root/root/next.deb"
 mkdir -p "$root/root/top/crates/record_office/out"
 cp -r "$here/../front" "$here/../packaging" "$root/root/top"
-cp "$1" "$root/root/top/crates/record_office/out/record_office"
+cp "$program" "$root/root/top/crates/record_office/out/record_office"
 install() {
     unshare -mpf --kill-child bash -c "
         mount --bind '$root' '$root'; mount -t proc proc '$root/proc'; mount --rbind /dev '$root/dev'; mount -t tmpfs none '$root/run'
@@ -124,6 +125,7 @@ if boot && sleep 3; then
     is "systemd begins there" 0
     inside bash /root/try_inside.sh before
     operating package /root
+    inside bash /root/try_search.sh
     inside bash /root/try_inside.sh after
     grep -q '^to the end$' "$room/inside" || is "the trial inside came to its end" 1
     operating hand /root/top

@@ -1,7 +1,7 @@
 #!/usr/bin/env bash
 # try.sh calls this inside its booted root: with `before`, before the lines of OPERATING make an office, and with `after`, after that.
-# `after` checks the front's rules and a kill, upgrades and removes the package,
-# makes backups, and purges the package.
+# `after` checks the front's rules and a kill, ports, TLS and the second office, upgrades and removes the package, makes backups,
+# purges the package, and moves the office to a machine that has never had one.
 set -uo pipefail
 office=/var/lib/record-office/office.db
 copies=/var/backups/record-office
@@ -9,6 +9,8 @@ today=$(date +%F)
 readers=http://127.0.0.1:8080
 desk=http://127.0.0.1:8081
 units='record-office record-office-queue record-office-search'
+harbour=http://127.0.0.1:8180
+harbour_units='record-office@harbour record-office-queue@harbour record-office-search@harbour record-office-backup@harbour.timer'
 
 # is WHAT COMMAND ..: checks that the command ends with 0
 is() {
@@ -23,6 +25,13 @@ same() {
 }
 
 status() { curl -s -o /dev/null -m 30 -w '%{http_code}' "$@"; }
+
+# serve SITE: nginx serves this site for the first office
+serve() {
+    ln -sfn "../sites-available/$1" /etc/nginx/sites-enabled/record-office
+    nginx -t -q && systemctl reload nginx
+    sleep 1
+}
 
 before() {
     for _ in $(seq 20); do
@@ -42,6 +51,50 @@ links() {
     for file in $(zcat $folder/OPERATING.md.gz | grep -o '](\([^)#]*\)[^)]*)' | sed 's/^](//; s/[)#].*//' | sort -u); do
         is "OPERATING's link to $file" test -e "$folder/$file" -o -e "$folder/$file.gz"
     done
+}
+
+# Another port, by the site; and the site with TLS, with the certificate of OPERATING.
+sites() {
+    local site=/etc/nginx/sites-available/record-office ask='curl -s --cacert /etc/record-office/certificate.pem --connect-to ::localhost:'
+    sed 's/listen 8080/listen 8070/; s/8081/8071/' $site >$site-moved
+    serve record-office-moved
+    same 'readers and staff at other ports' "$(status http://127.0.0.1:8070/public/fonds) $(status -u desk:quiet-paper -d '{}' \
+        -H 'Origin: http://localhost:8071' http://localhost:8071/desk/seat) $(status $readers/public/fonds) $(status $desk/desk/issued)" '200 400 000 000'
+    rm $site-moved
+    serve record-office-tls
+    same 'without TLS readers are sent on' "$($ask -o /dev/null -w '%{http_code} %{redirect_url}' http://archive.example.org/)" '301 https://archive.example.org/'
+    same 'a browser keeps to TLS' "$($ask -o /dev/null -D - https://archive.example.org/ | grep -o 'strict.*=[0-9]*')" 'strict-transport-security: max-age=31536000'
+    is 'another name gets no certificate' sh -c "$ask -S -k https://other.example.org:8443/ 2>&1 | grep 'unrecognized name'"
+    serve record-office
+}
+
+# The second office, which the lines of OPERATING added.
+second() {
+    local before settings=/etc/record-office/harbour second_copies=/var/backups/record-office-harbour
+    same 'the units of the second office run' "$(systemctl is-active $harbour_units | xargs)" 'active active active active'
+    is 'systemd finds nothing wrong with them' sh -c 'test -z "$(systemd-analyze verify --man=no record-office@harbour.service \
+        record-office-queue@harbour.service record-office-search@harbour.service record-office-backup@harbour.timer 2>&1 | tee /dev/stderr)"'
+    same 'each office answers for itself' "$(curl -s $harbour/public/fonds)" '1 GB 0998 HUL [Fonds] Hull Dock Company'
+    same 'each has a password of its own' "$(status -u desk:quiet-water http://127.0.0.1:8181/desk/issued) \
+$(status -u desk:quiet-paper http://127.0.0.1:8181/desk/issued) $(status -u desk:quiet-water $desk/desk/issued)" '200 401 401'
+    is 'its units are found' sh -c "for i in \$(seq 90); do curl -s '$harbour/public/search?q=minutes' | grep -q 'GB 0998' && exit 0; sleep 1; done; exit 1"
+    sed -i 's/"name": .*/"name": "Harbour office",/' $settings/office.json
+    is 'it has words of its own' sh -c "curl -s $harbour/office.json | grep 'Harbour office' && ! curl -s $readers/office.json | grep 'Harbour office'"
+    for wrong in 'harbour 8280' 'search 8280' 'Other 8280' 'other 8180' 'other 8170' 'other 8068' 'other 80' 'other 70000' 'other'; do
+        is "record-office-add $wrong is refused" sh -c "! record-office-add $wrong && test ! -e /etc/record-office/other"
+    done
+    systemctl stop record-office
+    same 'it does without the first one' "$(status $harbour/public/fonds) $(status -m 2 $readers/public/fonds)" '200 000'
+    systemctl start record-office
+    before=$(stat -c %y "$copies/office-$today.db")
+    is 'its backup' systemctl start record-office-backup@harbour
+    is 'is its own' sh -c "test -s $second_copies/office-$today.db && cmp -s $second_copies/office-$today.db $copies/office-$today.db; test \$? = 1"
+    same 'and leaves those of the first as they were' "$(stat -c %y "$copies/office-$today.db")" "$before"
+    is 'so are its lists' sh -c "curl -s -u desk:quiet-water http://127.0.0.1:8181/lists/drafts.csv | grep 'GB 0998 HUL/3'"
+    curl -s -u desk:quiet-water -d '{"name":"Cid","until":"2030-12-31"}' http://127.0.0.1:8181/desk/register >/tmp/out
+    is 'a restore of it' record-office-restore --office harbour "$second_copies/office-$today.db"
+    same 'goes back in it alone' "$(status -u desk:quiet-water http://127.0.0.1:8181/desk/readers/1) $(status $readers/public/fonds)" '404 200'
+    is 'of a name that is not there it is refused' sh -c "! record-office-restore --office other '$second_copies/office-$today.db'"
 }
 
 # What a copy tells: query SQL
@@ -135,17 +188,19 @@ upgrades() {
     same 'what was stopped stays stopped' "$(systemctl is-active record-office record-office-queue record-office-backup.timer | xargs)" 'inactive active active'
     is 'what was edited stays' grep -c '^# our own' $edited
     is 'the rest is new' grep '^# of the next version' /etc/record-office/readers.conf /usr/share/record-office/site
+    is 'also for the second office' grep '^# of the next version' /etc/record-office/harbour/readers.conf
+    is 'whose own files stay' grep 'Harbour office' /etc/record-office/harbour/office.json
     systemctl start record-office
-    same 'after it readers get an answer' "$(status $readers/public/fonds)" 200
+    same 'after it readers get an answer' "$(status $readers/public/fonds) $(status $harbour/public/fonds)" '200 200'
     is 'the same once more' sh -c 'dpkg -i /root/next.deb </dev/null'
     same 'after that too' "$(status $readers/public/fonds)" 200
 
     is 'removal' dpkg --remove record-office
-    same 'nothing runs any more' "$(systemctl is-active record-office record-office-queue record-office-backup.timer | xargs)" 'inactive inactive inactive'
+    same 'nothing runs any more' "$(systemctl is-active $units record-office-backup.timer $harbour_units | sort | uniq -c | xargs)" '8 inactive'
     is 'nginx goes on' nginx -t -q
-    same 'nothing answers readers' "$(status $readers/public/fonds)" 000
+    same 'nothing answers readers' "$(status $readers/public/fonds) $(status $harbour/public/fonds)" '000 000'
     is 'installed again' sh -c 'dpkg -i /root/next.deb </dev/null'
-    same 'readers get an answer as before' "$(status $readers/public/fonds)" 200
+    same 'readers get an answer as before' "$(status $readers/public/fonds) $(status $harbour/public/fonds)" '200 200'
     same 'and the desk' "$(status -u desk:quiet-paper $desk/desk/issued)" 200
 
     chown root $office && systemctl restart record-office
@@ -181,18 +236,55 @@ after() {
         "$(journalctl --no-pager -o cat -u record-office | grep -c 'Main process exited')"
 
     links
+    sites
+    second
     upgrades
     backups
+    packs
+    purges
+    moves
+    purges
+    echo 'to the end'
+}
 
+# What OPERATING says to bring to another machine, and what the office says before.
+packs() {
+    systemctl start record-office-backup
+    mkdir /root/moved
+    cp "$copies/office-$today.db" /etc/record-office/{staff,office.json,orders-from.conf} /root/moved
+    answers >/root/moved/answers
     systemctl stop record-office
     is 'check by the office'"'"'s user' runuser -u record-office -- record_office check --store "$office"
-    rm /etc/record-office/*.pem /etc/record-office/our-common.conf /etc/nginx/sites-available/record-office-tls
+}
+
+# What the office tells readers and staff.
+answers() {
+    curl -s $readers/public/fonds $readers/public/aid/1
+    for question in readers/1 readers/2 queue/1 issued; do curl -s -u desk:quiet-paper "$desk/desk/$question"; done
+}
+
+purges() {
+    rm -f /etc/record-office/*.pem /etc/record-office/our-common.conf /etc/nginx/sites-available/record-office-tls
     is 'purge' dpkg --purge record-office
-    is 'the office and its copies stay' test -s "$office" -a -s "$copies/office-$today.db"
-    is 'nothing else stays' test ! -e /etc/record-office -a ! -e /usr/share/record-office -a ! -e /etc/nginx/sites-available/record-office
+    is 'the office and its copies stay' sh -c "test -s $office && ls $copies/office-$today.db"
+    same 'nothing else stays' "$(find / -xdev -name '*record-office*' ! -path '/proc/*' ! -path '/root/*' ! -path '/var/lib/record-office*' \
+        ! -path '/var/backups/*' ! -path '/var/log/*' ! -path '/tmp/*' | xargs)" ''
     is 'nginx still goes on' nginx -t -q
-    rm -rf /var/lib/record-office $copies
-    echo 'to the end'
+    rm -rf /var/lib/record-office* /var/backups/record-office*
+}
+
+# Another machine, by what OPERATING says: nothing of the office is here any more.
+moves() {
+    is 'the package on another machine' dpkg -i /root/record-office.deb
+    cp /root/moved/{staff,office.json,orders-from.conf} /etc/record-office/
+    chgrp www-data /etc/record-office/staff
+    is 'the office is restored there' record-office-restore "/root/moved/office-$today.db"
+    ln -s ../sites-available/record-office /etc/nginx/sites-enabled/
+    nginx -t -q && systemctl reload-or-restart nginx
+    systemctl enable --quiet --now record-office record-office-queue record-office-search record-office-backup.timer
+    same 'it answers' "$(status -m 60 $readers/public/fonds)" 200
+    same 'as it did on the first' "$(answers)" "$(cat /root/moved/answers)"
+    systemctl start record-office-backup
 }
 
 "$@"

@@ -8,7 +8,7 @@ import { deskWords } from '../shared/refusals.js';
 import * as routes from '../shared/routes.js';
 import { askIfPast } from './days.js';
 import { lookAtPermits, lookAtReader } from './looks.js';
-import { boxLink } from './names.js';
+import { boxLink, readCard } from './names.js';
 import { card, heldContainer, notDone, problem, said, unitLink } from './parts.js';
 import { boxField, boxOf } from './scans.js';
 
@@ -31,7 +31,7 @@ export async function cardPage(ticket) {
 
 /** Whether there is such a ticket; true if the office does not answer. */
 async function show(view) {
-  const reader = await routes.reader(view.ticket);
+  const reader = await readCard(view.ticket);
   const permits = await routes.permits(view.ticket);
   view.name.replaceChildren(...(reader.ok ? [words(reader.value.name)] : []));
   view.head.replaceChildren(...(reader.ok ? readerParts(view, reader.value) : [problem(reader)]),

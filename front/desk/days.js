@@ -13,9 +13,12 @@ export function dayOfThisComputer() {
   return `${now.getFullYear()}-${two(now.getMonth() + 1)}-${two(now.getDate())}`;
 }
 
-/** When something was read, by the clock of this computer. */
-export const asOf = (moment = new Date()) =>
-  `As of ${moment.toLocaleTimeString('en-GB', { hour: '2-digit', minute: '2-digit' })}.`;
+/** When something was read, by the clock of this computer: a time of today, or of another day. */
+export function asOf(moment = new Date()) {
+  const time = moment.toLocaleTimeString('en-GB', { hour: '2-digit', minute: '2-digit' });
+  const isToday = moment.toDateString() === new Date().toDateString();
+  return isToday ? `As of ${time}.` : `As of ${moment.toLocaleDateString('sv')}, ${time}.`;
+}
 
 /** The newest run as { run, day, lines }; run is 0 if there was none; null if the office does not answer. */
 export async function newestRun() {

@@ -13,7 +13,7 @@ import { callSlipsPage, labelPage, ticketPage } from './prints.js';
 import { outPage } from './out.js';
 import { unitsPage } from './units.js';
 import { importPage } from './import.js';
-import { forgetNames } from './names.js';
+import { forgetReaders } from './kept.js';
 
 const NUMBER = '([1-9][0-9]{0,9})';
 const at = (path) => new RegExp(`^#/${path}$`);
@@ -35,5 +35,5 @@ start([
   [at('import'), importPage],
 ], 'The desk');
 
-/** Who signs out leaves no names in the tab. */
-document.querySelector('a[href="/sign-out"]').addEventListener('click', forgetNames);
+/** Who signs out leaves no readers in the tab. */
+document.querySelector('a[href="/sign-out"]').addEventListener('click', forgetReaders);

@@ -5,9 +5,10 @@ import { count, el, table } from '../shared/dom.js';
 import { dayField } from '../shared/fields.js';
 import { commandForm } from '../shared/form.js';
 import { permit, permits } from '../shared/routes.js';
-import { askIfPast } from './days.js';
+import { asOf, askIfPast } from './days.js';
 import { lookAtPermits } from './looks.js';
 import { newestTicket, readerLink } from './names.js';
+import { paced, progress } from './pace.js';
 import { notDone, said } from './parts.js';
 import { ticketField, ticketOf } from './scans.js';
 
@@ -35,21 +36,29 @@ export function permitList(unit) {
 
 async function gather(unit, told, list) {
   told.textContent = 'Asking the office for the readers’ cards …';
-  const found = await holdersOf(unit);
+  const found = await holdersOf(unit, (some, done, all) => { told.textContent = progress(done, all); showHolders(list, some); });
   if (found === null) { told.textContent = 'The office did not answer for all cards. Try again in a minute.'; return; }
-  told.textContent = found.length === 0 ? 'Nobody has a permit for this very unit.' : `${count(found.length, 'permit', 'permits')}.`;
+  told.textContent = found.length === 0 ? 'Nobody has a permit for this very unit.' : `${count(found.length, 'permit', 'permits')}. ${asOf()}`;
+  showHolders(list, found);
+}
+
+function showHolders(list, found) {
   list.replaceChildren(...(found.length === 0 ? [] : [table('Permits for this unit', ['Reader', 'Good until'],
     found.map((one) => [readerLink(one.ticket), el('span', { class: 'whole' }, one.until)]))]));
 }
 
-async function holdersOf(unit) {
+async function holdersOf(unit, tell) {
   const newest = await newestTicket();
   if (newest === null) return null;
   const found = [];
-  const tickets = Array.from({ length: newest }, (_, place) => place + 1);
+  let done = 0;
+  const tickets = Array.from({ length: newest }, (_, place) => newest - place);
+  const tellSome = paced(() => tell(found, done, newest));
   const whole = await askEach(tickets, permits, (ticket, answer) => {
     if (!answer.ok) return false;
     for (const one of answer.value) if (one.unit === unit) found.push({ ticket, until: one.until });
+    done += 1;
+    tellSome();
     return true;
   });
   return whole ? found.sort((a, b) => a.ticket - b.ticket) : null;

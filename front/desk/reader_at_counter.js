@@ -1,8 +1,8 @@
 // The reader at the counter: the name, the seat, the containers in hand, and those that are ready at the desk.
 
 import { el, words } from '../shared/dom.js';
-import { queue, reader } from '../shared/routes.js';
-import { boxLink } from './names.js';
+import { queue } from '../shared/routes.js';
+import { boxLink, readCard } from './names.js';
 import { problem } from './parts.js';
 
 let turn = 0;
@@ -11,7 +11,7 @@ export async function showReader(place, ticket) {
   const mine = ++turn;
   place.replaceChildren();
   if (ticket === null) return;
-  const answer = await reader(ticket);
+  const answer = await readCard(ticket);
   const shown = answer.ok ? await summary(answer.value) : [none(answer)];
   if (mine === turn) place.replaceChildren(...shown);
 }

@@ -9,7 +9,8 @@ import { go } from '../shared/router.js';
 import { register } from '../shared/routes.js';
 import { asOf, askIfPast, sureOrStayed } from './days.js';
 import { lookAtNewestTicket } from './looks.js';
-import { knownReaders, newestTicket, readCards, readerLink } from './names.js';
+import { knownCards, newestTicket, readCards, readerLink } from './names.js';
+import { paced, progress } from './pace.js';
 import { card, notDone, said } from './parts.js';
 
 const SHOWN = 50; // the most readers that are listed
@@ -49,15 +50,12 @@ async function findByName(form, who, told, found) {
   show('Asking the office for the readers’ cards …');
   const newest = await newestTicket();
   if (newest === null) return goesOn() && show('The office did not answer. Try again in a minute.');
-  let last = 0;
+  const showSome = paced((done, all) => show(progress(done, all)));
   const whole = await readCards(newest, (done, all) => {
-    if (goesOn() && performance.now() - last > 500) {
-      last = performance.now();
-      show(`${done.toLocaleString('en-GB')} of ${all.toLocaleString('en-GB')} cards read …`);
-    }
+    if (goesOn()) showSome(done, all);
     return goesOn() && done < MOST;
   });
-  const known = knownReaders().size.toLocaleString('en-GB');
+  const known = knownCards().size.toLocaleString('en-GB');
   if (goesOn()) show(whole ? asOf() : `The newest ${known} cards were searched. Choose Find again to search older ones.`);
 }
 
@@ -70,10 +68,12 @@ function showFound(who, told, found, end) {
     tickets.length > SHOWN ? el('p', {}, `And ${tickets.length - SHOWN} more: type more of the name.`) : '']));
 }
 
+const namesOf = () => [...knownCards()].map(([ticket, { name }]) => [ticket, name]);
+
 /** The readers whose names have every word that was typed, whatever its case and accents. */
 function matching(who) {
   const parts = folded(who).split(/\s+/).filter(Boolean);
-  return [...knownReaders()].filter(([, name]) => parts.every((part) => folded(name).includes(part)))
+  return namesOf().filter(([, name]) => parts.every((part) => folded(name).includes(part)))
     .sort((a, b) => a[1].localeCompare(b[1]) || a[0] - b[0]);
 }
 
@@ -104,7 +104,7 @@ async function askFirst({ name, until }) {
 async function askIfKnown(name) {
   const newest = await newestTicket();
   if (newest !== null) await readCards(newest, (done) => done < LOOKED_AT);
-  const same = [...knownReaders()].filter(([, known]) => folded(known) === folded(name)).map(([ticket]) => ticket);
+  const same = namesOf().filter(([, known]) => folded(known) === folded(name)).map(([ticket]) => ticket);
   if (name === '' || same.length === 0) return null;
   return sureOrStayed('There is a reader of this name', 'Register another reader of this name', [
     el('ul', {}, same.slice(0, SHOWN).map((ticket) => el('li', {}, readerLink(ticket)))),

@@ -1,21 +1,35 @@
 // Every order that waits, gathered from the readers' cards, with the place of its container and, as far as it can be known,
-// why no run has fetched it. What was read is kept in this page.
+// why no run has fetched it. What was read is kept in the tab.
 
 import { count, el, printButton, table } from '../shared/dom.js';
 import { askEach } from '../shared/asking.js';
 import { queue } from '../shared/routes.js';
 import { asOf, newestRun } from './days.js';
-import { boxLink, knownCards, newestTicket, readCard, readerLink } from './names.js';
+import { keep, kept } from './kept.js';
+import { boxLink, knownCards, newestTicket, readCard, readerLink, saveCards } from './names.js';
+import { paced, progress } from './pace.js';
 import { card, runLink } from './parts.js';
 
 const FEW = 200; // up to so many cards are asked for without a press of the button
-const PAUSE = 500; // milliseconds between two looks at a list that still grows
 
-let last = null; // what was gathered last: { orders, places, run, moment, skipped }
+const LIST = 'what waits';
+
+let last = savedList(); // what was gathered last: { orders, places, run, moment, skipped }
+let isOld = true; // whether that was before this page was loaded
+
+function savedList() {
+  const list = kept(LIST, null);
+  return list && { ...list, places: new Map(list.places), moment: new Date(list.moment) };
+}
+
+function saveList() {
+  keep(LIST, last && { ...last, places: [...last.places] });
+}
 
 /** After a run the list is gathered again when it is next shown. */
 export function forgetWaiting() {
   last = null;
+  saveList();
 }
 
 export function waitingList() {
@@ -26,7 +40,7 @@ export function waitingList() {
     el('button', { type: 'button', class: 'plain', click: () => gather(view, Infinity, all) }, text);
   view.buttons = [button('Show what waits now', false), button('Read every card again', true)];
   if (last) showGathered(view, last);
-  else gather(view, FEW, false);
+  if (!last || isOld) gather(view, FEW, false);
   return card('What waits', el('p', { class: 'quiet' }, 'Gathered from the readers’ cards.'),
     el('p', { class: 'buttons no-print' }, view.buttons), told, list);
 }
@@ -45,10 +59,13 @@ async function gatherNow(view, most, all) {
   if (newest === null || run === null) return tell('The office did not answer. Try again in a minute.');
   const tickets = ticketsToRead(newest, all ? null : run.day);
   const many = tickets.length.toLocaleString('en-GB');
-  if (tickets.length > most) return tell(`There are ${many} cards to ask for, which takes a while.`);
+  if (tickets.length > most) return last ? showGathered(view, last) : tell(`There are ${many} cards to ask for, which takes a while.`);
   if (!await readThese(tickets, view, run)) return tell('The office stopped answering. Try again in a minute.');
   const orders = waitingOrders();
   last = { orders, places: await placesOf(orders), run, moment: new Date(), skipped: newest - tickets.length };
+  isOld = false;
+  saveCards();
+  saveList();
   return showGathered(view, last);
 }
 
@@ -61,15 +78,14 @@ function ticketsToRead(newest, day) {
 /** Reads the cards and shows what is found as it comes; false if a card was not answered: an incomplete list would mislead. */
 async function readThese(tickets, view, run) {
   let done = 0;
-  let shown = performance.now();
+  const show = paced(() => {
+    view.told.textContent = progress(done, tickets.length);
+    showOrders(view, waitingOrders(), new Map(), run);
+  });
   return askEach(tickets, readCard, (ticket, answer) => {
     if (!answer.ok) return false;
     done += 1;
-    if (performance.now() - shown > PAUSE) {
-      shown = performance.now();
-      view.told.textContent = `${done.toLocaleString('en-GB')} of ${tickets.length.toLocaleString('en-GB')} cards read …`;
-      showOrders(view, waitingOrders(), new Map(), run);
-    }
+    show();
     return view.told.isConnected || done < 10;
   });
 }

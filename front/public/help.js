@@ -1,8 +1,10 @@
-// How a reader orders.
+// How a reader orders, and where and when.
 
-import { el, link } from '../shared/dom.js';
+import { el, link, words } from '../shared/dom.js';
+import { officeWords } from './office.js';
 
-export function helpPage() {
+export async function helpPage() {
+  const { address, hours } = await officeWords();
   return { title: 'How to order', content: [
     el('h1', {}, 'How to order'),
     el('ol', { class: 'steps' },
@@ -18,5 +20,9 @@ export function helpPage() {
       + 'What has not been published yet is not shown at all. The desk can tell you more.'),
     el('h2', {}, 'Finding aids'),
     el('p', {}, 'A finding aid is the description of a unit with all its contents. You can search in it, open each unit from it, and print it.'),
+    where('Address', address), where('Opening hours', hours),
   ] };
 }
+
+/** What the office says of itself, if it says it. */
+const where = (title, text) => (text ? [el('h2', {}, title), words(text, 'p')] : []);

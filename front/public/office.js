@@ -1,6 +1,7 @@
-// The office's own words: its name, and what happens after an order. They stand in office.json, which an office changes.
+// The office's own words: its name, its address and hours, and what happens after an order. They stand in office.json, which
+// an office changes.
 
-const PLAIN = { name: 'Record office', ordered: 'Ask for it at the desk in the reading room.' };
+const PLAIN = { name: 'Record office', address: '', hours: '', ordered: 'Ask for it at the desk in the reading room.' };
 
 let asked = null;
 

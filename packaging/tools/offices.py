@@ -1,4 +1,4 @@
-"""What record-office-backup and record-office-restore share: the office, its user, its unit, and the check of a file."""
+"""What the tools share: the offices of a machine, their users, units and ports, and the check of a file."""
 
 import argparse
 import fcntl
@@ -8,10 +8,9 @@ import pwd
 import subprocess
 import sys
 
-FOLDER = pathlib.Path("/var/lib/record-office")
-COPIES = pathlib.Path("/var/backups/record-office")
-LISTS = pathlib.Path("/var/cache/record-office/lists")
-UNIT = "record-office.service"
+SETTINGS = pathlib.Path("/etc/record-office")
+FIRST_PORT = 8080  # of the first office's pages for readers
+PROGRAM, TO_DESK, TO_GATE = 10, 12, 13  # the ports of the program and of its queue, counted from that
 
 
 class Trouble(Exception):
@@ -19,13 +18,19 @@ class Trouble(Exception):
 
 
 class Office:
-    """The office of this machine: its folder, its file and the user that it belongs to."""
+    """An office of this machine: its folder, its file and the user that it belongs to. Without a name it is the first one."""
 
-    def __init__(self):
-        self.folder, self.store = FOLDER, FOLDER / "office.db"
+    def __init__(self, name=None):
+        named = f"record-office-{name}" if name else "record-office"
+        self.folder = pathlib.Path("/var/lib", named)
+        self.store = self.folder / "office.db"
+        self.copies = pathlib.Path("/var/backups", named)
+        self.lists = pathlib.Path("/var/cache", named, "lists")
+        self.unit = f"record-office@{name}.service" if name else "record-office.service"
         if not self.folder.is_dir():
             raise Trouble(f"there is no folder {self.folder}")
         self.owner = pwd.getpwuid(self.folder.stat().st_uid)
+        self.port = port_of(name) if name else FIRST_PORT
 
     def as_owner(self, *words):
         """Runs a command as the user of the office, in the folder of the office, and returns what it printed."""
@@ -65,11 +70,24 @@ class Office:
         return int(self.shown("MainPID") or 0)
 
     def shown(self, what):
-        return subprocess.run(["systemctl", "show", "-p", what, "--value", UNIT], text=True, capture_output=True).stdout.strip()
+        return subprocess.run(["systemctl", "show", "-p", what, "--value", self.unit], text=True, capture_output=True).stdout.strip()
 
     def tell_systemd(self, verb):
-        if subprocess.run(["systemctl", verb, UNIT]).returncode:
-            raise Trouble(f"systemctl {verb} {UNIT} failed")
+        if subprocess.run(["systemctl", verb, self.unit]).returncode:
+            raise Trouble(f"systemctl {verb} {self.unit} failed")
+
+
+def added():
+    """The names of the offices that were added to the first one."""
+    return sorted(path.parent.name for path in SETTINGS.glob("*/port"))
+
+
+def port_of(name):
+    """The port of an added office's pages for readers."""
+    try:
+        return int((SETTINGS / name / "port").read_text(encoding="ascii"))
+    except FileNotFoundError:
+        raise Trouble(f"there is no office {name}: {SETTINGS / name / 'port'} is not there") from None
 
 
 def log_of(store):
@@ -80,6 +98,13 @@ def log_of(store):
 def arguments(text):
     """The parser of a tool's words. `text` is the tool's own description."""
     return argparse.ArgumentParser(description=text, formatter_class=argparse.RawDescriptionHelpFormatter)
+
+
+def of_an_office(text):
+    """The parser of a tool that works on one office of this machine."""
+    words = arguments(text)
+    words.add_argument("--office", metavar="NAME", help="an office that record-office-add added (default: the first one)")
+    return words
 
 
 def run(main):
