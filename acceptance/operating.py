@@ -114,7 +114,7 @@ class Shell:
         """Begins a server in the background; its answer is its first line."""
         command = command.removesuffix(" &")
         return self.until_end(
-            f"{command} >served.txt 2>&1 </dev/null &\nfor i in $(seq 600); do grep -q . served.txt && break; sleep 0.1; done; cat served.txt\n"
+            f"{command} >served.txt 2>&1 </dev/null &\nfor i in $(seq 600); do grep -qs . served.txt && break; sleep 0.1; done; cat served.txt\n"
         )
 
     def until_end(self, text):
