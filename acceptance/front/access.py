@@ -213,6 +213,9 @@ class Access:
         self.walk_one_way(page, at, False)
         if page.js("document.querySelector('.search.bar') !== null"):
             self.walk_one_way(page, f"{at}, back", True)
+            page.js("scrollTo(0, document.body.scrollHeight / 2)")
+            self.same(f"2.4.11 what stays at the top leaves half of the window: {at}", page,
+                      "document.querySelector('.search.bar').getBoundingClientRect().bottom <= innerHeight / 2", True)
 
     def walk_one_way(self, page, at, back):
         wanted, met = self.value(page, "stops"), []

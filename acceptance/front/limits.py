@@ -43,17 +43,18 @@ class Row:
         self.ended = time.monotonic()
         statuses = [int(one) for one in re.findall(rb"HTTP/1.1 (\d{3}) ", got)]
         self.through = sum(one != 429 for one in statuses)
-        self.whole = len(statuses) == many
+        self.many, self.whole = many, len(statuses) == many
 
 
 def in_a_row(checks, office, request, burst, rate, rests, body=""):
     """`burst` and one more at once, and then `rate` a second."""
     office.wait_for(office.public + "/help")
-    checks.check("all are answered", (first := Row(office, request, burst + 60, body)).whole)
+    first = Row(office, request, 900 if rate > 10 else burst + 60, body)  # more than can come through while they are sent
+    checks.check("all are answered, and some of them by 429", first.whole and first.through < first.many, (first.through, first.many))
     most = burst + 1 + rate * (first.ended - first.began)
     checks.check(f"{burst + 1} at once, and no more", burst + 1 <= first.through <= most + 1, (first.through, most))
-    checks.check("none of them is kept waiting", first.ended - first.began < 4, first.ended - first.began)
-    checks.check("another address has its own", Row(office, request, 2, body, "127.0.0.2").through == 2)
+    checks.check("none of them is kept waiting", first.ended - first.began < (burst / rate) * 0.9 + 0.4, first.ended - first.began)
+    checks.same("another address has its own", Row(office, request, burst, body, "127.0.0.2").through, burst)
     time.sleep(rests)  # how many are let through after a time is what is measured
     second = Row(office, request, int(rate * rests) + 40, body)
     least = rate * (second.began - first.ended)
