@@ -3,8 +3,9 @@
     run.py PROGRAM FOLDER SHOTS [--first] [--patience SECONDS] [--faults FILE] [PART ..]
 
 FOLDER is made anew and kept; SHOTS gets pictures of the pages. PART is one of looks, pages, access, rules, restarts, limits, queue,
-encrypted, stall, search, refusals, journeys; or GROUP:PART, one part of a group with an office of its own: of visit, day, first_year,
-access, rules, restarts, limits, queue, refusals, journeys, search, search_pages. A part that goes on from others is played after those.
+encrypted, stall, search, refusals, journeys, paper, tickets; or GROUP:PART, one part of a group with an office of its own: of visit,
+day, first_year, access, rules, restarts, limits, queue, refusals, journeys, search, search_pages. A part that goes on from others is
+played after those.
 --first ends at the first check that does not hold; --patience is how long anything is waited for (60). With --faults, PART is access,
 visit, rules, queue or restarts, and mutation/front.py tells which faults are to be planted in a copy of front/.
 The last line is `N passed, M failed`; the exit status is 0 where none failed."""
@@ -28,6 +29,7 @@ import foldings  # noqa: E402
 import journeys  # noqa: E402
 import limits  # noqa: E402
 import looks  # noqa: E402
+import paper  # noqa: E402
 import queue_checks  # noqa: E402
 import refusals  # noqa: E402
 import restarts  # noqa: E402
@@ -36,6 +38,7 @@ import search_pages  # noqa: E402
 import search_sessions  # noqa: E402
 import sign_out  # noqa: E402
 import stall  # noqa: E402
+import tickets  # noqa: E402
 import waits  # noqa: E402
 from asks import Asks  # noqa: E402
 from browser import Browser  # noqa: E402
@@ -46,7 +49,8 @@ from office import FRONT, SIGNED_IN, TOP, Office, fresh  # noqa: E402
 from rules import Rules  # noqa: E402
 from visit import Visit  # noqa: E402
 
-PARTS = ("looks", "pages", "access", "rules", "restarts", "limits", "queue", "encrypted", "stall", "search", "refusals", "journeys")
+PARTS = ("looks", "pages", "access", "rules", "restarts", "limits", "queue", "encrypted", "stall", "search", "refusals", "journeys", "paper",
+         "tickets")
 WITHOUT_PAGES = {"rules", "restarts", "limits", "queue", "encrypted", "stall", "search"}  # need no browser
 
 
@@ -164,6 +168,12 @@ class Run:
             page = self.browser.page()
             journeys.Journeys(self.checks, Asks(office), page, self.shot).play(only)
             self.complaints(page)
+
+    def paper(self):
+        paper.play(self.checks, self.program, self.folder / "paper", self.browser)
+
+    def tickets(self):
+        self.checks.part("many tickets", tickets.play, self.checks, self.program, self.folder / "tickets", self.browser)
 
     # One part of a group
 
