@@ -18,11 +18,13 @@ from stand_in import StandIn, in_place_of_program
 from waits import until
 
 ROUND = {"Record-Office-Round": "yes"}
+HALF = b"POST /desk/run HTTP/1.1\r\nHost: office\r\nContent-Length: 100\r\n\r\n"
+QUESTION = b"GET /public/fonds HTTP/1.1\r\nHost: office\r\nConnection: close\r\n\r\n"
 SHORT = (("timeout queue 120s", "timeout queue 2s"), ("timeout server 120s", "timeout server 5s"), ("retries 110", "retries 2"))
 NOT_REACHED = (503, b'{"error":"not reached"}')
 LARGE = 24_000_000  # more bytes than sockets hold
 IDLE = 9  # seconds after which the program is about to close an idle connection
-PARTS = ("order", "heads", "bodies_first", "slow_reader", "one_connection", "idle", "never_twice", "ways_in", "logs", "late")
+PARTS = ("order", "heads", "bodies_first", "slow_reader", "one_connection", "idle", "never_twice", "left_behind", "ways_in", "logs", "late")
 
 
 def play(checks, program, folder, only=None):
@@ -223,3 +225,22 @@ def late(checks, office):
     policy_of(checks, "a program that does not answer", got, "application/json", "no-store")
     os.kill(office.serving.pid, signal.SIGCONT)
     checks.same("nobody was registered", Asks(office).get("/desk/readers/1", True)[0], 404)
+
+
+def sent(office, port, request):
+    """A connection on which a request was sent."""
+    connection = socket.create_connection(("127.0.0.1", office.ports[port]), 5)
+    connection.sendall(request)
+    return connection
+
+
+def left_behind(checks, office):
+    """Who leaves while the program is away keeps nobody waiting: the backup leaves half a request and a question behind, readers
+    others. The next question is answered as soon as the program is there."""
+    for leave in range(4):
+        senders = [sent(office, "8092", HALF), sent(office, "8093", QUESTION), *(sent(office, "8091", QUESTION) for _ in range(3))]
+        with office.without_program():
+            for sender in senders[leave % 2:] + senders[:leave % 2]:
+                time.sleep(0.3)  # the gate tries once a second, and is to be left at several moments
+                sender.close()
+        checks.same(f"a question after senders left, {leave}", Asks(office).get("/public/fonds")[0], 200)
