@@ -104,10 +104,10 @@ class Page:
             raise RuntimeError(f"{code}: {got['exceptionDetails']['exception'].get('description')}")
         return got["result"].get("value")
 
-    def wait(self, condition):
+    def wait(self, condition, minutes=1):
         """Waits until the condition holds."""
         try:
-            until(lambda: self.holds(condition), condition)
+            until(lambda: self.holds(condition), condition, minutes)
         except AssertionError as late:
             raise AssertionError(f"{late}\n--- the page shows:\n{self.text()[:2000]}") from None
 

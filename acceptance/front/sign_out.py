@@ -50,11 +50,11 @@ def play(checks, office, browser):
     signed = SignedIn(browser)
     signed.opens(f"{office.staff}/#/out", "Reshelve")
     checks.same("the browser asks for the password once", signed.asked, 1)
-    signed.page.js("sessionStorage.setItem('names of readers', '[[1,\"Ann\"]]')")
+    signed.page.js("sessionStorage.setItem('of readers: cards', '[[1, \"Ann\", \"2030-01-01\", []]]')")
     signed.gives = False
     signed.page.press("Sign out")
     signed.page.see("You have signed out", "body")
-    checks.same("no names stay in the tab", signed.page.js("sessionStorage.getItem('names of readers')"), None)
+    checks.same("no readers stay in the tab", signed.page.js("JSON.stringify(sessionStorage)"), "{}")
     asked = signed.asked
     signed.opens(f"{office.staff}/?again", "401")
     checks.check("after signing out it asks again", signed.asked > asked, signed.asked)

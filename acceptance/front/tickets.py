@@ -65,9 +65,9 @@ class Desk:
         began, hit = time.monotonic(), None
         act()
         if first:
-            self.page.wait(first, 300)
+            self.page.wait(first, minutes=5)
             hit = time.monotonic() - began
-        self.page.wait(end, 300)
+        self.page.wait(end, minutes=5)
         took, cards = time.monotonic() - began, self.page.js(CARDS)
         print(f"  {what}: {cards} cards, {f'the first hit after {hit:.1f} s, ' if first else ''}all after {took:.1f} s", flush=True)
         return cards
@@ -118,10 +118,10 @@ def waits(checks, desk, many, asks):
     page.go("#/out")
     page.see("Nothing is out.")
     page.go("#/orders")
-    page.wait(GATHERED)
+    page.wait(GATHERED, minutes=5)
     checks.same("it is shown again without asking", page.js(CARDS), 0)
     desk.open("/orders")
-    page.wait(GATHERED)
+    page.wait(GATHERED, minutes=5)
     checks.same("also after the page is loaded again", page.js("document.querySelectorAll('main table tbody tr').length"), rows)
     cards = desk.measure("what waits, again", lambda: page.press("Show what waits now"), GATHERED)
     checks.check("expired tickets without orders are not read again", valid <= cards <= valid + 40, cards)
