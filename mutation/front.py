@@ -1,7 +1,7 @@
 #!/usr/bin/env python3
 """Plants faults in the front, one at a time in a copy of front/, and sees whether a check of acceptance/front fails:
 
-    mutation/front.py PROGRAM [--only PART_OF_NAME] [--jobs N]
+    mutation/front.py PROGRAM [--only PART_OF_NAME] [--by PART ..] [--jobs N]
     mutation/front.py --dry
 
 The faults stand in mutation/front/*.faults, one after the other. A `\\n` in a text stands for the end of a line:
@@ -152,11 +152,13 @@ class Jobs:
 def main():
     words = argparse.ArgumentParser(description=__doc__, formatter_class=argparse.RawDescriptionHelpFormatter)
     words.add_argument("program", nargs="?")
-    words.add_argument("--only", default="")
+    words.add_argument("--only", default="", help="faults whose name has this in it")
+    words.add_argument("--by", nargs="+", default=[""], help="faults that these parts, or parts that begin so, should notice")
     words.add_argument("--jobs", type=int, default=2)
     words.add_argument("--dry", action="store_true")
     words = words.parse_args()
-    faults = [fault for path in sorted((TOP / "mutation/front").glob("*.faults")) for fault in faults_in(path) if words.only in fault.fault]
+    faults = [fault for path in sorted((TOP / "mutation/front").glob("*.faults")) for fault in faults_in(path) if words.only in fault.fault
+              and (fault.by or "").startswith(tuple(words.by))]
     wrong = [fault for fault in faults if not can_be_planted(fault)]
     for fault in wrong:
         print(f"CANNOT BE PLANTED: {fault.fault}")
