@@ -89,6 +89,9 @@ def results(checks, office, page, _):
     page.open(office.public, "/search?q=cafe")
     page.see("1 unit.", TOLD)
     checks.same("whole letters are marked, with their accents", page.js(MARKS), "cafe\u0301,caf\u00e9")
+    page.open(office.public, "/search?q=brittle")
+    page.wait("document.querySelectorAll('.found li').length > 0")
+    checks.check("also in what is shown of the text", page.js("document.querySelectorAll('.found .words mark').length") > 0)
 
 
 def more(checks, office, page, _):
