@@ -147,6 +147,8 @@ class Day:
         self.checks.same("the slip to the letter", page.js("document.querySelector('.slip').textContent"), slip)
         self.checks.check("an odd location stands on it as it is", ODD["markup"] in slip)
         page.see("Ann <b>Smith</b>, ticket 1")
+        places = page.js("[...document.querySelectorAll('.beside tbody tr')].map((row) => row.cells[0].textContent)")
+        self.checks.check("each line beside it has its location", places and all(place and place in slip for place in places), places)
         self.checks.check("the print button has the focus", page.focused() == "Print the slip", page.focused())
         page.press("Look for reference codes")
         page.see("A reference code was found for every container.")
