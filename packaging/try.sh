@@ -67,7 +67,7 @@ mkdir "$root"
 tar -C "$root" -xf "$tar" --exclude='./dev/*'
 cp /etc/resolv.conf "$root/etc/resolv.conf"
 cp "$deb" "$root/root/record-office.deb"
-cp "$here"/{try_inside.sh,try_search.sh,try_busy.py} "$root/root"
+cp "$here"/{try_checks.sh,try_inside.sh,try_search.sh,try_busy.py} "$root/root"
 cp "$here/../examples/archives.csv" "$root/root"
 # A next version, in which each file that the package brings to /etc has changed.
 mv "$room/copy" "$room/next"

@@ -12,19 +12,7 @@ units='record-office record-office-queue record-office-search'
 harbour=http://127.0.0.1:8180
 harbour_units='record-office@harbour record-office-queue@harbour record-office-search@harbour record-office-backup@harbour.timer'
 
-# is WHAT COMMAND ..: checks that the command ends with 0
-is() {
-    local what=$1
-    shift
-    if "$@" >/tmp/out 2>&1; then echo "passed: $what"; else echo "FAILED: $what: $(tail -3 /tmp/out)"; fi
-}
-
-# same WHAT FOUND EXPECTED: checks that the two are equal
-same() {
-    if [ "$2" = "$3" ]; then echo "passed: $1"; else echo "FAILED: $1: '$2' is not '$3'"; fi
-}
-
-status() { curl -s -o /dev/null -m 30 -w '%{http_code}' "$@"; }
+. "$(dirname "$0")/try_checks.sh"
 
 # serve SITE: nginx serves this site for the first office
 serve() {

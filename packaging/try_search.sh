@@ -7,19 +7,7 @@ desk=http://127.0.0.1:8081
 unit=record-office-search
 drop_in=/run/systemd/system/$unit.service.d
 
-# is WHAT COMMAND ..: checks that the command ends with 0
-is() {
-    local what=$1
-    shift
-    if "$@" >/tmp/out 2>&1; then echo "passed: $what"; else echo "FAILED: $what: $(tail -3 /tmp/out)"; fi
-}
-
-# same WHAT FOUND EXPECTED: checks that the two are equal
-same() {
-    if [ "$2" = "$3" ]; then echo "passed: $1"; else echo "FAILED: $1: '$2' is not '$3'"; fi
-}
-
-status() { curl -s -o /dev/null -m 30 -w '%{http_code}' "$@"; }
+. "$(dirname "$0")/try_checks.sh"
 
 # found WORD: waits until the site's search finds a unit for the word, or for two minutes
 found() {

@@ -1,0 +1,15 @@
+# What the parts of try.sh that run inside the clean Debian share. They source this file.
+
+# is WHAT COMMAND ..: checks that the command ends with 0
+is() {
+    local what=$1
+    shift
+    if "$@" >/tmp/out 2>&1; then echo "passed: $what"; else echo "FAILED: $what: $(tail -3 /tmp/out)"; fi
+}
+
+# same WHAT FOUND EXPECTED: checks that the two are equal
+same() {
+    if [ "$2" = "$3" ]; then echo "passed: $1"; else echo "FAILED: $1: '$2' is not '$3'"; fi
+}
+
+status() { curl -s -o /dev/null -m 30 -w '%{http_code}' "$@"; }
