@@ -61,7 +61,7 @@ module _ {X Y : Type 0} where
       at None e = e ∙ sym (zero-add (count_by (λ x. some_and p (g x)) xs))
       at (Some y) e = count_cons p y (filter_map g xs) ∙ ap (λ n. cond (p y) 1 0 + n) e
 
-any_of_both : {X : Type 0} (p q : X → Bool) (xs : List X) → list_any (λ x. p x || q x) xs ≡ (list_any p xs || list_any q xs)
+pub any_of_both : {X : Type 0} (p q : X → Bool) (xs : List X) → list_any (λ x. p x || q x) xs ≡ (list_any p xs || list_any q xs)
 any_of_both p q [] = refl
 any_of_both p q (x ∷ xs) = ap (λ b. (p x || q x) || b) (any_of_both p q xs) ∙ mix (p x) (q x) (list_any p xs) (list_any q xs)
   where

@@ -3,6 +3,7 @@
 
 mod access;
 mod branch_gate;
+mod containers_apart;
 mod day_rules;
 mod gate;
 mod housed_units;
