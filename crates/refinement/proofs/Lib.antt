@@ -38,3 +38,4 @@ pub mod Paths
 pub mod BranchMembers
 pub mod NamedApart
 pub mod EarlyRefusals
+pub mod JointWalks
