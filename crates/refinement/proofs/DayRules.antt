@@ -1,6 +1,6 @@
 -- The rules of the day, told of all containers and told of those that are out.
 use Rattle.std.proofs.Common.{◌≡◌, ℕ, ◌+◌, Bool, true, false, not, ◌&&◌, ◌||◌, cond, List, [], ◌∷◌, map, filter_map, Option, Some, None, refl, sym, ap, ◌∙◌, zero-add, nat_eq, nat_le, nat_lt, inl, inr}
-use Rattle.std.specs.Prelude.{is_some, option_and_then, option_map}
+use Rattle.std.specs.Prelude.{option_and_then, option_map}
 use Rattle.std.specs.List.{cons_option, count_by, list_any}
 use Rattle.std.proofs.lemmas.Bool.{cases_lt, le-leb, le-ltb, lt-leb, lt-ltb}
 use Rattle.desk_core.specs.DeskRows.{Desk as Rows, SeatRow}
@@ -13,13 +13,13 @@ use Rattle.desk_store.specs.declared.taken_seats.TakenSeat.{TakenSeat}
 use Rattle.tree_core.specs.Versions.{Version}
 use Rattle.tree_core.proofs.Lists.{any_agree, list_any-map}
 use Rattle.office_core.specs.State.{Order, State, containers, held, is_by, is_out_with, is_seated, opens, order_out}
-use Rattle.office_core.specs.Words.{first_that, numbered, some_and}
+use Rattle.office_core.specs.Words.{numbered, some_and}
 use Rattle.state_encoding.specs.Causes.{holds_well, is_held_against_rules}
 use Rattle.state_encoding.specs.DeskEncoding.{holding_row, order_rows}
 use Rattle.state_encoding.specs.OfficeRows.{tables}
-use Rattle.state_encoding.proofs.DeskLookups.{flipped, is_some-map}
+use Rattle.state_encoding.proofs.DeskLookups.{flipped}
 use Rattle.refinement.specs.DayRules.{are_against_rules, breaks_day_rules, has_no_row, has_too_many, is_against_rules, is_without_seat, occurs_more_than}
-use Rattle.refinement.specs.Gate.{first_closed, is_closed_to}
+use Rattle.refinement.specs.Gate.{is_closed_to}
 use Rattle.refinement.proofs.Gates.{ticket_is}
 use Rattle.refinement.proofs.HeldShown.{same_sum}
 use Rattle.refinement.proofs.SeatsShown.{sits_by_row}
@@ -61,7 +61,7 @@ module _ {X Y : Type 0} where
       at None e = e ∙ sym (zero-add (count_by (λ x. some_and p (g x)) xs))
       at (Some y) e = count_cons p y (filter_map g xs) ∙ ap (λ n. cond (p y) 1 0 + n) e
 
-any_of_both : {X : Type 0} (p q : X → Bool) (xs : List X) → list_any (λ x. p x || q x) xs ≡ (list_any p xs || list_any q xs)
+pub any_of_both : {X : Type 0} (p q : X → Bool) (xs : List X) → list_any (λ x. p x || q x) xs ≡ (list_any p xs || list_any q xs)
 any_of_both p q [] = refl
 any_of_both p q (x ∷ xs) = ap (λ b. (p x || q x) || b) (any_of_both p q xs) ∙ mix (p x) (q x) (list_any p xs) (list_any q xs)
   where
@@ -70,14 +70,6 @@ any_of_both p q (x ∷ xs) = ap (λ b. (p x || q x) || b) (any_of_both p q xs) �
     mix false true true d = refl
     mix false true false d = refl
     mix false false c d = refl
-
-some_first : {X : Type 0} (p : X → Bool) (xs : List X) → is_some (first_that p xs) ≡ list_any p xs
-some_first p [] = refl
-some_first p (x ∷ xs) = at (p x) (some_first p xs)
-  where
-    at : (b : Bool) → is_some (first_that p xs) ≡ list_any p xs → is_some (cond b (Some x) (first_that p xs)) ≡ (b || list_any p xs)
-    at true e = refl
-    at false e = e
 
 -- ---- those that are out
 
@@ -171,9 +163,6 @@ module _ (s : State) where
   pub seats_tell : (version : Version) (loans : List Loan) → list_any (has_no_row (tables version s).desk) loans ≡ list_any (is_without_seat s) loans
   seats_tell version loans = any_agree (has_no_row (tables version s).desk) (is_without_seat s) loans (λ loan. ap not (sits_by_row loan.ticket 1 s.seats))
 
-  pub closed_tells : (loans : List Loan) → is_some (first_closed s loans) ≡ list_any (is_closed_to s) loans
-  closed_tells loans = is_some-map (λ (loan : Loan). loan.container) (first_that (is_closed_to s) loans) ∙ some_first (is_closed_to s) loans
-
 -- ---- tickets that stand too often
 
 pub over_is : (hands : ℕ) (loans : List Loan) → occurs_more_than hands (map (λ (loan : Loan). loan.ticket) loans) ≡ list_any (has_too_many hands loans) loans
@@ -194,24 +183,23 @@ lacks_is d loans taken is =
 -- ---- one rule after the other, as they are told
 
 module _ (version : Version) (s : State) (hands : ℕ) (loans : List Loan) (many : Bool) (same : hands ≡ s.settings.hands) (first : many ≡ list_any (has_too_many hands loans) loans) where
-  in_turn : are_against_rules s loans ≡ (many || (list_any (has_no_row (tables version s).desk) loans || is_some (first_closed s loans)))
+  in_turn : are_against_rules s loans ≡ (many || (list_any (has_no_row (tables version s).desk) loans || list_any (is_closed_to s) loans))
   in_turn =
       one_by_one s loans
       ∙ ap (λ b. b || (list_any (is_without_seat s) loans || list_any (is_closed_to s) loans)) (ap (λ h. list_any (has_too_many h loans) loans) (sym same) ∙ sym first)
       ∙ ap (λ b. many || (b || list_any (is_closed_to s) loans)) (sym (seats_tell s version loans))
-      ∙ ap (λ b. many || (list_any (has_no_row (tables version s).desk) loans || b)) (sym (closed_tells s loans))
 
   pub by_hands : many ≡ true → true ≡ are_against_rules s loans
-  by_hands it = sym (in_turn ∙ ap (λ b. b || (list_any (has_no_row (tables version s).desk) loans || is_some (first_closed s loans))) it)
+  by_hands it = sym (in_turn ∙ ap (λ b. b || (list_any (has_no_row (tables version s).desk) loans || list_any (is_closed_to s) loans)) it)
 
   module _ (few : many ≡ false) (seatless : Bool) (second : seatless ≡ list_any (has_no_row (tables version s).desk) loans) where
-    then_seats : are_against_rules s loans ≡ (seatless || is_some (first_closed s loans))
+    then_seats : are_against_rules s loans ≡ (seatless || list_any (is_closed_to s) loans)
     then_seats =
-        in_turn ∙ ap (λ b. b || (list_any (has_no_row (tables version s).desk) loans || is_some (first_closed s loans))) few
-        ∙ ap (λ b. b || is_some (first_closed s loans)) (sym second)
+        in_turn ∙ ap (λ b. b || (list_any (has_no_row (tables version s).desk) loans || list_any (is_closed_to s) loans)) few
+        ∙ ap (λ b. b || list_any (is_closed_to s) loans) (sym second)
 
     pub by_seats : seatless ≡ true → true ≡ are_against_rules s loans
-    by_seats it = sym (then_seats ∙ ap (λ b. b || is_some (first_closed s loans)) it)
+    by_seats it = sym (then_seats ∙ ap (λ b. b || list_any (is_closed_to s) loans) it)
 
-    pub by_openness : seatless ≡ false → (found : Option ℕ) → found ≡ first_closed s loans → is_some found ≡ are_against_rules s loans
-    by_openness none found is = ap is_some is ∙ sym (then_seats ∙ ap (λ b. b || is_some (first_closed s loans)) none)
+    pub by_openness : seatless ≡ false → (closed : Bool) → closed ≡ list_any (is_closed_to s) loans → closed ≡ are_against_rules s loans
+    by_openness none closed is = is ∙ sym (then_seats ∙ ap (λ b. b || list_any (is_closed_to s) loans) none)

@@ -35,3 +35,7 @@ pub mod SameRows
 pub mod Tellings
 pub mod WithheldUnits
 pub mod Paths
+pub mod BranchMembers
+pub mod NamedApart
+pub mod EarlyRefusals
+pub mod JointWalks

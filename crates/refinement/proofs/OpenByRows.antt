@@ -42,7 +42,7 @@ all_by_any p (x ∷ xs) = at (p x) (all_by_any p xs)
     at true e = e
     at false e = refl
 
-all_alike : {X : Type 0} (p : X → Bool) (xs ys : List X) → IsPermutation xs ys → list_all p xs ≡ list_all p ys
+pub all_alike : {X : Type 0} (p : X → Bool) (xs ys : List X) → IsPermutation xs ys → list_all p xs ≡ list_all p ys
 all_alike p xs ys same = all_by_any p xs ∙ ap not (list_any-IsPermutation (λ x. not (p x)) xs ys same) ∙ sym (all_by_any p ys)
 
 some_by_any : {X : Type 0} (xs : List X) → is_some_there xs ≡ list_any (λ x. true) xs

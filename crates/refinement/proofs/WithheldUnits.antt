@@ -1,8 +1,7 @@
 -- A container is closed to a reader from whom a unit that lies in it is withheld.
-use Rattle.std.proofs.Common.{◌≡◌, ℕ, ℤ, Bool, true, false, cond, not, List, [], ◌∷◌, ◌++◌, append_assoc, filter, map, Option, Some, None, inl, inr, nat_eq, refl, sym, ap, ap₂, subst, ◌∙◌, arith}
+use Rattle.std.proofs.Common.{◌≡◌, ℕ, ℤ, Bool, true, false, cond, not, List, [], ◌∷◌, ◌++◌, append_assoc, filter, map, Option, Some, None, inl, inr, nat_eq, refl, sym, ap, ap₂, subst, ◌∙◌}
 use Rattle.std.specs.Prelude.{◌&&◌, ◌||◌, option_to_list}
 use Rattle.std.specs.List.{last_or, list_all, list_any}
-use Rattle.std.specs.List.Sorted.{IsNonDecreasing}
 use Rattle.std.proofs.lemmas.Bool.{and_parts, cases_Bool, false≢true}
 use Rattle.isad_core.specs.declared.values.BoxKey.{BoxKey}
 use Rattle.tree_core.specs.Forest.{Forest, Empty, Node, each, has, nodes, path}
@@ -162,12 +161,3 @@ module _ (s : State) (judged : CanBeJudged s) (u : ℕ) (it : HousedUnit) (read 
 pub withheld_closes : (s : State) → CanBeJudged s → (u : ℕ) → (it : HousedUnit) → IsHoused u s it → Withholds s it
 withheld_closes s judged u it read loan withheld =
     opened_not (opens s loan.ticket loan.container) (never_open s judged u it read loan withheld (numbered s.catalogue.containers loan.container) refl)
-
--- ---- a unit that lies in no container
-
-pub nowhere_withholds : (s : State) (it : HousedUnit) → it.containers.items ≡ [] → Withholds s it
-nowhere_withholds s it none loan e =
-    absurd (false≢true (ap (λ l. is_one_of loan.container l && withholds s.day false (map (with_permit (is_permitted s.day (s.permits loan.ticket))) it.path.items)) (sym none) ∙ e))
-
-pub nothing_rises : IsNonDecreasing (let none : List ℕ = [] in none)
-nothing_rises i j d le low = absurd (omega (arith, low))

@@ -1,7 +1,7 @@
 -- The gate, as it is checked over tables.
-use Rattle.std.specs.Prelude.{◌≡◌, ℕ, Bool, false, not, List, filter, map, true, ◌++◌, Option, Some, None, Ok, Err, option_map, option_to_list, ◌&&◌, nat_eq}
+use Rattle.std.specs.Prelude.{◌≡◌, ℕ, Bool, false, not, List, filter, map, true, ◌++◌, Option, Some, None, Ok, Err, option_map, option_to_list, ◌&&◌, nat_eq, slice_get}
 use Rattle.std.specs.List.{last_or, list_any}
-use Rattle.tree_core.specs.Forest.{Forest, branch, path}
+use Rattle.tree_core.specs.Forest.{Forest, branch, each, path}
 use Rattle.tree_core.specs.Marks.{withholds}
 use Rattle.catalogue_core.specs.ContainerContents.{is_some_there}
 use Rattle.catalogue_core.specs.OpenMarks.{with_permit}
@@ -12,7 +12,7 @@ use Rattle.desk_core.specs.declared.refusal.Refusal.{Refusal}
 use Rattle.desk_store.specs.declared.holdings.Loan.{Loan}
 use Rattle.office_core.specs.Rules.{Reply, gate, is_kept_from_holder, kept}
 use Rattle.office_core.specs.State.{State, is_permitted, opens}
-use Rattle.office_core.specs.Words.{first_that}
+use Rattle.office_core.specs.Words.{first_that, some_and}
 use Rattle.office_core.specs.declared.done.Done.{Done}
 use Rattle.refinement.specs.declared.housed_units.HousedUnit.{HousedUnit}
 
@@ -75,6 +75,14 @@ pub record AreAsked (u : ℕ) (s : State) (loans asked : List Loan) : Type 0 whe
 abbrev pub AreNear : ℕ → State → List ℕ → Type 0
 AreNear u s found = (c : ℕ) → is_one_of c found ≡ is_named_near u s c
 
+-- nothing of the branch lies in these containers
+abbrev pub AreApart : ℕ → State → List ℕ → Type 0
+AreApart u s apart = (c : ℕ) → is_one_of c apart ≡ true → is_named_near u s c ≡ false
+
+-- the unit is on the path of the other: it is that unit or stands above it
+abbrev pub is_on_path : ℕ → State → ℕ → Bool
+is_on_path u s other = list_any (nat_eq u) (path (nat_eq other) (each (λ (unit : Unit). unit.id) s.catalogue.forest))
+
 -- the row says that the unit names the container
 abbrev pub says_so : ℕ → ℕ → HousingRow → Bool
 says_so n unit h = nat_eq unit h.unit && nat_eq h.container n
@@ -99,3 +107,7 @@ is_withheld_in s it loan =
 -- then this container is closed to the reader who has it
 abbrev pub Withholds : State → HousedUnit → Type 0
 Withholds s it = (loan : Loan) → is_withheld_in s it loan ≡ true → is_closed_to s loan ≡ true
+
+-- the loan at this place is of a container in which the unit lies, and the unit is withheld from its reader
+abbrev pub IsWithheldAt : State → HousedUnit → List Loan → ℕ → Type 0
+IsWithheldAt s it loans place = some_and (is_withheld_in s it) (slice_get loans place) ≡ true

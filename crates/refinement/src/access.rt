@@ -97,7 +97,7 @@ fn is_clean(
 
 /// Whether nothing withholds the units of these rows, nor the units that take their containers from them. The first
 /// that is withheld ends the reading. Of each path only what the one before lacks is read.
-fn are_clean<P: Places, S: Alter>(
+pub(crate) fn are_clean<P: Places, S: Alter>(
     alloc: Global,
     conn: &mut Connection<S>,
     rows: &[Span],

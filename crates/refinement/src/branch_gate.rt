@@ -1,8 +1,8 @@
 //! After a change within a branch of units, nothing that is out may be withheld from the reader who has it. Such a
 //! change can only withhold containers in which a unit of the branch lies. If more than a few containers are out, only
-//! these are checked.
+//! these are checked. The containers in which the changed unit itself lies are asked first, with what is known of it.
 
-ghost use Rattle.std.specs.Prelude.{◌≡◌, ⊤, IfOk, filter};
+ghost use Rattle.std.specs.Prelude.{◌≡◌, ◌<◌, ⊤, IfOk, Some, filter, length};
 ghost use Rattle.std.specs.List.Sorted.{IsNonDecreasing};
 ghost use Rattle.sqlite.specs.Held.{state};
 ghost use Rattle.isad_core.specs.Limits.{IsNumber};
@@ -10,12 +10,14 @@ ghost use Rattle.desk_store.specs.Holdings.{issued_of};
 ghost use Rattle.state_encoding.specs.OfficeRows.{tables as tables_of};
 ghost use Rattle.office_tables.specs.Calls.{Answers};
 ghost use Rattle.office_tables.specs.Step.{InTransaction};
-ghost use Rattle.refinement.specs.Gate.{AreAsked, AreEnough, AreNear, IsHoused, OthersAreOpen, Withholds};
+ghost use Rattle.office_core.specs.Rules.{kept};
+ghost use Rattle.refinement.specs.Gate.{AreAsked, AreEnough, AreNear, IsHoused, IsWithheldAt, OthersAreOpen};
 ghost use Rattle.refinement.specs.Gate.{gated, is_one_of};
 ghost use Rattle.refinement.specs.AccessConditions.{CanBeJudged, RepresentsWhole};
 
-use crate::gate::first_closed_beside;
-use crate::housed_units::{HousedUnit, containers_of_each, housed_unit, is_among};
+use crate::containers_apart::{containers_apart, loans_without};
+use crate::gate::first_closed;
+use crate::housed_units::{HousedUnit, containers_of_each, first_withheld, housed_unit, is_among};
 use catalogue_store::Places;
 use desk_store::{Loan, issued};
 use isad_core::Day;
@@ -62,6 +64,25 @@ fn loans_of(alloc: Global, loans: &[Loan], ascending: &[u64]) -> Result<Vec<Loan
     Ok(found)
 }
 
+/// The loans of the containers in which the unit or one below it lies. The unit is in its containers as `housed`
+/// describes it.
+fn loans_in_branch<P: Places, S: Alter>(
+    alloc: Global,
+    conn: &mut Connection<S>,
+    unit: u64,
+    housed: &HousedUnit,
+    loans: &[Loan],
+) -> Result<Vec<Loan>, StoreFault>
+    requires inside { InTransaction P.version (state S.Store conn.old) }
+    requires small { IsNumber unit }
+    ensures tells { Answers S.Store (RepresentsWhole P.represents P.version) CanBeJudged conn.old conn.new result
+        (λ _. ⊤) (λ _ s found. IsHoused unit s housed.now → AreAsked unit s loans.now found.items) }
+{
+    let mut containers = containers_near::<P, S>(alloc, conn, unit, housed)?;
+    containers.sort_unstable();
+    Ok(loans_of(alloc, loans, &containers)?)
+}
+
 /// The loans that must be checked after a change near the unit, which is in its containers as `housed` describes it. If
 /// there are few loans, these are all of them.
 fn loans_to_ask<P: Places, S: Alter>(
@@ -79,9 +100,7 @@ fn loans_to_ask<P: Places, S: Alter>(
     if loans.len() <= FEW {
         return Ok(loans);
     }
-    let mut containers = containers_near::<P, S>(alloc, conn, unit, housed)?;
-    containers.sort_unstable();
-    Ok(loans_of(alloc, &loans, &containers)?)
+    loans_in_branch::<P, S>(alloc, conn, unit, housed, &loans)
 }
 
 /// The loans of all containers that a change near the unit may withhold, by number of the container. Other loans may be
@@ -102,29 +121,6 @@ pub fn loans_near<P: Places, S: Alter>(
 }
 
 /// The outcome of a change that the tables already show and that affects only these loans: what was done, or a refusal
-/// if it would close a container to the reader who has it. The loans are asked first by `housed`, the unit that changed
-/// in its containers.
-fn pass_beside<P: Places, S: Alter>(
-    alloc: Global,
-    conn: &mut Connection<S>,
-    today: Day,
-    housed: &HousedUnit,
-    loans: &[Loan],
-    done: Done,
-) -> Result<Result<Done, Refusal>, StoreFault>
-    requires inside { InTransaction P.version (state S.Store conn.old) }
-    requires rise { IsNonDecreasing housed.now.containers.items }
-    ensures tells { Answers S.Store (RepresentsWhole P.represents P.version) CanBeJudged conn.old conn.new result
-        (λ _. ⊤) (λ _ s reply. CanBeJudged s → today ≡ s.day → Withholds s housed.now → AreEnough loans.now s
-        → reply ≡ gated s done) }
-{
-    match first_closed_beside::<P, S>(alloc, conn, housed, loans, today)? {
-        Some(container) => Ok(Err(Refusal::WithReader { container })),
-        None => Ok(Ok(done)),
-    }
-}
-
-/// The outcome of a change that the tables already show and that affects only these loans: what was done, or a refusal
 /// if it would close a container to the reader who has it.
 pub fn pass_of<P: Places, S: Alter>(
     alloc: Global,
@@ -137,11 +133,64 @@ pub fn pass_of<P: Places, S: Alter>(
     ensures tells { Answers S.Store (RepresentsWhole P.represents P.version) CanBeJudged conn.old conn.new result
         (λ _. ⊤) (λ _ s reply. CanBeJudged s → today ≡ s.day → AreEnough loans.now s → reply ≡ gated s done) }
 {
-    pass_beside::<P, S>(alloc, conn, today, &HousedUnit::nowhere(alloc), loans, done)
+    match first_closed::<P, S>(alloc, conn, loans, today)? {
+        Some(container) => Ok(Err(Refusal::WithReader { container })),
+        None => Ok(Ok(done)),
+    }
+}
+
+/// The loans that must be checked after a change near the unit, which is in its containers as `housed` describes it. If
+/// they are few, and few units name their containers, the units of the branch are not read.
+fn lower_loans<P: Places, S: Alter>(
+    alloc: Global,
+    conn: &mut Connection<S>,
+    unit: u64,
+    housed: &HousedUnit,
+    loans: &[Loan],
+) -> Result<Vec<Loan>, StoreFault>
+    requires inside { InTransaction P.version (state S.Store conn.old) }
+    requires small { IsNumber unit }
+    requires rise { IsNonDecreasing housed.now.containers.items }
+    ensures tells { Answers S.Store (RepresentsWhole P.represents P.version) CanBeJudged conn.old conn.new result
+        (λ _. ⊤)
+        (λ _ s found. CanBeJudged s → IsHoused unit s housed.now → AreAsked unit s loans.now found.items) }
+{
+    let Some(apart) = containers_apart::<P, S>(alloc, conn, unit, housed, loans)? else {
+        return loans_in_branch::<P, S>(alloc, conn, unit, housed, loans);
+    };
+    Ok(loans_without(alloc, loans, &apart)?)
+}
+
+/// The lowest container that is closed to the reader who has it, after a change near the unit. The loan at this place is
+/// such a one, since the unit is withheld from its reader; so only those before it are checked.
+fn lowest_closed<P: Places, S: Alter>(
+    alloc: Global,
+    conn: &mut Connection<S>,
+    today: Day,
+    unit: u64,
+    housed: &HousedUnit,
+    loans: &[Loan],
+    place: usize,
+) -> Result<u64, StoreFault>
+    requires inside { InTransaction P.version (state S.Store conn.old) }
+    requires small { IsNumber unit }
+    requires rise { IsNonDecreasing housed.now.containers.items }
+    requires there { place < length loans.now }
+    ensures tells { Answers S.Store (RepresentsWhole P.represents P.version) CanBeJudged conn.old conn.new result
+        (λ _. ⊤) (λ _ s container. CanBeJudged s → today ≡ s.day → OthersAreOpen unit s
+        → IsHoused unit s housed.now → IsWithheldAt s housed.now loans.now place
+        → loans.now ≡ issued_of (tables_of P.version s).desk → kept s ≡ Some container) }
+{
+    let lower = lower_loans::<P, S>(alloc, conn, unit, housed, &loans[..place])?;
+    match first_closed::<P, S>(alloc, conn, &lower, today)? {
+        Some(container) => Ok(container),
+        None => Ok(loans[place].container),
+    }
 }
 
 /// The outcome of a change that the tables already show and that affects only a unit and those below it: what was done,
-/// or a refusal if it would close a container to the reader who has it.
+/// or a refusal if it would close a container to the reader who has it. If the unit itself is withheld from a reader who
+/// has a container in which it lies, the change is refused, and only lower containers are checked.
 pub fn pass_near<P: Places, S: Alter>(
     alloc: Global,
     conn: &mut Connection<S>,
@@ -159,6 +208,10 @@ pub fn pass_near<P: Places, S: Alter>(
         return Ok(Ok(done));
     }
     let housed = housed_unit::<P, S>(alloc, conn, unit)?;
-    let asked = loans_to_ask::<P, S>(alloc, conn, unit, &housed, loans)?;
-    pass_beside::<P, S>(alloc, conn, today, &housed, &asked, done)
+    let Some(place) = first_withheld::<P, S>(alloc, conn, &housed, &loans, today)? else {
+        let asked = loans_to_ask::<P, S>(alloc, conn, unit, &housed, loans)?;
+        return pass_of::<P, S>(alloc, conn, today, &asked, done);
+    };
+    let container = lowest_closed::<P, S>(alloc, conn, today, unit, &housed, &loans, place)?;
+    Ok(Err(Refusal::WithReader { container }))
 }

@@ -16,7 +16,7 @@ ghost use Rattle.refinement.specs.DayRules.{are_against_rules as are_against_rul
 ghost use Rattle.refinement.specs.DayRules.{has_no_row, has_too_many, occurs_more_than};
 ghost use Rattle.refinement.specs.AccessConditions.{CanBeJudged, RepresentsWhole};
 
-use crate::gate::first_closed;
+use crate::joint_walk::is_one_closed;
 use catalogue_store::Places;
 use desk_store::{Loan, TakenSeat, issued, seats};
 use isad_core::Day;
@@ -110,8 +110,8 @@ fn are_against_rules<P: Places, S: Alter>(
     if is_one_without_seat(alloc, conn, loans)? {
         return Ok(true);
     }
-    let closed = first_closed::<P, S>(alloc, conn, loans, today)?;
-    Ok(closed.is_some())
+    let closed = is_one_closed::<P, S>(alloc, conn, loans, today)?;
+    Ok(closed)
 }
 
 /// Whether some container is out against a rule of the day.

@@ -1,18 +1,16 @@
 //! The gate: after a change, nothing that is out may be withheld from the reader who has it.
 
 ghost use Rattle.std.specs.Prelude.{◌≡◌, ⊤, IfErr};
-ghost use Rattle.std.specs.List.Sorted.{IsNonDecreasing};
 ghost use Rattle.sqlite.specs.Held.{state};
 ghost use Rattle.sqlite.specs.State.{HasCleanDisk};
 ghost use Rattle.office_core.specs.Rules.{kept};
 ghost use Rattle.office_tables.specs.Calls.{Answers};
 ghost use Rattle.office_tables.specs.Faults.{BlamesDisk};
 ghost use Rattle.office_tables.specs.Step.{InTransaction};
-ghost use Rattle.refinement.specs.Gate.{Withholds, first_closed as first_closed_of, gated};
+ghost use Rattle.refinement.specs.Gate.{first_closed as first_closed_of, gated};
 ghost use Rattle.refinement.specs.AccessConditions.{CanBeJudged, RepresentsWhole};
 
 use crate::access::judge;
-use crate::housed_units::{HousedUnit, is_withheld_in};
 use catalogue_store::Places;
 use desk_store::{Loan, issued};
 use isad_core::Day;
@@ -21,40 +19,8 @@ use office_tables::StoreFault;
 use sqlite::{Alter, Connection};
 use std::alloc::Global;
 
-/// The first of these containers that is not open on this day to the reader who has it. If the unit `housed` lies in
-/// one and is withheld from its reader, nothing else of it is read. Containers that follow one another and lie in the
-/// same units are judged once.
-pub(crate) fn first_closed_beside<P: Places, S: Alter>(
-    alloc: Global,
-    conn: &mut Connection<S>,
-    housed: &HousedUnit,
-    loans: &[Loan],
-    today: Day,
-) -> Result<Option<u64>, StoreFault>
-    requires inside { InTransaction P.version (state S.Store conn.old) }
-    requires rise { IsNonDecreasing housed.now.containers.items }
-    ensures tells { Answers S.Store (RepresentsWhole P.represents P.version) CanBeJudged conn.old conn.new result
-        (λ _. ⊤) (λ _ s found. CanBeJudged s → today ≡ s.day → Withholds s housed.now
-        → found ≡ first_closed_of s loans.now) }
-    ensures disk { HasCleanDisk (state S.Store conn.new)
-        → IfErr result (BlamesDisk (state S.Store conn.old) (state S.Store conn.new)) }
-{
-    let mut clean = Vec::new(alloc);
-    for loan in loans {
-        let loan = *loan;
-        if is_withheld_in::<P, S>(alloc, conn, housed, loan, today)? {
-            return Ok(Some(loan.container));
-        }
-        let found = judge::<P, S>(alloc, conn, loan.container, loan.ticket, today, clean)?;
-        if !found.is_open {
-            return Ok(Some(loan.container));
-        }
-        clean = found.clean;
-    }
-    Ok(None)
-}
-
-/// The first of these containers that is not open on this day to the reader who has it.
+/// The first of these containers that is not open on this day to the reader who has it. Containers that follow one
+/// another and lie in the same units are judged once.
 pub(crate) fn first_closed<P: Places, S: Alter>(
     alloc: Global,
     conn: &mut Connection<S>,
@@ -67,7 +33,16 @@ pub(crate) fn first_closed<P: Places, S: Alter>(
     ensures disk { HasCleanDisk (state S.Store conn.new)
         → IfErr result (BlamesDisk (state S.Store conn.old) (state S.Store conn.new)) }
 {
-    first_closed_beside::<P, S>(alloc, conn, &HousedUnit::nowhere(alloc), loans, today)
+    let mut clean = Vec::new(alloc);
+    for loan in loans {
+        let loan = *loan;
+        let found = judge::<P, S>(alloc, conn, loan.container, loan.ticket, today, clean)?;
+        if !found.is_open {
+            return Ok(Some(loan.container));
+        }
+        clean = found.clean;
+    }
+    Ok(None)
 }
 
 /// The lowest container that is out and not open on this day to the reader who has it.

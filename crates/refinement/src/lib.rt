@@ -3,9 +3,11 @@
 
 mod access;
 mod branch_gate;
+mod containers_apart;
 mod day_rules;
 mod gate;
 mod housed_units;
+mod joint_walk;
 
 pub use access::{is_closed, is_open_to};
 pub use branch_gate::{loans_near, pass_near, pass_of};

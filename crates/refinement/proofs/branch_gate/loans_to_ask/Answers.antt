@@ -1,15 +1,13 @@
-use Rattle.std.proofs.Common.{filter, nat_eq, true, sym, ap, subst, ◌∙◌}
+use Rattle.std.proofs.Common.{List, true, subst}
 use Rattle.std.specs.Prelude.{⊤}
-use Rattle.std.specs.List.Sorted.{IsNonDecreasing}
-use Rattle.std.proofs.lemmas.List.Sorted.{IsNonDecreasingBy-from_sort, list_any-IsPermutation}
 use Rattle.sqlite.specs.Held.{state}
 use Rattle.desk_store.proofs.ToldCalls.{ends_well}
 use Rattle.desk_store.specs.declared.holdings.Loan.{Loan}
-use Rattle.office_tables.proofs.CallEnds.{same_fault, tells_not}
 use Rattle.office_tables.proofs.Calls.{looks_nowhere, office_of}
-use Rattle.refinement.specs.Gate.{AreAsked, IsHoused, is_one_of}
+use Rattle.refinement.specs.Gate.{AreAsked, IsHoused}
 use Rattle.refinement.specs.AccessConditions.{CanBeJudged, RepresentsWhole}
 use Rattle.refinement.proofs.NearRows.{all_pass}
+use Rattle.refinement.proofs.Tellings.{told_then}
 use Rattle.refinement.proofs.branch_gate.loans_to_ask.Goals as goal
 
 pub returns-then-len-le-FEW : goal.returns-then-len-le-FEW
@@ -22,30 +20,14 @@ returns-then-len-le-FEW g c =
           (λ clean s shown housed. record { test = λ _. true; near = λ k no. absurd (cc); are = all_pass c.args.loans.items });
     }
 
-pub returns-in_err-containers : goal.returns-in_err-containers
-returns-in_err-containers g c =
-    let v = g.P.Places.version in
-    let e = c.from_residual.ensures in
-    let told = c.in_err-containers.ensures.tells in
-    record {
-      tells = tells_not g.S.Store (RepresentsWhole g.P.Places.represents v) CanBeJudged (λ _. ⊤) c.args.conn.now c.containers_near.new.conn c.from_residual.result (λ _ s found. IsHoused c.args.unit s c.args.housed.now → AreAsked c.args.unit s c.args.loans.items found.items) c.in_err-containers.field-0.0
-          (same_fault c.from_residual.result c.in_err-containers.field-0.0 e.0 e.1) told.cut told.faults;
-    }
-
-pub loans_of-requires : goal.loans_of-requires
-loans_of-requires g c = record { rise = subst IsNonDecreasing (sym c.deref-2.ensures.value) (IsNonDecreasingBy-from_sort (λ n. n) _ c.sort_unstable.ensures.sorted) }
-
 pub returns : goal.returns
 returns g c =
     let v = g.P.Places.version in
-    let told = c.in_ok-containers.ensures.tells in
+    let a = state g.S.Store c.args.conn.now in
     record {
-      tells = ends_well (RepresentsWhole g.P.Places.represents v) CanBeJudged (λ _. ⊤) g.S.Store c.args.conn.now c.args.conn.now c.containers_near.new.conn (λ _ s found. IsHoused c.args.unit s c.args.housed.now → AreAsked c.args.unit s c.args.loans.items found.items)
-          told.looks _
-          (λ clean s shown housed.
-          record {
-            test = λ k. is_one_of k c.deref-2.result.now;
-            near = λ k far. sym (told.answers clean tt s shown housed k) ∙ list_any-IsPermutation (λ m. nat_eq m k) _ _ c.sort_unstable.ensures.permutation ∙ sym (ap (is_one_of k) c.deref-2.ensures.value) ∙ far;
-            are = c.in_ok-loans_of.ensures ∙ ap (filter (λ (loan : Loan). is_one_of loan.container c.deref-2.result.now)) c.deref.ensures.value;
-          });
+      tells = told_then (RepresentsWhole g.P.Places.represents v) CanBeJudged g.S.Store c.args.conn.now c.args.conn.now c.loans_in_branch.new.conn c.loans_in_branch.result
+          (λ _ s found. IsHoused c.args.unit s c.args.housed.now → AreAsked c.args.unit s c.deref.result.now found.items) (λ _ s found. IsHoused c.args.unit s c.args.housed.now → AreAsked c.args.unit s c.args.loans.items found.items)
+          (looks_nowhere a (office_of v a c.requires.inside))
+          (λ clean s shown found is housed. subst (λ (loans : List Loan). AreAsked c.args.unit s loans found.items) c.deref.ensures.value (is housed))
+          c.loans_in_branch.ensures.tells;
     }

@@ -1,5 +1,5 @@
-use Rattle.std.proofs.Common.{◌≡◌, Ok, List, [], ◌∷◌, length, refl, ap, subst, sym, ◌∙◌, arith}
-use Rattle.std.specs.Prelude.{⊤, option_map}
+use Rattle.std.proofs.Common.{◌≡◌, ◌<◌, ℕ, Ok, Err, Option, Some, List, [], ◌∷◌, length, refl, ap, subst, sym, ◌∙◌, arith}
+use Rattle.std.specs.Prelude.{⊤, IfSome, option_map}
 use Rattle.std.proofs.lemmas.Bool.{eqb-true}
 use Rattle.sqlite.specs.Held.{state}
 use Rattle.desk_core.specs.declared.refusal.Refusal.TheVariants.{WithReader}
@@ -9,11 +9,10 @@ use Rattle.desk_store.proofs.ToldCalls.{ends_not, ends_well, shown_on}
 use Rattle.state_encoding.specs.OfficeRows.{tables}
 use Rattle.office_tables.proofs.CallEnds.{same_fault, tells_not}
 use Rattle.office_tables.proofs.Calls.{early, looks_then, office_of, still}
-use Rattle.refinement.specs.Gate.{AreAsked, AreEnough, OthersAreOpen, Withholds, first_closed, gated, unless_refused}
+use Rattle.refinement.specs.Gate.{AreAsked, AreEnough, IsWithheldAt, OthersAreOpen, first_closed, gated, unless_refused}
 use Rattle.refinement.specs.AccessConditions.{CanBeJudged, RepresentsWhole}
 use Rattle.refinement.proofs.Gates.{enough_of, kept_is}
 use Rattle.refinement.proofs.Tellings.{told_then}
-use Rattle.refinement.proofs.WithheldUnits.{withheld_closes}
 use Rattle.refinement.proofs.branch_gate.pass_near.Goals as goal
 
 pub issued-requires : goal.issued-requires
@@ -64,13 +63,39 @@ returns-in_err-housed g c =
           c.from_residual-in_err-housed.result (same_fault c.from_residual-in_err-housed.result c.in_err-housed.field-0.0 e.0 e.1);
     }
 
+pub first_withheld-requires : goal.first_withheld-requires
+first_withheld-requires g c =
+    let v = g.P.Places.version in
+    let a = state g.S.Store c.args.conn.now in
+    let b = state g.S.Store c.issued.new.conn in
+    let d = state g.S.Store c.housed_unit.new.conn in
+    record { inside = still v a d c.requires.inside (looks_then a b d c.in_ok-loans.ensures.tells.looks c.in_ok-housed.ensures.tells.looks).goes; rise = c.in_ok-housed.ensures.rise }
+
+pub returns-in_err-place : goal.returns-in_err-place
+returns-in_err-place g c =
+    let v = g.P.Places.version in
+    let a = state g.S.Store c.args.conn.now in
+    let b = state g.S.Store c.issued.new.conn in
+    let d = state g.S.Store c.housed_unit.new.conn in
+    let e = c.from_residual-in_err-place.ensures in
+    let told = c.in_err-place.ensures.tells in
+    record {
+      tells = ends_not (RepresentsWhole g.P.Places.represents v) CanBeJudged (λ _. ⊤) g.S.Store c.args.conn.now c.housed_unit.new.conn c.first_withheld.new.conn (λ _ s reply. CanBeJudged s → c.args.today ≡ s.day → OthersAreOpen c.args.unit s → reply ≡ gated s c.args.done)
+          (looks_then a b d c.in_ok-loans.ensures.tells.looks c.in_ok-housed.ensures.tells.looks) c.in_err-place.field-0.0 told.cut
+          (λ s it may judged clean free. told.faults tt s it tt judged clean free)
+          c.from_residual-in_err-place.result (same_fault c.from_residual-in_err-place.result c.in_err-place.field-0.0 e.0 e.1);
+    }
+
+-- ---- the unit is withheld from none who has a container in which it lies
+
 pub loans_to_ask-requires : goal.loans_to_ask-requires
 loans_to_ask-requires g c =
     let v = g.P.Places.version in
     let a = state g.S.Store c.args.conn.now in
     let b = state g.S.Store c.issued.new.conn in
     let d = state g.S.Store c.housed_unit.new.conn in
-    record { inside = still v a d c.requires.inside (looks_then a b d c.in_ok-loans.ensures.tells.looks c.in_ok-housed.ensures.tells.looks).goes; small = c.requires.small }
+    let e = state g.S.Store c.first_withheld.new.conn in
+    record { inside = still v a e c.requires.inside (looks_then a d e (looks_then a b d c.in_ok-loans.ensures.tells.looks c.in_ok-housed.ensures.tells.looks) c.in_ok-place.ensures.tells.looks).goes; small = c.requires.small }
 
 pub returns-in_err-asked : goal.returns-in_err-asked
 returns-in_err-asked g c =
@@ -78,25 +103,89 @@ returns-in_err-asked g c =
     let a = state g.S.Store c.args.conn.now in
     let b = state g.S.Store c.issued.new.conn in
     let d = state g.S.Store c.housed_unit.new.conn in
+    let f = state g.S.Store c.first_withheld.new.conn in
     let e = c.from_residual-in_err-asked.ensures in
     let told = c.in_err-asked.ensures.tells in
     record {
-      tells = ends_not (RepresentsWhole g.P.Places.represents v) CanBeJudged (λ _. ⊤) g.S.Store c.args.conn.now c.housed_unit.new.conn c.loans_to_ask.new.conn (λ _ s reply. CanBeJudged s → c.args.today ≡ s.day → OthersAreOpen c.args.unit s → reply ≡ gated s c.args.done)
-          (looks_then a b d c.in_ok-loans.ensures.tells.looks c.in_ok-housed.ensures.tells.looks) c.in_err-asked.field-0.0 told.cut
+      tells = ends_not (RepresentsWhole g.P.Places.represents v) CanBeJudged (λ _. ⊤) g.S.Store c.args.conn.now c.first_withheld.new.conn c.loans_to_ask.new.conn (λ _ s reply. CanBeJudged s → c.args.today ≡ s.day → OthersAreOpen c.args.unit s → reply ≡ gated s c.args.done)
+          (looks_then a d f (looks_then a b d c.in_ok-loans.ensures.tells.looks c.in_ok-housed.ensures.tells.looks) c.in_ok-place.ensures.tells.looks) c.in_err-asked.field-0.0 told.cut
           (λ s it may judged clean free. told.faults tt s it tt judged clean free)
           c.from_residual-in_err-asked.result (same_fault c.from_residual-in_err-asked.result c.in_err-asked.field-0.0 e.0 e.1);
     }
 
-pub pass_beside-requires : goal.pass_beside-requires
-pass_beside-requires g c =
+pub pass_of-requires : goal.pass_of-requires
+pass_of-requires g c =
     let v = g.P.Places.version in
     let a = state g.S.Store c.args.conn.now in
     let b = state g.S.Store c.issued.new.conn in
     let d = state g.S.Store c.housed_unit.new.conn in
+    let f = state g.S.Store c.first_withheld.new.conn in
     let e = state g.S.Store c.loans_to_ask.new.conn in
+    let to_f = looks_then a d f (looks_then a b d c.in_ok-loans.ensures.tells.looks c.in_ok-housed.ensures.tells.looks) c.in_ok-place.ensures.tells.looks in
+    record { inside = still v a e c.requires.inside (looks_then a f e to_f c.in_ok-asked.ensures.tells.looks).goes }
+
+pub returns-in_default : goal.returns-in_default
+returns-in_default g c =
+    let v = g.P.Places.version in
+    let represents = RepresentsWhole g.P.Places.represents v in
+    let a = state g.S.Store c.args.conn.now in
+    let b = state g.S.Store c.issued.new.conn in
+    let d = state g.S.Store c.housed_unit.new.conn in
+    let f = state g.S.Store c.first_withheld.new.conn in
+    let e = state g.S.Store c.loans_to_ask.new.conn in
+    let told = c.in_ok-loans.ensures.tells in
+    let housed = c.in_ok-housed.ensures.tells in
+    let withheld = c.in_ok-place.ensures.tells in
+    let near = c.in_ok-asked.ensures.tells in
+    let to_d = looks_then a b d told.looks housed.looks in
+    let to_f = looks_then a d f to_d withheld.looks in
     record {
-      inside = still v a e c.requires.inside (looks_then a d e (looks_then a b d c.in_ok-loans.ensures.tells.looks c.in_ok-housed.ensures.tells.looks) c.in_ok-asked.ensures.tells.looks).goes;
+      tells = told_then represents CanBeJudged g.S.Store c.args.conn.now c.loans_to_ask.new.conn c.pass_of.new.conn c.pass_of.result
+          (λ _ s reply. CanBeJudged s → c.args.today ≡ s.day → AreEnough c.deref-in_default.result.now s → reply ≡ gated s c.args.done) (λ _ s reply. CanBeJudged s → c.args.today ≡ s.day → OthersAreOpen c.args.unit s → reply ≡ gated s c.args.done)
+          (looks_then a f e to_f near.looks)
+          (λ at_e s shown reply is judged day others.
+          let at_f = early f e _ near.looks.goes.on.crash at_e in
+          let at_d = early d f _ withheld.looks.goes.on.crash at_f in
+          let at_b = early b d _ housed.looks.goes.on.crash at_d in
+          let shown_b = shown_on represents a b told.looks at_b s shown in
+          let shown_f = shown_on represents a f to_f at_f s shown in
+          let lies = housed.answers at_d tt s shown_b in
+          let asked : AreAsked c.args.unit s (issued_of (tables v s).desk) c.in_ok-asked.asked.items = subst (λ (loans : List Loan). AreAsked c.args.unit s loans c.in_ok-asked.asked.items) (told.answers at_b tt (tables v s).desk shown.desk) (near.answers at_e tt s shown_f lies) in
+          is judged day (enough_of v s judged asked.test (λ k far. others k (asked.near k far)) c.deref-in_default.result.now (c.deref-in_default.ensures.value ∙ asked.are)))
+          c.pass_of.ensures.tells;
+    }
+
+-- ---- the unit is withheld from one who has such a container
+
+pub lowest_closed-requires : goal.lowest_closed-requires
+lowest_closed-requires g c =
+    let v = g.P.Places.version in
+    let a = state g.S.Store c.args.conn.now in
+    let b = state g.S.Store c.issued.new.conn in
+    let d = state g.S.Store c.housed_unit.new.conn in
+    let f = state g.S.Store c.first_withheld.new.conn in
+    let low : IfSome (Some c.in-Some.place) (λ place. place < length c.deref.result.now) = subst (λ (o : Option ℕ). IfSome o (λ place. place < length c.deref.result.now)) c.in-Some.is c.in_ok-place.ensures.there in
+    record {
+      inside = still v a f c.requires.inside (looks_then a d f (looks_then a b d c.in_ok-loans.ensures.tells.looks c.in_ok-housed.ensures.tells.looks) c.in_ok-place.ensures.tells.looks).goes;
+      small = c.requires.small;
       rise = c.in_ok-housed.ensures.rise;
+      there = subst (λ (loans : List Loan). c.in-Some.place < length loans) (c.deref.ensures.value ∙ sym c.deref-2.ensures.value) low;
+    }
+
+pub returns-in_err-container : goal.returns-in_err-container
+returns-in_err-container g c =
+    let v = g.P.Places.version in
+    let a = state g.S.Store c.args.conn.now in
+    let b = state g.S.Store c.issued.new.conn in
+    let d = state g.S.Store c.housed_unit.new.conn in
+    let f = state g.S.Store c.first_withheld.new.conn in
+    let e = c.from_residual-in_err-container.ensures in
+    let told = c.in_err-container.ensures.tells in
+    record {
+      tells = ends_not (RepresentsWhole g.P.Places.represents v) CanBeJudged (λ _. ⊤) g.S.Store c.args.conn.now c.first_withheld.new.conn c.lowest_closed.new.conn (λ _ s reply. CanBeJudged s → c.args.today ≡ s.day → OthersAreOpen c.args.unit s → reply ≡ gated s c.args.done)
+          (looks_then a d f (looks_then a b d c.in_ok-loans.ensures.tells.looks c.in_ok-housed.ensures.tells.looks) c.in_ok-place.ensures.tells.looks) c.in_err-container.field-0.0 told.cut
+          (λ s it may judged clean free. told.faults tt s it tt judged clean free)
+          c.from_residual-in_err-container.result (same_fault c.from_residual-in_err-container.result c.in_err-container.field-0.0 e.0 e.1);
     }
 
 pub returns : goal.returns
@@ -106,23 +195,25 @@ returns g c =
     let a = state g.S.Store c.args.conn.now in
     let b = state g.S.Store c.issued.new.conn in
     let d = state g.S.Store c.housed_unit.new.conn in
-    let e = state g.S.Store c.loans_to_ask.new.conn in
+    let f = state g.S.Store c.first_withheld.new.conn in
+    let h = state g.S.Store c.lowest_closed.new.conn in
     let told = c.in_ok-loans.ensures.tells in
     let housed = c.in_ok-housed.ensures.tells in
-    let near = c.in_ok-asked.ensures.tells in
+    let withheld = c.in_ok-place.ensures.tells in
+    let lowest = c.in_ok-container.ensures.tells in
     let to_d = looks_then a b d told.looks housed.looks in
+    let to_f = looks_then a d f to_d withheld.looks in
     record {
-      tells = told_then represents CanBeJudged g.S.Store c.args.conn.now c.loans_to_ask.new.conn c.pass_beside.new.conn c.pass_beside.result
-          (λ _ s reply. CanBeJudged s → c.args.today ≡ s.day → Withholds s c.in_ok-housed.housed → AreEnough c.deref.result.now s → reply ≡ gated s c.args.done) (λ _ s reply. CanBeJudged s → c.args.today ≡ s.day → OthersAreOpen c.args.unit s → reply ≡ gated s c.args.done)
-          (looks_then a d e to_d near.looks)
-          (λ at_e s shown reply is judged day others.
-          let at_d = early d e _ near.looks.goes.on.crash at_e in
+      tells = ends_well represents CanBeJudged (λ _. ⊤) g.S.Store c.args.conn.now c.args.conn.now c.lowest_closed.new.conn (λ _ s reply. CanBeJudged s → c.args.today ≡ s.day → OthersAreOpen c.args.unit s → reply ≡ gated s c.args.done)
+          (looks_then a f h to_f lowest.looks) (Err (WithReader c.in_ok-container.container))
+          (λ clean s shown judged day others.
+          let at_f = early f h _ lowest.looks.goes.on.crash clean in
+          let at_d = early d f _ withheld.looks.goes.on.crash at_f in
           let at_b = early b d _ housed.looks.goes.on.crash at_d in
-          let shown_b = shown_on represents a b told.looks at_b s shown in
-          let shown_d = shown_on represents a d to_d at_d s shown in
-          let lies = housed.answers at_d tt s shown_b in
-          let asked : AreAsked c.args.unit s (issued_of (tables v s).desk) c.in_ok-asked.asked.items = subst (λ (loans : List Loan). AreAsked c.args.unit s loans c.in_ok-asked.asked.items) (told.answers at_b tt (tables v s).desk shown.desk) (near.answers at_e tt s shown_d lies) in
-          is judged day (withheld_closes s judged c.args.unit c.in_ok-housed.housed lies)
-          (enough_of v s judged asked.test (λ k far. others k (asked.near k far)) c.deref.result.now (c.deref.ensures.value ∙ asked.are)))
-          c.pass_beside.ensures.tells;
+          let lies = housed.answers at_d tt s (shown_on represents a b told.looks at_b s shown) in
+          let found = subst (λ (o : Option ℕ). IfSome o (IsWithheldAt s c.in_ok-housed.housed c.deref.result.now)) c.in-Some.is (withheld.answers at_f tt s (shown_on represents a d to_d at_d s shown) judged day) in
+          let same = c.deref.ensures.value ∙ sym c.deref-2.ensures.value in
+          let place = subst (λ (loans : List Loan). IsWithheldAt s c.in_ok-housed.housed loans c.in-Some.place) same found in
+          sym (ap (λ why. unless_refused (option_map WithReader why) c.args.done)
+          (lowest.answers clean tt s (shown_on represents a f to_f at_f s shown) judged day others lies place (c.deref-2.ensures.value ∙ told.answers at_b tt (tables v s).desk shown.desk))));
     }

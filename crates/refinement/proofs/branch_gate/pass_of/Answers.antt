@@ -1,25 +1,36 @@
-use Rattle.std.proofs.Common.{◌≡◌, subst, sym}
-use Rattle.std.specs.List.Sorted.{IsNonDecreasing}
-use Rattle.sqlite.specs.Held.{state}
-use Rattle.office_tables.proofs.Calls.{looks_nowhere, office_of}
-use Rattle.refinement.specs.Gate.{AreEnough, Withholds, gated}
+use Rattle.std.proofs.Common.{◌≡◌, ap, sym, ◌∙◌, Ok, Err}
+use Rattle.std.specs.Prelude.{⊤, Option, ℕ, option_map}
+use Rattle.desk_core.specs.declared.refusal.Refusal.TheVariants.{WithReader}
+use Rattle.desk_store.proofs.ToldCalls.{ends_well}
+use Rattle.office_tables.proofs.CallEnds.{same_fault, tells_not}
+use Rattle.refinement.specs.Gate.{AreEnough, gated, unless_refused}
 use Rattle.refinement.specs.AccessConditions.{CanBeJudged, RepresentsWhole}
-use Rattle.refinement.proofs.Tellings.{told_then}
-use Rattle.refinement.proofs.WithheldUnits.{nothing_rises, nowhere_withholds}
 use Rattle.refinement.proofs.branch_gate.pass_of.Goals as goal
 
-pub pass_beside-requires : goal.pass_beside-requires
-pass_beside-requires g c = record { inside = c.requires.inside; rise = subst IsNonDecreasing (sym c.nowhere.ensures) nothing_rises }
-
-pub returns : goal.returns
-returns g c =
+pub returns-in_err-container : goal.returns-in_err-container
+returns-in_err-container g c =
     let v = g.P.Places.version in
-    let a = state g.S.Store c.args.conn.now in
+    let e = c.from_residual.ensures in
+    let told = c.in_err-container.ensures.tells in
     record {
-      tells = told_then (RepresentsWhole g.P.Places.represents v) CanBeJudged g.S.Store c.args.conn.now c.args.conn.now c.pass_beside.new.conn c.pass_beside.result
-          (λ _ s reply. CanBeJudged s → c.args.today ≡ s.day → Withholds s c.nowhere.result → AreEnough c.args.loans.now s → reply ≡ gated s c.args.done)
-          (λ _ s reply. CanBeJudged s → c.args.today ≡ s.day → AreEnough c.args.loans.now s → reply ≡ gated s c.args.done)
-          (looks_nowhere a (office_of v a c.requires.inside))
-          (λ clean s shown reply is judged day enough. is judged day (nowhere_withholds s c.nowhere.result c.nowhere.ensures) enough)
-          c.pass_beside.ensures.tells;
+      tells = tells_not g.S.Store (RepresentsWhole g.P.Places.represents v) CanBeJudged (λ _. ⊤) c.args.conn.now c.first_closed.new.conn c.from_residual.result (λ _ s reply. CanBeJudged s → c.args.today ≡ s.day → AreEnough c.args.loans.now s → reply ≡ gated s c.args.done) c.in_err-container.field-0.0
+          (same_fault c.from_residual.result c.in_err-container.field-0.0 e.0 e.1) told.cut told.faults;
+    }
+
+pub returns-in-Some : goal.returns-in-Some
+returns-in-Some g c =
+    let told = c.in_ok-container.ensures.tells in
+    record {
+      tells = ends_well (RepresentsWhole g.P.Places.represents g.P.Places.version) CanBeJudged (λ _. ⊤) g.S.Store c.args.conn.now c.args.conn.now c.first_closed.new.conn (λ _ s reply. CanBeJudged s → c.args.today ≡ s.day → AreEnough c.args.loans.now s → reply ≡ gated s c.args.done)
+          told.looks (Err (WithReader c.in-Some.container))
+          (λ clean s shown judged day enough. ap (λ (k : Option ℕ). unless_refused (option_map WithReader k) c.args.done) (sym c.in-Some.is ∙ told.answers clean tt s shown judged day ∙ sym enough));
+    }
+
+pub returns-in-None : goal.returns-in-None
+returns-in-None g c =
+    let told = c.in_ok-container.ensures.tells in
+    record {
+      tells = ends_well (RepresentsWhole g.P.Places.represents g.P.Places.version) CanBeJudged (λ _. ⊤) g.S.Store c.args.conn.now c.args.conn.now c.first_closed.new.conn (λ _ s reply. CanBeJudged s → c.args.today ≡ s.day → AreEnough c.args.loans.now s → reply ≡ gated s c.args.done)
+          told.looks (Ok c.args.done)
+          (λ clean s shown judged day enough. ap (λ (k : Option ℕ). unless_refused (option_map WithReader k) c.args.done) (sym c.in-None.is ∙ told.answers clean tt s shown judged day ∙ sym enough));
     }

@@ -1,4 +1,4 @@
-use Rattle.std.proofs.Common.{◌≡◌, ◌∙◌}
+use Rattle.std.proofs.Common.{◌≡◌}
 use Rattle.std.specs.Prelude.{⊤}
 use Rattle.sqlite.specs.Held.{state}
 use Rattle.desk_store.proofs.ToldCalls.{ends_not, ends_well, shown_on}
@@ -63,13 +63,13 @@ returns-in_err-closed g c =
     let looked = c.in_ok-is_one_without_seat.ensures.tells.looks in
     let same = same_fault c.from_residual-in_err-closed.result c.in_err-closed.field-0.0 e.0 e.1 in
     record {
-      tells = ends_not (RepresentsWhole g.P.Places.represents v) CanBeJudged (λ _. ⊤) g.S.Store c.args.conn.now c.is_one_without_seat.new.conn c.first_closed.new.conn
+      tells = ends_not (RepresentsWhole g.P.Places.represents v) CanBeJudged (λ _. ⊤) g.S.Store c.args.conn.now c.is_one_without_seat.new.conn c.is_one_closed.new.conn
           (λ _ s broken. CanBeJudged s → c.args.today ≡ s.day → c.args.hands ≡ s.settings.hands → broken ≡ are_against_rules s c.args.loans.now)
           looked c.in_err-closed.field-0.0 told.cut
           (λ s it may judged clean free. told.faults tt s it tt judged clean free)
           c.from_residual-in_err-closed.result same;
       disk = λ clean.
-          blames_later (state g.S.Store c.args.conn.now) (state g.S.Store c.is_one_without_seat.new.conn) (state g.S.Store c.first_closed.new.conn) c.from_residual-in_err-closed.result c.in_err-closed.field-0.0 same looked told.cut clean
+          blames_later (state g.S.Store c.args.conn.now) (state g.S.Store c.is_one_without_seat.new.conn) (state g.S.Store c.is_one_closed.new.conn) c.from_residual-in_err-closed.result c.in_err-closed.field-0.0 same looked told.cut clean
           (c.in_err-closed.ensures.disk clean);
     }
 
@@ -78,18 +78,17 @@ returns g c =
     let v = g.P.Places.version in
     let a = state g.S.Store c.args.conn.now in
     let b = state g.S.Store c.is_one_without_seat.new.conn in
-    let d = state g.S.Store c.first_closed.new.conn in
+    let d = state g.S.Store c.is_one_closed.new.conn in
     let seats = c.in_ok-is_one_without_seat.ensures.tells in
     let told = c.in_ok-closed.ensures.tells in
     record {
-      tells = ends_well (RepresentsWhole g.P.Places.represents v) CanBeJudged (λ _. ⊤) g.S.Store c.args.conn.now c.args.conn.now c.first_closed.new.conn
+      tells = ends_well (RepresentsWhole g.P.Places.represents v) CanBeJudged (λ _. ⊤) g.S.Store c.args.conn.now c.args.conn.now c.is_one_closed.new.conn
           (λ _ s broken. CanBeJudged s → c.args.today ≡ s.day → c.args.hands ≡ s.settings.hands → broken ≡ are_against_rules s c.args.loans.now)
           (looks_then a b d seats.looks told.looks) _
           (λ clean s it judged day hands.
           let before = early b d _ told.looks.goes.on.crash clean in
           let at_b = shown_on (RepresentsWhole g.P.Places.represents v) a b seats.looks before s it in
-          c.is_some.ensures
-          ∙ by_openness v s c.args.hands c.args.loans.now c.in_ok-are_too_many.field-0 hands c.in_ok-are_too_many.ensures c.if-branch.false
+          by_openness v s c.args.hands c.args.loans.now c.in_ok-are_too_many.field-0 hands c.in_ok-are_too_many.ensures c.if-branch.false
           c.in_ok-is_one_without_seat.field-0 (seats.answers before tt (tables v s).desk it.desk) c.if-branch-2.false
           c.in_ok-closed.closed (told.answers clean tt s at_b judged day));
       disk = λ clean. tt;

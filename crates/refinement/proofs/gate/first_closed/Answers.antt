@@ -1,25 +1,88 @@
-use Rattle.std.proofs.Common.{◌≡◌, subst, sym}
-use Rattle.std.specs.List.Sorted.{IsNonDecreasing}
+use Rattle.std.proofs.Common.{◌≡◌, true, false, not, refl, sym, ap, subst, ◌∙◌}
+use Rattle.std.specs.Prelude.{⊤, option_map, slice_index_or}
 use Rattle.sqlite.specs.Held.{state}
-use Rattle.office_tables.proofs.Calls.{looks_nowhere, office_of}
-use Rattle.refinement.specs.Gate.{Withholds, first_closed}
+use Rattle.desk_store.proofs.ToldCalls.{ends_not, ends_well, shown_on}
+use Rattle.desk_store.specs.declared.holdings.Loan.{Loan}
+use Rattle.office_tables.proofs.CallEnds.{same_fault}
+use Rattle.office_tables.proofs.Calls.{early, looks_nowhere, looks_then, office_of, still}
+use Rattle.refinement.specs.Gate.{first_closed, is_closed_to}
 use Rattle.refinement.specs.AccessConditions.{CanBeJudged, RepresentsWhole}
-use Rattle.refinement.proofs.Tellings.{told_then}
-use Rattle.refinement.proofs.WithheldUnits.{nothing_rises, nowhere_withholds}
+use Rattle.refinement.specs.Openness.{AreClean}
+use Rattle.refinement.proofs.DiskBlames.{blames_later}
+use Rattle.refinement.proofs.Gates.{first_here, none_more}
 use Rattle.refinement.proofs.gate.first_closed.Goals as goal
 
-pub first_closed_beside-requires : goal.first_closed_beside-requires
-first_closed_beside-requires g c = record { inside = c.requires.inside; rise = subst IsNonDecreasing (sym c.nowhere.ensures) nothing_rises }
-
-pub returns : goal.returns
-returns g c =
-    let v = g.P.Places.version in
+pub loop-loan-init : goal.loop-loan-init
+loop-loan-init g c =
     let a = state g.S.Store c.args.conn.now in
     record {
-      tells = told_then (RepresentsWhole g.P.Places.represents v) CanBeJudged g.S.Store c.args.conn.now c.args.conn.now c.first_closed_beside.new.conn c.first_closed_beside.result
-          (λ _ s found. CanBeJudged s → c.args.today ≡ s.day → Withholds s c.nowhere.result → found ≡ first_closed s c.args.loans.now) (λ _ s found. CanBeJudged s → c.args.today ≡ s.day → found ≡ first_closed s c.args.loans.now)
-          (looks_nowhere a (office_of v a c.requires.inside))
-          (λ clean s shown found is judged day. is judged day (nowhere_withholds s c.nowhere.result c.nowhere.ensures))
-          c.first_closed_beside.ensures.tells;
-      disk = c.first_closed_beside.ensures.disk;
+      inside = c.requires.inside;
+      looks = looks_nowhere a (office_of g.P.Places.version a c.requires.inside);
+      so_far = λ clean s judged it day. refl;
+      known = λ clean s judged it day. subst (AreClean s) (sym c.new-clean.ensures.items) refl;
+    }
+
+pub judge-requires : goal.judge-requires
+judge-requires g c = record { inside = c.loop-loan.invariant.inside }
+
+pub returns-in_err-found : goal.returns-in_err-found
+returns-in_err-found g c =
+    let v = g.P.Places.version in
+    let e = c.from_residual.ensures in
+    let told = c.in_err-found.ensures.tells in
+    let looked = c.loop-loan.invariant.looks in
+    let same = same_fault c.from_residual.result c.in_err-found.field-0.0 e.0 e.1 in
+    record {
+      tells = ends_not (RepresentsWhole g.P.Places.represents v) CanBeJudged (λ _. ⊤) g.S.Store c.args.conn.now c.loop-loan.conn c.judge.new.conn (λ _ s found. CanBeJudged s → c.args.today ≡ s.day → found ≡ first_closed s c.args.loans.now)
+          looked c.in_err-found.field-0.0 told.cut
+          (λ s it may judged clean free. told.faults tt s it tt judged clean free)
+          c.from_residual.result same;
+      disk = λ clean.
+          blames_later (state g.S.Store c.args.conn.now) (state g.S.Store c.loop-loan.conn) (state g.S.Store c.judge.new.conn) c.from_residual.result c.in_err-found.field-0.0 same looked told.cut clean
+          (c.in_err-found.ensures.disk clean);
+    }
+
+pub returns-then-not-found : goal.returns-then-not-found
+returns-then-not-found g c =
+    let v = g.P.Places.version in
+    let a = state g.S.Store c.args.conn.now in
+    let b = state g.S.Store c.loop-loan.conn in
+    let d = state g.S.Store c.judge.new.conn in
+    let looks = c.loop-loan.invariant.looks in
+    let told = c.in_ok-found.ensures.tells in
+    let none : Loan = record { container = 0; order = 0; ticket = 0 } in
+    let i = c.loop-loan.loan-index in
+    record {
+      tells = ends_well (RepresentsWhole g.P.Places.represents v) CanBeJudged (λ _. ⊤) g.S.Store c.args.conn.now c.args.conn.now c.judge.new.conn (λ _ s found. CanBeJudged s → c.args.today ≡ s.day → found ≡ first_closed s c.args.loans.now)
+          (looks_then a b d looks told.looks) _
+          (λ clean s it judged day.
+          let before = early b d _ told.looks.goes.on.crash clean in
+          let at_b = shown_on (RepresentsWhole g.P.Places.represents v) a b looks before s it in
+          let shut : is_closed_to s (slice_index_or c.args.loans.now i none) ≡ true = ap not (sym (told.answers clean tt s at_b judged day (c.loop-loan.invariant.known before s judged it day)).0) ∙ c.if-not-found.true in
+          ap (option_map (λ (l : Loan). l.container)) (sym (first_here (is_closed_to s) c.args.loans.now i none (c.loop-loan.invariant.so_far before s judged it day) c.loop-loan-test.true shut)));
+      disk = λ clean. tt;
+    }
+
+pub loop-loan-preserved : goal.loop-loan-preserved
+loop-loan-preserved g c =
+    let v = g.P.Places.version in
+    let a = state g.S.Store c.args.conn.now in
+    let b = state g.S.Store c.loop-loan.conn in
+    let d = state g.S.Store c.judge.new.conn in
+    let looks = c.loop-loan.invariant.looks in
+    let told = c.in_ok-found.ensures.tells in
+    let none : Loan = record { container = 0; order = 0; ticket = 0 } in
+    let i = c.loop-loan.loan-index in
+    record {
+      inside = still v b d c.loop-loan.invariant.inside told.looks.goes;
+      looks = looks_then a b d looks told.looks;
+      so_far = λ clean s judged it day.
+          let before = early b d _ told.looks.goes.on.crash clean in
+          let at_b = shown_on (RepresentsWhole g.P.Places.represents v) a b looks before s it in
+          let open_to : is_closed_to s (slice_index_or c.args.loans.now i none) ≡ false = ap not (sym (told.answers clean tt s at_b judged day (c.loop-loan.invariant.known before s judged it day)).0) ∙ c.if-not-found.false in
+          none_more (is_closed_to s) c.args.loans.now i none (c.loop-loan.invariant.so_far before s judged it day) c.loop-loan-test.true open_to;
+      known = λ clean s judged it day.
+          let before = early b d _ told.looks.goes.on.crash clean in
+          let at_b = shown_on (RepresentsWhole g.P.Places.represents v) a b looks before s it in
+          (told.answers clean tt s at_b judged day (c.loop-loan.invariant.known before s judged it day)).1;
     }

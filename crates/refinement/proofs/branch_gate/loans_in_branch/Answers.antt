@@ -1,0 +1,37 @@
+use Rattle.std.proofs.Common.{nat_eq, ap, sym, subst, ◌∙◌}
+use Rattle.std.specs.Prelude.{⊤}
+use Rattle.std.specs.List.Sorted.{IsNonDecreasing}
+use Rattle.std.proofs.lemmas.List.Sorted.{IsNonDecreasingBy-from_sort, list_any-IsPermutation}
+use Rattle.desk_store.proofs.ToldCalls.{ends_well}
+use Rattle.office_tables.proofs.CallEnds.{same_fault, tells_not}
+use Rattle.refinement.specs.Gate.{AreAsked, IsHoused, is_one_of}
+use Rattle.refinement.specs.AccessConditions.{CanBeJudged, RepresentsWhole}
+use Rattle.refinement.proofs.branch_gate.loans_in_branch.Goals as goal
+
+pub returns-in_err-containers : goal.returns-in_err-containers
+returns-in_err-containers g c =
+    let v = g.P.Places.version in
+    let e = c.from_residual.ensures in
+    let told = c.in_err-containers.ensures.tells in
+    record {
+      tells = tells_not g.S.Store (RepresentsWhole g.P.Places.represents v) CanBeJudged (λ _. ⊤) c.args.conn.now c.containers_near.new.conn c.from_residual.result (λ _ s found. IsHoused c.args.unit s c.args.housed.now → AreAsked c.args.unit s c.args.loans.now found.items) c.in_err-containers.field-0.0
+          (same_fault c.from_residual.result c.in_err-containers.field-0.0 e.0 e.1) told.cut told.faults;
+    }
+
+pub loans_of-requires : goal.loans_of-requires
+loans_of-requires g c = record { rise = subst IsNonDecreasing (sym c.deref.ensures.value) (IsNonDecreasingBy-from_sort (λ n. n) _ c.sort_unstable.ensures.sorted) }
+
+pub returns : goal.returns
+returns g c =
+    let v = g.P.Places.version in
+    let told = c.in_ok-containers.ensures.tells in
+    record {
+      tells = ends_well (RepresentsWhole g.P.Places.represents v) CanBeJudged (λ _. ⊤) g.S.Store c.args.conn.now c.args.conn.now c.containers_near.new.conn (λ _ s found. IsHoused c.args.unit s c.args.housed.now → AreAsked c.args.unit s c.args.loans.now found.items)
+          told.looks _
+          (λ clean s shown housed.
+          record {
+            test = λ k. is_one_of k c.deref.result.now;
+            near = λ k far. sym (told.answers clean tt s shown housed k) ∙ list_any-IsPermutation (λ m. nat_eq m k) _ _ c.sort_unstable.ensures.permutation ∙ sym (ap (is_one_of k) c.deref.ensures.value) ∙ far;
+            are = c.in_ok-loans_of.ensures;
+          });
+    }

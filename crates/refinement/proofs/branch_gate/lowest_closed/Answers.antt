@@ -1,0 +1,91 @@
+use Rattle.std.proofs.Common.{◌≡◌, ℕ, List, Some, ap, sym, ◌∙◌}
+use Rattle.std.specs.Prelude.{⊤}
+use Rattle.sqlite.specs.Held.{state}
+use Rattle.desk_store.specs.Holdings.{issued_of}
+use Rattle.desk_store.specs.declared.holdings.Loan.{Loan}
+use Rattle.desk_store.proofs.ToldCalls.{ends_not, ends_well, shown_on}
+use Rattle.office_core.specs.Rules.{kept}
+use Rattle.office_core.specs.State.{State}
+use Rattle.state_encoding.specs.OfficeRows.{tables}
+use Rattle.tree_core.specs.Versions.{Version}
+use Rattle.office_tables.proofs.CallEnds.{same_fault, tells_not}
+use Rattle.office_tables.proofs.Calls.{early, looks_then, still}
+use Rattle.refinement.specs.AccessConditions.{CanBeJudged, RepresentsWhole}
+use Rattle.refinement.specs.Gate.{IsHoused, IsWithheldAt, OthersAreOpen, first_closed}
+use Rattle.refinement.specs.declared.housed_units.HousedUnit.{HousedUnit}
+use Rattle.refinement.proofs.EarlyRefusals.{refused_before, refused_there}
+use Rattle.refinement.proofs.branch_gate.lowest_closed.Goals as goal
+
+-- what the call tells
+abbrev Tells : Version → ℕ → HousedUnit → List Loan → ℕ → State → ℕ → Type 0
+Tells v u it loans place s container =
+    OthersAreOpen u s → IsHoused u s it → IsWithheldAt s it loans place → loans ≡ issued_of (tables v s).desk → kept s ≡ Some container
+
+pub returns-in_err-lower : goal.returns-in_err-lower
+returns-in_err-lower g c =
+    let v = g.P.Places.version in
+    let e = c.from_residual.ensures in
+    let told = c.in_err-lower.ensures.tells in
+    record {
+      tells = tells_not g.S.Store (RepresentsWhole g.P.Places.represents v) CanBeJudged (λ _. ⊤) c.args.conn.now c.lower_loans.new.conn c.from_residual.result
+          (λ _ s container. CanBeJudged s → c.args.today ≡ s.day → Tells v c.args.unit c.args.housed.now c.args.loans.now c.args.place s container) c.in_err-lower.field-0.0
+          (same_fault c.from_residual.result c.in_err-lower.field-0.0 e.0 e.1) told.cut told.faults;
+    }
+
+pub first_closed-requires : goal.first_closed-requires
+first_closed-requires g c =
+    record { inside = still g.P.Places.version (state g.S.Store c.args.conn.now) (state g.S.Store c.lower_loans.new.conn) c.requires.inside c.in_ok-lower.ensures.tells.looks.goes }
+
+pub returns-in_err-container : goal.returns-in_err-container
+returns-in_err-container g c =
+    let v = g.P.Places.version in
+    let e = c.from_residual-in_err-container.ensures in
+    let told = c.in_err-container.ensures.tells in
+    record {
+      tells = ends_not (RepresentsWhole g.P.Places.represents v) CanBeJudged (λ _. ⊤) g.S.Store c.args.conn.now c.lower_loans.new.conn c.first_closed.new.conn
+          (λ _ s container. CanBeJudged s → c.args.today ≡ s.day → Tells v c.args.unit c.args.housed.now c.args.loans.now c.args.place s container)
+          c.in_ok-lower.ensures.tells.looks c.in_err-container.field-0.0 told.cut
+          (λ s it may judged clean free. told.faults tt s it tt judged clean free)
+          c.from_residual-in_err-container.result (same_fault c.from_residual-in_err-container.result c.in_err-container.field-0.0 e.0 e.1);
+    }
+
+pub returns-in-Some : goal.returns-in-Some
+returns-in-Some g c =
+    let v = g.P.Places.version in
+    let represents = RepresentsWhole g.P.Places.represents v in
+    let a = state g.S.Store c.args.conn.now in
+    let b = state g.S.Store c.lower_loans.new.conn in
+    let d = state g.S.Store c.first_closed.new.conn in
+    let asked = c.in_ok-lower.ensures.tells in
+    let told = c.in_ok-container.ensures.tells in
+    record {
+      tells = ends_well represents CanBeJudged (λ _. ⊤) g.S.Store c.args.conn.now c.args.conn.now c.first_closed.new.conn
+          (λ _ s container. CanBeJudged s → c.args.today ≡ s.day → Tells v c.args.unit c.args.housed.now c.args.loans.now c.args.place s container)
+          (looks_then a b d asked.looks told.looks) c.in-Some.container
+          (λ clean s it judged day others housed withheld are.
+          let before = early b d _ told.looks.goes.on.crash clean in
+          let near = asked.answers before tt s it judged housed in
+          refused_before v s judged c.args.unit others c.args.housed.now housed c.args.loans.now c.in_ok-lower.lower.items c.args.place are near c.in-Some.container
+          (sym c.in-Some.is ∙ told.answers clean tt s (shown_on represents a b asked.looks before s it) judged day ∙ ap (first_closed s) c.deref.ensures.value));
+    }
+
+pub returns : goal.returns
+returns g c =
+    let v = g.P.Places.version in
+    let represents = RepresentsWhole g.P.Places.represents v in
+    let a = state g.S.Store c.args.conn.now in
+    let b = state g.S.Store c.lower_loans.new.conn in
+    let d = state g.S.Store c.first_closed.new.conn in
+    let asked = c.in_ok-lower.ensures.tells in
+    let told = c.in_ok-container.ensures.tells in
+    let none : Loan = record { container = 0; order = 0; ticket = 0 } in
+    record {
+      tells = ends_well represents CanBeJudged (λ _. ⊤) g.S.Store c.args.conn.now c.args.conn.now c.first_closed.new.conn
+          (λ _ s container. CanBeJudged s → c.args.today ≡ s.day → Tells v c.args.unit c.args.housed.now c.args.loans.now c.args.place s container)
+          (looks_then a b d asked.looks told.looks) _
+          (λ clean s it judged day others housed withheld are.
+          let before = early b d _ told.looks.goes.on.crash clean in
+          let near = asked.answers before tt s it judged housed in
+          refused_there v s judged c.args.unit others c.args.housed.now housed c.args.loans.now c.in_ok-lower.lower.items c.args.place are near withheld none
+          (sym c.in-None.is ∙ told.answers clean tt s (shown_on represents a b asked.looks before s it) judged day ∙ ap (first_closed s) c.deref.ensures.value));
+    }

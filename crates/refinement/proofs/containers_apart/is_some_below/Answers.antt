@@ -1,0 +1,74 @@
+use Rattle.std.proofs.Common.{◌≡◌, true, false, [], ◌∷◌, get_or, take, refl, sym, ap, ap₂, ◌∙◌}
+use Rattle.std.specs.Prelude.{⊤, ◌||◌}
+use Rattle.std.specs.List.{list_any}
+use Rattle.std.proofs.lemmas.List.{take_more}
+use Rattle.std.proofs.lemmas.List.Folds.{list_any-append}
+use Rattle.sqlite.specs.Held.{state}
+use Rattle.tree_core.specs.Forest.{each}
+use Rattle.catalogue_core.specs.Units.{Unit}
+use Rattle.desk_store.proofs.ToldCalls.{ends_not, ends_well, shown_on}
+use Rattle.office_tables.proofs.CallEnds.{same_fault}
+use Rattle.office_tables.proofs.Calls.{early, looks_nowhere, looks_then, office_of, still}
+use Rattle.refinement.specs.AccessConditions.{CanBeJudged, RepresentsWhole}
+use Rattle.refinement.specs.Gate.{is_on_path}
+use Rattle.refinement.proofs.containers_apart.is_some_below.Goals as goal
+
+pub loop-unit-init : goal.loop-unit-init
+loop-unit-init g c =
+    let a = state g.S.Store c.args.conn.now in
+    record {
+      inside = c.requires.inside;
+      looks = looks_nowhere a (office_of g.P.Places.version a c.requires.inside);
+      so_far = λ clean s it. refl;
+    }
+
+pub returns-then-unit-ge-NO_NUMBER : goal.returns-then-unit-ge-NO_NUMBER
+returns-then-unit-ge-NO_NUMBER g c =
+    record {
+      tells = ends_well (RepresentsWhole g.P.Places.represents g.P.Places.version) CanBeJudged (λ _. ⊤) g.S.Store c.args.conn.now c.args.conn.now c.loop-unit.conn (λ _ s found. found ≡ false → list_any (is_on_path c.args.other s) c.args.units.now ≡ false)
+          c.loop-unit.invariant.looks true (λ clean s it no. absurd (cc));
+    }
+
+pub returns-in_err-is_below : goal.returns-in_err-is_below
+returns-in_err-is_below g c =
+    let e = c.from_residual.ensures in
+    let told = c.in_err-is_below.ensures.tells in
+    record {
+      tells = ends_not (RepresentsWhole g.P.Places.represents g.P.Places.version) CanBeJudged (λ _. ⊤) g.S.Store c.args.conn.now c.loop-unit.conn c.is_below.new.conn (λ _ s found. found ≡ false → list_any (is_on_path c.args.other s) c.args.units.now ≡ false)
+          c.loop-unit.invariant.looks c.in_err-is_below.field-0.0 told.cut
+          (λ s it may judged clean free. told.faults tt (each (λ (u : Unit). u.id) s.catalogue.forest) it.catalogue.shown tt judged.catalogue.places clean free)
+          c.from_residual.result (same_fault c.from_residual.result c.in_err-is_below.field-0.0 e.0 e.1);
+    }
+
+pub returns-then-branch : goal.returns-then-branch
+returns-then-branch g c =
+    let a = state g.S.Store c.args.conn.now in
+    let b = state g.S.Store c.loop-unit.conn in
+    let d = state g.S.Store c.is_below.new.conn in
+    record {
+      tells = ends_well (RepresentsWhole g.P.Places.represents g.P.Places.version) CanBeJudged (λ _. ⊤) g.S.Store c.args.conn.now c.args.conn.now c.is_below.new.conn (λ _ s found. found ≡ false → list_any (is_on_path c.args.other s) c.args.units.now ≡ false)
+          (looks_then a b d c.loop-unit.invariant.looks c.in_ok-is_below.ensures.tells.looks) true (λ clean s it no. absurd (cc));
+    }
+
+pub loop-unit-preserved : goal.loop-unit-preserved
+loop-unit-preserved g c =
+    let v = g.P.Places.version in
+    let a = state g.S.Store c.args.conn.now in
+    let b = state g.S.Store c.loop-unit.conn in
+    let d = state g.S.Store c.is_below.new.conn in
+    let looks = c.loop-unit.invariant.looks in
+    let told = c.in_ok-is_below.ensures.tells in
+    let units = c.args.units.now in
+    let i = c.loop-unit.unit-index in
+    record {
+      inside = still v b d c.loop-unit.invariant.inside told.looks.goes;
+      looks = looks_then a b d looks told.looks;
+      so_far = λ clean s it.
+          let before = early b d _ told.looks.goes.on.crash clean in
+          let at_b = shown_on (RepresentsWhole g.P.Places.represents v) a b looks before s it in
+          let test = is_on_path c.args.other s in
+          let here : test (get_or units i 0) ≡ false = sym (told.answers clean tt (each (λ (u : Unit). u.id) s.catalogue.forest) at_b.catalogue.shown) ∙ c.if-branch.false in
+          ap (list_any test) (take_more units i 0 c.loop-unit-test.true)
+          ∙ list_any-append test (take i units) (get_or units i 0 ∷ [])
+          ∙ ap₂ ◌||◌ (c.loop-unit.invariant.so_far before s it) (ap (λ b. b || false) here);
+    }
