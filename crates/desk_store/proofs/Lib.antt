@@ -1,4 +1,5 @@
 pub mod Creations
+pub mod Statements
 pub mod SeatRows
 pub mod NumbersOf
 pub mod Frames

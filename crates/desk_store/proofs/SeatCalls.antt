@@ -12,10 +12,11 @@ use Rattle.office_tables.specs.ChangeStatement.{Leaves}
 use Rattle.office_tables.specs.Faults.{FaultsHaveCause}
 use Rattle.office_tables.specs.Schema.{seat}
 use Rattle.office_tables.specs.Schema as tables
-use Rattle.office_tables.specs.Step.{Holds, HasRows, PutsRow, OnlyTouches}
+use Rattle.office_tables.specs.Step.{Holds, HasRows, OnlyTouches}
 use Rattle.office_tables.specs.declared.fault.StoreFault.{StoreFault}
 use Rattle.office_tables.proofs.Calls.{on_ok_then}
 use Rattle.office_tables.proofs.Puts.{put_rows, put_rises}
+use Rattle.desk_store.specs.TableStatements.{Puts}
 use Rattle.desk_store.specs.Rows.{seat_cells}
 use Rattle.desk_store.specs.Seats.{MayTake, with_seat}
 use Rattle.desk_store.specs.Representation.{RepresentsDeskAlone, IsLegible}
@@ -33,19 +34,18 @@ module _ {S : Type 0} (g : store.Ghosts S) (before after : Held S) (r : Result U
   abbrev new : State
   new = state g after
 
-  pub takes : (n t : ℕ) → Leaves old new r → (HasCleanDisk new → OnOk r (PutsRow tables.seat.tree (seat_cells (record { seat = n; ticket = t })) old.now new.now))
-      → ((xs : List SeatRow) → Holds seat seat_cells old xs → list_any (λ (s : SeatRow). nat_eq n s.seat) xs ≡ false → list_any (λ (s : SeatRow). nat_eq t s.ticket) xs ≡ false → FaultsHaveCause old new r)
+  pub takes : (n t : ℕ) → Puts g tables.seat seat_cells before after r (record { seat = n; ticket = t }) (λ xs. (list_any (λ s. nat_eq n s.seat) xs ≡ false) × (list_any (λ s. nat_eq t s.ticket) xs ≡ false))
       → StoreUpdates g RepresentsDeskAlone IsLegible before after r (MayTake n (Some t)) (with_seat n (Some t)) (tables.seat.tree ∷ [])
-  takes n t leaves puts faults = record {
+  takes n t it = record {
     represents_updated = λ clean beside d shown may. on_ok_then r _ _ (λ put.
         with_seats old.now new.now d shown _ put.only
         (put.rows ∙ ap (put_row (seat_cells (record { seat = n; ticket = t }))) shown.seats ∙ put_rows seat_cells seat_key (λ _. refl) (record { seat = n; ticket = t }) d.seats)
-        (put_rises seat_cells seat_key (λ _. refl) (record { seat = n; ticket = t }) d.seats shown.seats_rise)) (puts clean);
-    only = λ clean. on_ok_then r _ _ (λ put. put.only) (puts clean);
-    goes = leaves.goes;
-    cut = leaves.cut;
-    spares = λ clean. untouched_last (tables.seat.tree ∷ []) old new r (leaves.spares clean);
-    faults = λ beside d shown may kept. faults d.seats shown.seats may.0 may.1;
+        (put_rises seat_cells seat_key (λ _. refl) (record { seat = n; ticket = t }) d.seats shown.seats_rise)) (it.puts clean);
+    only = λ clean. on_ok_then r _ _ (λ put. put.only) (it.puts clean);
+    goes = it.leaves.goes;
+    cut = it.leaves.cut;
+    spares = λ clean. untouched_last (tables.seat.tree ∷ []) old new r (it.leaves.spares clean);
+    faults = λ beside d shown may kept. it.faults d.seats shown.seats may;
   }
 
   pub frees : (n : ℕ) → Leaves old new r → (HasCleanDisk new → (xs : List SeatRow) → Holds seat seat_cells old xs → AreByNumber (λ (s : SeatRow). s.seat) xs → OnOk r (HasRows tables.seat.tree (map seat_cells (filter (λ (s : SeatRow). not (nat_eq n s.seat)) xs)) old.now new.now))

@@ -1,5 +1,6 @@
 pub mod TableCreation
 pub mod Rows
+pub mod TableStatements
 pub mod Representation
 pub mod Readers
 pub mod Seats

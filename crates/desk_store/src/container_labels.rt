@@ -1,19 +1,17 @@
 //! Which containers there are, and what is written on them. Their table belongs to the catalogue.
 
-ghost use Rattle.std.specs.Prelude.{◌≡◌, ℕ, nat_eq, true, List, map, filter, IfOk, IfSome, ⊤, is_some, option_map, slice_get};
+ghost use Rattle.std.specs.Prelude.{◌≡◌, ℕ, nat_eq, true, map, filter, IfOk, IfSome, ⊤, is_some, option_map, slice_get};
 ghost use Rattle.std.specs.List.{AllByRecursion};
 ghost use Rattle.sqlite.specs.Held.{state};
-ghost use Rattle.sqlite.specs.State.{HasCleanDisk};
 ghost use Rattle.isad_core.specs.LegibleValues.{IsLegibleBox};
 ghost use Rattle.isad_core.specs.declared.values.BoxKey.{BoxKey};
 ghost use Rattle.isad_core.specs.Limits.{IsNumber};
-ghost use Rattle.office_tables.specs.Query.{Reads};
 ghost use Rattle.office_tables.specs.Calls.{StoreAnswers};
-ghost use Rattle.office_tables.specs.Faults.{FaultsHaveCause};
 ghost use Rattle.office_tables.specs.Schema as tables;
 ghost use Rattle.office_tables.specs.SharedRows.{container_row};
 ghost use Rattle.office_tables.specs.Step.{InOffice, Holds};
 ghost use Rattle.office_tables.specs.RowNumbers.{AreCounted};
+ghost use Rattle.desk_store.specs.TableStatements.{LooksUp};
 ghost use Rattle.desk_store.specs.Stacks.{RepresentsQueues, IsLegibleStacks, box_with};
 
 use isad_core::BoxKey;
@@ -31,14 +29,10 @@ fn boxes_with<S: Alter>(
 ) -> Result<Vec<BoxKey>, StoreFault>
     requires inside { InOffice (state S.Store conn.old) }
     requires small { IsNumber container }
-    ensures reads { Reads (state S.Store conn.old) (state S.Store conn.new) result }
-    ensures rows { HasCleanDisk (state S.Store conn.new) → (bs : List (ℕ × BoxKey))
-        → Holds tables.container container_row (state S.Store conn.old) bs → AreCounted (λ b. b.0) bs
-        → IfOk result (λ found. found.items ≡ map (λ (b : ℕ × BoxKey). b.1)
+    ensures { LooksUp S.Store (Holds tables.container container_row) conn.old conn.new result
+        (AreCounted (λ b. b.0)) (AllByRecursion (λ b. IsLegibleBox b.1))
+        (λ bs found. found.items ≡ map (λ (b : ℕ × BoxKey). b.1)
         (filter (λ (b : ℕ × BoxKey). nat_eq container b.0) bs)) }
-    ensures faults { (bs : List (ℕ × BoxKey)) → Holds tables.container container_row (state S.Store conn.old) bs
-        → AllByRecursion (λ b. IsLegibleBox b.1) bs
-        → FaultsHaveCause (state S.Store conn.old) (state S.Store conn.new) result }
 {
     find(
         alloc,
@@ -74,13 +68,10 @@ fn numbers_with<S: Alter>(
 ) -> Result<Vec<u64>, StoreFault>
     requires inside { InOffice (state S.Store conn.old) }
     requires small { IsNumber container }
-    ensures reads { Reads (state S.Store conn.old) (state S.Store conn.new) result }
-    ensures rows { HasCleanDisk (state S.Store conn.new) → (bs : List (ℕ × BoxKey))
-        → Holds tables.container container_row (state S.Store conn.old) bs → AreCounted (λ b. b.0) bs
-        → IfOk result (λ found. found.items ≡ map (λ (b : ℕ × BoxKey). b.0)
+    ensures { LooksUp S.Store (Holds tables.container container_row) conn.old conn.new result
+        (AreCounted (λ b. b.0)) (λ _. ⊤)
+        (λ bs found. found.items ≡ map (λ (b : ℕ × BoxKey). b.0)
         (filter (λ (b : ℕ × BoxKey). nat_eq container b.0) bs)) }
-    ensures faults { (bs : List (ℕ × BoxKey)) → Holds tables.container container_row (state S.Store conn.old) bs
-        → FaultsHaveCause (state S.Store conn.old) (state S.Store conn.new) result }
 {
     find(
         alloc,

@@ -1,14 +1,12 @@
 //! Containers at the desk.
 
-ghost use Rattle.std.specs.Prelude.{◌≡◌, nat_eq, List, map, filter, IfOk, ⊤};
+ghost use Rattle.std.specs.Prelude.{◌≡◌, nat_eq, map, filter, ⊤};
 ghost use Rattle.sqlite.specs.Held.{state};
-ghost use Rattle.sqlite.specs.State.{HasCleanDisk};
 ghost use Rattle.desk_core.specs.DeskRows.{HoldingRow};
-ghost use Rattle.office_tables.specs.Query.{Reads};
 ghost use Rattle.office_tables.specs.Calls.{StoreAnswers};
-ghost use Rattle.office_tables.specs.Faults.{FaultsHaveCause};
 ghost use Rattle.office_tables.specs.Schema as tables;
 ghost use Rattle.office_tables.specs.Step.{InOffice, Holds};
+ghost use Rattle.desk_store.specs.TableStatements.{LooksUp};
 ghost use Rattle.desk_store.specs.Holdings.{at_desk_of};
 ghost use Rattle.desk_store.specs.Rows.{holding_cells};
 ghost use Rattle.desk_store.specs.Representation.{RepresentsDeskAlone, IsLegible};
@@ -23,13 +21,10 @@ use std::alloc::Global;
 /// that is not on the shelf.
 fn desk_lines<S: Alter>(alloc: Global, conn: &mut Connection<S>) -> Result<Vec<u64>, StoreFault>
     requires inside { InOffice (state S.Store conn.old) }
-    ensures reads { Reads (state S.Store conn.old) (state S.Store conn.new) result }
-    ensures rows { HasCleanDisk (state S.Store conn.new) → (xs : List HoldingRow)
-        → Holds tables.holding holding_cells (state S.Store conn.old) xs → AreByNumber (λ h. h.container) xs
-        → IfOk result (λ found. found.items ≡ map (λ (h : HoldingRow). h.container)
+    ensures { LooksUp S.Store (Holds tables.holding holding_cells) conn.old conn.new result
+        (AreByNumber (λ h. h.container)) (λ _. ⊤)
+        (λ xs found. found.items ≡ map (λ (h : HoldingRow). h.container)
         (filter (λ (h : HoldingRow). nat_eq 1 h.place) xs)) }
-    ensures faults { (xs : List HoldingRow) → Holds tables.holding holding_cells (state S.Store conn.old) xs
-        → FaultsHaveCause (state S.Store conn.old) (state S.Store conn.new) result }
 {
     find(
         alloc,

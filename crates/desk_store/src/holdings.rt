@@ -1,16 +1,13 @@
 //! Where containers are.
 
-ghost use Rattle.std.specs.Prelude.{◌≡◌, not, nat_eq, false, List, [], ◌∷◌, map, filter, OnOk, IfSome, ⊤};
+ghost use Rattle.std.specs.Prelude.{◌≡◌, not, nat_eq, false, [], ◌∷◌, filter, IfSome, ⊤};
 ghost use Rattle.std.specs.List.{list_any};
 ghost use Rattle.sqlite.specs.Held.{state};
-ghost use Rattle.sqlite.specs.State.{HasCleanDisk};
 ghost use Rattle.isad_core.specs.Limits.{IsNumber};
-ghost use Rattle.desk_core.specs.DeskRows.{HoldingRow};
 ghost use Rattle.office_tables.specs.Calls.{StoreUpdates};
-ghost use Rattle.office_tables.specs.ChangeStatement.{Leaves};
-ghost use Rattle.office_tables.specs.Faults.{FaultsHaveCause};
 ghost use Rattle.office_tables.specs.Schema as tables;
-ghost use Rattle.office_tables.specs.Step.{InOffice, Holds, HasRows, OnlyTouches, PutsRow};
+ghost use Rattle.office_tables.specs.Step.{InOffice};
+ghost use Rattle.desk_store.specs.TableStatements.{Puts, Thins};
 ghost use Rattle.desk_store.specs.Holdings.{by_order, with_place};
 ghost use Rattle.desk_store.specs.Rows.{holding_cells};
 ghost use Rattle.desk_store.specs.Representation.{RepresentsDeskAlone, IsLegible};
@@ -41,16 +38,8 @@ pub struct FirstOrder {
 fn clear_holding<S: Alter>(conn: &mut Connection<S>, container: u64) -> Result<(), StoreFault>
     requires inside { InOffice (state S.Store conn.old) }
     requires number { IsNumber container }
-    ensures leaves { Leaves (state S.Store conn.old) (state S.Store conn.new) result }
-    ensures rows { HasCleanDisk (state S.Store conn.new) → (xs : List HoldingRow)
-        → Holds tables.holding holding_cells (state S.Store conn.old) xs → AreByNumber (λ h. h.container) xs
-        → OnOk result (HasRows tables.holding.tree
-        (map holding_cells (filter (λ h. not (nat_eq container h.container)) xs)) (state S.Store conn.old).now
-        (state S.Store conn.new).now) }
-    ensures only { HasCleanDisk (state S.Store conn.new)
-        → OnOk result (OnlyTouches (tables.holding.tree ∷ []) (state S.Store conn.old).now
-        (state S.Store conn.new).now) }
-    ensures faults { FaultsHaveCause (state S.Store conn.old) (state S.Store conn.new) result }
+    ensures { Thins S.Store tables.holding holding_cells conn.old conn.new result (AreByNumber (λ h. h.container))
+        (filter (λ h. not (nat_eq container h.container))) }
 {
     change(
         conn,
@@ -70,14 +59,9 @@ fn insert_holding<S: Alter>(
     requires number { IsNumber container }
     requires small { IsNumber place }
     requires known { IfSome held_by IsNumber }
-    ensures leaves { Leaves (state S.Store conn.old) (state S.Store conn.new) result }
-    ensures puts { HasCleanDisk (state S.Store conn.new)
-        → OnOk result (PutsRow tables.holding.tree
-        (holding_cells (record { container = container; place = place; held_by = held_by }))
-        (state S.Store conn.old).now (state S.Store conn.new).now) }
-    ensures faults { (xs : List HoldingRow) → Holds tables.holding holding_cells (state S.Store conn.old) xs
-        → list_any (λ h. nat_eq container h.container) xs ≡ false
-        → FaultsHaveCause (state S.Store conn.old) (state S.Store conn.new) result }
+    ensures { Puts S.Store tables.holding holding_cells conn.old conn.new result
+        (record { container = container; place = place; held_by = held_by })
+        (λ xs. list_any (λ h. nat_eq container h.container) xs ≡ false) }
 {
     change(
         conn,

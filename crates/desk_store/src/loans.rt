@@ -1,15 +1,13 @@
 //! Containers that are with readers.
 
-ghost use Rattle.std.specs.Prelude.{◌≡◌, nat_eq, List, map, filter, IfOk, ⊤};
+ghost use Rattle.std.specs.Prelude.{◌≡◌, nat_eq, map, filter, ⊤};
 ghost use Rattle.sqlite.specs.Held.{state};
-ghost use Rattle.sqlite.specs.State.{HasCleanDisk};
 ghost use Rattle.isad_core.specs.Limits.{IsNumber};
 ghost use Rattle.desk_core.specs.DeskRows.{HoldingRow, OrderRow};
-ghost use Rattle.office_tables.specs.Query.{Reads};
 ghost use Rattle.office_tables.specs.Calls.{StoreAnswers};
-ghost use Rattle.office_tables.specs.Faults.{FaultsHaveCause};
 ghost use Rattle.office_tables.specs.Schema as tables;
 ghost use Rattle.office_tables.specs.Step.{InOffice, Holds};
+ghost use Rattle.desk_store.specs.TableStatements.{LooksUp};
 ghost use Rattle.desk_store.specs.Holdings.{issued_of, loan_by, ticket_of};
 ghost use Rattle.desk_store.specs.Rows.{holding_cells, order_cells};
 ghost use Rattle.desk_store.specs.Representation.{RepresentsDeskAlone, IsLegible};
@@ -54,13 +52,10 @@ pub(crate) fn holding_lines<S: Alter>(
     conn: &mut Connection<S>,
 ) -> Result<Vec<HoldingLine>, StoreFault>
     requires inside { InOffice (state S.Store conn.old) }
-    ensures reads { Reads (state S.Store conn.old) (state S.Store conn.new) result }
-    ensures rows { HasCleanDisk (state S.Store conn.new) → (xs : List HoldingRow)
-        → Holds tables.holding holding_cells (state S.Store conn.old) xs → AreByNumber (λ h. h.container) xs
-        → IfOk result (λ found. found.items ≡ map
-        (λ (h : HoldingRow). record { container = h.container; held_by = h.held_by }) xs) }
-    ensures faults { (xs : List HoldingRow) → Holds tables.holding holding_cells (state S.Store conn.old) xs
-        → FaultsHaveCause (state S.Store conn.old) (state S.Store conn.new) result }
+    ensures { LooksUp S.Store (Holds tables.holding holding_cells) conn.old conn.new result
+        (AreByNumber (λ h. h.container)) (λ _. ⊤)
+        (λ xs found. found.items
+        ≡ map (λ (h : HoldingRow). record { container = h.container; held_by = h.held_by }) xs) }
 {
     find(
         alloc,
@@ -78,13 +73,9 @@ pub(crate) fn tickets_of<S: Alter>(
 ) -> Result<Vec<u64>, StoreFault>
     requires inside { InOffice (state S.Store conn.old) }
     requires small { IsNumber order }
-    ensures reads { Reads (state S.Store conn.old) (state S.Store conn.new) result }
-    ensures rows { HasCleanDisk (state S.Store conn.new) → (xs : List OrderRow)
-        → Holds tables.orders order_cells (state S.Store conn.old) xs → AreCounted (λ o. o.id) xs
-        → IfOk result (λ found. found.items ≡ map (λ (o : OrderRow). o.ticket)
-        (filter (λ o. nat_eq order o.id) xs)) }
-    ensures faults { (xs : List OrderRow) → Holds tables.orders order_cells (state S.Store conn.old) xs
-        → FaultsHaveCause (state S.Store conn.old) (state S.Store conn.new) result }
+    ensures { LooksUp S.Store (Holds tables.orders order_cells) conn.old conn.new result
+        (AreCounted (λ o. o.id)) (λ _. ⊤)
+        (λ xs found. found.items ≡ map (λ (o : OrderRow). o.ticket) (filter (λ o. nat_eq order o.id) xs)) }
 {
     find(
         alloc,

@@ -1,15 +1,15 @@
 //! Opening a new day.
 
-ghost use Rattle.std.specs.Prelude.{List, [], ◌∷◌, OnOk, ⊤};
+ghost use Rattle.std.specs.Prelude.{[], ◌∷◌, OnOk, ⊤};
 ghost use Rattle.sqlite.specs.Held.{state};
 ghost use Rattle.sqlite.specs.State.{HasCleanDisk};
-ghost use Rattle.desk_core.specs.DeskRows.{SeatRow};
 ghost use Rattle.office_tables.specs.Calls.{StoreUpdates};
 ghost use Rattle.office_tables.specs.ChangeStatement.{Leaves};
 ghost use Rattle.office_tables.specs.Faults.{FaultsHaveCause};
 ghost use Rattle.office_tables.specs.Schema as tables;
 ghost use Rattle.office_tables.specs.SharedRows.{OfficeRow, office_cells};
 ghost use Rattle.office_tables.specs.Step.{InOffice, Holds, HasRows, OnlyTouches};
+ghost use Rattle.desk_store.specs.TableStatements.{Thins};
 ghost use Rattle.desk_store.specs.OfficeDay.{RepresentsBoth, IsLegibleHouse, opened};
 ghost use Rattle.desk_store.specs.Rows.{seat_cells};
 ghost use Rattle.office_tables.specs.RowNumbers.{AreByNumber};
@@ -22,14 +22,7 @@ use sqlite::{Alter, Connection};
 /// Frees all seats: deletes all rows of the table, which has a row for each taken seat.
 fn free_seats<S: Alter>(conn: &mut Connection<S>) -> Result<(), StoreFault>
     requires inside { InOffice (state S.Store conn.old) }
-    ensures leaves { Leaves (state S.Store conn.old) (state S.Store conn.new) result }
-    ensures rows { HasCleanDisk (state S.Store conn.new) → (xs : List SeatRow)
-        → Holds tables.seat seat_cells (state S.Store conn.old) xs → AreByNumber (λ s. s.seat) xs
-        → OnOk result (HasRows tables.seat.tree [] (state S.Store conn.old).now (state S.Store conn.new).now) }
-    ensures only { HasCleanDisk (state S.Store conn.new)
-        → OnOk result (OnlyTouches (tables.seat.tree ∷ []) (state S.Store conn.old).now
-        (state S.Store conn.new).now) }
-    ensures faults { FaultsHaveCause (state S.Store conn.old) (state S.Store conn.new) result }
+    ensures { Thins S.Store tables.seat seat_cells conn.old conn.new result (AreByNumber (λ s. s.seat)) (λ _. []) }
 {
     change(conn, "DELETE FROM seat", &[])
 }

@@ -1,16 +1,15 @@
 //! Placing orders and changing their states.
 
-ghost use Rattle.std.specs.Prelude.{◌≡◌, ◌≤◌, nat_eq, false, List, [], ◌∷◌, map, OnOk, ⊤};
+ghost use Rattle.std.specs.Prelude.{◌≡◌, ◌≤◌, nat_eq, false, [], ◌∷◌, OnOk, ⊤};
 ghost use Rattle.std.specs.List.{list_any};
 ghost use Rattle.sqlite.specs.Held.{state};
 ghost use Rattle.sqlite.specs.State.{HasCleanDisk};
 ghost use Rattle.isad_core.specs.Limits.{IsNumber};
-ghost use Rattle.desk_core.specs.DeskRows.{OrderRow, with_state};
+ghost use Rattle.desk_core.specs.DeskRows.{with_state};
 ghost use Rattle.office_tables.specs.Calls.{StoreUpdates};
-ghost use Rattle.office_tables.specs.ChangeStatement.{Leaves};
-ghost use Rattle.office_tables.specs.Faults.{FaultsHaveCause};
 ghost use Rattle.office_tables.specs.Schema as tables;
-ghost use Rattle.office_tables.specs.Step.{InOffice, Holds, HasRows, OnlyTouches, PutsRow};
+ghost use Rattle.office_tables.specs.Step.{InOffice, PutsRow};
+ghost use Rattle.desk_store.specs.TableStatements.{Changes, Puts};
 ghost use Rattle.desk_store.specs.Orders.{state_number, with_order, with_order_state, IsNextOrder};
 ghost use Rattle.desk_store.specs.Rows.{order_cells};
 ghost use Rattle.desk_store.specs.Representation.{RepresentsDeskAlone, IsLegible};
@@ -34,14 +33,9 @@ fn insert_order<S: Alter>(
     requires number { IsNumber order }
     requires small { IsNumber ticket }
     requires known { IsNumber container }
-    ensures leaves { Leaves (state S.Store conn.old) (state S.Store conn.new) result }
-    ensures puts { HasCleanDisk (state S.Store conn.new)
-        → OnOk result (PutsRow tables.orders.tree
-        (order_cells (record { id = order; ticket = ticket; container = container; day = on; state = 1 }))
-        (state S.Store conn.old).now (state S.Store conn.new).now) }
-    ensures faults { (xs : List OrderRow) → Holds tables.orders order_cells (state S.Store conn.old) xs
-        → list_any (λ o. nat_eq order o.id) xs ≡ false
-        → FaultsHaveCause (state S.Store conn.old) (state S.Store conn.new) result }
+    ensures { Puts S.Store tables.orders order_cells conn.old conn.new result
+        (record { id = order; ticket = ticket; container = container; day = on; state = 1 })
+        (λ xs. list_any (λ o. nat_eq order o.id) xs ≡ false) }
 {
     change(
         conn,
@@ -91,16 +85,8 @@ fn set_state<S: Alter>(conn: &mut Connection<S>, order: u64, next: u64) -> Resul
     requires inside { InOffice (state S.Store conn.old) }
     requires number { IsNumber order }
     requires small { IsNumber next }
-    ensures leaves { Leaves (state S.Store conn.old) (state S.Store conn.new) result }
-    ensures rows { HasCleanDisk (state S.Store conn.new) → (xs : List OrderRow)
-        → Holds tables.orders order_cells (state S.Store conn.old) xs → AreCounted (λ o. o.id) xs
-        → OnOk result (HasRows tables.orders.tree (map order_cells (with_state order next xs))
-        (state S.Store conn.old).now (state S.Store conn.new).now) }
-    ensures only { HasCleanDisk (state S.Store conn.new)
-        → OnOk result (OnlyTouches (tables.orders.tree ∷ []) (state S.Store conn.old).now
-        (state S.Store conn.new).now) }
-    ensures faults { (xs : List OrderRow) → Holds tables.orders order_cells (state S.Store conn.old) xs
-        → AreCounted (λ o. o.id) xs → FaultsHaveCause (state S.Store conn.old) (state S.Store conn.new) result }
+    ensures { Changes S.Store tables.orders order_cells conn.old conn.new result (AreCounted (λ o. o.id))
+        (with_state order next) }
 {
     change(
         conn,

@@ -1,17 +1,15 @@
 //! Orders, from when they are placed to when they end.
 
-ghost use Rattle.std.specs.Prelude.{◌≡◌, ◌≤◌, nat_eq, List as Rows, map, filter, IfOk, IfSome, ◌≢◌, IfErr};
+ghost use Rattle.std.specs.Prelude.{◌≡◌, ◌≤◌, nat_eq, map, filter, IfOk, IfSome, ◌≢◌, IfErr};
 ghost use Rattle.std.specs.Prelude.{IsOk, ⊤};
 ghost use Rattle.std.specs.List.{AllByRecursion};
 ghost use Rattle.sqlite.specs.Held.{state};
-ghost use Rattle.sqlite.specs.State.{HasCleanDisk};
 ghost use Rattle.isad_core.specs.Limits.{IsNumber};
 ghost use Rattle.desk_core.specs.DeskRows.{OrderRow};
-ghost use Rattle.office_tables.specs.Query.{Reads};
 ghost use Rattle.office_tables.specs.Calls.{StoreAnswers};
-ghost use Rattle.office_tables.specs.Faults.{FaultsHaveCause};
 ghost use Rattle.office_tables.specs.Schema as tables;
 ghost use Rattle.office_tables.specs.Step.{InOffice, Holds};
+ghost use Rattle.desk_store.specs.TableStatements.{LooksUp};
 ghost use Rattle.desk_store.specs.Orders.{state_number, order_with, IsThere};
 ghost use Rattle.desk_store.specs.Rows.{order_cells};
 ghost use Rattle.desk_store.specs.Representation.{IsLegibleOrder, RepresentsDeskAlone, IsLegible};
@@ -92,14 +90,11 @@ fn orders_with<S: Alter>(
 ) -> Result<Vec<OrderEntry>, StoreFault>
     requires inside { InOffice (state S.Store conn.old) }
     requires small { IsNumber order }
-    ensures reads { Reads (state S.Store conn.old) (state S.Store conn.new) result }
-    ensures rows { HasCleanDisk (state S.Store conn.new) → (xs : Rows OrderRow)
-        → Holds tables.orders order_cells (state S.Store conn.old) xs → AreCounted (λ o. o.id) xs
-        → IfOk result (λ found. found.items ≡ map (λ (o : OrderRow).
+    ensures { LooksUp S.Store (Holds tables.orders order_cells) conn.old conn.new result
+        (AreCounted (λ o. o.id)) (AllByRecursion IsLegibleOrder)
+        (λ xs found. found.items ≡ map (λ (o : OrderRow).
         record { ticket = o.ticket; container = o.container; day = o.day; state = o.state })
         (filter (λ o. nat_eq order o.id) xs)) }
-    ensures faults { (xs : Rows OrderRow) → Holds tables.orders order_cells (state S.Store conn.old) xs
-        → AllByRecursion IsLegibleOrder xs → FaultsHaveCause (state S.Store conn.old) (state S.Store conn.new) result }
 {
     find(
         alloc,

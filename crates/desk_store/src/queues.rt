@@ -1,15 +1,13 @@
 //! Queues of containers.
 
-ghost use Rattle.std.specs.Prelude.{◌≡◌, ◌≢◌, nat_eq, List as Rows, map, filter, IfOk, IfErr, IfSome, IsOk, ⊤};
+ghost use Rattle.std.specs.Prelude.{◌≡◌, ◌≢◌, nat_eq, map, filter, IfOk, IfErr, IfSome, IsOk, ⊤};
 ghost use Rattle.sqlite.specs.Held.{state};
-ghost use Rattle.sqlite.specs.State.{HasCleanDisk};
 ghost use Rattle.isad_core.specs.Limits.{IsNumber};
 ghost use Rattle.desk_core.specs.DeskRows.{HoldingRow};
-ghost use Rattle.office_tables.specs.Query.{Reads};
 ghost use Rattle.office_tables.specs.Calls.{StoreAnswers};
-ghost use Rattle.office_tables.specs.Faults.{FaultsHaveCause};
 ghost use Rattle.office_tables.specs.Schema as tables;
 ghost use Rattle.office_tables.specs.Step.{InOffice, Holds};
+ghost use Rattle.desk_store.specs.TableStatements.{LooksUp};
 ghost use Rattle.desk_store.specs.Orders.{holding_of, IsAt};
 ghost use Rattle.desk_store.specs.Rows.{holding_cells};
 ghost use Rattle.desk_store.specs.Representation.{IsKnownPlace, RepresentsDeskAlone, IsLegible};
@@ -88,14 +86,10 @@ fn places_with<S: Alter>(
 ) -> Result<Vec<PlaceEntry>, StoreFault>
     requires inside { InOffice (state S.Store conn.old) }
     requires small { IsNumber container }
-    ensures reads { Reads (state S.Store conn.old) (state S.Store conn.new) result }
-    ensures rows { HasCleanDisk (state S.Store conn.new) → (xs : Rows HoldingRow)
-        → Holds tables.holding holding_cells (state S.Store conn.old) xs → AreByNumber (λ h. h.container) xs
-        → IfOk result (λ found. found.items ≡ map
-        (λ (h : HoldingRow). record { place = h.place; held_by = h.held_by })
+    ensures { LooksUp S.Store (Holds tables.holding holding_cells) conn.old conn.new result
+        (AreByNumber (λ h. h.container)) (λ _. ⊤)
+        (λ xs found. found.items ≡ map (λ (h : HoldingRow). record { place = h.place; held_by = h.held_by })
         (filter (λ (h : HoldingRow). nat_eq container h.container) xs)) }
-    ensures faults { (xs : Rows HoldingRow) → Holds tables.holding holding_cells (state S.Store conn.old) xs
-        → FaultsHaveCause (state S.Store conn.old) (state S.Store conn.new) result }
 {
     find(
         alloc,

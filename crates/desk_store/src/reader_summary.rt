@@ -1,18 +1,16 @@
 //! What the desk knows about a ticket.
 
-ghost use Rattle.std.specs.Prelude.{◌≡◌, ◌<◌, ◌≤◌, ◌^◌, ◌&&◌, nat_eq, List as Rows, length, map, filter};
+ghost use Rattle.std.specs.Prelude.{◌≡◌, ◌<◌, ◌≤◌, ◌^◌, ◌&&◌, nat_eq, length, map, filter};
 ghost use Rattle.std.specs.Prelude.{option_map, slice_get, IfOk, IfSome, ⊤};
 ghost use Rattle.std.specs.List.{count_by};
 ghost use Rattle.std.specs.Ordering.{int_eq};
 ghost use Rattle.sqlite.specs.Held.{state};
-ghost use Rattle.sqlite.specs.State.{HasCleanDisk};
 ghost use Rattle.isad_core.specs.Limits.{IsNumber, most_orders};
 ghost use Rattle.desk_core.specs.DeskRows.{OrderRow};
-ghost use Rattle.office_tables.specs.Query.{Reads};
 ghost use Rattle.office_tables.specs.Calls.{StoreAnswers};
-ghost use Rattle.office_tables.specs.Faults.{FaultsHaveCause};
 ghost use Rattle.office_tables.specs.Schema as tables;
 ghost use Rattle.office_tables.specs.Step.{InOffice, Holds};
+ghost use Rattle.desk_store.specs.TableStatements.{LooksUp};
 ghost use Rattle.desk_store.specs.Readers.{is_live, live_orders, placed_on, card_of};
 ghost use Rattle.desk_store.specs.Rows.{order_cells};
 ghost use Rattle.desk_store.specs.Representation.{RepresentsDeskAlone, IsLegible};
@@ -85,14 +83,11 @@ pub(crate) fn live_lines<S: Alter>(
 ) -> Result<Vec<OrderLine>, StoreFault>
     requires inside { InOffice (state S.Store conn.old) }
     requires small { IsNumber ticket }
-    ensures reads { Reads (state S.Store conn.old) (state S.Store conn.new) result }
-    ensures rows { HasCleanDisk (state S.Store conn.new) → (xs : Rows OrderRow)
-        → Holds tables.orders order_cells (state S.Store conn.old) xs → AreCounted (λ o. o.id) xs
-        → IfOk result (λ found. found.items ≡ map
-        (λ (o : OrderRow). record { order = o.id; container = o.container; state = o.state })
+    ensures { LooksUp S.Store (Holds tables.orders order_cells) conn.old conn.new result
+        (AreCounted (λ o. o.id)) (λ _. ⊤)
+        (λ xs found. found.items
+        ≡ map (λ (o : OrderRow). record { order = o.id; container = o.container; state = o.state })
         (filter (λ o. nat_eq ticket o.ticket && is_live o) xs)) }
-    ensures faults { (xs : Rows OrderRow) → Holds tables.orders order_cells (state S.Store conn.old) xs
-        → FaultsHaveCause (state S.Store conn.old) (state S.Store conn.new) result }
 {
     find(
         alloc,
@@ -105,13 +100,10 @@ pub(crate) fn live_lines<S: Alter>(
 /// How many orders all tickets have placed so far. This is the greatest number of an order, in the table's last row.
 pub(crate) fn last_order<S: Alter>(conn: &mut Connection<S>) -> Result<u32, StoreFault>
     requires inside { InOffice (state S.Store conn.old) }
-    ensures reads { Reads (state S.Store conn.old) (state S.Store conn.new) result }
-    ensures number { HasCleanDisk (state S.Store conn.new) → (xs : Rows OrderRow)
-        → Holds tables.orders order_cells (state S.Store conn.old) xs → length xs ≤ most_orders
-        → AreCounted (λ o. o.id) xs → IfOk result (λ n. n ≡ length xs) }
-    ensures faults { (xs : Rows OrderRow) → Holds tables.orders order_cells (state S.Store conn.old) xs
-        → length xs ≤ most_orders → AreCounted (λ o. o.id) xs
-        → FaultsHaveCause (state S.Store conn.old) (state S.Store conn.new) result }
+    ensures { LooksUp S.Store (Holds tables.orders order_cells) conn.old conn.new result
+        (λ xs. (length xs ≤ most_orders) × AreCounted (λ o. o.id) xs)
+        (λ xs. (length xs ≤ most_orders) × AreCounted (λ o. o.id) xs)
+        (λ xs n. n ≡ length xs) }
 {
     find_number(conn, "SELECT id FROM orders ORDER BY id DESC LIMIT 1", &[])
 }
@@ -125,12 +117,9 @@ pub(crate) fn placed_on<S: Alter>(
 ) -> Result<u32, StoreFault>
     requires inside { InOffice (state S.Store conn.old) }
     requires small { IsNumber ticket }
-    ensures reads { Reads (state S.Store conn.old) (state S.Store conn.new) result }
-    ensures number { HasCleanDisk (state S.Store conn.new) → (xs : Rows OrderRow)
-        → Holds tables.orders order_cells (state S.Store conn.old) xs → length xs ≤ most_orders
-        → IfOk result (λ n. n ≡ count_by (λ (o : OrderRow). nat_eq ticket o.ticket && int_eq o.day on) xs) }
-    ensures faults { (xs : Rows OrderRow) → Holds tables.orders order_cells (state S.Store conn.old) xs
-        → length xs ≤ most_orders → FaultsHaveCause (state S.Store conn.old) (state S.Store conn.new) result }
+    ensures { LooksUp S.Store (Holds tables.orders order_cells) conn.old conn.new result
+        (λ xs. length xs ≤ most_orders) (λ xs. length xs ≤ most_orders)
+        (λ xs n. n ≡ count_by (λ (o : OrderRow). nat_eq ticket o.ticket && int_eq o.day on) xs) }
 {
     find_number(
         conn,

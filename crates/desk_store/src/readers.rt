@@ -1,7 +1,7 @@
 //! Tickets and their readers.
 
-ghost use Rattle.std.specs.Prelude.{◌≡◌, ◌<◌, ◌≤◌, nat_eq, true, false, List, [], ◌∷◌, map};
-ghost use Rattle.std.specs.Prelude.{filter, length, OnOk, IfOk, IfSome, is_some, slice_get, ⊤};
+ghost use Rattle.std.specs.Prelude.{◌≡◌, ◌<◌, ◌≤◌, nat_eq, true, false, [], ◌∷◌, map};
+ghost use Rattle.std.specs.Prelude.{filter, length, IfOk, IfSome, is_some, slice_get, ⊤};
 ghost use Rattle.std.specs.List.{AllByRecursion, list_any};
 ghost use Rattle.sqlite.specs.Held.{state};
 ghost use Rattle.sqlite.specs.State.{HasCleanDisk};
@@ -9,10 +9,10 @@ ghost use Rattle.isad_core.specs.Limits.{IsNumber, most_tickets};
 ghost use Rattle.desk_core.specs.DeskRows.{Desk, ReaderRow};
 ghost use Rattle.office_tables.specs.Query.{Reads};
 ghost use Rattle.office_tables.specs.Calls.{StoreUpdates, StoreAnswers};
-ghost use Rattle.office_tables.specs.ChangeStatement.{Leaves};
 ghost use Rattle.office_tables.specs.Faults.{FaultsHaveCause};
 ghost use Rattle.office_tables.specs.Schema as tables;
-ghost use Rattle.office_tables.specs.Step.{InOffice, Holds, HasRows, OnlyTouches, PutsRow};
+ghost use Rattle.office_tables.specs.Step.{InOffice, Holds};
+ghost use Rattle.desk_store.specs.TableStatements.{Changes, LooksUp, Puts};
 ghost use Rattle.desk_store.specs.Readers.{next_ticket, reader_with, with_reader, renewed, with_last_day};
 ghost use Rattle.desk_store.specs.Rows.{reader_cells};
 ghost use Rattle.desk_store.specs.Representation.{IsLegibleReader, RepresentsDesk, RepresentsDeskAlone, IsLegible};
@@ -65,13 +65,10 @@ pub(crate) fn readers_with<S: Alter>(
 ) -> Result<Vec<NamedReader>, StoreFault>
     requires inside { InOffice (state S.Store conn.old) }
     requires small { IsNumber ticket }
-    ensures reads { Reads (state S.Store conn.old) (state S.Store conn.new) result }
-    ensures rows { HasCleanDisk (state S.Store conn.new) → (xs : List ReaderRow)
-        → Holds tables.reader reader_cells (state S.Store conn.old) xs → AreCounted (λ r. r.ticket) xs
-        → IfOk result (λ found. found.items ≡ map (λ (r : ReaderRow). record { name = r.name; until = r.until })
+    ensures { LooksUp S.Store (Holds tables.reader reader_cells) conn.old conn.new result
+        (AreCounted (λ r. r.ticket)) (AllByRecursion IsLegibleReader)
+        (λ xs found. found.items ≡ map (λ (r : ReaderRow). record { name = r.name; until = r.until })
         (filter (λ r. nat_eq ticket r.ticket) xs)) }
-    ensures faults { (xs : List ReaderRow) → Holds tables.reader reader_cells (state S.Store conn.old) xs
-        → AllByRecursion IsLegibleReader xs → FaultsHaveCause (state S.Store conn.old) (state S.Store conn.new) result }
 {
     find(
         alloc,
@@ -84,13 +81,9 @@ pub(crate) fn readers_with<S: Alter>(
 /// How many tickets were given. This is the greatest ticket, in the table's last row.
 fn last_ticket<S: Alter>(conn: &mut Connection<S>) -> Result<u32, StoreFault>
     requires inside { InOffice (state S.Store conn.old) }
-    ensures reads { Reads (state S.Store conn.old) (state S.Store conn.new) result }
-    ensures number { HasCleanDisk (state S.Store conn.new) → (xs : List ReaderRow)
-        → Holds tables.reader reader_cells (state S.Store conn.old) xs → AreCounted (λ r. r.ticket) xs
-        → IfOk result (λ n. n ≡ length xs) }
-    ensures faults { (xs : List ReaderRow) → Holds tables.reader reader_cells (state S.Store conn.old) xs
-        → AreCounted (λ r. r.ticket) xs → length xs ≤ most_tickets
-        → FaultsHaveCause (state S.Store conn.old) (state S.Store conn.new) result }
+    ensures { LooksUp S.Store (Holds tables.reader reader_cells) conn.old conn.new result
+        (AreCounted (λ r. r.ticket)) (λ xs. AreCounted (λ r. r.ticket) xs × (length xs ≤ most_tickets))
+        (λ xs n. n ≡ length xs) }
 {
     find_number(
         conn,
@@ -108,14 +101,9 @@ fn insert_reader<S: Alter>(
 ) -> Result<(), StoreFault>
     requires inside { InOffice (state S.Store conn.old) }
     requires small { IsNumber ticket }
-    ensures leaves { Leaves (state S.Store conn.old) (state S.Store conn.new) result }
-    ensures puts { HasCleanDisk (state S.Store conn.new)
-        → OnOk result (PutsRow tables.reader.tree
-        (reader_cells (record { ticket = ticket; name = name.now; until = until })) (state S.Store conn.old).now
-        (state S.Store conn.new).now) }
-    ensures faults { (xs : List ReaderRow) → Holds tables.reader reader_cells (state S.Store conn.old) xs
-        → list_any (λ r. nat_eq ticket r.ticket) xs ≡ false
-        → FaultsHaveCause (state S.Store conn.old) (state S.Store conn.new) result }
+    ensures { Puts S.Store tables.reader reader_cells conn.old conn.new result
+        (record { ticket = ticket; name = name.now; until = until })
+        (λ xs. list_any (λ r. nat_eq ticket r.ticket) xs ≡ false) }
 {
     change(
         conn,
@@ -132,16 +120,8 @@ fn set_last_day<S: Alter>(
 ) -> Result<(), StoreFault>
     requires inside { InOffice (state S.Store conn.old) }
     requires small { IsNumber ticket }
-    ensures leaves { Leaves (state S.Store conn.old) (state S.Store conn.new) result }
-    ensures rows { HasCleanDisk (state S.Store conn.new) → (xs : List ReaderRow)
-        → Holds tables.reader reader_cells (state S.Store conn.old) xs → AreCounted (λ r. r.ticket) xs
-        → OnOk result (HasRows tables.reader.tree (map reader_cells (renewed ticket until xs))
-        (state S.Store conn.old).now (state S.Store conn.new).now) }
-    ensures only { HasCleanDisk (state S.Store conn.new)
-        → OnOk result (OnlyTouches (tables.reader.tree ∷ []) (state S.Store conn.old).now
-        (state S.Store conn.new).now) }
-    ensures faults { (xs : List ReaderRow) → Holds tables.reader reader_cells (state S.Store conn.old) xs
-        → AreCounted (λ r. r.ticket) xs → FaultsHaveCause (state S.Store conn.old) (state S.Store conn.new) result }
+    ensures { Changes S.Store tables.reader reader_cells conn.old conn.new result (AreCounted (λ r. r.ticket))
+        (renewed ticket until) }
 {
     change(
         conn,

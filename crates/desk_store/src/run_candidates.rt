@@ -1,15 +1,13 @@
 //! What a run may take.
 
-ghost use Rattle.std.specs.Prelude.{◌≡◌, ◌&&◌, ◌||◌, ℕ, not, nat_eq, List, map, filter, IfOk, OnOk, ⊤};
+ghost use Rattle.std.specs.Prelude.{◌≡◌, ◌&&◌, ◌||◌, ℕ, not, nat_eq, map, filter, IfOk, OnOk, ⊤};
 ghost use Rattle.std.specs.List.{list_any};
 ghost use Rattle.sqlite.specs.Held.{state};
-ghost use Rattle.sqlite.specs.State.{HasCleanDisk};
 ghost use Rattle.desk_core.specs.DeskRows.{OrderRow};
-ghost use Rattle.office_tables.specs.Query.{Reads};
 ghost use Rattle.office_tables.specs.Calls.{StoreAnswers};
-ghost use Rattle.office_tables.specs.Faults.{FaultsHaveCause};
 ghost use Rattle.office_tables.specs.Schema as tables;
 ghost use Rattle.office_tables.specs.Step.{InOffice, Holds};
+ghost use Rattle.desk_store.specs.TableStatements.{LooksUp};
 ghost use Rattle.desk_store.specs.Holdings.{candidates_of};
 ghost use Rattle.desk_store.specs.RunCandidates.{is_earliest, is_new};
 ghost use Rattle.desk_store.specs.Rows.{order_cells};
@@ -49,14 +47,11 @@ fn waiting_orders<S: Alter>(
     conn: &mut Connection<S>,
 ) -> Result<Vec<FirstOrder>, StoreFault>
     requires inside { InOffice (state S.Store conn.old) }
-    ensures reads { Reads (state S.Store conn.old) (state S.Store conn.new) result }
-    ensures rows { HasCleanDisk (state S.Store conn.new) → (xs : List OrderRow)
-        → Holds tables.orders order_cells (state S.Store conn.old) xs → AreCounted (λ o. o.id) xs
-        → IfOk result (λ found. found.items ≡ map
-        (λ (o : OrderRow). record { container = o.container; order = o.id; ticket = o.ticket })
+    ensures { LooksUp S.Store (Holds tables.orders order_cells) conn.old conn.new result
+        (AreCounted (λ o. o.id)) (λ _. ⊤)
+        (λ xs found. found.items
+        ≡ map (λ (o : OrderRow). record { container = o.container; order = o.id; ticket = o.ticket })
         (filter (λ (o : OrderRow). nat_eq 1 o.state) xs)) }
-    ensures faults { (xs : List OrderRow) → Holds tables.orders order_cells (state S.Store conn.old) xs
-        → FaultsHaveCause (state S.Store conn.old) (state S.Store conn.new) result }
 {
     find(
         alloc,

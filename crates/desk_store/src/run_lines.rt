@@ -1,17 +1,15 @@
 //! What runs brought to the desk.
 
-ghost use Rattle.std.specs.Prelude.{◌≡◌, nat_eq, true, List as Rows, map, filter, IfOk};
+ghost use Rattle.std.specs.Prelude.{◌≡◌, nat_eq, true, map, filter};
 ghost use Rattle.std.specs.List.{AllByRecursion, AllZip};
 ghost use Rattle.sqlite.specs.Held.{state};
-ghost use Rattle.sqlite.specs.State.{HasCleanDisk};
 ghost use Rattle.isad_core.specs.Days.{is_day_number};
 ghost use Rattle.isad_core.specs.Limits.{IsNumber};
 ghost use Rattle.desk_core.specs.DeskRows.{RunRow};
-ghost use Rattle.office_tables.specs.Query.{Reads};
 ghost use Rattle.office_tables.specs.Calls.{StoreAnswers};
-ghost use Rattle.office_tables.specs.Faults.{FaultsHaveCause};
 ghost use Rattle.office_tables.specs.Schema as tables;
 ghost use Rattle.office_tables.specs.Step.{InOffice, Holds};
+ghost use Rattle.desk_store.specs.TableStatements.{LooksUp};
 ghost use Rattle.desk_store.specs.Rows.{run_cells};
 ghost use Rattle.desk_store.specs.Runs.{run_with};
 ghost use Rattle.office_tables.specs.RowNumbers.{AreCounted};
@@ -60,14 +58,9 @@ fn days_with<S: Alter>(
 ) -> Result<Vec<RunDay>, StoreFault>
     requires inside { InOffice (state S.Store conn.old) }
     requires small { IsNumber run }
-    ensures reads { Reads (state S.Store conn.old) (state S.Store conn.new) result }
-    ensures rows { HasCleanDisk (state S.Store conn.new) → (xs : Rows RunRow)
-        → Holds tables.run run_cells (state S.Store conn.old) xs → AreCounted (λ r. r.id) xs
-        → IfOk result (λ found. found.items ≡ map (λ (r : RunRow). record { day = r.day })
-        (filter (λ r. nat_eq run r.id) xs)) }
-    ensures faults { (xs : Rows RunRow) → Holds tables.run run_cells (state S.Store conn.old) xs
-        → AllByRecursion (λ r. is_day_number r.day ≡ true) xs
-        → FaultsHaveCause (state S.Store conn.old) (state S.Store conn.new) result }
+    ensures { LooksUp S.Store (Holds tables.run run_cells) conn.old conn.new result
+        (AreCounted (λ r. r.id)) (AllByRecursion (λ r. is_day_number r.day ≡ true))
+        (λ xs found. found.items ≡ map (λ (r : RunRow). record { day = r.day }) (filter (λ r. nat_eq run r.id) xs)) }
 {
     find(
         alloc,

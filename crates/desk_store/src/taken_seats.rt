@@ -1,18 +1,16 @@
 //! The seats that are taken, and who has them.
 
-ghost use Rattle.std.specs.Prelude.{◌≡◌, ◌<◌, ◌^◌, not, nat_eq, false, List, [], ◌∷◌, map, filter, OnOk};
-ghost use Rattle.std.specs.Prelude.{IfOk, IfSome, ⊤};
+ghost use Rattle.std.specs.Prelude.{◌≡◌, ◌<◌, ◌^◌, not, nat_eq, false, [], ◌∷◌, map, filter, OnOk};
+ghost use Rattle.std.specs.Prelude.{IfSome, ⊤};
 ghost use Rattle.std.specs.List.{AllByRecursion, list_any};
 ghost use Rattle.sqlite.specs.Held.{state};
 ghost use Rattle.sqlite.specs.State.{HasCleanDisk};
 ghost use Rattle.isad_core.specs.Limits.{IsNumber};
 ghost use Rattle.desk_core.specs.DeskRows.{SeatRow};
-ghost use Rattle.office_tables.specs.Query.{Reads};
 ghost use Rattle.office_tables.specs.Calls.{StoreUpdates, StoreAnswers};
-ghost use Rattle.office_tables.specs.ChangeStatement.{Leaves};
-ghost use Rattle.office_tables.specs.Faults.{FaultsHaveCause};
 ghost use Rattle.office_tables.specs.Schema as tables;
-ghost use Rattle.office_tables.specs.Step.{InOffice, Holds, HasRows, OnlyTouches, PutsRow};
+ghost use Rattle.office_tables.specs.Step.{InOffice, Holds, PutsRow};
+ghost use Rattle.desk_store.specs.TableStatements.{LooksUp, Puts, Thins};
 ghost use Rattle.desk_store.specs.Rows.{seat_cells};
 ghost use Rattle.desk_store.specs.Seats.{taken_seats, with_seat, MayTake};
 ghost use Rattle.desk_store.specs.Representation.{RepresentsDeskAlone, IsLegible};
@@ -73,14 +71,10 @@ pub(crate) fn seats_with<S: Alter>(
 ) -> Result<Vec<TakenSeat>, StoreFault>
     requires inside { InOffice (state S.Store conn.old) }
     requires small { IsNumber ticket }
-    ensures reads { Reads (state S.Store conn.old) (state S.Store conn.new) result }
-    ensures rows { HasCleanDisk (state S.Store conn.new) → (xs : List SeatRow)
-        → Holds tables.seat seat_cells (state S.Store conn.old) xs → AreByNumber (λ s. s.seat) xs
-        → IfOk result (λ found. found.items ≡ map (λ (s : SeatRow). record { seat = s.seat; ticket = s.ticket })
+    ensures { LooksUp S.Store (Holds tables.seat seat_cells) conn.old conn.new result
+        (AreByNumber (λ s. s.seat)) (AllByRecursion (λ s. s.seat < 2 ^ 32))
+        (λ xs found. found.items ≡ map (λ (s : SeatRow). record { seat = s.seat; ticket = s.ticket })
         (filter (λ s. nat_eq ticket s.ticket) xs)) }
-    ensures faults { (xs : List SeatRow) → Holds tables.seat seat_cells (state S.Store conn.old) xs
-        → AllByRecursion (λ s. s.seat < 2 ^ 32) xs
-        → FaultsHaveCause (state S.Store conn.old) (state S.Store conn.new) result }
 {
     find(
         alloc,
@@ -95,13 +89,9 @@ fn insert_seat<S: Alter>(conn: &mut Connection<S>, seat: u64, ticket: u64) -> Re
     requires inside { InOffice (state S.Store conn.old) }
     requires number { IsNumber seat }
     requires small { IsNumber ticket }
-    ensures leaves { Leaves (state S.Store conn.old) (state S.Store conn.new) result }
-    ensures puts { HasCleanDisk (state S.Store conn.new)
-        → OnOk result (PutsRow tables.seat.tree (seat_cells (record { seat = seat; ticket = ticket }))
-        (state S.Store conn.old).now (state S.Store conn.new).now) }
-    ensures faults { (xs : List SeatRow) → Holds tables.seat seat_cells (state S.Store conn.old) xs
-        → list_any (λ s. nat_eq seat s.seat) xs ≡ false → list_any (λ s. nat_eq ticket s.ticket) xs ≡ false
-        → FaultsHaveCause (state S.Store conn.old) (state S.Store conn.new) result }
+    ensures { Puts S.Store tables.seat seat_cells conn.old conn.new result (record { seat = seat; ticket = ticket })
+        (λ xs. (list_any (λ s. nat_eq seat s.seat) xs ≡ false)
+        × (list_any (λ s. nat_eq ticket s.ticket) xs ≡ false)) }
 {
     change(
         conn,
@@ -114,15 +104,8 @@ fn insert_seat<S: Alter>(conn: &mut Connection<S>, seat: u64, ticket: u64) -> Re
 fn clear_seat<S: Alter>(conn: &mut Connection<S>, seat: u64) -> Result<(), StoreFault>
     requires inside { InOffice (state S.Store conn.old) }
     requires number { IsNumber seat }
-    ensures leaves { Leaves (state S.Store conn.old) (state S.Store conn.new) result }
-    ensures rows { HasCleanDisk (state S.Store conn.new) → (xs : List SeatRow)
-        → Holds tables.seat seat_cells (state S.Store conn.old) xs → AreByNumber (λ s. s.seat) xs
-        → OnOk result (HasRows tables.seat.tree (map seat_cells (filter (λ s. not (nat_eq seat s.seat)) xs))
-        (state S.Store conn.old).now (state S.Store conn.new).now) }
-    ensures only { HasCleanDisk (state S.Store conn.new)
-        → OnOk result (OnlyTouches (tables.seat.tree ∷ []) (state S.Store conn.old).now
-        (state S.Store conn.new).now) }
-    ensures faults { FaultsHaveCause (state S.Store conn.old) (state S.Store conn.new) result }
+    ensures { Thins S.Store tables.seat seat_cells conn.old conn.new result (AreByNumber (λ s. s.seat))
+        (filter (λ s. not (nat_eq seat s.seat))) }
 {
     change(conn, "DELETE FROM seat WHERE seat = ?1", &[number(seat)])
 }

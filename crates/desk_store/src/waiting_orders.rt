@@ -1,16 +1,14 @@
 //! The orders that wait for containers.
 
-ghost use Rattle.std.specs.Prelude.{◌≡◌, ◌≤◌, List as Rows, length, map, filter, take, IfOk};
+ghost use Rattle.std.specs.Prelude.{◌≡◌, ◌≤◌, length, map, filter, take, ⊤};
 ghost use Rattle.std.specs.List.{count_by, list_any};
 ghost use Rattle.sqlite.specs.Held.{state};
-ghost use Rattle.sqlite.specs.State.{HasCleanDisk};
 ghost use Rattle.isad_core.specs.Limits.{IsNumber, most_orders};
 ghost use Rattle.desk_core.specs.DeskRows.{OrderRow};
-ghost use Rattle.office_tables.specs.Query.{Reads};
 ghost use Rattle.office_tables.specs.Calls.{StoreAnswers};
-ghost use Rattle.office_tables.specs.Faults.{FaultsHaveCause};
 ghost use Rattle.office_tables.specs.Schema as tables;
 ghost use Rattle.office_tables.specs.Step.{InOffice, Holds};
+ghost use Rattle.desk_store.specs.TableStatements.{LooksUp};
 ghost use Rattle.desk_store.specs.Holdings.{waits_for};
 ghost use Rattle.desk_store.specs.Rows.{order_cells};
 ghost use Rattle.desk_store.specs.Representation.{RepresentsDeskAlone, IsLegible};
@@ -48,13 +46,10 @@ pub(crate) fn waiting_for<S: Alter>(
 ) -> Result<Vec<WaitingOrder>, StoreFault>
     requires inside { InOffice (state S.Store conn.old) }
     requires small { IsNumber container }
-    ensures reads { Reads (state S.Store conn.old) (state S.Store conn.new) result }
-    ensures rows { HasCleanDisk (state S.Store conn.new) → (xs : Rows OrderRow)
-        → Holds tables.orders order_cells (state S.Store conn.old) xs → AreCounted (λ o. o.id) xs
-        → IfOk result (λ found. found.items ≡ map (λ (o : OrderRow). record { order = o.id; ticket = o.ticket })
+    ensures { LooksUp S.Store (Holds tables.orders order_cells) conn.old conn.new result
+        (AreCounted (λ o. o.id)) (λ _. ⊤)
+        (λ xs found. found.items ≡ map (λ (o : OrderRow). record { order = o.id; ticket = o.ticket })
         (filter (waits_for container) xs)) }
-    ensures faults { (xs : Rows OrderRow) → Holds tables.orders order_cells (state S.Store conn.old) xs
-        → FaultsHaveCause (state S.Store conn.old) (state S.Store conn.new) result }
 {
     find(
         alloc,
@@ -73,14 +68,10 @@ pub(crate) fn first_for<S: Alter>(
 ) -> Result<Vec<WaitingOrder>, StoreFault>
     requires inside { InOffice (state S.Store conn.old) }
     requires small { IsNumber container }
-    ensures reads { Reads (state S.Store conn.old) (state S.Store conn.new) result }
-    ensures rows { HasCleanDisk (state S.Store conn.new) → (xs : Rows OrderRow)
-        → Holds tables.orders order_cells (state S.Store conn.old) xs → AreCounted (λ o. o.id) xs
-        → IfOk result (λ found. found.items
-        ≡ take 1 (map (λ (o : OrderRow). record { order = o.id; ticket = o.ticket })
+    ensures { LooksUp S.Store (Holds tables.orders order_cells) conn.old conn.new result
+        (AreCounted (λ o. o.id)) (λ _. ⊤)
+        (λ xs found. found.items ≡ take 1 (map (λ (o : OrderRow). record { order = o.id; ticket = o.ticket })
         (filter (waits_for container) xs))) }
-    ensures faults { (xs : Rows OrderRow) → Holds tables.orders order_cells (state S.Store conn.old) xs
-        → FaultsHaveCause (state S.Store conn.old) (state S.Store conn.new) result }
 {
     find(
         alloc,
@@ -94,12 +85,9 @@ pub(crate) fn first_for<S: Alter>(
 fn count_waiting<S: Alter>(conn: &mut Connection<S>, container: u64) -> Result<u32, StoreFault>
     requires inside { InOffice (state S.Store conn.old) }
     requires small { IsNumber container }
-    ensures reads { Reads (state S.Store conn.old) (state S.Store conn.new) result }
-    ensures number { HasCleanDisk (state S.Store conn.new) → (xs : Rows OrderRow)
-        → Holds tables.orders order_cells (state S.Store conn.old) xs → length xs ≤ most_orders
-        → IfOk result (λ n. n ≡ count_by (waits_for container) xs) }
-    ensures faults { (xs : Rows OrderRow) → Holds tables.orders order_cells (state S.Store conn.old) xs
-        → length xs ≤ most_orders → FaultsHaveCause (state S.Store conn.old) (state S.Store conn.new) result }
+    ensures { LooksUp S.Store (Holds tables.orders order_cells) conn.old conn.new result
+        (λ xs. length xs ≤ most_orders) (λ xs. length xs ≤ most_orders)
+        (λ xs n. n ≡ count_by (waits_for container) xs) }
 {
     find_number(
         conn,

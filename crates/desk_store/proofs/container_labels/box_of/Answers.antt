@@ -22,4 +22,4 @@ returns-clause-tells g c =
     let size = c.in_ok-found.found.ok.0 in
     let as_long = c.into_iter.ensures.len in
     first_out c.next.result items c.next.new.self.rest.items (sym c.into_iter.ensures.rest ∙ c.next.ensures.items) (λ some. c.next.ensures.variant.1 (omega (arith, some, size, as_long)))
-    ∙ box_told c.args.container s.boxes items (c.in_ok-found.ensures.rows clean s.boxes shown.boxes shown.numbers))
+    ∙ box_told c.args.container s.boxes items (c.in_ok-found.ensures.answers clean s.boxes shown.boxes shown.numbers))

@@ -19,7 +19,7 @@ returns-then-container-gt-MOST_CONTAINERS-clause-tells g c =
 pub returns-clause-tells : goal.returns-clause-tells
 returns-clause-tells g c =
     ends_well RepresentsQueues IsLegibleStacks (λ _. ⊤) g.S.Store c.args.conn.now c.args.conn.now c.numbers_with.new.conn _ c.in_ok-numbers.ensures.reads.looks _ (λ clean s shown.
-    let rows = c.in_ok-numbers.ensures.rows clean s.boxes shown.boxes shown.numbers in
+    let rows = c.in_ok-numbers.ensures.answers clean s.boxes shown.boxes shown.numbers in
     c.is_found.ensures ∙ ap (λ l. is_some (slice_get l 0)) c.deref.ensures.value
     ∙ ap is_some (first_shown (λ (b : Numbered). b.0) (λ (b : Numbered). nat_eq c.args.container b.0) s.boxes c.in_ok-numbers.numbers.items rows)
     ∙ some_mapped (λ (b : Numbered). b.0) (box_with c.args.container s))

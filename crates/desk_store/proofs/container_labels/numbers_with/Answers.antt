@@ -2,29 +2,22 @@ use Rattle.std.proofs.Common.{map, filter, nat_eq, ap, ◌∙◌}
 use Rattle.std.proofs.lemmas.Result.{IfOk-weaker}
 use Rattle.sqlite.specs.Held.{state}
 use Rattle.sqlite_trees.proofs.ListLemmas.{ascending-filter}
-use Rattle.office_tables.proofs.Calls.{early}
 use Rattle.office_tables.proofs.RowReads.{asks}
 use Rattle.office_tables.proofs.Sorted.{only_order}
 use Rattle.desk_store.proofs.BoxRows.{Numbered, number_text, number_command, number_means, number_finds, number_faults, by_number, by_number_total}
 use Rattle.office_tables.proofs.numbered.Counted.{counted_rises}
+use Rattle.desk_store.proofs.Statements.{looks_up}
 use Rattle.desk_store.proofs.container_labels.numbers_with.Goals as goal
 
 pub find-requires : goal.find-requires
 find-requires g c = asks number_text 1 number_command (state g.S.Store c.args.conn.now) number_means c.requires.inside
 
-pub returns-clause-rows : goal.returns-clause-rows
-returns-clause-rows g c clean bs stored counted =
-    let old = state g.S.Store c.args.conn.now in
-    let new = state g.S.Store c.find.new.conn in
-    let at = c.requires.inside (early old new _ c.find.ensures.reads.crash clean) in
+pub returns : goal.returns
+returns g c =
+    looks_up c.requires.inside c.find.ensures.reads (rw c.number.ensures at c.find.ensures.found) (rw c.number.ensures at c.find.ensures.missed)
+    (λ v has found bs stored counted.
     let kept = filter (λ (b : Numbered). nat_eq c.args.container b.0) bs in
     let rising = ascending-filter _ (λ (b : Numbered). nat_eq c.args.container b.0) bs (counted_rises (λ (b : Numbered). b.0) 1 bs counted) in
     IfOk-weaker c.find.result _ _ (λ all it. it.2 ∙ ap (map (λ (b : Numbered). b.0)) (only_order by_number by_number_total kept it.0 rising it.1.1 it.1.0))
-    (number_finds old new c.args.container at.0 at.1 bs stored (λ found. found.items) c.find.result (rw c.number.ensures at (c.find.ensures.found clean)))
-
-pub returns-clause-faults : goal.returns-clause-faults
-returns-clause-faults g c bs stored clean free =
-    let old = state g.S.Store c.args.conn.now in
-    let new = state g.S.Store c.find.new.conn in
-    let at = c.requires.inside (early old new _ c.find.ensures.reads.crash clean) in
-    number_faults old new c.args.container at.0 at.1 bs stored (λ found. found.items) c.find.result free (rw c.number.ensures at (c.find.ensures.missed clean))
+    (number_finds _ _ c.args.container v has bs stored (λ found. found.items) c.find.result found))
+    (λ v has missed bs stored _ free. number_faults _ _ c.args.container v has bs stored (λ found. found.items) c.find.result free missed)

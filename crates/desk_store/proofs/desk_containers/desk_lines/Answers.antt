@@ -3,29 +3,22 @@ use Rattle.std.proofs.lemmas.Result.{IfOk-weaker}
 use Rattle.sqlite.specs.Held.{state}
 use Rattle.sqlite_trees.proofs.ListLemmas.{ascending-filter}
 use Rattle.desk_core.specs.DeskRows.{HoldingRow}
-use Rattle.office_tables.proofs.Calls.{early}
 use Rattle.office_tables.proofs.RowReads.{asks}
 use Rattle.office_tables.proofs.Sorted.{only_order}
 use Rattle.desk_store.proofs.LoanRows.{by_container, by_container_total}
 use Rattle.desk_store.proofs.ReshelvingRows.{desk_text, desk_command, desk_means, desk_finds, desk_faults}
+use Rattle.desk_store.proofs.Statements.{looks_up}
 use Rattle.desk_store.proofs.desk_containers.desk_lines.Goals as goal
 
 pub find-requires : goal.find-requires
 find-requires g c = asks desk_text 0 desk_command (state g.S.Store c.args.conn.now) desk_means c.requires.inside
 
-pub returns-clause-rows : goal.returns-clause-rows
-returns-clause-rows g c clean xs stored up =
-    let old = state g.S.Store c.args.conn.now in
-    let new = state g.S.Store c.find.new.conn in
-    let at = c.requires.inside (early old new _ c.find.ensures.reads.crash clean) in
+pub returns : goal.returns
+returns g c =
+    looks_up c.requires.inside c.find.ensures.reads c.find.ensures.found c.find.ensures.missed
+    (λ v has found xs stored up.
     let kept = filter (λ (h : HoldingRow). nat_eq 1 h.place) xs in
     let rising = ascending-filter _ (λ (h : HoldingRow). nat_eq 1 h.place) xs up in
     IfOk-weaker c.find.result _ _ (λ all it. it.2 ∙ ap (map (λ (h : HoldingRow). h.container)) (only_order by_container by_container_total kept it.0 rising it.1.1 it.1.0))
-    (desk_finds old new at.0 at.1 xs stored (λ found. found.items) c.find.result (c.find.ensures.found clean))
-
-pub returns-clause-faults : goal.returns-clause-faults
-returns-clause-faults g c xs stored clean free =
-    let old = state g.S.Store c.args.conn.now in
-    let new = state g.S.Store c.find.new.conn in
-    let at = c.requires.inside (early old new _ c.find.ensures.reads.crash clean) in
-    desk_faults old new at.0 at.1 xs stored (λ found. found.items) c.find.result free (c.find.ensures.missed clean)
+    (desk_finds _ _ v has xs stored (λ found. found.items) c.find.result found))
+    (λ v has missed xs stored _ free. desk_faults _ _ v has xs stored (λ found. found.items) c.find.result free missed)

@@ -21,5 +21,5 @@ returns g c =
     record {
       tells = ends_well RepresentsDeskAlone IsLegible (λ _. ⊤) g.S.Store c.args.conn.now c.args.conn.now c.tickets_of.new.conn _ c.in_ok-found.ensures.reads.looks _ (λ clean d shown.
           c.copied.ensures ∙ c.first.ensures.value ∙ ap (λ l. slice_get l 0) c.deref.ensures.value
-          ∙ holder_told c.args.order d.orders c.in_ok-found.found.items (c.in_ok-found.ensures.rows clean d.orders shown.orders shown.order_numbers));
+          ∙ holder_told c.args.order d.orders c.in_ok-found.found.items (c.in_ok-found.ensures.answers clean d.orders shown.orders shown.order_numbers));
     }

@@ -37,7 +37,7 @@ pub loop-line-init : goal.loop-line-init
 loop-line-init g c =
     record {
       looks = c.in_ok-lines.ensures.reads.looks;
-      lines = λ clean desk shown. c.deref-line-items.ensures.value ∙ c.in_ok-lines.ensures.rows clean desk.holdings shown.holdings shown.holdings_rise;
+      lines = λ clean desk shown. c.deref-line-items.ensures.value ∙ c.in_ok-lines.ensures.answers clean desk.holdings shown.holdings shown.holdings_rise;
       so_far = λ clean desk shown. c.new-loans.ensures.items;
     }
 

@@ -3,30 +3,23 @@ use Rattle.std.proofs.lemmas.Result.{IfOk-weaker}
 use Rattle.sqlite.specs.Held.{state}
 use Rattle.sqlite_trees.proofs.ListLemmas.{ascending-filter}
 use Rattle.desk_core.specs.DeskRows.{OrderRow}
-use Rattle.office_tables.proofs.Calls.{early}
 use Rattle.office_tables.proofs.RowReads.{asks}
 use Rattle.office_tables.proofs.Sorted.{only_order}
 use Rattle.desk_store.proofs.CardRows.{by_order, by_order_total}
 use Rattle.office_tables.proofs.numbered.Counted.{counted_rises}
 use Rattle.desk_store.proofs.LoanRows.{tickets_text, tickets_command, tickets_means, tickets_finds, tickets_faults}
+use Rattle.desk_store.proofs.Statements.{looks_up}
 use Rattle.desk_store.proofs.loans.tickets_of.Goals as goal
 
 pub find-requires : goal.find-requires
 find-requires g c = asks tickets_text 1 tickets_command (state g.S.Store c.args.conn.now) tickets_means c.requires.inside
 
-pub returns-clause-rows : goal.returns-clause-rows
-returns-clause-rows g c clean xs stored counted =
-    let old = state g.S.Store c.args.conn.now in
-    let new = state g.S.Store c.find.new.conn in
-    let at = c.requires.inside (early old new _ c.find.ensures.reads.crash clean) in
+pub returns : goal.returns
+returns g c =
+    looks_up c.requires.inside c.find.ensures.reads (rw c.number.ensures at c.find.ensures.found) (rw c.number.ensures at c.find.ensures.missed)
+    (λ v has found xs stored counted.
     let kept = filter (λ (o : OrderRow). nat_eq c.args.order o.id) xs in
     let rising = ascending-filter _ (λ (o : OrderRow). nat_eq c.args.order o.id) xs (counted_rises (λ (o : OrderRow). o.id) 1 xs counted) in
     IfOk-weaker c.find.result _ _ (λ all it. it.2 ∙ ap (map (λ (o : OrderRow). o.ticket)) (only_order by_order by_order_total kept it.0 rising it.1.1 it.1.0))
-    (tickets_finds old new c.args.order at.0 at.1 xs stored (λ found. found.items) c.find.result (rw c.number.ensures at (c.find.ensures.found clean)))
-
-pub returns-clause-faults : goal.returns-clause-faults
-returns-clause-faults g c xs stored clean free =
-    let old = state g.S.Store c.args.conn.now in
-    let new = state g.S.Store c.find.new.conn in
-    let at = c.requires.inside (early old new _ c.find.ensures.reads.crash clean) in
-    tickets_faults old new c.args.order at.0 at.1 xs stored (λ found. found.items) c.find.result free (rw c.number.ensures at (c.find.ensures.missed clean))
+    (tickets_finds _ _ c.args.order v has xs stored (λ found. found.items) c.find.result found))
+    (λ v has missed xs stored _ free. tickets_faults _ _ c.args.order v has xs stored (λ found. found.items) c.find.result free missed)

@@ -24,7 +24,7 @@ pub returns-in_default-clause-tells : goal.returns-in_default-clause-tells
 returns-in_default-clause-tells g c =
     ends_well RepresentsDeskAlone IsLegible (λ _. ⊤) g.S.Store c.args.conn.now c.args.conn.now c.orders_with.new.conn _ c.in_ok-found.ensures.reads.looks None (λ clean d shown.
     let first = c.copied.ensures ∙ c.first.ensures.value ∙ ap (λ l. slice_get l 0) c.deref.ensures.value in
-    let there = entry_found c.args.order d.orders c.in_ok-found.found.items (c.in_ok-found.ensures.rows clean d.orders shown.orders shown.order_numbers) in
+    let there = entry_found c.args.order d.orders c.in_ok-found.found.items (c.in_ok-found.ensures.answers clean d.orders shown.orders shown.order_numbers) in
     told_none (order_with c.args.order d) (sym there ∙ sym first ∙ c.in_default.is))
 
 pub returns-in_err-placed-clause-tells : goal.returns-in_err-placed-clause-tells
@@ -39,7 +39,7 @@ returns-in_err-placed-clause-tells g c =
     (λ d shown may kept clean free.
     let before = subst (λ (db : Database). RepresentsDesk db.trees d) (looked.same clean) shown in
     let first = c.copied.ensures ∙ c.first.ensures.value ∙ ap (λ l. slice_get l 0) c.deref.ensures.value in
-    let there = entry_found c.args.order d.orders c.in_ok-found.found.items (c.in_ok-found.ensures.rows clean d.orders before.orders before.order_numbers) in
+    let there = entry_found c.args.order d.orders c.in_ok-found.found.items (c.in_ok-found.ensures.answers clean d.orders before.orders before.order_numbers) in
     let some = legible_there (λ (o : OrderRow). nat_eq c.args.order o.id) d.orders kept.orders c.in-Some.entry (sym there ∙ sym first ∙ c.in-Some.is) in
     absurd (let none : false ≡ true = c.in_err-placed.ensures.known some.0 some.1 in cc))
     c.from_residual-in_err-placed.result (same_fault c.from_residual-in_err-placed.result c.in_err-placed.field-0.0 e.0 e.1)
@@ -48,6 +48,6 @@ pub returns-clause-tells : goal.returns-clause-tells
 returns-clause-tells g c =
     ends_well RepresentsDeskAlone IsLegible (λ _. ⊤) g.S.Store c.args.conn.now c.args.conn.now c.orders_with.new.conn _ c.in_ok-found.ensures.reads.looks _ (λ clean d shown.
     let first = c.copied.ensures ∙ c.first.ensures.value ∙ ap (λ l. slice_get l 0) c.deref.ensures.value in
-    let there = entry_found c.args.order d.orders c.in_ok-found.found.items (c.in_ok-found.ensures.rows clean d.orders shown.orders shown.order_numbers) in
+    let there = entry_found c.args.order d.orders c.in_ok-found.found.items (c.in_ok-found.ensures.answers clean d.orders shown.orders shown.order_numbers) in
     told_there (order_with c.args.order d) c.in-Some.entry c.in_ok-placed.placed (sym there ∙ sym first ∙ c.in-Some.is)
     c.in_ok-placed.ensures.ticket c.in_ok-placed.ensures.container c.in_ok-placed.ensures.day c.in_ok-placed.ensures.state)

@@ -37,7 +37,7 @@ returns-in_err-waiting-clause-tells g c =
     let p = state g.S.Store c.place_of.new.conn in
     let e = c.from_residual-in_err-waiting.ensures in
     ends_not RepresentsQueues IsLegibleStacks (λ _. ⊤) g.S.Store c.args.conn.now c.place_of.new.conn c.first_for.new.conn _ (looks_then a b p c.in_ok-known.ensures.tells.looks c.in_ok-place.ensures.tells.looks)
-    c.in_err-waiting.field-0.0 c.in_err-waiting.ensures.reads.cut c.in_err-waiting.ensures.reads.spares (λ s shown may kept. c.in_err-waiting.ensures.faults s.desk.orders shown.desk.orders)
+    c.in_err-waiting.field-0.0 c.in_err-waiting.ensures.reads.cut c.in_err-waiting.ensures.reads.spares (λ s shown may kept. c.in_err-waiting.ensures.faults s.desk.orders shown.desk.orders tt)
     c.from_residual-in_err-waiting.result (same_fault c.from_residual-in_err-waiting.result c.in_err-waiting.field-0.0 e.0 e.1)
 
 pub returns-clause-tells : goal.returns-clause-tells
@@ -58,4 +58,4 @@ returns-clause-tells g c =
     known_head c.args.container s (box_with c.args.container s) (sym (c.in_ok-known.ensures.tells.answers at_b tt s shown) ∙ c.if-not-known.false)
     c.in_ok-place.place (c.in_ok-place.ensures.tells.answers at_p tt s.desk shown_b.desk)
     c.copied-first.result
-    (first ∙ ap (λ l. slice_get l 0) (c.in_ok-waiting.ensures.rows clean s.desk.orders shown_p.desk.orders shown_p.desk.order_numbers) ∙ first_taken (queue_of c.args.container s.desk)))
+    (first ∙ ap (λ l. slice_get l 0) (c.in_ok-waiting.ensures.answers clean s.desk.orders shown_p.desk.orders shown_p.desk.order_numbers) ∙ first_taken (queue_of c.args.container s.desk)))

@@ -23,13 +23,13 @@ returns-in-Some g c =
     record {
       tells = record {
         answers = λ clean beside d shown.
-            let there = entry_told c.args.container d.holdings c.in_ok-found.found.items (c.in_ok-found.ensures.rows clean d.holdings shown.holdings shown.holdings_rise) in
+            let there = entry_told c.args.container d.holdings c.in_ok-found.found.items (c.in_ok-found.ensures.answers clean d.holdings shown.holdings shown.holdings_rise) in
             IfOk-weaker c.place.result _ _ (λ place at. at_entry (holding_of c.args.container d) entry place (sym there ∙ sym first) at) c.place.ensures.place;
         looks = on_ok_from c.place.result _ looked;
         cut = cut_looks c.place.result a b looked;
         spares = own_last a b looked c.place.result c.place.ensures.fair;
         faults = λ beside d shown may kept clean free.
-            let there = entry_told c.args.container d.holdings c.in_ok-found.found.items (c.in_ok-found.ensures.rows clean d.holdings shown.holdings shown.holdings_rise) in
+            let there = entry_told c.args.container d.holdings c.in_ok-found.found.items (c.in_ok-found.ensures.answers clean d.holdings shown.holdings shown.holdings_rise) in
             never_fails c.place.result _ (c.place.ensures.known (legible_place (λ (h : HoldingRow). nat_eq c.args.container h.container) d.holdings kept.holdings entry (sym there ∙ sym first)));
       };
     }
@@ -39,6 +39,6 @@ returns g c =
     let first = c.in-None.ensures.value ∙ ap (λ l. slice_get l 0) c.deref.ensures.value in
     record {
       tells = ends_well RepresentsDeskAlone IsLegible (λ _. ⊤) g.S.Store c.args.conn.now c.args.conn.now c.places_with.new.conn _ c.in_ok-found.ensures.reads.looks _ (λ clean d shown.
-          let there = entry_told c.args.container d.holdings c.in_ok-found.found.items (c.in_ok-found.ensures.rows clean d.holdings shown.holdings shown.holdings_rise) in
+          let there = entry_told c.args.container d.holdings c.in_ok-found.found.items (c.in_ok-found.ensures.answers clean d.holdings shown.holdings shown.holdings_rise) in
           at_shelf (holding_of c.args.container d) (sym there ∙ sym first));
     }

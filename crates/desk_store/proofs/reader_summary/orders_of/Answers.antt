@@ -22,7 +22,7 @@ returns-in_err-orders g c =
     let e = c.from_residual-in_err-orders.ensures in
     record {
       tells = ends_not RepresentsDeskAlone IsLegible (λ _. ⊤) g.S.Store c.args.conn.now c.placed_on.new.conn c.last_order.new.conn _ (looks_then a b p c.in_ok-lines.ensures.reads.looks c.in_ok-placed.ensures.reads.looks)
-          c.in_err-orders.field-0.0 c.in_err-orders.ensures.reads.cut c.in_err-orders.ensures.reads.spares (λ d shown may kept. c.in_err-orders.ensures.faults d.orders shown.orders shown.few_orders shown.order_numbers)
+          c.in_err-orders.field-0.0 c.in_err-orders.ensures.reads.cut c.in_err-orders.ensures.reads.spares (λ d shown may kept. c.in_err-orders.ensures.faults d.orders shown.orders (shown.few_orders, shown.order_numbers))
           c.from_residual-in_err-orders.result (same_fault c.from_residual-in_err-orders.result c.in_err-orders.field-0.0 e.0 e.1);
     }
 
@@ -40,10 +40,10 @@ returns g c =
           let at_b = early b p _ c.in_ok-placed.ensures.reads.crash at_p in
           let shown_b = shown_on RepresentsDeskAlone a b first at_b d shown in
           let shown_p = shown_on RepresentsDeskAlone a p two at_p d shown in
-          let lines = c.in_ok-lines.ensures.rows at_b d.orders shown.orders shown.order_numbers in
+          let lines = c.in_ok-lines.ensures.answers at_b d.orders shown.orders shown.order_numbers in
           let told = λ (o : OrderLine). (let x : LiveOrder = record { order = o.order; container = o.container; is_out = nat_eq o.state 2 } in x) in
           let live = c.in_ok-live.ensures ∙ ap (map told) (c.deref.ensures.value ∙ lines) ∙ map-map told line_of (filter (λ (o : OrderRow). nat_eq c.args.ticket o.ticket && is_live o) d.orders) in
-          let placed = c.in_ok-placed.ensures.number at_p d.orders shown_b.orders shown_b.few_orders in
-          let orders = c.from.ensures ∙ c.in_ok-orders.ensures.number clean d.orders shown_p.orders shown_p.few_orders shown_p.order_numbers in
+          let placed = c.in_ok-placed.ensures.answers at_p d.orders shown_b.orders shown_b.few_orders in
+          let orders = c.from.ensures ∙ c.in_ok-orders.ensures.answers clean d.orders shown_p.orders (shown_p.few_orders, shown_p.order_numbers) in
           rw (live, placed, orders) refl);
     }

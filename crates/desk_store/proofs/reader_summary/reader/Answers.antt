@@ -28,7 +28,7 @@ returns-in_default-clause-tells g c =
     ends_well RepresentsDeskAlone IsLegible (λ _. ⊤) g.S.Store c.args.conn.now c.args.conn.now c.readers_with.new.conn _ c.in_ok-named.ensures.reads.looks None (λ clean d shown.
     let empty : length c.in_ok-named.named.items ≡ 0 = omega (arith, c.in_default.ensures.cases.0, c.into_iter.ensures.len, c.in_ok-named.named.ok.0) in
     sym (ap (option_map (card_with c.args.ticket c.args.today d)) (first_none c.in_ok-named.named.items empty))
-    ∙ card_told c.args.ticket c.args.today d c.in_ok-named.named.items (c.in_ok-named.ensures.rows clean d.readers shown.readers shown.tickets))
+    ∙ card_told c.args.ticket c.args.today d c.in_ok-named.named.items (c.in_ok-named.ensures.answers clean d.readers shown.readers shown.tickets))
 
 pub returns-in_err-seats-clause-tells : goal.returns-in_err-seats-clause-tells
 returns-in_err-seats-clause-tells g c =
@@ -61,9 +61,9 @@ returns-clause-tells g c =
     let shown_b = shown_on RepresentsDeskAlone a b first at_b d shown in
     let row = sym c.into_iter.ensures.rest ∙ c.in-Some.ensures.items in
     let card = sym (ap (λ (l : List NamedReader). option_map (card_with c.args.ticket c.args.today d) (slice_get l 0)) row)
-    ∙ card_told c.args.ticket c.args.today d c.in_ok-named.named.items (c.in_ok-named.ensures.rows at_b d.readers shown.readers shown.tickets) in
+    ∙ card_told c.args.ticket c.args.today d c.in_ok-named.named.items (c.in_ok-named.ensures.answers at_b d.readers shown.readers shown.tickets) in
     let seat = c.seat_in.ensures ∙ ap (λ l. option_map (λ s. s.seat) (slice_get l 0)) c.deref.ensures.value
-    ∙ seat_told c.args.ticket d c.in_ok-seats.seats.items (c.in_ok-seats.ensures.rows at_s d.seats shown_b.seats shown_b.seats_rise) in
+    ∙ seat_told c.args.ticket d c.in_ok-seats.seats.items (c.in_ok-seats.ensures.answers at_s d.seats shown_b.seats shown_b.seats_rise) in
     let told = c.in_ok-told.ensures.tells.answers clean tt d (shown_on RepresentsDeskAlone a s two at_s d shown) in
     let live = c.as_slice.ensures ∙ ap (λ (o : TicketOrders). o.live) told in
     let few = subst (λ l. length l < 2 ^ 32) (sym live) (few_live c.args.ticket d shown.few_orders) in

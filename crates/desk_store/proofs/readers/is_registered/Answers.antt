@@ -21,7 +21,7 @@ returns-then-ticket-from-clause-tells g c =
 pub returns-clause-tells : goal.returns-clause-tells
 returns-clause-tells g c =
     ends_well RepresentsDeskAlone IsLegible (λ _. ⊤) g.S.Store c.args.conn.now c.args.conn.now c.readers_with.new.conn _ c.in_ok-rows.ensures.reads.looks _ (λ clean d shown.
-    let rows = c.in_ok-rows.ensures.rows clean d.readers shown.readers shown.tickets in
+    let rows = c.in_ok-rows.ensures.answers clean d.readers shown.readers shown.tickets in
     c.is_there.ensures ∙ ap (λ l. is_some (slice_get l 0)) (c.deref.ensures.value ∙ rows)
     ∙ sym (some_mapped (λ (r : NamedReader). r) _)
     ∙ sym (ap is_some (first_told named (λ (r : NamedReader). r) (λ (r : ReaderRow). Rattle.std.proofs.Common.nat_eq c.args.ticket r.ticket) d.readers))

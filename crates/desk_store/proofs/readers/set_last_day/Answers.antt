@@ -1,30 +1,16 @@
 use Rattle.std.proofs.Common.{refl}
 use Rattle.sqlite.specs.Held.{state}
-use Rattle.office_tables.proofs.Calls.{early}
 use Rattle.office_tables.proofs.RowWrites.{ours}
 use Rattle.desk_store.proofs.ReaderRows.{set_last_day_text, set_last_day_command, set_last_day_means, set_last_day_leaves, set_last_day_only, set_last_day_faults}
+use Rattle.desk_store.proofs.Statements.{changes}
 use Rattle.desk_store.proofs.readers.set_last_day.Goals as goal
 
 pub change-requires : goal.change-requires
 change-requires g c = ours set_last_day_text 2 set_last_day_command (state g.S.Store c.args.conn.now) refl set_last_day_means c.requires.inside
 
-pub returns-clause-rows : goal.returns-clause-rows
-returns-clause-rows g c clean xs stored counted =
-    let old = state g.S.Store c.args.conn.now in
-    let new = state g.S.Store c.change.new.conn in
-    let at = c.requires.inside (early old new _ c.change.ensures.leaves.crash clean) in
-    set_last_day_leaves old new c.args.ticket c.args.until at.0 at.1 c.change.result (rw (c.number.ensures, c.day.ensures) at (c.change.ensures.ran clean)) xs stored counted
-
-pub returns-clause-only : goal.returns-clause-only
-returns-clause-only g c clean =
-    let old = state g.S.Store c.args.conn.now in
-    let new = state g.S.Store c.change.new.conn in
-    let at = c.requires.inside (early old new _ c.change.ensures.leaves.crash clean) in
-    set_last_day_only old new c.args.ticket c.args.until at.0 at.1 c.change.result (rw (c.number.ensures, c.day.ensures) at (c.change.ensures.ran clean))
-
-pub returns-clause-faults : goal.returns-clause-faults
-returns-clause-faults g c xs stored counted clean free =
-    let old = state g.S.Store c.args.conn.now in
-    let new = state g.S.Store c.change.new.conn in
-    let at = c.requires.inside (early old new _ c.change.ensures.leaves.crash clean) in
-    set_last_day_faults old new c.args.ticket c.args.until at.0 at.1 c.change.result (rw (c.number.ensures, c.day.ensures) at (c.change.ensures.ran clean)) xs stored counted free c.change.ensures.live
+pub returns : goal.returns
+returns g c =
+    changes c.requires.inside c.change.ensures.leaves (rw (c.number.ensures, c.day.ensures) at c.change.ensures.ran)
+    (λ v has ran xs stored counted. set_last_day_leaves _ _ c.args.ticket c.args.until v has c.change.result ran xs stored counted)
+    (λ v has ran. set_last_day_only _ _ c.args.ticket c.args.until v has c.change.result ran)
+    (λ v has ran xs stored counted free. set_last_day_faults _ _ c.args.ticket c.args.until v has c.change.result ran xs stored counted free c.change.ensures.live)

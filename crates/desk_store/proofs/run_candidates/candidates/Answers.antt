@@ -21,8 +21,8 @@ returns g c =
       tells = ends_well RepresentsDeskAlone IsLegible (λ _. ⊤) g.S.Store c.args.conn.now c.args.conn.now c.holding_lines.new.conn _ (looks_then a b z one two) _ (λ clean d shown.
           let before = early b z _ two.goes.on.crash clean in
           let shown_b = shown_on RepresentsDeskAlone a b one before d shown in
-          let orders = c.deref-2.ensures.value ∙ c.in_ok-orders.ensures.rows before d.orders shown.orders shown.order_numbers in
-          let lines = c.deref.ensures.value ∙ c.in_ok-lines.ensures.rows clean d.holdings shown_b.holdings shown_b.holdings_rise in
+          let orders = c.deref-2.ensures.value ∙ c.in_ok-orders.ensures.answers before d.orders shown.orders shown.order_numbers in
+          let lines = c.deref.ensures.value ∙ c.in_ok-lines.ensures.answers clean d.holdings shown_b.holdings shown_b.holdings_rise in
           c.in_ok-firsts.ensures (subst (AreByNumber (λ (o : FirstOrder). o.order)) (sym orders) (rising d.orders shown.order_numbers))
           ∙ picked_are d c.deref-2.result.now c.deref.result.now c.in_ok-known.known.keys orders lines c.in_ok-known.ensures);
     }

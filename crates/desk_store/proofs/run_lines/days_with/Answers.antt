@@ -3,29 +3,22 @@ use Rattle.std.proofs.lemmas.Result.{IfOk-weaker}
 use Rattle.sqlite.specs.Held.{state}
 use Rattle.sqlite_trees.proofs.ListLemmas.{ascending-filter}
 use Rattle.desk_core.specs.DeskRows.{RunRow}
-use Rattle.office_tables.proofs.Calls.{early}
 use Rattle.office_tables.proofs.RowReads.{asks}
 use Rattle.office_tables.proofs.Sorted.{only_order}
 use Rattle.desk_store.proofs.BroughtRows.{day_text, day_command, day_means, day_finds, day_faults, day_of, by_run, by_run_total}
 use Rattle.office_tables.proofs.numbered.Counted.{counted_rises}
+use Rattle.desk_store.proofs.Statements.{looks_up}
 use Rattle.desk_store.proofs.run_lines.days_with.Goals as goal
 
 pub find-requires : goal.find-requires
 find-requires g c = asks day_text 1 day_command (state g.S.Store c.args.conn.now) day_means c.requires.inside
 
-pub returns-clause-rows : goal.returns-clause-rows
-returns-clause-rows g c clean xs stored counted =
-    let old = state g.S.Store c.args.conn.now in
-    let new = state g.S.Store c.find.new.conn in
-    let at = c.requires.inside (early old new _ c.find.ensures.reads.crash clean) in
+pub returns : goal.returns
+returns g c =
+    looks_up c.requires.inside c.find.ensures.reads (rw c.number.ensures at c.find.ensures.found) (rw c.number.ensures at c.find.ensures.missed)
+    (λ v has found xs stored counted.
     let kept = filter (λ (x : RunRow). nat_eq c.args.run x.id) xs in
     let rising = ascending-filter _ (λ (x : RunRow). nat_eq c.args.run x.id) xs (counted_rises (λ (x : RunRow). x.id) 1 xs counted) in
     IfOk-weaker c.find.result _ _ (λ all it. it.2 ∙ ap (map day_of) (only_order by_run by_run_total kept it.0 rising it.1.1 it.1.0))
-    (day_finds old new c.args.run at.0 at.1 xs stored (λ found. found.items) c.find.result (rw c.number.ensures at (c.find.ensures.found clean)))
-
-pub returns-clause-faults : goal.returns-clause-faults
-returns-clause-faults g c xs stored legible clean free =
-    let old = state g.S.Store c.args.conn.now in
-    let new = state g.S.Store c.find.new.conn in
-    let at = c.requires.inside (early old new _ c.find.ensures.reads.crash clean) in
-    day_faults old new c.args.run at.0 at.1 xs stored (λ found. found.items) c.find.result legible free (rw c.number.ensures at (c.find.ensures.missed clean))
+    (day_finds _ _ c.args.run v has xs stored (λ found. found.items) c.find.result found))
+    (λ v has missed xs stored legible free. day_faults _ _ c.args.run v has xs stored (λ found. found.items) c.find.result legible free missed)

@@ -28,7 +28,7 @@ returns-in_default g c =
     record {
       tells = ends_well RepresentsQueues IsLegibleStacks (AreKnown c.args.run) g.S.Store c.args.conn.now c.args.conn.now c.days_with.new.conn _ c.in_ok-days.ensures.reads.looks None (λ clean s shown.
           let first = c.copied.ensures ∙ c.first.ensures.value ∙ ap (λ l. slice_get l 0) c.deref.ensures.value in
-          let there = day_told c.args.run s.desk.runs c.in_ok-days.days.items (c.in_ok-days.ensures.rows clean s.desk.runs shown.desk.runs shown.desk.run_numbers) in
+          let there = day_told c.args.run s.desk.runs c.in_ok-days.days.items (c.in_ok-days.ensures.answers clean s.desk.runs shown.desk.runs shown.desk.run_numbers) in
           none_told s (run_with c.args.run s.desk) (sym there ∙ sym first ∙ c.in_default.is));
     }
 
@@ -37,7 +37,7 @@ returns-in_err-lines g c =
     let e = c.from_residual-in_err-lines.ensures in
     record {
       tells = ends_not RepresentsQueues IsLegibleStacks (AreKnown c.args.run) g.S.Store c.args.conn.now c.days_with.new.conn c.lines_with.new.conn _ c.in_ok-days.ensures.reads.looks
-          c.in_err-lines.field-0.0 c.in_err-lines.ensures.reads.cut c.in_err-lines.ensures.reads.spares (λ s shown may kept. c.in_err-lines.ensures.faults s.desk.run_lines shown.desk.run_lines)
+          c.in_err-lines.field-0.0 c.in_err-lines.ensures.reads.cut c.in_err-lines.ensures.reads.spares (λ s shown may kept. c.in_err-lines.ensures.faults s.desk.run_lines shown.desk.run_lines tt)
           c.from_residual-in_err-lines.result (same_fault c.from_residual-in_err-lines.result c.in_err-lines.field-0.0 e.0 e.1);
     }
 
@@ -53,7 +53,7 @@ returns-in_err-told g c =
           c.in_err-told.field-0.0 c.in_err-told.ensures.tells.cut c.in_err-told.ensures.tells.spares (λ s shown may kept clean.
           let before = early l z _ c.in_err-told.ensures.tells.cut.crash clean in
           let shown_b = shown_back RepresentsQueues b l c.in_ok-lines.ensures.reads.looks before s shown in
-          let are = c.in_ok-lines.ensures.rows before s.desk.run_lines shown_b.desk.run_lines in
+          let are = c.in_ok-lines.ensures.answers before s.desk.run_lines shown_b.desk.run_lines tt in
           c.in_err-told.ensures.tells.faults tt s shown (rw c.deref-2.ensures.value (known_lines c.args.run s c.in_ok-lines.lines.items are may)) kept clean)
           c.from_residual-in_err-told.result (same_fault c.from_residual-in_err-told.result c.in_err-told.field-0.0 e.0 e.1);
     }
@@ -74,8 +74,8 @@ returns g c =
           let shown_b = shown_on RepresentsQueues a b one at_b s shown in
           let shown_l = shown_on RepresentsQueues a l two at_l s shown in
           let first = c.copied.ensures ∙ c.first.ensures.value ∙ ap (λ l. slice_get l 0) c.deref.ensures.value in
-          let there = day_told c.args.run s.desk.runs c.in_ok-days.days.items (c.in_ok-days.ensures.rows at_b s.desk.runs shown.desk.runs shown.desk.run_numbers) in
-          let are = c.in_ok-lines.ensures.rows at_l s.desk.run_lines shown_b.desk.run_lines in
+          let there = day_told c.args.run s.desk.runs c.in_ok-days.days.items (c.in_ok-days.ensures.answers at_b s.desk.runs shown.desk.runs shown.desk.run_numbers) in
+          let are = c.in_ok-lines.ensures.answers at_l s.desk.run_lines shown_b.desk.run_lines tt in
           run_told c.args.run s (run_with c.args.run s.desk) c.in-Some.made c.in_ok-lines.lines.items c.in_ok-told.told.items refl (sym there ∙ sym first ∙ c.in-Some.is) are
           (rw c.deref-2.ensures.value at (c.in_ok-told.ensures.tells.answers clean tt s shown_l)));
     }

@@ -14,7 +14,7 @@ pub returns-in-Some : goal.returns-in-Some
 returns-in-Some g c =
     record {
       makes = subst (λ (who : Option ℕ). StoreUpdates g.S.Store RepresentsDeskAlone IsLegible c.args.conn.now c.insert_seat.new.conn c.insert_seat.result (MayTake c.args.seat who) (with_seat c.args.seat who) (tables.seat.tree ∷ [])) (sym c.in-Some.is)
-          (takes g.S.Store c.args.conn.now c.insert_seat.new.conn c.insert_seat.result c.args.seat c.in-Some.ticket c.insert_seat.ensures.leaves (rw c.from.ensures at c.insert_seat.ensures.puts) (rw c.from.ensures at c.insert_seat.ensures.faults));
+          (takes g.S.Store c.args.conn.now c.insert_seat.new.conn c.insert_seat.result c.args.seat c.in-Some.ticket (rw c.from.ensures at c.insert_seat.ensures));
       puts = λ clean. subst (λ (who : Option ℕ). IfSome who (λ t. OnOk c.insert_seat.result (PutsRow tables.seat.tree (seat_cells (record { seat = c.args.seat; ticket = t })) (state g.S.Store c.args.conn.now).now (state g.S.Store c.insert_seat.new.conn).now))) (sym c.in-Some.is)
           (rw c.from.ensures at c.insert_seat.ensures.puts clean);
     }

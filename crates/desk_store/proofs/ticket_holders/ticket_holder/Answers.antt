@@ -27,7 +27,7 @@ returns-in_default-clause-tells g c =
     ends_well RepresentsDeskAlone IsLegible (λ _. ⊤) g.S.Store c.args.conn.now c.args.conn.now c.readers_with.new.conn _ c.in_ok-named.ensures.reads.looks None (λ clean d shown.
     let empty : length c.in_ok-named.named.items ≡ 0 = omega (arith, c.in_default.ensures.cases.0, c.into_iter.ensures.len, c.in_ok-named.named.ok.0) in
     sym (ap (option_map (holder_with c.args.ticket d)) (first_none c.in_ok-named.named.items empty))
-    ∙ holder_told c.args.ticket d c.in_ok-named.named.items (c.in_ok-named.ensures.rows clean d.readers shown.readers shown.tickets))
+    ∙ holder_told c.args.ticket d c.in_ok-named.named.items (c.in_ok-named.ensures.answers clean d.readers shown.readers shown.tickets))
 
 pub returns-in_err-seats-clause-tells : goal.returns-in_err-seats-clause-tells
 returns-in_err-seats-clause-tells g c =
@@ -43,7 +43,7 @@ returns-in_err-lines-clause-tells g c =
     let s = state g.S.Store c.seats_with.new.conn in
     let e = c.from_residual-in_err-lines.ensures in
     ends_not RepresentsDeskAlone IsLegible (λ _. ⊤) g.S.Store c.args.conn.now c.seats_with.new.conn c.live_lines.new.conn _ (looks_then a b s c.in_ok-named.ensures.reads.looks c.in_ok-seats.ensures.reads.looks)
-    c.in_err-lines.field-0.0 c.in_err-lines.ensures.reads.cut c.in_err-lines.ensures.reads.spares (λ d shown may kept. c.in_err-lines.ensures.faults d.orders shown.orders)
+    c.in_err-lines.field-0.0 c.in_err-lines.ensures.reads.cut c.in_err-lines.ensures.reads.spares (λ d shown may kept. c.in_err-lines.ensures.faults d.orders shown.orders tt)
     c.from_residual-in_err-lines.result (same_fault c.from_residual-in_err-lines.result c.in_err-lines.field-0.0 e.0 e.1)
 
 pub returns-clause-tells : goal.returns-clause-tells
@@ -62,10 +62,10 @@ returns-clause-tells g c =
     let shown_s = shown_on RepresentsDeskAlone a s two at_s d shown in
     let row = sym c.into_iter.ensures.rest ∙ c.in-Some.ensures.items in
     let holder = sym (ap (λ (l : List NamedReader). option_map (holder_with t d) (slice_get l 0)) row)
-    ∙ holder_told t d c.in_ok-named.named.items (c.in_ok-named.ensures.rows at_b d.readers shown.readers shown.tickets) in
+    ∙ holder_told t d c.in_ok-named.named.items (c.in_ok-named.ensures.answers at_b d.readers shown.readers shown.tickets) in
     let seat = c.seat_in.ensures ∙ ap (λ l. option_map (λ s. s.seat) (slice_get l 0)) c.deref.ensures.value
-    ∙ seat_told t d c.in_ok-seats.seats.items (c.in_ok-seats.ensures.rows at_s d.seats shown_b.seats shown_b.seats_rise) in
-    let lines = c.deref-2.ensures.value ∙ c.in_ok-lines.ensures.rows clean d.orders shown_s.orders shown_s.order_numbers in
+    ∙ seat_told t d c.in_ok-seats.seats.items (c.in_ok-seats.ensures.answers at_s d.seats shown_b.seats shown_b.seats_rise) in
+    let lines = c.deref-2.ensures.value ∙ c.in_ok-lines.ensures.answers clean d.orders shown_s.orders shown_s.order_numbers in
     let few = subst (λ (l : List OrderLine). length l < 2 ^ 32) (sym lines) (few_lines t d shown.few_orders) in
     let held = c.count_out.ensures few ∙ ap (count_by (λ (l : OrderLine). nat_eq l.state 2)) lines ∙ out_of_lines t d.orders in
     (rw (seat, held) refl) ∙ holder)

@@ -8,7 +8,7 @@ pub returns : goal.returns
 returns g c =
     record {
       tells = record {
-        answers = λ clean beside d shown. ap (nat_lt 0) (c.in_ok-waiting.ensures.number clean d.orders shown.orders shown.few_orders) ∙ any_counted (waits_for c.args.container) d.orders;
+        answers = λ clean beside d shown. ap (nat_lt 0) (c.in_ok-waiting.ensures.answers clean d.orders shown.orders shown.few_orders) ∙ any_counted (waits_for c.args.container) d.orders;
         looks = c.in_ok-waiting.ensures.reads.looks;
         cut = tt;
         spares = λ clean. tt;

@@ -1,0 +1,106 @@
+#!/usr/bin/env python3
+"""Counts what contracts and proofs are made of, crate by crate and in all.
+
+    mutation/shape.py [--against CHECKOUT] [CRATE ..]
+
+The columns:
+
+    inside     premises `requires inside`
+    <P, S>     type arguments `::<P, S>`
+    state      mentions of `state S.Store`
+    IsNumber   premises that name `IsNumber`
+    clauses    lines of requires, ensures and the ghost members of types
+    answers    lines of the files Answers.antt and Invariants.antt
+    source     lines of src
+    ratio      lines of proofs for each line of source
+
+With --against, each number that differs from that checkout's has the one of there before it, with an arrow. With CRATE, only
+these crates are counted.
+"""
+import argparse
+import pathlib
+import re
+
+TOP = pathlib.Path(__file__).resolve().parent.parent
+CLAUSE = re.compile(r"(?:requires|ensures\*?|ghost(?! use))\b.*\{")
+ANSWERS = ("Answers.antt", "Invariants.antt")
+COLUMNS = ("inside", "<P, S>", "state", "IsNumber", "clauses", "answers", "source", "ratio")
+
+
+def texts(folder, ending):
+    """The files below a folder by their names, except wrong bodies."""
+    return [(it.name, it.read_text(encoding="utf-8")) for it in sorted(folder.rglob(f"*{ending}"))]
+
+
+def lines(text):
+    return text.count("\n")
+
+
+def clauses(text):
+    """The clauses of a file of code, each with all its lines."""
+    clause, deep = [], 0
+    for line in text.split("\n"):
+        if clause or CLAUSE.match(line.strip()):
+            clause.append(line)
+            deep += line.count("{") - line.count("}")
+            if deep <= 0:
+                yield "\n".join(clause)
+                clause, deep = [], 0
+
+
+def counts(crate):
+    """What a crate has: a number for each column, and at last the lines of its proofs in place of the ratio."""
+    sources = [text for _, text in texts(crate / "src", ".rt")]
+    proofs = texts(crate / "proofs", ".antt")
+    code = "\n".join(sources)
+    said = [it for text in sources for it in clauses(text)]
+    return [
+        len(re.findall(r"\brequires inside\b", code)),
+        code.count("::<P, S>"),
+        code.count("state S.Store"),
+        sum(1 for it in said if it.lstrip().startswith("requires") and "IsNumber" in it),
+        sum(lines(it) + 1 for it in said),
+        sum(lines(text) for name, text in proofs if name in ANSWERS),
+        sum(map(lines, sources)),
+        sum(lines(text) for _, text in proofs),
+    ]
+
+
+def shown(numbers):
+    """The cells of a row: the last number, the lines of proofs, is shown for each line of source."""
+    *rest, source, proofs = numbers
+    return [*map(str, (*rest, source)), f"{proofs / source:.2f}" if source else "-"]
+
+
+def table(top, only):
+    """A row for each crate of a checkout, and one for all."""
+    crates = sorted(it.parent for it in (top / "crates").glob("*/src") if not only or it.parent.name in only)
+    rows = {it.name: counts(it) for it in crates}
+    rows["in all"] = [sum(column) for column in zip(*rows.values())]
+    return {name: shown(row) for name, row in rows.items()}
+
+
+def side_by_side(before, after):
+    """The cells of a row of two checkouts."""
+    return [there if there == here else f"{there} → {here}" for there, here in zip(before, after)]
+
+
+def main():
+    words = argparse.ArgumentParser(description=__doc__.split("\n")[0])
+    words.add_argument("--against", metavar="CHECKOUT", type=pathlib.Path, help="another checkout, whose numbers come first")
+    words.add_argument("crates", metavar="CRATE", nargs="*", help="only these crates")
+    given = words.parse_args()
+    rows = table(TOP, given.crates)
+    if given.against:
+        there = table(given.against, given.crates)
+        none = ["-"] * len(COLUMNS)
+        rows = {name: side_by_side(there.get(name, none), rows.get(name, none)) for name in {**there, **rows}}
+        rows["in all"] = rows.pop("in all")
+    page = [["", *COLUMNS], *([name, *row] for name, row in rows.items())]
+    widths = [max(map(len, column)) for column in zip(*page)]
+    for name, *row in page:
+        print(name.ljust(widths[0]), *(cell.rjust(width) for cell, width in zip(row, widths[1:])), sep="  ")
+
+
+if __name__ == "__main__":
+    main()
