@@ -35,3 +35,4 @@ pub mod SameRows
 pub mod Tellings
 pub mod WithheldUnits
 pub mod Paths
+pub mod UnboxedMarks
