@@ -1,11 +1,11 @@
 -- What the rows of a unit say of its mark.
-use Rattle.std.proofs.Common.{◌≡◌, inl, inr, ℕ, zero, suc, pos, ◌+◌, ◌<◌, ◌≤◌, List, [], ◌∷◌, ◌++◌, map, filter, length, take, get_or, Some, None, option_map, slice_get, false, not, ◌==◌, nat_eq, Less, Equal, refl, sym, ap, ◌∙◌, arith}
+use Rattle.std.proofs.Common.{◌≡◌, inl, inr, ℕ, zero, suc, pos, ◌+◌, ◌<◌, ◌≤◌, List, [], ◌∷◌, ◌++◌, map, filter, length, take, get_or, Some, None, option_map, slice_get, false, not, ◌==◌, nat_eq, Less, Equal, refl, sym, ap, ap₂, ◌∙◌, arith}
 use Rattle.std.specs.List.{find, AllByRecursion}
 use Rattle.std.specs.List.Sorted.{IsPermutation}
 use Rattle.std.specs.Ordering.{int_cmp}
 use Rattle.std.specs.Cmp.{tied_itself, int_cmp_total}
 use Rattle.std.proofs.lemmas.Bool.{eq-eqb, ne_eqb, eqb-true, cases_Bool}
-use Rattle.std.proofs.lemmas.List.{length-map, take_more, take_all, length-take-le, get_or-map}
+use Rattle.std.proofs.lemmas.List.{length-map, map-append, take_more, take_all, length-take-le, get_or-map}
 use Rattle.std.proofs.lemmas.List.Sorted.{length_permutation, IsPermutation-sym}
 use Rattle.sqlite.specs.Tree.{Trees}
 use Rattle.sqlite_rules.specs.Lists.{Has}
@@ -23,6 +23,7 @@ use Rattle.catalogue_statements.specs.Representation.{RepresentsUnits, Represent
 use Rattle.catalogue_core.specs.Units.{Unit}
 use Rattle.catalogue_statements.specs.declared.row_types.Status.{Status}
 use Rattle.catalogue_statements.proofs.Offices.{length-counted}
+use Rattle.catalogue_store.specs.Attachments.{unboxed}
 use Rattle.office_tables.proofs.Rows.{had}
 use Rattle.office_tables.proofs.Reading.{first_shown}
 
@@ -92,20 +93,51 @@ at_index P (u ∷ units) zero d all low = all.0
 at_index P (u ∷ units) (suc i) d all low = at_index P units i d all.1 (omega arith)
 
 -- the unit of a row, and what its mark adds
-pub mark_more : (f : Forest Unit) (spans : List Span) (units : List Unit) (i : ℕ) (d : Span) (mark : Mark) (marks more : List Mark) → AllByRecursion (Has (nodes f)) units → map (λ (s : Span). s.id) spans ≡ map (λ (u : Unit). u.id) units → i < length spans
-    → ((u : Unit) → Has (nodes f) u → (get_or spans i d).id ≡ u.id → mark ≡ mark_at (get_or spans i d) u) → marks ≡ marks_at (take i spans) (take i units) → more ≡ marks ++ mark ∷ [] → more ≡ marks_at (take (i + 1) spans) (take (i + 1) units)
-mark_more f spans units i d mark marks more all same low tells so_far pushed =
+pub next_mark : (f : Forest Unit) (spans : List Span) (units : List Unit) (i : ℕ) (d : Span) → AllByRecursion (Has (nodes f)) units → map (λ (s : Span). s.id) spans ≡ map (λ (u : Unit). u.id) units → i < length spans
+    → (u : Unit) × Has (nodes f) u × ((get_or spans i d).id ≡ u.id) × (marks_at (take i spans) (take i units) ++ mark_at (get_or spans i d) u ∷ [] ≡ marks_at (take (i + 1) spans) (take (i + 1) units))
+next_mark f spans units i d all same low =
     let long : length spans ≡ length units = sym (length-map spans (λ (s : Span). s.id)) ∙ ap length same ∙ length-map units (λ (u : Unit). u.id) in
     let low' : i < length units = omega arith in
     let s = get_or spans i d in
     let u = get_or units i blank_unit in
-    let id : s.id ≡ u.id = sym (get_or-map (λ (s : Span). s.id) spans i d 0 low) ∙ ap (λ l. get_or l i 0) same ∙ get_or-map (λ (u : Unit). u.id) units i blank_unit 0 low' in
-    let short : length (take i spans) ≡ length (take i units) = length-take-le i spans (omega arith) ∙ sym (length-take-le i units (omega arith)) in
-    pushed ∙ ap (λ l. l ++ mark ∷ []) so_far ∙ ap (λ m. marks_at (take i spans) (take i units) ++ m ∷ []) (tells u (at_index (Has (nodes f)) units i blank_unit all low') id)
-    ∙ sym (marks_at-append (take i spans) (s ∷ []) (take i units) (u ∷ []) short)
-    ∙ sym (ap (λ l. marks_at l (take (i + 1) units)) (take_more spans i d low) ∙ ap (marks_at (take i spans ++ s ∷ [])) (take_more units i blank_unit low'))
+    let short : length (take i spans) ≡ length (take i units) = length-take-le i spans (omega arith) ∙ sym (length-take-le i units (omega arith)) in (
+      u,
+      at_index (Has (nodes f)) units i blank_unit all low',
+      sym (get_or-map (λ (s : Span). s.id) spans i d 0 low) ∙ ap (λ l. get_or l i 0) same ∙ get_or-map (λ (u : Unit). u.id) units i blank_unit 0 low',
+      sym (marks_at-append (take i spans) (s ∷ []) (take i units) (u ∷ []) short)
+          ∙ sym (ap (λ l. marks_at l (take (i + 1) units)) (take_more spans i d low) ∙ ap (marks_at (take i spans ++ s ∷ [])) (take_more units i blank_unit low')),
+    )
+
+pub mark_more : (f : Forest Unit) (spans : List Span) (units : List Unit) (i : ℕ) (d : Span) (mark : Mark) (marks more : List Mark) → AllByRecursion (Has (nodes f)) units → map (λ (s : Span). s.id) spans ≡ map (λ (u : Unit). u.id) units → i < length spans
+    → ((u : Unit) → Has (nodes f) u → (get_or spans i d).id ≡ u.id → mark ≡ mark_at (get_or spans i d) u) → marks ≡ marks_at (take i spans) (take i units) → more ≡ marks ++ mark ∷ [] → more ≡ marks_at (take (i + 1) spans) (take (i + 1) units)
+mark_more f spans units i d mark marks more all same low tells so_far pushed =
+    let next = next_mark f spans units i d all same low in
+    pushed ∙ ap₂ (λ l m. l ++ m ∷ []) so_far (tells next.0 next.1 next.2) ∙ next.3
+
+pub all_marks : (spans : List Span) (units : List Unit) (i : ℕ) → map (λ (s : Span). s.id) spans ≡ map (λ (u : Unit). u.id) units → length spans ≤ i → marks_at (take i spans) (take i units) ≡ marks_at spans units
+all_marks spans units i same high =
+    let long : length spans ≡ length units = sym (length-map spans (λ (s : Span). s.id)) ∙ ap length same ∙ length-map units (λ (u : Unit). u.id) in
+    ap (λ l. marks_at l (take i units)) (take_all i spans high) ∙ ap (marks_at spans) (take_all i units (omega arith))
 
 pub marks_all : (spans : List Span) (units : List Unit) (i : ℕ) (marks : List Mark) → map (λ (s : Span). s.id) spans ≡ map (λ (u : Unit). u.id) units → length spans ≤ i → marks ≡ marks_at (take i spans) (take i units) → marks ≡ marks_at spans units
-marks_all spans units i marks same high so_far =
-    let long : length spans ≡ length units = sym (length-map spans (λ (s : Span). s.id)) ∙ ap length same ∙ length-map units (λ (u : Unit). u.id) in
-    so_far ∙ ap (λ l. marks_at l (take i units)) (take_all i spans high) ∙ ap (marks_at spans) (take_all i units (omega arith))
+marks_all spans units i marks same high so_far = so_far ∙ all_marks spans units i same high
+
+-- the same without what the marks say of containers
+pub status_more : (f : Forest Unit) (spans : List Span) (units : List Unit) (i : ℕ) (d : Span) (mark : Mark) (marks more : List Mark) → AllByRecursion (Has (nodes f)) units → map (λ (s : Span). s.id) spans ≡ map (λ (u : Unit). u.id) units → i < length spans
+    → ((u : Unit) → Has (nodes f) u → (get_or spans i d).id ≡ u.id → mark ≡ unboxed (mark_at (get_or spans i d) u)) → marks ≡ map unboxed (marks_at (take i spans) (take i units)) → more ≡ marks ++ mark ∷ [] → more ≡ map unboxed (marks_at (take (i + 1) spans) (take (i + 1) units))
+status_more f spans units i d mark marks more all same low tells so_far pushed =
+    let next = next_mark f spans units i d all same low in
+    pushed ∙ ap₂ (λ l m. l ++ m ∷ []) so_far (tells next.0 next.1 next.2) ∙ sym (map-append unboxed (marks_at (take i spans) (take i units)) (mark_at (get_or spans i d) next.0 ∷ [])) ∙ ap (map unboxed) next.3
+
+pub statuses_all : (spans : List Span) (units : List Unit) (i : ℕ) (marks : List Mark) → map (λ (s : Span). s.id) spans ≡ map (λ (u : Unit). u.id) units → length spans ≤ i → marks ≡ map unboxed (marks_at (take i spans) (take i units)) → marks ≡ map unboxed (marks_at spans units)
+statuses_all spans units i marks same high so_far = so_far ∙ ap (map unboxed) (all_marks spans units i same high)
+
+-- the unit of the first row, and those of the others
+pub first_unit : (first : Span) (below : List Span) (units : List Unit) → map (λ (s : Span). s.id) (first ∷ below) ≡ map (λ (u : Unit). u.id) units
+    → (u : Unit) × (us : List Unit) × (units ≡ u ∷ us) × (first.id ≡ u.id) × (map (λ (s : Span). s.id) below ≡ map (λ (u : Unit). u.id) us)
+first_unit first below [] same = absurd (let k : first.id ∷ map (λ (s : Span). s.id) below ≡ [] = same in cc)
+first_unit first below (u ∷ us) same =
+    let both : first.id ∷ map (λ (s : Span). s.id) below ≡ u.id ∷ map (λ (u : Unit). u.id) us = same in
+    let here : first.id ≡ u.id = cc in
+    let rest : map (λ (s : Span). s.id) below ≡ map (λ (u : Unit). u.id) us = cc in
+    (u, us, refl, here, rest)

@@ -1,5 +1,5 @@
 -- The units that a container is attached to, and their marks.
-use Rattle.std.specs.Prelude.{◌≡◌, ℕ, nat_eq, true, List, [], ◌∷◌, map, filter, IsPermutation, ⊤}
+use Rattle.std.specs.Prelude.{◌≡◌, ℕ, nat_eq, Bool, true, false, List, [], ◌∷◌, map, filter, IsPermutation, ⊤}
 use Rattle.std.specs.List.{AllByRecursion}
 use Rattle.tree_core.specs.Forest.{Forest, nodes, each, has, path, tree}
 use Rattle.tree_core.specs.declared.marks.Mark.{Mark}
@@ -9,7 +9,7 @@ use Rattle.office_tables.specs.Order.{Rises}
 use Rattle.catalogue_statements.specs.Rows.{by_number}
 use Rattle.catalogue_core.specs.Units.{Unit, has_id}
 use Rattle.catalogue_store.specs.declared.container_marks.Attached.{Attached}
-use Rattle.catalogue_core.specs.UnitMarks.{AreMarks, AreWalkMarks, names}
+use Rattle.catalogue_core.specs.UnitMarks.{mark_of, unnumbered, AreWalkMarks, names}
 
 -- the units that name the container, each once, in order of their numbers
 pub record AreAttached (c : Catalogue) (container : ℕ) (units : List Unit) : Type 0 where
@@ -32,9 +32,28 @@ named_by c container = map (λ (u : Unit). u.id) (filter (names c.containers con
 abbrev pub AreAttachedRows : (Forest ℕ → Span → Type 0) → Catalogue → ℕ → List Span → Type 0
 AreAttachedRows stands c container rows = AreRowsOf stands (each (λ (u : Unit). u.id) c.forest) (named_by c container) rows
 
+-- the same mark, as of a unit that names no containers
+abbrev pub unboxed : Mark → Mark
+unboxed mark = record mark { boxed = false }
+
+-- The marks of a path, in order. Neither their numbers nor `boxed` have a meaning: what withholds the last unit of a path
+-- is on the path, whatever lies in which container.
+abbrev pub ArePathMarks : List Unit → List Mark → Type 0
+ArePathMarks units marks = map unboxed (map unnumbered marks) ≡ map unboxed (map mark_of units)
+
+-- the same marks, but for `boxed` of the first
+abbrev pub with_first_boxed : Bool → List Mark → List Mark
+with_first_boxed boxed [] = []
+with_first_boxed boxed (mark ∷ marks) = record mark { boxed = boxed } ∷ marks
+
+-- The marks of a unit and of all below it in walk order. `boxed` of the first has no meaning: the question is which units
+-- take their containers from it.
+abbrev pub AreBranchMarks : Forest Unit → List Mark → Type 0
+AreBranchMarks f marks = (boxed : Bool) × AreWalkMarks f (with_first_boxed boxed marks)
+
 -- the marks of the path and of the branch of a unit
 abbrev pub AreMarksOf : Forest Unit → ℕ → Attached → Type 0
-AreMarksOf f id one = AreMarks (path (has_id id) f) one.path.items × AreWalkMarks (tree (has_id id) f) one.branch.items
+AreMarksOf f id one = ArePathMarks (path (has_id id) f) one.path.items × AreBranchMarks (tree (has_id id) f) one.branch.items
 
 -- for each of these units, the marks of its path and of its branch
 abbrev pub AreMarksOfEach : Forest Unit → List ℕ → List Attached → Type 0

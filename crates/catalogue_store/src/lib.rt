@@ -26,7 +26,7 @@ pub use descriptions::{add_unit, replace_values};
 pub use heads::{Head, find_head, heads_below, path_heads};
 pub use import_entries::{enter_unit, enter_values};
 pub use links::{LONGEST_PATH, LinkPlaces, spans_by_links};
-pub use marks::marks_of;
+pub use marks::{marks_of, marks_of_branch, status_marks};
 pub use office::{Office, office_row, settings};
 pub use office_tables::{StoreFault, begin, commit, create_index, create_table, roll_back};
 pub use places::Places;

@@ -39,3 +39,4 @@ pub mod BranchMembers
 pub mod NamedApart
 pub mod EarlyRefusals
 pub mod JointWalks
+pub mod UnboxedMarks

@@ -1,15 +1,15 @@
 -- Whether a reader with these permits may see a container, given the marks that are read for its units.
 use Rattle.std.specs.Prelude.{◌≡◌, ℕ, ℤ, int_le, Bool, true, ◌&&◌, List, [], map, nat_eq}
 use Rattle.std.specs.List.{AllByRecursion, list_all, list_any}
-use Rattle.tree_core.specs.Forest.{Forest, each, path, tree}
+use Rattle.tree_core.specs.Forest.{Forest, each}
 use Rattle.tree_core.specs.declared.rows.Span.{Span}
 use Rattle.desk_store.specs.declared.reader_permits.Permit.{Permit}
 use Rattle.catalogue_core.specs.CatalogueMerge.{Catalogue}
 use Rattle.office_core.specs.State.{State}
 use Rattle.catalogue_core.specs.UnitLookup.{has_unit}
-use Rattle.catalogue_core.specs.UnitMarks.{AreMarks, AreWalkMarks}
 use Rattle.catalogue_core.specs.OpenMarks.{is_clean_for}
-use Rattle.catalogue_core.specs.Units.{Unit, has_id}
+use Rattle.catalogue_core.specs.Units.{Unit}
+use Rattle.catalogue_store.specs.Attachments.{AreMarksOf}
 use Rattle.catalogue_store.specs.declared.container_marks.Attached.{Attached}
 
 -- one of these permits is for the unit and valid on that day
@@ -19,8 +19,7 @@ allows day permits u = list_any (λ (permit : Permit). nat_eq permit.unit u && i
 -- the answer is whether the unit with these marks is clean for the reader
 abbrev pub TellsClean : ℤ → List Permit → Attached → Bool → Type 0
 TellsClean day permits attached answer =
-    (f : Forest Unit) (u : ℕ) → has_unit f u ≡ true → AreMarks (path (has_id u) f) attached.path.items
-    → AreWalkMarks (tree (has_id u) f) attached.branch.items → answer ≡ is_clean_for (allows day permits) day f u
+    (f : Forest Unit) (u : ℕ) → has_unit f u ≡ true → AreMarksOf f u attached → answer ≡ is_clean_for (allows day permits) day f u
 
 -- the rows are those of units of the catalogue
 abbrev pub AreTheirs : (Forest ℕ → Span → Type 0) → Catalogue → List Span → Type 0

@@ -53,7 +53,7 @@ loop-row-preserved g c =
           let known = subst (g.P.Places.knows k) (sym c.deref.ensures.value) (before.known at_b o k it theirs.0) in
           let own = told.answers clean o k it_b (all-get_or (g.P.Places.stands (each (λ (u : Unit). u.id) k.forest)) rows i _ theirs.0 c.loop-row-test.true) known in
           let there = all-get_or (λ (row : Span). has_unit k.forest row.id ≡ true) rows i _ theirs.1 c.loop-row-test.true in
-          more_clean (is_clean_for (allows c.args.today c.args.permits.now) c.args.today k.forest) rows i _ c.loop-row-test.true c.in_ok-is_clean.field-0 (c.in_ok-is_clean.ensures k.forest _ there own.0.0 own.0.1) c.if-not-branch.false
+          more_clean (is_clean_for (allows c.args.today c.args.permits.now) c.args.today k.forest) rows i _ c.loop-row-test.true c.in_ok-is_clean.field-0 (c.in_ok-is_clean.ensures k.forest _ there own.0) c.if-not-branch.false
           (before.so_far at_b o k it theirs);
       known = λ clean o k it all.
           let at_b = early b d _ told.looks.goes.on.crash clean in
@@ -91,7 +91,7 @@ returns-then-not-branch g c =
             let known = subst (g.P.Places.knows k) (sym c.deref.ensures.value) (before.known at_b o k it theirs.0) in
             let own = told.answers clean o k it_b (all-get_or (g.P.Places.stands (each (λ (u : Unit). u.id) k.forest)) rows i _ theirs.0 c.loop-row-test.true) known in
             let there = all-get_or (λ (row : Span). has_unit k.forest row.id ≡ true) rows i _ theirs.1 c.loop-row-test.true in
-            not_clean (is_clean_for (allows c.args.today c.args.permits.now) c.args.today k.forest) rows i _ c.loop-row-test.true c.in_ok-is_clean.field-0 (c.in_ok-is_clean.ensures k.forest _ there own.0.0 own.0.1) c.if-not-branch.true;
+            not_clean (is_clean_for (allows c.args.today c.args.permits.now) c.args.today k.forest) rows i _ c.loop-row-test.true c.in_ok-is_clean.field-0 (c.in_ok-is_clean.ensures k.forest _ there own.0) c.if-not-branch.true;
         looks = looks_then a b d before.looks told.looks;
         cut = tt;
         spares = λ clean. tt;

@@ -2,15 +2,20 @@ use Rattle.std.proofs.Common.{rules, ◌≡◌, false, not, map, of_z, to_z, w32
 use Rattle.std.specs.Prelude.{◌&&◌}
 use Rattle.std.specs.List.{list_all}
 use Rattle.std.proofs.lemmas.Int.{to_z-of_z}
+use Rattle.tree_core.specs.Forest.{path as path_to}
 use Rattle.tree_core.specs.Marks.{contents_paths, withholds}
 use Rattle.catalogue_core.specs.OpenMarks.{is_opened_above, with_permit}
+use Rattle.catalogue_core.specs.UnitMarks.{mark_of}
+use Rattle.catalogue_core.specs.Units.{has_id}
 use Rattle.catalogue_core.proofs.OpenLemmas.{marks_say_clean}
+use Rattle.catalogue_store.specs.Attachments.{with_first_boxed}
 use Rattle.refinement.specs.Openness.{allows}
+use Rattle.refinement.proofs.UnboxedMarks.{contents_told, path_opens, path_withholds, unnumbered_units}
 use Rattle.refinement.proofs.access.is_clean.Goals.{else-clean_path, then-clean_path}
 use Rattle.refinement.proofs.access.is_clean.Goals as goal
 
 pub returns : goal.returns
-returns c = λ f u there way walk.
+returns c = λ f u there marks.
     let permitted = allows c.args.today c.args.permits.now in
     let today = c.args.today in
     let fits : FitsSigned w32 c.number-day.result = search rules in
@@ -25,9 +30,14 @@ returns c = λ f u there way walk.
       | then-clean_path w ↦ w.result-is ∙ sym (ap (λ b. b && within) w.if-clean_path.true)
       | else-clean_path w ↦ w.result-is ∙ w.if-clean_path.false ∙ sym (ap (λ b. b && within) w.if-clean_path.false)
     ] in
-    both ∙ marks_say_clean f u permitted today path branch c.clean_path.result within there way walk
-    (c.clean_path.ensures ∙ ap (λ t. not (withholds t false c.deref-5.result.now)) same ∙ ap (λ l. not (withholds today false l)) (c.deref-5.ensures.value ∙ path_is))
-    (λ k first below numbered is.
+    let units = path_to (has_id u) f in
+    let read = map (with_permit permitted) path in
+    let above = is_opened_above read in
+    let is_above : c.is_permitted_above-above.result ≡ above = c.is_permitted_above-above.ensures ∙ ap is_opened_above (c.deref-3.ensures.value ∙ path_is) in
+    let says = contents_told today above marks.1.0 permitted branch within (λ k first below numbered is.
     c.clean_contents-is_within.ensures.branch k first below numbered (c.deref-4.ensures.value ∙ branch_is ∙ is)
     ∙ ap (λ t. list_all (λ way. not (withholds t c.is_permitted_above-above.result way)) (contents_paths first below)) same
-    ∙ ap (λ b. list_all (λ way. not (withholds today b way)) (contents_paths first below)) (c.is_permitted_above-above.ensures ∙ ap is_opened_above (c.deref-3.ensures.value ∙ path_is)))
+    ∙ ap (λ b. list_all (λ way. not (withholds today b way)) (contents_paths first below)) is_above) in
+    both ∙ marks_say_clean f u permitted today (map mark_of units) (with_first_boxed marks.1.0 branch) c.clean_path.result within there (unnumbered_units units) marks.1.1
+    (c.clean_path.ensures ∙ ap (λ t. not (withholds t false c.deref-5.result.now)) same ∙ ap (λ l. not (withholds today false l)) (c.deref-5.ensures.value ∙ path_is) ∙ ap not (path_withholds permitted today false units path marks.0))
+    (λ k first below numbered is. says k first below numbered is ∙ ap (λ b. list_all (λ way. not (withholds today b way)) (contents_paths first below)) (path_opens permitted units path marks.0))
