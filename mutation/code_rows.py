@@ -3,7 +3,6 @@
 A public function is one that other crates can call and that promises something (an ensures). Those named worked_.. are left
 out: they are examples.
 """
-import collections
 import pathlib
 import re
 import sys
@@ -12,7 +11,7 @@ import textwrap
 WIDTH = 128
 LONGEST = 44
 INDENT = "    "
-MARK = re.compile(r"(<!-- laws: ([\w: ]+) -->)\n(?:(?!<!-- ).)*(<!-- end -->)", re.S)
+MARK = re.compile(r"(<!-- laws: ([\w ]+) -->)\n(?:(?!<!-- ).)*(<!-- end -->)", re.S)
 FUNCTION = re.compile(r"(pub )?(?:pub\([^)]*\) )?(?:const |unsafe )*fn (\w+)")
 OWNER = re.compile(r"(pub )?(impl|trait)\b(.*?)\{?$")
 
@@ -99,11 +98,9 @@ def public_functions(top, crate):
                 yield it
 
 
-def laws(top, crate, beginnings=("",)):
-    """A line for each law of a crate whose name, or whose path in the crate, begins so: this path, and its sentence."""
-    begin = tuple(beginnings)
-    found = [it for it in public_functions(top, crate) if it.is_law() and (it.name.startswith(begin) or it.path().startswith(begin))]
-    rows = [(it.path(), it.sentence()) for it in found]
+def laws(top, crate):
+    """A line for each law of a crate: its path in the crate, and its sentence."""
+    rows = [(it.path(), it.sentence()) for it in public_functions(top, crate) if it.is_law()]
     margin = min(max((len(path) for path, _ in rows), default=0), LONGEST) + 2
     for path, sentence in rows:
         yield from in_columns(path, sentence, margin)
@@ -126,17 +123,10 @@ def described(top, crate):
 
 
 def written(top, text):
-    """The text of a page, with the lines between each mark and its end as the code gives them.
-
-    A mark names crates. `CRATE::beginning` stands for the laws of a crate whose names, or whose paths in the crate, begin so.
-    """
+    """The text of a page, with the lines between each mark and its end as the code gives them. A mark names crates."""
 
     def block(found):
-        crates = collections.defaultdict(list)
-        for it in found[2].split():
-            crate, _, beginning = it.partition("::")
-            crates[crate].append(beginning)
-        lines = [line for crate, begin in crates.items() for line in (f"`{crate}`", "", *laws(top, crate, begin), "")]
+        lines = [line for crate in found[2].split() for line in (f"`{crate}`", "", *laws(top, crate), "")]
         return "\n".join([found[1], "", *lines, found[3]])
 
     if len(MARK.findall(text)) != text.count("<!-- laws:"):
