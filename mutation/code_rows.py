@@ -1,10 +1,8 @@
-"""The public functions of a crate, as docs/PROMISES.md lists them: laws with the first sentence of their comment, calls by
-name.
+"""The public functions of a crate, each with the first sentence of its comment; docs/PROMISES.md lists those that are laws.
 
 A public function is one that other crates can call and that promises something (an ensures). Those named worked_.. are left
 out: they are examples.
 """
-import collections
 import pathlib
 import re
 import sys
@@ -13,7 +11,7 @@ import textwrap
 WIDTH = 128
 LONGEST = 44
 INDENT = "    "
-MARK = re.compile(r"(<!-- (laws|calls): ([\w: ]+) -->)\n(?:(?!<!-- ).)*(<!-- end -->)", re.S)
+MARK = re.compile(r"(<!-- laws: ([\w ]+) -->)\n(?:(?!<!-- ).)*(<!-- end -->)", re.S)
 FUNCTION = re.compile(r"(pub )?(?:pub\([^)]*\) )?(?:const |unsafe )*fn (\w+)")
 OWNER = re.compile(r"(pub )?(impl|trait)\b(.*?)\{?$")
 
@@ -27,9 +25,6 @@ class Function:
 
     def path(self):
         return "::".join(it for it in (*self.module, self.owner, self.name) if it)
-
-    def name_in_crate(self):
-        return "::".join(it for it in (self.owner, self.name) if it)
 
     def is_law(self):
         return any(it.startswith("laws") for it in self.module)
@@ -103,21 +98,12 @@ def public_functions(top, crate):
                 yield it
 
 
-def laws(top, crate, beginnings=("",)):
-    """A line for each law of a crate whose name begins so: its path in the crate, and its sentence."""
-    found = [it for it in public_functions(top, crate) if it.is_law() and it.name.startswith(tuple(beginnings))]
-    rows = [(it.path(), it.sentence()) for it in found]
+def laws(top, crate):
+    """A line for each law of a crate: its path in the crate, and its sentence."""
+    rows = [(it.path(), it.sentence()) for it in public_functions(top, crate) if it.is_law()]
     margin = min(max((len(path) for path, _ in rows), default=0), LONGEST) + 2
     for path, sentence in rows:
         yield from in_columns(path, sentence, margin)
-
-
-def calls(top, crates):
-    """A line for each crate: its name, and the names of its public functions that are no laws."""
-    margin = max(len(it) for it in crates) + 2
-    for crate in crates:
-        names = dict.fromkeys(it.name_in_crate() for it in public_functions(top, crate) if not it.is_law())
-        yield from in_columns(crate, ", ".join(names), margin)
 
 
 def in_columns(head, text, margin):
@@ -137,22 +123,12 @@ def described(top, crate):
 
 
 def written(top, text):
-    """The text of a page, with the lines between each mark and its end as the code gives them.
-
-    A mark names crates. `CRATE::beginning` stands for the laws of a crate whose names begin so.
-    """
+    """The text of a page, with the lines between each mark and its end as the code gives them. A mark names crates."""
 
     def block(found):
-        crates = collections.defaultdict(list)
-        for it in found[3].split():
-            crate, _, beginning = it.partition("::")
-            crates[crate].append(beginning)
-        if found[2] == "calls":
-            lines = [*calls(top, list(crates)), ""]
-        else:
-            lines = [line for crate, begin in crates.items() for line in (f"`{crate}`", "", *laws(top, crate, begin), "")]
-        return "\n".join([found[1], "", *lines, found[4]])
+        lines = [line for crate in found[2].split() for line in (f"`{crate}`", "", *laws(top, crate), "")]
+        return "\n".join([found[1], "", *lines, found[3]])
 
-    if len(MARK.findall(text)) != len(re.findall("<!-- (?:laws|calls):", text)):
-        sys.exit("a mark of laws or calls has no end, or cannot be read")
+    if len(MARK.findall(text)) != text.count("<!-- laws:"):
+        sys.exit("a mark of laws has no end, or cannot be read")
     return MARK.sub(block, text)

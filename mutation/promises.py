@@ -3,8 +3,8 @@
 
     mutation/promises.py [--write] [--list CRATE] [TREE]
 
-What PROMISES has between `<!-- laws: CRATE .. -->` or `<!-- calls: CRATE .. -->` and `<!-- end -->` must be what the comments
-of the code give (code_rows.py); `--write` writes it. WALK's excerpts must be lines of their files, and each link of a page must
+What PROMISES has between `<!-- laws: CRATE .. -->` and `<!-- end -->` must be what the comments of the code give
+(code_rows.py); `--write` writes it. WALK's excerpts must be lines of their files, and each link of a page must
 lead to a file and a heading (document_links.py). `--list` prints each public function of a crate with its sentence and its
 clauses.
 

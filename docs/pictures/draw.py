@@ -10,9 +10,9 @@ FIGURES; `shift` is computed. With --check nothing is written: the script ends w
 import argparse
 import dataclasses
 import html
+import math
 import pathlib
 import re
-import statistics
 import sys
 
 HERE = pathlib.Path(__file__).resolve().parent
@@ -269,13 +269,10 @@ def numbers(text):
 
 
 def ratios():
-    """Each thing that was measured, with its goal and the ratio at each size: the median of the runs."""
-    for what, *cells in table("docs/FIGURES.md", "Beside the plain program", "What"):
-        goal = cells[3]
-        found = [re.search(r"\(([^)]*)\)", cell) for cell in cells[:3]]
-        yield plain(what), float(goal) if re.fullmatch(r"[\d.]+", goal) else None, [
-            statistics.median(numbers(cell[1])) if cell else None for cell in found
-        ]
+    """Each thing that was measured, with its goal and the ratio at each size."""
+    for what, *cells, goal in table("docs/FIGURES.md", "Beside the plain program", "What"):
+        found = [re.search(r"\(([^)]*)\)", cell) for cell in cells]
+        yield plain(what), float(goal) if re.fullmatch(r"[\d.]+", goal) else None, [float(cell[1]) if cell else None for cell in found]
 
 
 def ratio():
@@ -285,7 +282,7 @@ def ratio():
     picture.text(left, 14, "processor time, ours to the plain program's (median of the runs)", 11, color=FAINT)
 
     def at(value):
-        position = (statistics.math.log2(value) + 2) / 6.2
+        position = (math.log2(value) + 2) / 6.2
         return left + (right - left) * position
 
     bottom = 20 * len(rows) + 36
@@ -307,15 +304,12 @@ def ratio():
 
 
 def mark(picture, size, x, y):
-    """20,000 units: a ring; 60,000: a square; 200,000: a disk."""
-    if size == 1:
-        picture.add("rect", x=x - 3.5, y=y - 3.5, width=7, height=7, fill=PAPER, stroke=INK, stroke_width=1)
-    else:
-        picture.add("circle", cx=x, cy=y, r=4, fill=PAPER if size == 0 else INK, stroke=INK, stroke_width=1)
+    """20,000 units: a ring; 200,000: a disk."""
+    picture.add("circle", cx=x, cy=y, r=4, fill=PAPER if size == 0 else INK, stroke=INK, stroke_width=1)
 
 
 def legend(picture, x, y):
-    for size, words in enumerate(("20,000 units", "60,000", "200,000")):
+    for size, words in enumerate(("20,000 units", "200,000")):
         mark(picture, size, x + 6, y - 4)
         picture.text(x + 16, y, words, 11)
         x += wide(words) + 30
