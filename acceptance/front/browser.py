@@ -11,9 +11,14 @@ from waits import settings, until
 
 FLAGS = ["--headless=new", "--remote-debugging-pipe", "--no-sandbox", "--disable-gpu", "--hide-scrollbars", "--no-first-run",
          "--disable-extensions", "--disable-background-networking", "--disable-component-update", "--disable-sync",
+         "--disable-renderer-backgrounding", "--disable-background-timer-throttling", "--disable-backgrounding-occluded-windows",
          "--force-prefers-reduced-motion"]
 
+# A page that is left asks no more. On a busy machine it goes on for seconds, but without the headers of its tab: then the browser
+# would wait for a password, on each of the connections that the next page needs.
+LEAVE = "window.isLeft = true; window.fetch = () => new Promise(() => {}); 0"
 ANSWERED_HERE = "/no/such/file/of/the/front"
+LATENCY = 10  # milliseconds for each time that a page is slower
 PAUSE = 650  # milliseconds: that of front/shared/form.js, and some more
 TWO_FRAMES = "new Promise((done) => requestAnimationFrame(() => requestAnimationFrame(done)))"
 
@@ -90,6 +95,9 @@ class Page:
         self.call("Emulation.setFocusEmulationEnabled", enabled=True)  # keys reach the page, whichever tab is in front
         if headers:
             self.call("Network.setExtraHTTPHeaders", headers=headers)
+        if settings.slower > 1:
+            self.call("Emulation.setCPUThrottlingRate", rate=settings.slower)
+            self.call("Network.emulateNetworkConditions", offline=False, latency=LATENCY * settings.slower, downloadThroughput=-1, uploadThroughput=-1)
         self.size(1200, 850)
 
     def call(self, method, **params):
@@ -128,12 +136,12 @@ class Page:
     def visit(self, address, condition="document.querySelector('main h1')"):
         """Loads the page of this address, even if it is shown already."""
         self.call("Page.bringToFront")
-        self.js("window.isLeft = true")
+        self.js(LEAVE)
         self.call("Page.navigate", url=address)
         self.arrive(condition)
 
     def reload(self, condition="document.querySelector('main h1')"):
-        self.js("window.isLeft = true")
+        self.js(LEAVE)
         self.call("Page.reload")
         self.arrive(condition)
 

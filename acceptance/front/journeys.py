@@ -29,6 +29,11 @@ FIRST_ROW = """(() => { const under = document.querySelector('.search.bar').getB
   return [...document.querySelectorAll('.aid [data-depth]')].findIndex((row) => row.getBoundingClientRect().bottom > under + 8); })()"""
 
 
+# The list of fonds is asked for when `goOn` is called.
+HELD = """(() => { const send = window.fetch; window.fetch = (path, ...more) => path !== '/public/fonds' ? send(path, ...more)
+  : new Promise((go) => { window.goOn = () => go(send(path, ...more)); }); })()"""
+
+
 class Journeys:
     def __init__(self, checks, asks, page, shot):
         self.checks, self.asks, self.page, self.shot = checks, asks, page, shot
@@ -42,7 +47,7 @@ class Journeys:
                 self.page.size(*shape)
                 self.checks.part(f"journey: {name}", self.order, name, ticket, self.tap if name == "phone" else self.by_keys)
         self.page.size(1280, 850)
-        for part in (self.several, self.not_taken, self.each_line, self.changed, self.series, self.tree, self.without_container, self.copied, self.deep, self.long_aid):
+        for part in (self.several, self.late_way, self.not_taken, self.each_line, self.changed, self.series, self.tree, self.without_container, self.copied, self.deep, self.long_aid):
             if only in (None, part.__name__):
                 self.checks.part(f"journey: {part.__name__}", part)
 
@@ -173,6 +178,27 @@ class Journeys:
         page.see("There is no reader\u2019s ticket with this number.")
         self.checks.same("a wrong ticket is tried once, not for each container", page.sent("POST", "/public/orders") - before, 1)
         self.checks.same("both orders stand", len(self.asks.text("/desk/readers/1", True).split('"order"')) - 1, 2)
+
+    def late_way(self):
+        """The units above a unit, which are searched for, come when the reader has ordered: the answer stays in the window."""
+        page, ticket = self.page, self.asks.done("/desk/register", name="Late", until="2030-01-01")["ticket"]
+        page.size(*SHAPES["phone"])
+        self.at("/help")
+        page.js(HELD)
+        page.turn(f"/unit/{self.unit()}", "document.querySelector('details.order')")
+        page.press_starting("Order")
+        page.choose("Carton 77a")
+        page.fill("Number of your reader\u2019s ticket", str(ticket))
+        page.press("Order these containers")
+        page.wait("document.activeElement.className === 'outcome'")
+        lowest = page.js("scrollTo(0, 0), Math.ceil(document.activeElement.getBoundingClientRect().bottom)")
+        page.size(390, lowest, 2, True)  # the window ends where the answer does
+        page.wait(f"innerHeight === {lowest}")
+        self.is_inside("the answer, before the way", ".outcome")
+        page.js("window.goOn()")
+        page.wait("document.querySelectorAll('nav.way li').length === 3")
+        self.is_inside("the answer, after the way", ".outcome")
+        page.size(1280, 850)
 
     def not_taken(self):
         """What a reader is told when the front takes no order: from this address, or so soon."""

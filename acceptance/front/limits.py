@@ -33,9 +33,10 @@ def play(checks, program, folder, only=None):
 # How many in a row
 
 class Row:
-    """Requests one behind the other on one connection: how many of them were let through, and from when to when."""
+    """Requests one behind the other on one connection, from an address that asked nothing before: how many of them were let through,
+    and from when to when."""
 
-    def __init__(self, office, request, many, body="", source="127.0.0.1"):
+    def __init__(self, office, request, many, body="", source="127.0.0.2"):
         self.began = time.monotonic()
         head = f"{request} HTTP/1.1\r\nHost: x\r\nContent-Length: {len(body)}\r\n"
         last = f"{head}Connection: close\r\n\r\n{body}"
@@ -47,23 +48,24 @@ class Row:
 
 
 def in_a_row(checks, office, request, burst, rate, rests, body=""):
-    """`burst` and one more at once, and then `rate` a second."""
-    office.wait_for(office.public + "/help")
-    first = Row(office, request, 900 if rate > 10 else burst + 60, body)  # more than can come through while they are sent
-    checks.check("all are answered, and some of them by 429", first.whole and first.through < first.many, (first.through, first.many))
+    """`burst` and one more at once, and then `rate` a second. Were those over `rate` kept waiting, none would be answered by 429: each
+    of a row is sent on after the one before it is answered."""
+    first = Row(office, request, int(burst + 10 + 15 * rate), body)  # more than can come through in 15 seconds
+    checks.check("all are answered, and some of them by 429 and not later", first.whole and first.through < first.many, (first.through, first.many))
     most = burst + 1 + rate * (first.ended - first.began)
     checks.check(f"{burst + 1} at once, and no more", burst + 1 <= first.through <= most + 1, (first.through, most))
-    checks.check("none of them is kept waiting", first.ended - first.began < (burst / rate) * 0.9 + 0.4, first.ended - first.began)
-    checks.same("another address has its own", Row(office, request, burst, body, "127.0.0.2").through, burst)
+    checks.same("another address has its own", Row(office, request, burst, body, "127.0.0.3").through, burst)
     time.sleep(rests)  # how many are let through after a time is what is measured
-    second = Row(office, request, int(rate * rests) + 40, body)
+    second = Row(office, request, int(rate * (time.monotonic() - first.ended)) + 40, body)
     least = rate * (second.began - first.ended)
     most = burst + 1 + rate * (second.ended - first.began) - first.through
     checks.check(f"and then {rate} a second", min(least - 1, burst) <= second.through <= most + 1, (second.through, least, most))
 
 
 def questions_in_a_row(checks, office):
-    in_a_row(checks, office, "GET /public/units/1", 200, 50, 1.5)
+    """With the queue away nginx answers all of them itself, so that they come faster than any machine's program would answer them."""
+    with office.without_queue():
+        in_a_row(checks, office, "GET /public/units/1", 200, 50, 1.5)
 
 
 def orders_in_a_row(checks, office):

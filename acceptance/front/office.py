@@ -75,7 +75,7 @@ class Office:
         named = sorted(set(port for path in self.sources for port in ports_of(path.read_bytes().decode())))
         self.ports = dict(zip(named, free_ports(len(named), first, last)))
         self.running, self.starts, self.processes, self.serving = False, 0, [], None
-        self.waiting = threading.Event()
+        self.waiting, self.beginning = threading.Event(), threading.Lock()
         self.waiting.set()
 
     @property
@@ -136,7 +136,8 @@ class Office:
         return int(self.queue_state()["connect"])
 
     def end(self):
-        self.running = False
+        with self.beginning:
+            self.running = False
         self.waiting.set()
         for process in self.processes:
             process.terminate()
@@ -203,7 +204,8 @@ class Office:
     @contextlib.contextmanager
     def without_program(self):
         """A context in which the program is away and its port is closed."""
-        self.waiting.clear()
+        with self.beginning:
+            self.waiting.clear()
         self.serving.kill()
         self.serving.wait(20)
         try:
@@ -238,12 +240,12 @@ class Office:
         words = [self.program, "serve", "--store", self.store, "--port", str(self.ports["8090"]), "--connections", str(self.connections)]
         while self.running:
             self.waiting.wait()
-            if not self.running:
-                return
             began = time.time()
-            with open(self.folder / "program.told", "a") as log:
+            with self.beginning, open(self.folder / "program.told", "a") as log:
+                if not self.running or not self.waiting.is_set():  # somebody else has the port now
+                    continue
                 self.serving = subprocess.Popen(words, env=env, stdout=log, stderr=log)
-            self.starts += 1
+                self.starts += 1
             self.serving.wait()
             time.sleep(0 if time.time() - began > 0.5 else 0.2)  # a program that ends at once is not begun without end
 

@@ -1,12 +1,13 @@
 """Plays all parts in a real browser, or only those that are named:
 
-    run.py PROGRAM FOLDER SHOTS [--first] [--patience SECONDS] [--faults FILE] [PART ..]
+    run.py PROGRAM FOLDER SHOTS [--first] [--patience SECONDS] [--slower TIMES] [--faults FILE] [PART ..]
 
 FOLDER is made anew and kept; SHOTS gets pictures of the pages. PART is one of looks, pages, access, rules, restarts, limits, queue,
 encrypted, stall, search, refusals, journeys, paper, tickets; or GROUP:PART, one part of a group with an office of its own: of visit,
 day, first_year, access, rules, restarts, limits, queue, refusals, journeys, search, search_pages. A part that goes on from others is
 played after those.
---first ends at the first check that does not hold; --patience is how long anything is waited for (60). With --faults, PART is access,
+--first ends at the first check that does not hold; --patience is how long anything is waited for (60). With --slower, pages run so many
+times slower, and what they ask for comes later: a check that holds on a fast machine only is found there. With --faults, PART is access,
 visit, rules, queue or restarts, and mutation/front.py tells which faults are to be planted in a copy of front/.
 The last line is `N passed, M failed`; the exit status is 0 where none failed."""
 
@@ -310,10 +311,11 @@ def main():
     words.add_argument("part", nargs="*")
     words.add_argument("--first", action="store_true")
     words.add_argument("--patience", type=float, default=60)
+    words.add_argument("--slower", type=float, default=1)
     words.add_argument("--faults", type=pathlib.Path)
     words = words.parse_intermixed_args()
     signal.signal(signal.SIGTERM, lambda *_: sys.exit(143))  # so that what was started is ended
-    waits.settings.patience = words.patience
+    waits.settings.patience, waits.settings.slower = words.patience, words.slower
     checks = Checks(words.first)
     for folder in (words.folder, words.shots):
         fresh(folder)

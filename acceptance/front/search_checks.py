@@ -20,6 +20,7 @@ from urllib.parse import quote, urlencode
 sys.dont_write_bytecode = True
 from checks import Checks  # noqa: E402
 from office import TOP, fresh  # noqa: E402
+from rules import all_at_once  # noqa: E402
 from searched import LOOKS, Asking, Searched, Unreached, index  # noqa: E402
 from waits import until  # noqa: E402
 
@@ -224,7 +225,7 @@ def hostile(checks, office):
         status, body = patient(office, raw)
         checks.check(f"legal: {raw[:40]!r}", status == 200 and json.loads(body)["state"] == "done", (status, body[:200]))
     checks.same("100 kB", patient(office, "q=" + "a" * 100_000)[0], 414)
-    checks.check("too often", 429 in [office.found("q=")[0] for _ in range(200)])
+    checks.check("too many at once", 429 in {one for one, _ in all_at_once(office.ports["8080"], "GET /public/search?q= HTTP/1.1\r\nHost: x\r\n\r\n", 100)})
 
 
 def patient(office, args):

@@ -30,7 +30,7 @@ from waits import until  # noqa: E402
 HEADER = "legacyId,parentId,identifier,title,levelOfDescription,publicationStatus,scopeAndContent\n"
 # Of the steps' aids. A socket holds some 100 to 213 kB, and the queue 16 kB, so one of the sizes is between the two.
 SIZES = range(256_000, 96_000, -8_000)
-STALL = 2  # seconds that a command may take after the aid before it has ended. A stall is four to six
+STALL = 2  # seconds that a command may take longer than usual after the aid before it has ended. A stall is four to six
 NO_LIMITS = [("limit_req zone=record_office_readers burst=200 nodelay;", ""), ("limit_conn record_office_visits 100;", ""),
              ("limit_conn record_office_aids 10;", "")]
 
@@ -126,10 +126,17 @@ def step(checks, office, number, size):
     reader.close()
     ended = time.monotonic()
     command.join(60)
-    late = (command.answered or time.monotonic() + 60) - ended
-    checks.check(f"a command beside an aid of {size} bytes is done, and does not wait", command.status == 200 and late < STALL,
-                 (command.status, late))
+    late, usual = (command.answered or time.monotonic() + 60) - ended, min(seconds_of_one(office), STALL)
+    checks.check(f"a command beside an aid of {size} bytes is done, and does not wait", command.status == 200 and late < STALL + usual,
+                 (command.status, late, usual))
     return was_done
+
+
+def seconds_of_one(office):
+    """How long a command takes that nothing stands in the way of."""
+    began = time.monotonic()
+    register(http.client.HTTPConnection("127.0.0.1", office.ports["8092"], timeout=200), "One")
+    return time.monotonic() - began
 
 
 class Reader(multiprocessing.Process):

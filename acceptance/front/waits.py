@@ -1,11 +1,12 @@
 """Waiting for a condition. What else sleeps here measures a time, and a comment says so.
 
-`settings.patience` is how long anything is waited for: mutation/front.py waits less for what a fault keeps away."""
+`settings.patience` is how long anything is waited for: mutation/front.py waits less for what a fault keeps away.
+`settings.slower` is how many times slower than this machine pages are."""
 
 import time
 import types
 
-settings = types.SimpleNamespace(patience=60)
+settings = types.SimpleNamespace(patience=60, slower=1)
 BETWEEN = 0.03  # seconds between two looks
 
 

@@ -30,7 +30,14 @@ export function wayTo(number, head) {
 async function complete(nav, number, head) {
   if (isComplete(number)) return;
   await findWay(number, head);
-  if (nav.isConnected) show(nav, number);
+  if (nav.isConnected) keepInWindow(document.activeElement, () => show(nav, number));
+}
+
+/** What has the focus, such as the answer to an order, is not moved out of the window by what comes late above it. */
+function keepInWindow(element, change) {
+  const { top, bottom } = element.getBoundingClientRect();
+  change();
+  if (top > -1 && bottom < innerHeight + 1) element.scrollIntoView({ block: 'nearest' });
 }
 
 function show(nav, number) {
