@@ -107,6 +107,12 @@ class Ended(NamedTuple):
 
 
 SOUND = Ended(0, b"sound\n", b"")
+NO_MEMORY = Ended(3, b"", b"no memory\n")
+
+
+def lacked_memory(ended):
+    """Whether a command or a session told that there was no memory: by its message, or by an answer 503."""
+    return ended.message == NO_MEMORY.message or b"HTTP/1.1 503 " in ended.output
 
 
 class Program:

@@ -56,6 +56,10 @@ class Results(unittest.TestCase):
         self.assertEqual(self.ends((1, 1), (2, 3)), (1, ["WRONG a result: 2, wanted 3", "1 passed, 1 failed"]))
         self.assertEqual(self.ends(), (1, ["0 passed, 0 failed"]))
 
+    def test_lacked_memory(self):
+        ends = [Ended(0, ISSUED, b""), Ended(0, ISSUED + BUSY, b""), client.NO_MEMORY, Ended(3, b"", b"cut\n")]
+        self.assertEqual([client.lacked_memory(it) for it in ends], [False, True, True, False])
+
     def test_first_difference(self):
         told = client.first_difference(Ended(0, b"a" * 999 + b"b" + b"c" * 999, b""), Ended(3, b"a" * 1000, b"cut\n"))
         self.assertEqual(told, f"0, {b'a' * 200 + b'b' + b'c' * 199}, b'', wanted 3, {b'a' * 201}, {b'cut' + bytes([10])}")

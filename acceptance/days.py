@@ -127,7 +127,11 @@ def of_table(table, prefix=""):
 
 
 def is_answered(day, ended, how):
-    """Whether the program answered as the day says; prints the difference if it did not."""
+    """Whether the program answered as the day says, and nothing by 503, since there is ample memory; prints what is
+    wrong."""
+    if client.lacked_memory(ended):
+        print(f"WRONG {day.name} by {how}: 503 or no memory, with ample memory")
+        return False
     if ended != day.wanted():
         print(f"WRONG {day.name} by {how}: {client.first_difference(ended, day.wanted())}")
     return ended == day.wanted()

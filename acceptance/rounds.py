@@ -103,6 +103,9 @@ def main():
     program, at = client.options(__doc__).parse_args().program, 0
     parts = [part for round in range(ROUNDS) for part in in_the_catalogue(round) + at_the_desk(round) + questions(round)]
     ended = program.trial(b"".join(request for request, _ in parts), timeout=LONGEST)
+    if client.lacked_memory(ended):
+        print("WRONG: 503 or no memory, with ample memory")
+        return 1
     for request, wanted in parts:
         if not ended.output.startswith(wanted, at):
             print(f"WRONG: {request!r} was answered {ended.output[at : at + len(wanted) + 60]!r}, wanted {wanted!r}")

@@ -47,15 +47,6 @@ turned_rules() {
     ends mutation/rules.py "$status"
 }
 
-# init without one of its allocations, each 25th in turn
-refused_memory() {
-    local room status=0
-    room=$(mktemp -d -p "$fast")
-    timeout 300 python3 "$here/../mutation/faults/init.py" "$program" "$room" 25 || status=$?
-    rm -r "$room"
-    ends mutation/faults/init.py "$status"
-}
-
 sqlite3=no cc=no
 has curl || true
 if has sqlite3; then sqlite3=yes; fi
@@ -75,7 +66,7 @@ tries 300 random_heads.py
 tries 300 boxes.py --count 40
 tries 120 large_box.py
 turned_rules
-if [ $cc = yes ]; then refused_memory; fi
+if [ $cc = yes ]; then tries 600 refused.py; fi
 if [ $sqlite3 = yes ]; then tries 300 rewritten.py; fi
 if [ $sqlite3 = yes ] && [ $cc = yes ]; then
     tries 300 migrating.py --room "$fast" 2000

@@ -1,7 +1,8 @@
-/* Loaded before the C library: refuses the FA-th allocation, fails the FR-th read or the FW-th write; INTR=1
-   interrupts them instead, SHORT=1 moves one byte. run.sh uses it. With EACH=k a copy of the program is made at every
-   k-th allocation, which is refused there and goes on to its end; how the copies ended is told at the end, a line for
-   each different end. tables.sh uses that. */
+/* Loaded before the C library: refuses the FA-th allocation, with LASTS=1 all later ones too; fails the FR-th read or
+   the FW-th write; INTR=1 interrupts them instead, SHORT=1 moves one byte. SHOW=1 tells at the end how many of each were
+   made. run.sh and acceptance/refused.py use it. With EACH=k a copy of the program is made at every k-th allocation,
+   which is refused there and goes on to its end; how the copies ended is told at the end, a line for each different end.
+   tables.sh uses that. */
 #define _GNU_SOURCE
 #include <dlfcn.h>
 #include <errno.h>
@@ -12,7 +13,7 @@
 #include <sys/wait.h>
 #include <unistd.h>
 static long na, nr, nw, fa, fr, fw, each, ends;
-static int kind = EIO, ready, isshort;
+static int kind = EIO, ready, isshort, lasts;
 static void *(*rm)(size_t); static void *(*rr)(void *, size_t);
 static ssize_t (*rd)(int, void *, size_t); static ssize_t (*wr)(int, const void *, size_t);
 static struct { char text[200]; long count, first; } end[256];
@@ -38,12 +39,12 @@ static int copied(void) {
   end[at].count++;
   return 0;
 }
-static int refused(void) { return ++na == fa || (each && na % each == 0 && copied()); }
+static int refused(void) { return ++na == fa || (lasts && na > fa) || (each && na % each == 0 && copied()); }
 static long env(const char *n) { const char *s = getenv(n); return s ? atol(s) : 0; }
 __attribute__((constructor)) static void init(void) {
   rm = dlsym(RTLD_NEXT, "malloc"); rr = dlsym(RTLD_NEXT, "realloc");
   rd = dlsym(RTLD_NEXT, "read"); wr = dlsym(RTLD_NEXT, "write");
-  fa = env("FA"); fr = env("FR"); fw = env("FW"); each = env("EACH"); if (env("INTR")) kind = EINTR; isshort = env("SHORT");
+  fa = env("FA"); fr = env("FR"); fw = env("FW"); each = env("EACH"); if (env("INTR")) kind = EINTR; isshort = env("SHORT"); lasts = fa && env("LASTS");
   na = nr = nw = 0; ready = 1;
 }
 __attribute__((destructor)) static void fini(void) { if (each) { char b[300]; for (long at = 0; at < ends; at++) { int n = snprintf(b, sizeof b, "%7ld %s (first at %ld)\n", end[at].count, end[at].text, end[at].first); wr(2, b, n); } } if (env("SHOW")) { char b[64]; extern int sprintf(char *, const char *, ...); int n = sprintf(b, "allocs=%ld reads=%ld writes=%ld\n", na, nr, nw); wr(2, b, n); } }

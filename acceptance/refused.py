@@ -1,0 +1,238 @@
+#!/usr/bin/env python3
+"""Refuses memory to the program:
+
+    refused.py [--program PROGRAM] [--room DIRECTORY] [--each N] [--offset K] [NAME ..]
+
+NAME is a command or a kind of session; without one, all are tried. Each is performed again and again on copies of the
+same files. First its request for memory with the number K + 1 is refused, then each N-th from there; each is refused
+alone, and then with all requests after it. K is another one each time, and is printed, so that a run can be repeated.
+
+The program must end by itself in one of three ways. A command ends with `no memory` and 3, has printed nothing, and has
+not been done. A session ends with 503 in place of an answer; a server then goes on, and answers the next connection, or
+each later one with 503 as long as there is no memory. Or all is as if nothing had been refused. Afterwards the office
+must be sound, with the tables that it has after all that was answered as done, and after nothing else. A failed `init`
+leaves no file, but its log, if even the memory for the log's name is refused.
+
+The script prints how the runs ended. It ends with 1 if one is wrong, or if no run of a command or a session was told of
+a refusal."""
+import contextlib
+import os
+import random
+import re
+import shutil
+import sqlite3
+import subprocess
+import sys
+from collections import Counter
+from concurrent.futures import ThreadPoolExecutor
+from pathlib import Path
+
+import client
+import days
+import failing
+import rounds
+from client import BUSY, NO_MEMORY, Ended, Office
+from stopped import copied
+
+HERE = Path(__file__).resolve().parent
+SHIM = client.TOP / "mutation" / "faults" / "shim.c"
+NAMES = ["preview", "file", "init", "check", "import", "migrate", "trial", "talk", "refusals", "serve"]
+EACH = 20
+UNTOLD, TOLD, LOG_LEFT = "as if none was refused", "no memory", "no memory, and the log is left"
+ALONE, LASTING = {}, {"LASTS": "1"}
+# how many wrong ends of one kind are shown, and how many characters of each
+MOST, LONGEST = 5, 1000
+FONDS = """legacyId,parentId,identifier,title,levelOfDescription,publicationStatus,physicalObjectName
+1,,HUL,Hull Dock Company,Fonds,Published,
+2,1,1,Minutes,Series,Published,Box 1
+"""
+
+
+def look(office):
+    """The names of an office's files and, if there is a store, what `check` says of it, and its tables."""
+    verdict = office.check() if office.store.exists() else None
+    names = tuple(sorted(os.listdir(office.store.parent)))
+    if not verdict:
+        return (names,)
+    with contextlib.closing(sqlite3.connect(office.store)) as tables:
+        return names, verdict, tuple(tables.iterdump())
+
+
+class Tries:
+    """A command on copies of the files of an office. `ends` has the ways in which it may end if one request for memory
+    is refused, and `lasting` those if all later ones are refused too: in words, by the end and a look at the office."""
+
+    def __init__(self, name, room, before, perform):
+        self.name, self.room, self.before, self.perform = name, room, before, perform
+        whole, left = self.played(perform)
+        if (whole.status, whole.message) != (0, b""):
+            raise RuntimeError(f"{name}: {whole}")
+        self.ends = {(NO_MEMORY, self.played(lambda _: NO_MEMORY)[1]): TOLD, (whole, left): UNTOLD}
+        self.lasting = dict(self.ends)
+
+    def played(self, perform, **memory):
+        """How something ends on a copy of the office, and a look at it afterwards."""
+        office = copied(self.before, self.room)
+        ended = perform(office, **memory)
+        seen = look(office)
+        shutil.rmtree(office.store.parent)
+        return ended, seen
+
+    def requests(self, shim):
+        """How many requests for memory it makes."""
+        ended, _ = self.played(self.perform, LD_PRELOAD=shim, SHOW="1")
+        return int(re.search(rb"allocs=(\d+)", ended.message)[1])
+
+    def ending(self, shim, number, how):
+        """How it ends without that request, in words, or what is wrong."""
+        ended, seen = self.played(self.perform, LD_PRELOAD=shim, FA=str(number), **how)
+        words = (self.lasting if how else self.ends).get((ended, seen))
+        return words or f"WRONG {self.name}, request {number}{', lasting' if how else ''}: {ended}, {seen[:2]}"
+
+
+# ---- sessions
+
+
+def talked(office, sessions, **memory):
+    """How `talk` ends. The output is a list with the answers of its one session."""
+    ended = office.talk(*sessions[0], **memory)
+    return ended._replace(output=[ended.output])
+
+
+def trialled(office, sessions, **memory):
+    """The same of `trial`."""
+    words = client.option_words(client.SETTINGS)
+    ended = office.program.run("trial", *words, said=b"".join(sessions[0]), **memory)
+    return ended._replace(output=[ended.output])
+
+
+def served(office, sessions, **memory):
+    """How `serve` ends, and the answers of each session, which is a connection of its own. If the port is taken, it is
+    tried again on others."""
+    for _ in range(3):
+        with office.served(len(sessions), **memory) as server:
+            listens = server.said == b"listening %d\n" % server.port
+            answers = [failing.ask(server, b"".join(it)) for it in sessions] if listens else []
+            ended = server.ended()
+        if ended.message != failing.TAKEN:
+            break
+    return Ended(ended.status, answers, ended.message)
+
+
+def joined(ended):
+    """How sessions ended, with all answers in one text."""
+    return ended._replace(output=b"---- the next connection\n".join(ended.output))
+
+
+class Sessions(Tries):
+    """Sessions one after the other on copies of an office. `play` holds them."""
+
+    def __init__(self, name, room, before, play, *sessions):
+        super().__init__(name, room, before, lambda office, **memory: joined(play(office, sessions, **memory)))
+        for number, asked in enumerate(sessions):
+            for done in range(len(asked)):
+                cut = [*sessions[:number], asked[:done]]
+                later, none = sessions[number + 1 :], [[]] * (len(sessions) - number - 1)
+                self.ends[self.busy(play, [*cut, *later], [number])] = "503"
+                self.lasting[self.busy(play, [*cut, *none], range(number, len(sessions)))] = "503"
+
+    def busy(self, play, sessions, numbers):
+        """How these sessions end, and a look at the office, if the sessions of these numbers also have a 503."""
+        ended, left = self.played(lambda office: play(office, sessions))
+        for number in numbers:
+            ended.output[number] += BUSY
+        return joined(ended), left
+
+
+# ---- what is tried
+
+
+def round_of(number):
+    """The requests of one of the fifty rounds: in the catalogue, at the desk, and questions."""
+    parts = rounds.in_the_catalogue(number), rounds.at_the_desk(number), rounds.questions(number)
+    return [[request for request, _ in part] for part in parts]
+
+
+def asked_on(day):
+    """The requests of a day."""
+    asked = days.Day.of(HERE / "days" / f"{day}.day").asked
+    return [client.get(path) if method == "GET" else client.post(path, body) for method, path, body, *_ in asked]
+
+
+class Kinds:
+    """Makes what is tried."""
+
+    def __init__(self, program, room):
+        self.program, self.room, self.units = program, room, room / "units.csv"
+        self.units.write_text(FONDS)
+        self.none, self.new = Office(program, room / "none.db"), Office.made(program, room / "new.db")
+        self.old = Office(program, HERE / "version1.db")
+
+    def made(self, name):
+        """The command or the session of that name."""
+        catalogue, desk, questions = round_of(0)
+        sessions = {
+            "trial": (self.none, trialled, [failing.ANN, failing.BEN]),
+            "talk": (self.new, talked, [*catalogue, *desk, *questions]),
+            "refusals": (self.new, talked, asked_on("first_refusal")),
+            "serve": (self.new, served, catalogue, desk, questions),
+        }
+        return Sessions(name, self.room, *sessions[name]) if name in sessions else self.command(name)
+
+    def command(self, name):
+        preview, program = ["preview", "--country", "GB", "--repo", "0999"], self.program
+        commands = {
+            "preview": (self.none, lambda _, **memory: program.run(*preview, said=FONDS.encode(), **memory)),
+            "file": (self.none, lambda _, **memory: program.run(*preview, str(self.units), **memory)),
+            "init": (self.none, lambda office, **memory: office.init(**memory)),
+            "check": (self.new, lambda office, **memory: office.check(**memory)),
+            "import": (self.new, lambda office, **memory: office.import_file("a", self.units, **memory)),
+            "migrate": (self.old, lambda office, **memory: office.perform("migrate", **memory)),
+        }
+        made = Tries(name, self.room, *commands[name])
+        if name == "init":
+            made.lasting[NO_MEMORY, (("office.db-wal",),)] = LOG_LEFT
+        return made
+
+
+def built_shim(room):
+    """The library that refuses memory."""
+    subprocess.run(["cc", "-shared", "-fPIC", "-O2", "-o", room / "shim.so", SHIM, "-ldl"], check=True)
+    return str(room / "shim.so")
+
+
+def refuse(it, shim, each, offset):
+    """Refuses each of these requests of a command or a session; prints how it ended. Returns how often, or 0 if one end
+    is wrong or all are as if none was refused."""
+    last = it.requests(shim)
+    runs = [(number, how) for number in range(offset + 1, last + 1, each) for how in (ALONE, LASTING)]
+    with ThreadPoolExecutor(os.cpu_count()) as pool:
+        ends = list(pool.map(lambda run: it.ending(shim, *run), runs))
+    wrong = [end for end in ends if end.startswith("WRONG")]
+    told = Counter("WRONG" if end in wrong else end for end in ends)
+    print(f"{it.name}, {last} requests: {', '.join(f'{count} {end}' for end, count in told.most_common())}")
+    print("".join(f"{end[:LONGEST]}\n" for end in wrong[:MOST]), end="", flush=True)
+    return 0 if wrong or set(told) <= {UNTOLD} else len(runs)
+
+
+def options():
+    words = client.options(__doc__)
+    words.add_argument("--each", type=int, default=EACH, metavar="N", help=f"else {EACH}")
+    words.add_argument("--offset", type=int, metavar="K", help="else a random number below N")
+    words.add_argument("names", nargs="*", type=client.one_of(NAMES), metavar="NAME", help=", ".join(NAMES))
+    return words
+
+
+def main():
+    given = options().parse_args()
+    offset = random.randrange(given.each) if given.offset is None else given.offset
+    print(f"memory is refused by --each {given.each} --offset {offset}", flush=True)
+    with client.temporary(given.room) as room:
+        kinds, shim = Kinds(given.program, room), built_shim(room)
+        runs = [refuse(kinds.made(name), shim, given.each, offset) for name in given.names or NAMES]
+    print(f"{sum(runs)} runs of {len(runs)} commands and sessions without memory, {runs.count(0)} of these wrong")
+    return 0 in runs
+
+
+if __name__ == "__main__":
+    sys.exit(main())

@@ -1,0 +1,168 @@
+#!/usr/bin/env python3
+"""Plants faults that acceptance/refused.py must notice: planted.py [--program PROGRAM] [--room DIRECTORY]
+
+A fault changes what a run without a request for memory told, or what it left in its files. Each is planted in some
+commands and sessions, of which some twenty runs are then judged. Those without a fault must be right. The script prints
+how often each fault was noticed, and ends with 1 if one was not."""
+import contextlib
+import io
+import shutil
+import sqlite3
+import sys
+from pathlib import Path
+from typing import NamedTuple
+
+sys.path.append(str(Path(__file__).resolve().parents[2] / "acceptance"))
+import client  # noqa: E402
+import refused  # noqa: E402
+from client import BUSY, NO_MEMORY, Ended, Office  # noqa: E402
+
+RUNS = 10
+
+
+class Run(NamedTuple):
+    """A run that was refused memory: how it ended, its office, the office before it; how it ends with ample memory, and
+    a function that performs it."""
+
+    ended: Ended
+    office: Office
+    before: Office
+    whole: Ended
+    perform: object
+
+
+# ---- faults of the files
+
+
+def change(office, statement):
+    with contextlib.closing(sqlite3.connect(office.store)) as tables:
+        tables.execute(statement)
+        tables.commit()
+
+
+def lost(run):
+    """All was answered as done, and the files are as before."""
+    shutil.copyfile(run.before.store, run.office.store)
+    return run.whole
+
+
+def done_all_the_same(run):
+    """All was done, whatever was told."""
+    shutil.copyfile(run.before.store, run.office.store)
+    run.perform(run.office)
+    return run.ended
+
+
+def row_left(run):
+    """The office is sound, and has one more reader."""
+    change(run.office, "INSERT INTO reader SELECT coalesce(max(ticket), 0) + 1, 'Eve', 20000 FROM reader")
+    return run.ended
+
+
+def unsound(run):
+    change(run.office, "UPDATE office SET seats = 0")
+    return run.ended
+
+
+def file_left(run):
+    """There is a file where none should be."""
+    run.office.store.touch()
+    return run.ended
+
+
+def log_left(run):
+    Path(f"{run.office.store}-wal").touch()
+    return run.ended
+
+
+# ---- faults of what is told
+
+
+def other_status(run):
+    return run.ended._replace(status=0 if run.ended.status else 3)
+
+
+def other_message(run):
+    return run.ended._replace(message=b"store fault\n" if run.ended == NO_MEMORY else b"no memory\n")
+
+
+def printed(run):
+    """Something more was printed."""
+    return run.ended._replace(output=run.ended.output + b"\n")
+
+
+def killed(run):
+    return run.ended._replace(status=-11)
+
+
+def goes_on(run):
+    """After a 503 comes one more answer."""
+    return run.ended._replace(output=run.ended.output.replace(BUSY, BUSY + client.reply(200, b"[]")))
+
+
+def other_refusal(run):
+    """A refusal in place of the 503."""
+    return run.ended._replace(output=run.ended.output.replace(BUSY, client.reply(409, b'{"code":23,"refused":"Full"}')))
+
+
+def never_told(run):
+    """No request is refused, so nothing was tried."""
+    shutil.copyfile(run.before.store, run.office.store)
+    return run.perform(run.office)
+
+
+STORED, TALKED = ["import", "migrate", "talk", "serve"], ["talk", "serve"]
+ALL = ["file", "init", *STORED]
+PLANTED = {
+    lost: STORED,
+    done_all_the_same: STORED,
+    row_left: STORED,
+    unsound: STORED,
+    file_left: ["file", "init"],
+    log_left: ["file", "init"],
+    other_status: ALL,
+    other_message: ALL,
+    printed: ALL,
+    killed: ALL,
+    goes_on: TALKED,
+    other_refusal: TALKED,
+    never_told: STORED,
+}
+
+
+def with_fault(it, fault):
+    """What performs a command or session, with a fault in the runs that are refused memory."""
+    perform, (whole, _) = it.perform, it.played(it.perform)
+
+    def faulty(office, **memory):
+        ended = perform(office, **memory)
+        return fault(Run(ended, office, it.before, whole, perform)) if "FA" in memory else ended
+
+    return faulty
+
+
+def is_wrong(it, shim):
+    """Whether refused.py finds something wrong in some runs, from the last requests backwards."""
+    last = it.requests(shim)
+    with contextlib.redirect_stdout(io.StringIO()):
+        return not refused.refuse(it, shim, last // RUNS, 0)
+
+
+def main():
+    given = client.options(__doc__).parse_args()
+    checks = client.Checks()
+    with client.temporary(given.room) as room:
+        kinds, shim = refused.Kinds(given.program, room), refused.built_shim(room)
+        for name in ALL:
+            it = kinds.made(name)
+            perform = it.perform
+            checks.same(f"{name} without a fault", is_wrong(it, shim), False)
+            for fault in (fault for fault, names in PLANTED.items() if name in names):
+                it.perform = with_fault(it, fault)
+                checks.same(f"{name}, {fault.__name__}", is_wrong(it, shim), True)
+                it.perform = perform
+    return checks.ends()
+
+
+if __name__ == "__main__":
+    sys.exit(main())
