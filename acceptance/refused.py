@@ -8,10 +8,11 @@ same files. First its request for memory with the number K + 1 is refused, then 
 alone, and then with all requests after it. K is another one each time, and is printed, so that a run can be repeated.
 
 The program must end by itself in one of three ways. A command ends with `no memory` and 3, has printed nothing, and has
-not been done. A session ends with 503 in place of an answer; a server then goes on, and answers the next connection, or
-each later one with 503 as long as there is no memory. Or all is as if nothing had been refused. Afterwards the office
-must be sound, with the tables that it has after all that was answered as done, and after nothing else. A failed `init`
-leaves no file, but its log, if even the memory for the log's name is refused.
+not been done. A session ends with 503 in place of an answer, or after the last one, since the program takes memory
+before it knows whether a request follows; a server then goes on, and answers the next connection, or each later one
+with 503 as long as there is no memory. Or all is as if nothing had been refused. Afterwards the office must be sound,
+with the tables that it has after all that was answered as done, and after nothing else. A failed `init` leaves no file,
+but its log, if even the memory for the log's name is refused.
 
 The script prints how the runs ended. It ends with 1 if one is wrong, or if no run of a command or a session was told of
 a refusal."""
@@ -130,7 +131,7 @@ class Sessions(Tries):
     def __init__(self, name, room, before, play, *sessions):
         super().__init__(name, room, before, lambda office, **memory: joined(play(office, sessions, **memory)))
         for number, asked in enumerate(sessions):
-            for done in range(len(asked)):
+            for done in range(len(asked) + 1):
                 cut = [*sessions[:number], asked[:done]]
                 later, none = sessions[number + 1 :], [[]] * (len(sessions) - number - 1)
                 self.ends[self.busy(play, [*cut, *later], [number])] = "503"

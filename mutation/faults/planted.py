@@ -17,18 +17,29 @@ import client  # noqa: E402
 import refused  # noqa: E402
 from client import BUSY, NO_MEMORY, Ended, Office  # noqa: E402
 
-RUNS = 10
+RUNS = 12
 
 
 class Run(NamedTuple):
-    """A run that was refused memory: how it ended, its office, the office before it; how it ends with ample memory, and
-    a function that performs it."""
+    """A run that was refused memory: how it ended, its office, the office before it, and how it ends with ample memory;
+    a function that performs it, and what was refused."""
 
     ended: Ended
     office: Office
     before: Office
     whole: Ended
     perform: object
+    memory: dict
+
+    def again(self, **memory):
+        """Performs it on the files as they were."""
+        self.put_back()
+        return self.perform(self.office, **memory)
+
+    def put_back(self):
+        """Gives the office the files of before."""
+        shutil.copyfile(self.before.store, self.office.store)
+        Path(f"{self.office.store}-wal").unlink(missing_ok=True)
 
 
 # ---- faults of the files
@@ -42,14 +53,13 @@ def change(office, statement):
 
 def lost(run):
     """All was answered as done, and the files are as before."""
-    shutil.copyfile(run.before.store, run.office.store)
+    run.put_back()
     return run.whole
 
 
 def done_all_the_same(run):
     """All was done, whatever was told."""
-    shutil.copyfile(run.before.store, run.office.store)
-    run.perform(run.office)
+    run.again()
     return run.ended
 
 
@@ -107,8 +117,12 @@ def other_refusal(run):
 
 def never_told(run):
     """No request is refused, so nothing was tried."""
-    shutil.copyfile(run.before.store, run.office.store)
-    return run.perform(run.office)
+    return run.again()
+
+
+def never_recovers(run):
+    """All later requests are refused too, where only one should be: a server then answers 503 for ever."""
+    return run.again(**run.memory | refused.LASTING)
 
 
 STORED, TALKED = ["import", "migrate", "talk", "serve"], ["talk", "serve"]
@@ -127,6 +141,7 @@ PLANTED = {
     goes_on: TALKED,
     other_refusal: TALKED,
     never_told: STORED,
+    never_recovers: ["serve"],
 }
 
 
@@ -136,13 +151,13 @@ def with_fault(it, fault):
 
     def faulty(office, **memory):
         ended = perform(office, **memory)
-        return fault(Run(ended, office, it.before, whole, perform)) if "FA" in memory else ended
+        return fault(Run(ended, office, it.before, whole, perform, memory)) if "FA" in memory else ended
 
     return faulty
 
 
 def is_wrong(it, shim):
-    """Whether refused.py finds something wrong in some runs, from the last requests backwards."""
+    """Whether refused.py finds something wrong in some runs."""
     last = it.requests(shim)
     with contextlib.redirect_stdout(io.StringIO()):
         return not refused.refuse(it, shim, last // RUNS, 0)
