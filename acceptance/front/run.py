@@ -1,3 +1,4 @@
+#!/usr/bin/env python3
 """Plays all parts in a real browser, or only those that are named:
 
     run.py PROGRAM FOLDER SHOTS [--first] [--patience SECONDS] [--slower TIMES] [--faults FILE] [PART ..]
