@@ -24,6 +24,7 @@ import json
 import os
 import pathlib
 import queue
+import re
 import shutil
 import subprocess
 import sys
@@ -32,8 +33,9 @@ import time
 
 TOP = pathlib.Path(__file__).resolve().parent.parent
 RUN = TOP / "acceptance/front/run.py"
-PATIENCE = 20  # seconds that a check waits for what a fault may keep away
-LONGEST = 400  # seconds that a part may take
+PATIENT = 60  # seconds that a check waits without a fault
+PATIENCE = 20  # seconds that it waits for what a fault may keep away, or four times what it waited without one
+LONGEST = 400  # seconds that a part may take with a fault, or four times what it took without one
 NOT_PLAYED = "it was not played"
 GROUPS = {"access", "visit", "rules", "queue", "restarts"}  # with parts that can be played again and again in one office
 ONCE = {"queue:late", "rules:limit_of_orders", "rules:signing_out"}  # but these
@@ -95,24 +97,25 @@ def played_in_turn(program, group, ports, faults):
     return {(part, name): what for part, name, what in told}
 
 
-def played(program, part, ports, fault=None):
-    """Plays a part with a copy of the front. What failed first, or None."""
+def played(program, part, ports, fault=None, patience=PATIENT, longest=None):
+    """Plays a part with a copy of the front. What failed first, or None; and for how long anything was waited for."""
     with tempfile.TemporaryDirectory() as room:
         front = pathlib.Path(room) / "front"
         shutil.copytree(TOP / "front", front, ignore=shutil.ignore_patterns("__pycache__"))
         if fault:
             path = front / fault.file
             path.write_bytes(fault.planted(path.read_bytes().decode()).encode())
-        words = [sys.executable, "-B", RUN, program, f"{room}/offices", f"{room}/shots", part, "--first", "--patience", str(PATIENCE)]
+        words = [sys.executable, "-B", RUN, program, f"{room}/offices", f"{room}/shots", part, "--first", "--patience", str(patience)]
         environment = {**os.environ, "FRONT_FILES": str(front), "FRONT_PORTS": str(ports)}
         with subprocess.Popen(words, env=environment, stdout=subprocess.PIPE, stderr=subprocess.STDOUT, text=True) as process:
             try:
-                told = process.communicate(timeout=LONGEST)[0]
+                told = process.communicate(timeout=longest)[0]
             except subprocess.TimeoutExpired:
                 process.terminate()
-                return f"more than {LONGEST} s"
+                return f"more than {longest:.0f} s", 0
         wrong = [line.removeprefix("WRONG ") for line in told.splitlines() if line.startswith("WRONG ")]
-        return None if process.returncode == 0 else wrong[0][:150] if wrong else told[-300:]
+        waited = [float(one) for one in re.findall(r"^waited for at most (\S+) s$", told, re.M)]
+        return None if process.returncode == 0 else wrong[0][:150] if wrong else told[-300:], max(waited, default=0)
 
 
 class Jobs:
@@ -127,8 +130,7 @@ class Jobs:
         """Yields each part that is named, with None, and then with each of its faults: (part, name of the fault, what failed or None)."""
         tasks = [self.pool.submit(self.group, group, [fault for fault in faults if fault.group == group]) for group in sorted({fault.group for fault in faults} - {""})]
         alone = [fault for fault in faults if not fault.group]
-        tasks += [self.pool.submit(self.one, part, None) for part in sorted({fault.by for fault in alone})]
-        tasks += [self.pool.submit(self.one, fault.by, fault) for fault in alone]
+        tasks += [self.pool.submit(self.part, part, [fault for fault in alone if fault.by == part]) for part in sorted({fault.by for fault in alone})]
         for task in concurrent.futures.as_completed(tasks):
             yield from task.result()
 
@@ -141,12 +143,16 @@ class Jobs:
         wanted = [(part, None) for part in sorted({fault.by for fault in faults})] + [(fault.by, fault.fault) for fault in faults]
         return [(part, fault, told.get((part, fault), NOT_PLAYED)) for part, fault in wanted]
 
-    def one(self, part, fault):
-        ports = self.ports.get()
+    def part(self, part, faults):
+        """A part without a fault, and if it passes with each of its own."""
+        ports, began = self.ports.get(), time.monotonic()
         try:
-            return [(part, fault and fault.fault, played(self.program, part, ports, fault))]
+            failed, waited = played(self.program, part, ports)
+            patience, longest = max(PATIENCE, 4 * waited), max(LONGEST, 4 * (time.monotonic() - began))
+            outcomes = [(fault.fault, NOT_PLAYED if failed else played(self.program, part, ports, fault, patience, longest)[0]) for fault in faults]
         finally:
             self.ports.put(ports)
+        return [(part, None, failed), *((part, *outcome) for outcome in outcomes)]
 
 
 def main():
@@ -181,7 +187,7 @@ def tried(faults, jobs):
         if fault is None and failed:
             print(f"DOES NOT PASS WITHOUT A FAULT: {part}: {failed}", flush=True)
         if fault is not None:
-            print(f"{fault}: {f'noticed by {part}: {failed}' if failed else f'NOT NOTICED by {part}'}", flush=True)
+            print(f"{fault}: {NOT_PLAYED if failed == NOT_PLAYED else f'noticed by {part}: {failed}' if failed else f'NOT NOTICED by {part}'}", flush=True)
     print(f"{(time.monotonic() - began) / 60:.0f} minutes")
     return wrong
 

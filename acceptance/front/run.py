@@ -1,3 +1,4 @@
+#!/usr/bin/env python3
 """Plays all parts in a real browser, or only those that are named:
 
     run.py PROGRAM FOLDER SHOTS [--first] [--patience SECONDS] [--slower TIMES] [--faults FILE] [PART ..]
@@ -52,6 +53,7 @@ from visit import Visit  # noqa: E402
 
 PARTS = ("looks", "pages", "access", "rules", "restarts", "limits", "queue", "encrypted", "stall", "search", "refusals", "journeys", "paper",
          "tickets")
+PATIENT = 60
 WITHOUT_PAGES = {"rules", "restarts", "limits", "queue", "encrypted", "stall", "search"}  # need no browser
 
 
@@ -232,16 +234,23 @@ class Run:
 
     def trials(self, group, faults):
         """All faults of a group in one office, after its parts without a fault: each is planted, and the part that should notice it is
-        played. What came of each is printed."""
+        played. What came of each is printed. What a fault keeps away is waited for four times as long as anything without one."""
         with self.office_with_files(changes=[("rate=6r/m", "rate=6000r/m")]) as office:
             play = self.player(group, office)
-            for fault in [*({"by": by} for by in sorted({fault["by"] for fault in faults})), *faults]:
-                checks = Checks(ends_at_first=True)
-                with contextlib.suppress(Enough), planted(fault, office):
-                    checks.part(fault["by"], play, checks, fault["by"].split(":")[1])
-                self.checks.passed += 1
-                failed = None if checks.passed and not checks.told else first_line(checks.told)
-                print("TRIED " + json.dumps([fault["by"], fault.get("fault"), failed]), flush=True)
+            least, waits.settings.patience = waits.settings.patience, PATIENT
+            for part in sorted({fault["by"] for fault in faults}):
+                self.trial(play, {"by": part}, office)
+            waits.settings.patience = max(least, 4 * waits.settings.longest)
+            for fault in faults:
+                self.trial(play, fault, office)
+
+    def trial(self, play, fault, office):
+        checks = Checks(ends_at_first=True)
+        with contextlib.suppress(Enough), planted(fault, office):
+            checks.part(fault["by"], play, checks, fault["by"].split(":")[1])
+        self.checks.passed += 1
+        failed = None if checks.passed and not checks.told else first_line(checks.told)
+        print("TRIED " + json.dumps([fault["by"], fault.get("fault"), failed]), flush=True)
 
     def player(self, group, office):
         """play(checks, part) for a group whose parts can be played again and again."""
@@ -310,7 +319,7 @@ def main():
     words.add_argument("shots", type=pathlib.Path)
     words.add_argument("part", nargs="*")
     words.add_argument("--first", action="store_true")
-    words.add_argument("--patience", type=float, default=60)
+    words.add_argument("--patience", type=float, default=PATIENT)
     words.add_argument("--slower", type=float, default=1)
     words.add_argument("--faults", type=pathlib.Path)
     words = words.parse_intermixed_args()
@@ -325,6 +334,7 @@ def main():
         checks.part("offices", offices, checks, words)
     except Enough:
         pass
+    print(f"waited for at most {waits.settings.longest:.1f} s", flush=True)
     return checks.end()
 
 
