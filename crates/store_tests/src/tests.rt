@@ -289,6 +289,11 @@ fn show_marks(text: &mut String, marks: &[Mark]) -> Result<(), StoreFault> {
 /// The same for marks in walk order, with their numbers counted from the first one's, which depends on the version.
 fn show_walk(text: &mut String, marks: &[Mark]) -> Result<(), StoreFault> {
     show_marks(text, marks)?;
+    show_numbers(text, marks)
+}
+
+/// The numbers of marks in walk order, counted from the first one's.
+fn show_numbers(text: &mut String, marks: &[Mark]) -> Result<(), StoreFault> {
     let start = match marks.first() {
         Some(first) => first.lft,
         None => 0,
@@ -305,6 +310,27 @@ fn show_walk(text: &mut String, marks: &[Mark]) -> Result<(), StoreFault> {
     Ok(())
 }
 
+/// The same without `boxed`, which has no meaning for a unit that a container is attached to, nor above it.
+fn show_statuses(text: &mut String, marks: &[Mark]) -> Result<(), StoreFault> {
+    for mark in marks {
+        let (id, draft) = (mark.id, mark.draft);
+        let until = mark.until.unwrap_or(0);
+        write!(text, " {id} {draft} {until}")?;
+    }
+    text.push_str("\n")?;
+    Ok(())
+}
+
+/// The marks of a unit that a container is attached to, and of those below it.
+fn show_branch(text: &mut String, marks: &[Mark]) -> Result<(), StoreFault> {
+    if let Some((own, below)) = marks.split_first() {
+        let (id, draft) = (own.id, own.draft);
+        write!(text, " {id} {draft}:")?;
+        show_marks(text, below)?;
+    }
+    show_numbers(text, marks)
+}
+
 /// The marks of the units that Box 1 is attached to.
 #[tactic(auto, using(crate::proofs::Going::looked_on))]
 fn show_contents<P: Places, S: Alter>(
@@ -316,8 +342,8 @@ fn show_contents<P: Places, S: Alter>(
     ensures inside { OnOk result (InTransaction P.version (state S.Store conn.new)) }
 {
     for attached in &contents_marks::<P, S>(alloc, conn, 1)? {
-        show_marks(text, &attached.path)?;
-        show_walk(text, &attached.branch)?;
+        show_statuses(text, &attached.path)?;
+        show_branch(text, &attached.branch)?;
     }
     Ok(())
 }
@@ -655,11 +681,11 @@ fn units_are_described_and_marked(rt: HostRuntime) -> Result<(), Fail> {
         Case {
             done: Act::Mark,
             queries: &[UNITS],
-            told: " 1 true false 0\n\
-                   \u{20}1 true false 0 3 true false 0\n\
+            told: " 1 false 0\n\
+                   \u{20}1 false: 3 true false 0\n\
                    \u{20}1 0 3 3 1 2\n\
-                   \u{20}4 true false 0\n\
-                   \u{20}4 true false 0 2 false false 21915\n\
+                   \u{20}4 false 0\n\
+                   \u{20}4 false: 2 false false 21915\n\
                    \u{20}4 0 3 2 1 2\n\
                    \u{20}4 true false 0 2 false false 21915\n\
                    \u{20}1 true false 0 3 true false 0 4 true false 0 2 false false 21915\n\
