@@ -1,5 +1,4 @@
 pub mod Creations
-pub mod Statements
 pub mod SeatRows
 pub mod NumbersOf
 pub mod Frames

@@ -16,7 +16,7 @@ use Rattle.office_tables.specs.Step.{Holds, HasRows, OnlyTouches}
 use Rattle.office_tables.specs.declared.fault.StoreFault.{StoreFault}
 use Rattle.office_tables.proofs.Calls.{on_ok_then}
 use Rattle.office_tables.proofs.Puts.{put_rows, put_rises}
-use Rattle.desk_store.specs.TableStatements.{Puts}
+use Rattle.office_tables.specs.TableStatements.{Puts}
 use Rattle.desk_store.specs.Rows.{seat_cells}
 use Rattle.desk_store.specs.Seats.{MayTake, with_seat}
 use Rattle.desk_store.specs.Representation.{RepresentsDeskAlone, IsLegible}

@@ -1,6 +1,5 @@
 pub mod TableCreation
 pub mod Rows
-pub mod TableStatements
 pub mod Representation
 pub mod Readers
 pub mod Seats

@@ -11,7 +11,7 @@ ghost use Rattle.office_tables.specs.Schema as tables;
 ghost use Rattle.office_tables.specs.SharedRows.{container_row};
 ghost use Rattle.office_tables.specs.Step.{InOffice, Holds};
 ghost use Rattle.office_tables.specs.RowNumbers.{AreCounted};
-ghost use Rattle.desk_store.specs.TableStatements.{LooksUp};
+ghost use Rattle.office_tables.specs.TableStatements.{LooksUp};
 ghost use Rattle.desk_store.specs.Stacks.{RepresentsQueues, IsLegibleStacks, box_with};
 
 use isad_core::BoxKey;

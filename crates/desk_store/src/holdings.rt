@@ -7,7 +7,7 @@ ghost use Rattle.isad_core.specs.Limits.{IsNumber};
 ghost use Rattle.office_tables.specs.Calls.{StoreUpdates};
 ghost use Rattle.office_tables.specs.Schema as tables;
 ghost use Rattle.office_tables.specs.Step.{InOffice};
-ghost use Rattle.desk_store.specs.TableStatements.{Puts, Thins};
+ghost use Rattle.office_tables.specs.TableStatements.{Puts, Thins};
 ghost use Rattle.desk_store.specs.Holdings.{by_order, with_place};
 ghost use Rattle.desk_store.specs.Rows.{holding_cells};
 ghost use Rattle.desk_store.specs.Representation.{RepresentsDeskAlone, IsLegible};

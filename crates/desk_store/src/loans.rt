@@ -7,7 +7,7 @@ ghost use Rattle.desk_core.specs.DeskRows.{HoldingRow, OrderRow};
 ghost use Rattle.office_tables.specs.Calls.{StoreAnswers};
 ghost use Rattle.office_tables.specs.Schema as tables;
 ghost use Rattle.office_tables.specs.Step.{InOffice, Holds};
-ghost use Rattle.desk_store.specs.TableStatements.{LooksUp};
+ghost use Rattle.office_tables.specs.TableStatements.{LooksUp};
 ghost use Rattle.desk_store.specs.Holdings.{issued_of, loan_by, ticket_of};
 ghost use Rattle.desk_store.specs.Rows.{holding_cells, order_cells};
 ghost use Rattle.desk_store.specs.Representation.{RepresentsDeskAlone, IsLegible};

@@ -9,7 +9,7 @@ ghost use Rattle.office_tables.specs.Faults.{FaultsHaveCause};
 ghost use Rattle.office_tables.specs.Schema as tables;
 ghost use Rattle.office_tables.specs.SharedRows.{OfficeRow, office_cells};
 ghost use Rattle.office_tables.specs.Step.{InOffice, Holds, HasRows, OnlyTouches};
-ghost use Rattle.desk_store.specs.TableStatements.{Thins};
+ghost use Rattle.office_tables.specs.TableStatements.{Thins};
 ghost use Rattle.desk_store.specs.OfficeDay.{RepresentsBoth, IsLegibleHouse, opened};
 ghost use Rattle.desk_store.specs.Rows.{seat_cells};
 ghost use Rattle.office_tables.specs.RowNumbers.{AreByNumber};

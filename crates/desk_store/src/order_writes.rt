@@ -9,7 +9,7 @@ ghost use Rattle.desk_core.specs.DeskRows.{with_state};
 ghost use Rattle.office_tables.specs.Calls.{StoreUpdates};
 ghost use Rattle.office_tables.specs.Schema as tables;
 ghost use Rattle.office_tables.specs.Step.{InOffice, PutsRow};
-ghost use Rattle.desk_store.specs.TableStatements.{Changes, Puts};
+ghost use Rattle.office_tables.specs.TableStatements.{Changes, Puts};
 ghost use Rattle.desk_store.specs.Orders.{state_number, with_order, with_order_state, IsNextOrder};
 ghost use Rattle.desk_store.specs.Rows.{order_cells};
 ghost use Rattle.desk_store.specs.Representation.{RepresentsDeskAlone, IsLegible};

@@ -9,7 +9,7 @@ ghost use Rattle.desk_core.specs.DeskRows.{OrderRow};
 ghost use Rattle.office_tables.specs.Calls.{StoreAnswers};
 ghost use Rattle.office_tables.specs.Schema as tables;
 ghost use Rattle.office_tables.specs.Step.{InOffice, Holds};
-ghost use Rattle.desk_store.specs.TableStatements.{LooksUp};
+ghost use Rattle.office_tables.specs.TableStatements.{LooksUp};
 ghost use Rattle.desk_store.specs.Orders.{state_number, order_with, IsThere};
 ghost use Rattle.desk_store.specs.Rows.{order_cells};
 ghost use Rattle.desk_store.specs.Representation.{IsLegibleOrder, RepresentsDeskAlone, IsLegible};

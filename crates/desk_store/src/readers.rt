@@ -12,7 +12,7 @@ ghost use Rattle.office_tables.specs.Calls.{StoreUpdates, StoreAnswers};
 ghost use Rattle.office_tables.specs.Faults.{FaultsHaveCause};
 ghost use Rattle.office_tables.specs.Schema as tables;
 ghost use Rattle.office_tables.specs.Step.{InOffice, Holds};
-ghost use Rattle.desk_store.specs.TableStatements.{Changes, LooksUp, Puts};
+ghost use Rattle.office_tables.specs.TableStatements.{Changes, LooksUp, Puts};
 ghost use Rattle.desk_store.specs.Readers.{next_ticket, reader_with, with_reader, renewed, with_last_day};
 ghost use Rattle.desk_store.specs.Rows.{reader_cells};
 ghost use Rattle.desk_store.specs.Representation.{IsLegibleReader, RepresentsDesk, RepresentsDeskAlone, IsLegible};

@@ -7,7 +7,7 @@ ghost use Rattle.desk_core.specs.DeskRows.{OrderRow};
 ghost use Rattle.office_tables.specs.Calls.{StoreAnswers};
 ghost use Rattle.office_tables.specs.Schema as tables;
 ghost use Rattle.office_tables.specs.Step.{InOffice, Holds};
-ghost use Rattle.desk_store.specs.TableStatements.{LooksUp};
+ghost use Rattle.office_tables.specs.TableStatements.{LooksUp};
 ghost use Rattle.desk_store.specs.Holdings.{candidates_of};
 ghost use Rattle.desk_store.specs.RunCandidates.{is_earliest, is_new};
 ghost use Rattle.desk_store.specs.Rows.{order_cells};

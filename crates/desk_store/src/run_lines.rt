@@ -9,7 +9,7 @@ ghost use Rattle.desk_core.specs.DeskRows.{RunRow};
 ghost use Rattle.office_tables.specs.Calls.{StoreAnswers};
 ghost use Rattle.office_tables.specs.Schema as tables;
 ghost use Rattle.office_tables.specs.Step.{InOffice, Holds};
-ghost use Rattle.desk_store.specs.TableStatements.{LooksUp};
+ghost use Rattle.office_tables.specs.TableStatements.{LooksUp};
 ghost use Rattle.desk_store.specs.Rows.{run_cells};
 ghost use Rattle.desk_store.specs.Runs.{run_with};
 ghost use Rattle.office_tables.specs.RowNumbers.{AreCounted};

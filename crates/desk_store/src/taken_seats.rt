@@ -10,7 +10,7 @@ ghost use Rattle.desk_core.specs.DeskRows.{SeatRow};
 ghost use Rattle.office_tables.specs.Calls.{StoreUpdates, StoreAnswers};
 ghost use Rattle.office_tables.specs.Schema as tables;
 ghost use Rattle.office_tables.specs.Step.{InOffice, Holds, PutsRow};
-ghost use Rattle.desk_store.specs.TableStatements.{LooksUp, Puts, Thins};
+ghost use Rattle.office_tables.specs.TableStatements.{LooksUp, Puts, Thins};
 ghost use Rattle.desk_store.specs.Rows.{seat_cells};
 ghost use Rattle.desk_store.specs.Seats.{taken_seats, with_seat, MayTake};
 ghost use Rattle.desk_store.specs.Representation.{RepresentsDeskAlone, IsLegible};

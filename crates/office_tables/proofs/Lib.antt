@@ -37,5 +37,6 @@ pub mod Fresh
 pub mod numbered
 pub mod Sparing
 pub mod CallEnds
+pub mod StatementEnds
 pub mod StoreCalls
 pub mod statements

@@ -16,6 +16,7 @@ pub mod StatementMeaning
 pub mod ChangeStatement
 pub mod Query
 pub mod Calls
+pub mod TableStatements
 pub mod RowNumbers
 pub mod Permits
 pub mod SharedRows

@@ -6,7 +6,7 @@ use Rattle.office_tables.proofs.RowReads.{asks}
 use Rattle.office_tables.proofs.Sorted.{only_order}
 use Rattle.desk_store.proofs.BoxRows.{Numbered, box_text, box_command, box_means, box_finds, box_faults, by_number, by_number_total}
 use Rattle.office_tables.proofs.numbered.Counted.{counted_rises}
-use Rattle.desk_store.proofs.Statements.{looks_up}
+use Rattle.office_tables.proofs.StatementEnds.{looks_up}
 use Rattle.desk_store.proofs.container_labels.boxes_with.Goals as goal
 
 pub find-requires : goal.find-requires

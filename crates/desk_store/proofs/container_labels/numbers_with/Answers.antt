@@ -6,7 +6,7 @@ use Rattle.office_tables.proofs.RowReads.{asks}
 use Rattle.office_tables.proofs.Sorted.{only_order}
 use Rattle.desk_store.proofs.BoxRows.{Numbered, number_text, number_command, number_means, number_finds, number_faults, by_number, by_number_total}
 use Rattle.office_tables.proofs.numbered.Counted.{counted_rises}
-use Rattle.desk_store.proofs.Statements.{looks_up}
+use Rattle.office_tables.proofs.StatementEnds.{looks_up}
 use Rattle.desk_store.proofs.container_labels.numbers_with.Goals as goal
 
 pub find-requires : goal.find-requires

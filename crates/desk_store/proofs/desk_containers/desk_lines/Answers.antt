@@ -7,7 +7,7 @@ use Rattle.office_tables.proofs.RowReads.{asks}
 use Rattle.office_tables.proofs.Sorted.{only_order}
 use Rattle.desk_store.proofs.LoanRows.{by_container, by_container_total}
 use Rattle.desk_store.proofs.ReshelvingRows.{desk_text, desk_command, desk_means, desk_finds, desk_faults}
-use Rattle.desk_store.proofs.Statements.{looks_up}
+use Rattle.office_tables.proofs.StatementEnds.{looks_up}
 use Rattle.desk_store.proofs.desk_containers.desk_lines.Goals as goal
 
 pub find-requires : goal.find-requires

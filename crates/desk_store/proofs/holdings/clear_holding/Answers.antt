@@ -2,7 +2,7 @@ use Rattle.std.proofs.Common.{refl}
 use Rattle.sqlite.specs.Held.{state}
 use Rattle.office_tables.proofs.RowWrites.{ours}
 use Rattle.desk_store.proofs.HoldingWrites.{clear_holding_text, clear_holding_command, clear_holding_means, clear_holding_leaves, clear_holding_only, clear_holding_faults}
-use Rattle.desk_store.proofs.Statements.{thins}
+use Rattle.office_tables.proofs.StatementEnds.{thins}
 use Rattle.desk_store.proofs.holdings.clear_holding.Goals as goal
 
 pub change-requires : goal.change-requires

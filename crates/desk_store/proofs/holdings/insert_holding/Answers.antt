@@ -4,7 +4,7 @@ use Rattle.sqlite.specs.Held.{state}
 use Rattle.office_tables.proofs.Casts.{bound_maybe}
 use Rattle.office_tables.proofs.RowWrites.{ours}
 use Rattle.desk_store.proofs.HoldingWrites.{insert_holding_text, insert_holding_command, insert_holding_means, insert_holding_puts, insert_holding_faults}
-use Rattle.desk_store.proofs.Statements.{puts_row}
+use Rattle.office_tables.proofs.StatementEnds.{puts_row}
 use Rattle.desk_store.proofs.holdings.insert_holding.Goals as goal
 
 pub change-requires : goal.change-requires

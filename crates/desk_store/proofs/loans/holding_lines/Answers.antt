@@ -6,7 +6,7 @@ use Rattle.office_tables.proofs.RowReads.{asks}
 use Rattle.office_tables.proofs.Rows.{kept_all}
 use Rattle.office_tables.proofs.Sorted.{only_order}
 use Rattle.desk_store.proofs.LoanRows.{lines_text, lines_command, lines_means, lines_finds, lines_faults, line_of, by_container, by_container_total}
-use Rattle.desk_store.proofs.Statements.{looks_up}
+use Rattle.office_tables.proofs.StatementEnds.{looks_up}
 use Rattle.desk_store.proofs.loans.holding_lines.Goals as goal
 
 pub find-requires : goal.find-requires

@@ -8,7 +8,7 @@ use Rattle.office_tables.proofs.Sorted.{only_order}
 use Rattle.desk_store.proofs.CardRows.{by_order, by_order_total}
 use Rattle.office_tables.proofs.numbered.Counted.{counted_rises}
 use Rattle.desk_store.proofs.LoanRows.{tickets_text, tickets_command, tickets_means, tickets_finds, tickets_faults}
-use Rattle.desk_store.proofs.Statements.{looks_up}
+use Rattle.office_tables.proofs.StatementEnds.{looks_up}
 use Rattle.desk_store.proofs.loans.tickets_of.Goals as goal
 
 pub find-requires : goal.find-requires

@@ -2,7 +2,7 @@ use Rattle.std.proofs.Common.{refl}
 use Rattle.sqlite.specs.Held.{state}
 use Rattle.office_tables.proofs.RowWrites.{ours}
 use Rattle.desk_store.proofs.OpeningRows.{free_text, free_command, free_means, free_leaves, free_only, free_faults}
-use Rattle.desk_store.proofs.Statements.{thins}
+use Rattle.office_tables.proofs.StatementEnds.{thins}
 use Rattle.desk_store.proofs.office_day.free_seats.Goals as goal
 
 pub change-requires : goal.change-requires

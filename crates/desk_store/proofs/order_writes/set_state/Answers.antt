@@ -2,7 +2,7 @@ use Rattle.std.proofs.Common.{refl}
 use Rattle.sqlite.specs.Held.{state}
 use Rattle.office_tables.proofs.RowWrites.{ours}
 use Rattle.desk_store.proofs.OrderWrites.{set_state_text, set_state_command, set_state_means, set_state_leaves, set_state_only, set_state_faults}
-use Rattle.desk_store.proofs.Statements.{changes}
+use Rattle.office_tables.proofs.StatementEnds.{changes}
 use Rattle.desk_store.proofs.order_writes.set_state.Goals as goal
 
 pub change-requires : goal.change-requires

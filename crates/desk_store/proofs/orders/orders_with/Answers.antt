@@ -8,7 +8,7 @@ use Rattle.office_tables.proofs.Sorted.{only_order}
 use Rattle.office_tables.proofs.numbered.Counted.{counted_rises}
 use Rattle.desk_store.proofs.CardRows.{by_order, by_order_total}
 use Rattle.desk_store.proofs.OrderReads.{orders_with_text, orders_with_command, orders_with_means, orders_with_finds, orders_with_faults, entry_of}
-use Rattle.desk_store.proofs.Statements.{looks_up}
+use Rattle.office_tables.proofs.StatementEnds.{looks_up}
 use Rattle.desk_store.proofs.orders.orders_with.Goals as goal
 
 pub find-requires : goal.find-requires

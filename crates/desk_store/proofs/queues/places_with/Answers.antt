@@ -7,7 +7,7 @@ use Rattle.office_tables.proofs.RowReads.{asks}
 use Rattle.office_tables.proofs.Sorted.{only_order}
 use Rattle.desk_store.proofs.LoanRows.{by_container, by_container_total}
 use Rattle.desk_store.proofs.PlaceRows.{place_text, place_command, place_means, place_finds, place_faults, place_entry}
-use Rattle.desk_store.proofs.Statements.{looks_up}
+use Rattle.office_tables.proofs.StatementEnds.{looks_up}
 use Rattle.desk_store.proofs.queues.places_with.Goals as goal
 
 pub find-requires : goal.find-requires

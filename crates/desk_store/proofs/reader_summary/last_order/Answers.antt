@@ -1,7 +1,7 @@
 use Rattle.sqlite.specs.Held.{state}
 use Rattle.office_tables.proofs.RowReads.{asks}
 use Rattle.desk_store.proofs.CardRows.{last_order_text, last_order_command, last_order_means, last_order_finds, last_order_faults}
-use Rattle.desk_store.proofs.Statements.{looks_up}
+use Rattle.office_tables.proofs.StatementEnds.{looks_up}
 use Rattle.desk_store.proofs.reader_summary.last_order.Goals as goal
 
 pub find_number-requires : goal.find_number-requires

@@ -8,7 +8,7 @@ use Rattle.office_tables.proofs.Sorted.{only_order}
 use Rattle.desk_store.specs.Readers.{is_live}
 use Rattle.desk_store.proofs.CardRows.{live_text, live_command, live_means, live_finds, live_faults, line_of, by_order, by_order_total}
 use Rattle.office_tables.proofs.numbered.Counted.{counted_rises}
-use Rattle.desk_store.proofs.Statements.{looks_up}
+use Rattle.office_tables.proofs.StatementEnds.{looks_up}
 use Rattle.desk_store.proofs.reader_summary.live_lines.Goals as goal
 
 pub find-requires : goal.find-requires

@@ -1,7 +1,7 @@
 use Rattle.sqlite.specs.Held.{state}
 use Rattle.office_tables.proofs.RowReads.{asks}
 use Rattle.desk_store.proofs.CardRows.{placed_text, placed_command, placed_means, placed_finds, placed_faults}
-use Rattle.desk_store.proofs.Statements.{looks_up}
+use Rattle.office_tables.proofs.StatementEnds.{looks_up}
 use Rattle.desk_store.proofs.reader_summary.placed_on.Goals as goal
 
 pub find_number-requires : goal.find_number-requires

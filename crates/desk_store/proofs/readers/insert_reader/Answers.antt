@@ -2,7 +2,7 @@ use Rattle.std.proofs.Common.{refl}
 use Rattle.sqlite.specs.Held.{state}
 use Rattle.office_tables.proofs.RowWrites.{ours}
 use Rattle.desk_store.proofs.ReaderRows.{insert_reader_text, insert_reader_command, insert_reader_means, insert_reader_puts, insert_reader_faults}
-use Rattle.desk_store.proofs.Statements.{puts_row}
+use Rattle.office_tables.proofs.StatementEnds.{puts_row}
 use Rattle.desk_store.proofs.readers.insert_reader.Goals as goal
 
 pub change-requires : goal.change-requires

@@ -1,7 +1,7 @@
 use Rattle.sqlite.specs.Held.{state}
 use Rattle.office_tables.proofs.RowReads.{asks}
 use Rattle.desk_store.proofs.ReaderRows.{last_ticket_text, last_ticket_command, last_ticket_means, last_ticket_finds, last_ticket_faults}
-use Rattle.desk_store.proofs.Statements.{looks_up}
+use Rattle.office_tables.proofs.StatementEnds.{looks_up}
 use Rattle.desk_store.proofs.readers.last_ticket.Goals as goal
 
 pub find_number-requires : goal.find_number-requires

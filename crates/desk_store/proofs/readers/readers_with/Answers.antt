@@ -7,7 +7,7 @@ use Rattle.office_tables.proofs.RowReads.{asks}
 use Rattle.office_tables.proofs.Sorted.{only_order}
 use Rattle.office_tables.proofs.numbered.Counted.{counted_rises}
 use Rattle.desk_store.proofs.ReaderRows.{readers_with_text, readers_with_command, readers_with_means, readers_with_finds, readers_with_faults, named, by_ticket, by_ticket_total}
-use Rattle.desk_store.proofs.Statements.{looks_up}
+use Rattle.office_tables.proofs.StatementEnds.{looks_up}
 use Rattle.desk_store.proofs.readers.readers_with.Goals as goal
 
 pub find-requires : goal.find-requires

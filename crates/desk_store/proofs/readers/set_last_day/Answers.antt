@@ -2,7 +2,7 @@ use Rattle.std.proofs.Common.{refl}
 use Rattle.sqlite.specs.Held.{state}
 use Rattle.office_tables.proofs.RowWrites.{ours}
 use Rattle.desk_store.proofs.ReaderRows.{set_last_day_text, set_last_day_command, set_last_day_means, set_last_day_leaves, set_last_day_only, set_last_day_faults}
-use Rattle.desk_store.proofs.Statements.{changes}
+use Rattle.office_tables.proofs.StatementEnds.{changes}
 use Rattle.desk_store.proofs.readers.set_last_day.Goals as goal
 
 pub change-requires : goal.change-requires

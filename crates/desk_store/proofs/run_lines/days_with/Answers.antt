@@ -7,7 +7,7 @@ use Rattle.office_tables.proofs.RowReads.{asks}
 use Rattle.office_tables.proofs.Sorted.{only_order}
 use Rattle.desk_store.proofs.BroughtRows.{day_text, day_command, day_means, day_finds, day_faults, day_of, by_run, by_run_total}
 use Rattle.office_tables.proofs.numbered.Counted.{counted_rises}
-use Rattle.desk_store.proofs.Statements.{looks_up}
+use Rattle.office_tables.proofs.StatementEnds.{looks_up}
 use Rattle.desk_store.proofs.run_lines.days_with.Goals as goal
 
 pub find-requires : goal.find-requires

@@ -2,7 +2,7 @@ use Rattle.std.proofs.Common.{refl}
 use Rattle.sqlite.specs.Held.{state}
 use Rattle.office_tables.proofs.RowWrites.{ours}
 use Rattle.desk_store.proofs.RunRows.{insert_run_text, insert_run_command, insert_run_means, insert_run_puts, insert_run_faults}
-use Rattle.desk_store.proofs.Statements.{puts_row}
+use Rattle.office_tables.proofs.StatementEnds.{puts_row}
 use Rattle.desk_store.proofs.runs.insert_run.Goals as goal
 
 pub change-requires : goal.change-requires

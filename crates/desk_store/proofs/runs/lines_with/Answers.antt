@@ -1,7 +1,7 @@
 use Rattle.sqlite.specs.Held.{state}
 use Rattle.office_tables.proofs.RowReads.{asks}
 use Rattle.desk_store.proofs.RunRows.{lines_with_text, lines_with_command, lines_with_means, lines_with_finds, lines_with_faults}
-use Rattle.desk_store.proofs.Statements.{looks_up}
+use Rattle.office_tables.proofs.StatementEnds.{looks_up}
 use Rattle.desk_store.proofs.runs.lines_with.Goals as goal
 
 pub find-requires : goal.find-requires

@@ -2,7 +2,7 @@ use Rattle.std.proofs.Common.{refl}
 use Rattle.sqlite.specs.Held.{state}
 use Rattle.office_tables.proofs.RowWrites.{ours}
 use Rattle.desk_store.proofs.SeatRows.{clear_seat_text, clear_seat_command, clear_seat_means, clear_seat_leaves, clear_seat_only, clear_seat_faults}
-use Rattle.desk_store.proofs.Statements.{thins}
+use Rattle.office_tables.proofs.StatementEnds.{thins}
 use Rattle.desk_store.proofs.taken_seats.clear_seat.Goals as goal
 
 pub change-requires : goal.change-requires

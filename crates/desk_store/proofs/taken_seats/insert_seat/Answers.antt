@@ -2,7 +2,7 @@ use Rattle.std.proofs.Common.{refl}
 use Rattle.sqlite.specs.Held.{state}
 use Rattle.office_tables.proofs.RowWrites.{ours}
 use Rattle.desk_store.proofs.SeatRows.{insert_seat_text, insert_seat_command, insert_seat_means, insert_seat_puts, insert_seat_faults}
-use Rattle.desk_store.proofs.Statements.{puts_row}
+use Rattle.office_tables.proofs.StatementEnds.{puts_row}
 use Rattle.desk_store.proofs.taken_seats.insert_seat.Goals as goal
 
 pub change-requires : goal.change-requires

@@ -6,7 +6,7 @@ use Rattle.desk_core.specs.DeskRows.{SeatRow}
 use Rattle.office_tables.proofs.RowReads.{asks}
 use Rattle.office_tables.proofs.Sorted.{only_order}
 use Rattle.desk_store.proofs.SeatRows.{seats_with_text, seats_with_command, seats_with_means, seats_with_finds, seats_with_faults, taken, by_seat, by_seat_total}
-use Rattle.desk_store.proofs.Statements.{looks_up}
+use Rattle.office_tables.proofs.StatementEnds.{looks_up}
 use Rattle.desk_store.proofs.taken_seats.seats_with.Goals as goal
 
 pub find-requires : goal.find-requires

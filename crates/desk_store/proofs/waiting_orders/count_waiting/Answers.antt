@@ -1,7 +1,7 @@
 use Rattle.sqlite.specs.Held.{state}
 use Rattle.office_tables.proofs.RowReads.{asks}
 use Rattle.desk_store.proofs.WaitingRows.{count_text, count_command, count_means, waiting_count_finds, waiting_count_faults}
-use Rattle.desk_store.proofs.Statements.{looks_up}
+use Rattle.office_tables.proofs.StatementEnds.{looks_up}
 use Rattle.desk_store.proofs.waiting_orders.count_waiting.Goals as goal
 
 pub find_number-requires : goal.find_number-requires

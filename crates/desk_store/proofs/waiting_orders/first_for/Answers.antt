@@ -10,7 +10,7 @@ use Rattle.desk_store.specs.Holdings.{waits_for}
 use Rattle.desk_store.proofs.CardRows.{by_order, by_order_total}
 use Rattle.office_tables.proofs.numbered.Counted.{counted_rises}
 use Rattle.desk_store.proofs.WaitingRows.{first_text, first_command, first_means, first_finds, first_faults, waiting_of}
-use Rattle.desk_store.proofs.Statements.{looks_up}
+use Rattle.office_tables.proofs.StatementEnds.{looks_up}
 use Rattle.desk_store.proofs.waiting_orders.first_for.Goals as goal
 
 pub find-requires : goal.find-requires

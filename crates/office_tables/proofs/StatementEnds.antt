@@ -13,13 +13,13 @@ use Rattle.office_tables.specs.Schema.{schema}
 use Rattle.office_tables.specs.Step.{InOffice, Holds, HasRows, OnlyTouches, PutsRow}
 use Rattle.office_tables.specs.declared.fault.StoreFault.{StoreFault}
 use Rattle.office_tables.proofs.Calls.{early}
-use Rattle.desk_store.specs.TableStatements.{LooksUp, Puts, Changes, Thins}
+use Rattle.office_tables.specs.TableStatements.{LooksUp, Puts, Changes, Thins}
 
 module _ {S X : Type 0} {g : store.Ghosts S} {before after : Held S} {r : Result X StoreFault} where
-  pub looks_up : {M F N : Type 0} {holds : State → M → Type 0} {sorted kept : M → Type 0} {answer : M → X → Type 0} → InOffice (state g before) → Reads (state g before) (state g after) r → (HasCleanDisk (state g after) → F) → (HasCleanDisk (state g after) → N)
-      → ((v : Version) → (state g before).now.schema ≡ schema v → F → (m : M) → holds (state g before) m → sorted m → IfOk r (answer m))
+  pub looks_up : {M F N : Type 0} {holds : State → M → Type 0} {orderly kept : M → Type 0} {answer : M → X → Type 0} → InOffice (state g before) → Reads (state g before) (state g after) r → (HasCleanDisk (state g after) → F) → (HasCleanDisk (state g after) → N)
+      → ((v : Version) → (state g before).now.schema ≡ schema v → F → (m : M) → holds (state g before) m → orderly m → IfOk r (answer m))
       → ((v : Version) → (state g before).now.schema ≡ schema v → N → (m : M) → holds (state g before) m → kept m → IsUnlimited (state g before) → IfErr r (HasCause (state g before) (state g after)))
-      → LooksUp g holds before after r sorted kept answer
+      → LooksUp g holds before after r orderly kept answer
   looks_up inside reads found missed answers faults = record {
     reads = reads;
     answers = λ clean. let at = inside (early (state g before) (state g after) _ reads.crash clean) in answers at.0 at.1 (found clean);
@@ -36,11 +36,11 @@ module _ {S X : Type 0} {g : store.Ghosts S} {before after : Held S} {r : Result
     faults = λ xs held room clean free. let at = inside (early (state g before) (state g after) _ leaves.crash clean) in faults at.0 at.1 (ran clean) xs held room free;
   }
 
-  pub changes : {R F : Type 0} {table : Table} {cells : R → Row} {sorted : List R → Type 0} {left : List R → List R} → InOffice (state g before) → Leaves (state g before) (state g after) r → (HasCleanDisk (state g after) → F)
-      → ((v : Version) → (state g before).now.schema ≡ schema v → F → (xs : List R) → Holds table cells (state g before) xs → sorted xs → OnOk r (HasRows table.tree (map cells (left xs)) (state g before).now (state g after).now))
+  pub changes : {R F : Type 0} {table : Table} {cells : R → Row} {orderly : List R → Type 0} {left : List R → List R} → InOffice (state g before) → Leaves (state g before) (state g after) r → (HasCleanDisk (state g after) → F)
+      → ((v : Version) → (state g before).now.schema ≡ schema v → F → (xs : List R) → Holds table cells (state g before) xs → orderly xs → OnOk r (HasRows table.tree (map cells (left xs)) (state g before).now (state g after).now))
       → ((v : Version) → (state g before).now.schema ≡ schema v → F → OnOk r (OnlyTouches (table.tree ∷ []) (state g before).now (state g after).now))
-      → ((v : Version) → (state g before).now.schema ≡ schema v → F → (xs : List R) → Holds table cells (state g before) xs → sorted xs → IsUnlimited (state g before) → IfErr r (HasCause (state g before) (state g after)))
-      → Changes g table cells before after r sorted left
+      → ((v : Version) → (state g before).now.schema ≡ schema v → F → (xs : List R) → Holds table cells (state g before) xs → orderly xs → IsUnlimited (state g before) → IfErr r (HasCause (state g before) (state g after)))
+      → Changes g table cells before after r orderly left
   changes inside leaves ran rows only faults = record {
     leaves = leaves;
     rows = λ clean. let at = inside (early (state g before) (state g after) _ leaves.crash clean) in rows at.0 at.1 (ran clean);
@@ -48,11 +48,11 @@ module _ {S X : Type 0} {g : store.Ghosts S} {before after : Held S} {r : Result
     faults = λ xs held kept clean free. let at = inside (early (state g before) (state g after) _ leaves.crash clean) in faults at.0 at.1 (ran clean) xs held kept free;
   }
 
-  pub thins : {R F : Type 0} {table : Table} {cells : R → Row} {sorted : List R → Type 0} {left : List R → List R} → InOffice (state g before) → Leaves (state g before) (state g after) r → (HasCleanDisk (state g after) → F)
-      → ((v : Version) → (state g before).now.schema ≡ schema v → F → (xs : List R) → Holds table cells (state g before) xs → sorted xs → OnOk r (HasRows table.tree (map cells (left xs)) (state g before).now (state g after).now))
+  pub thins : {R F : Type 0} {table : Table} {cells : R → Row} {orderly : List R → Type 0} {left : List R → List R} → InOffice (state g before) → Leaves (state g before) (state g after) r → (HasCleanDisk (state g after) → F)
+      → ((v : Version) → (state g before).now.schema ≡ schema v → F → (xs : List R) → Holds table cells (state g before) xs → orderly xs → OnOk r (HasRows table.tree (map cells (left xs)) (state g before).now (state g after).now))
       → ((v : Version) → (state g before).now.schema ≡ schema v → F → OnOk r (OnlyTouches (table.tree ∷ []) (state g before).now (state g after).now))
       → ((v : Version) → (state g before).now.schema ≡ schema v → F → IsUnlimited (state g before) → IfErr r (HasCause (state g before) (state g after)))
-      → Thins g table cells before after r sorted left
+      → Thins g table cells before after r orderly left
   thins inside leaves ran rows only faults = record {
     leaves = leaves;
     rows = λ clean. let at = inside (early (state g before) (state g after) _ leaves.crash clean) in rows at.0 at.1 (ran clean);
