@@ -1,11 +1,9 @@
 //! The row of the office: its settings, its day and its next unit number.
 
-ghost use Rattle.std.specs.Prelude.{◌≡◌, ℕ, List, [], ◌∷◌, length, OnOk, IfOk};
-ghost use Rattle.isad_core.specs.declared.values.BoxKey.{BoxKey};
+ghost use Rattle.std.specs.Prelude.{◌≡◌, [], ◌∷◌, length, OnOk, IfOk, ⊤};
 ghost use Rattle.sqlite.specs.Held.{state};
 ghost use Rattle.sqlite.specs.State.{HasCleanDisk};
 ghost use Rattle.tree_core.specs.Versions.{Version};
-ghost use Rattle.catalogue_core.specs.Units.{«Unit» as Described};
 ghost use Rattle.isad_core.specs.Limits.{IsNumber};
 ghost use Rattle.office_tables.specs.Query.{Reads};
 ghost use Rattle.office_tables.specs.ChangeStatement.{Leaves};
@@ -13,6 +11,7 @@ ghost use Rattle.office_tables.specs.RowCounts.{capped};
 ghost use Rattle.office_tables.specs.Faults.{FaultsHaveCause};
 ghost use Rattle.office_tables.specs.Schema as tables;
 ghost use Rattle.office_tables.specs.Step.{InOffice, Holds, HasRows, OnlyTouches};
+ghost use Rattle.office_tables.specs.TableStatements.{LooksUp};
 ghost use Rattle.catalogue_statements.specs.Rows.{container_row, office_row as row_of_office, unit_row};
 ghost use Rattle.catalogue_statements.specs.Settings.{AreLegibleSettings};
 ghost use Rattle.catalogue_statements.specs.Representation.{RepresentsOffice};
@@ -95,12 +94,8 @@ pub fn count_units<S: Alter>(
     conn: &mut Connection<S>,
 ) -> Result<Vec<u64>, StoreFault>
     requires inside { InOffice (state S.Store conn.old) }
-    ensures reads { Reads (state S.Store conn.old) (state S.Store conn.new) result }
-    ensures rows { HasCleanDisk (state S.Store conn.new)
-        → (xs : List Described) → Holds tables.unit unit_row (state S.Store conn.old) xs
-        → IfOk result (λ found. found.items ≡ capped (length xs) ∷ []) }
-    ensures faults { (xs : List Described) → Holds tables.unit unit_row (state S.Store conn.old) xs
-        → FaultsHaveCause (state S.Store conn.old) (state S.Store conn.new) result }
+    ensures { LooksUp S.Store (Holds tables.unit unit_row) conn.old conn.new result
+        (λ _. ⊤) (λ _. ⊤) (λ xs found. found.items ≡ capped (length xs) ∷ []) }
 {
     find(alloc, conn, "SELECT count(*) FROM unit", &[])
 }
@@ -111,12 +106,8 @@ pub fn count_containers<S: Alter>(
     conn: &mut Connection<S>,
 ) -> Result<Vec<u64>, StoreFault>
     requires inside { InOffice (state S.Store conn.old) }
-    ensures reads { Reads (state S.Store conn.old) (state S.Store conn.new) result }
-    ensures rows { HasCleanDisk (state S.Store conn.new)
-        → (xs : List (ℕ × BoxKey)) → Holds tables.container container_row (state S.Store conn.old) xs
-        → IfOk result (λ found. found.items ≡ capped (length xs) ∷ []) }
-    ensures faults { (xs : List (ℕ × BoxKey)) → Holds tables.container container_row (state S.Store conn.old) xs
-        → FaultsHaveCause (state S.Store conn.old) (state S.Store conn.new) result }
+    ensures { LooksUp S.Store (Holds tables.container container_row) conn.old conn.new result
+        (λ _. ⊤) (λ _. ⊤) (λ xs found. found.items ≡ capped (length xs) ∷ []) }
 {
     find(alloc, conn, "SELECT count(*) FROM container", &[])
 }

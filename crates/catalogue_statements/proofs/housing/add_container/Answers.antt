@@ -33,7 +33,7 @@ returns-in_err-insert_container-clause-faults g c boxes at new clean free =
     let before = early b d _ c.in_err-insert_container.ensures.leaves.cut.crash clean in
     let is : n ≡ length boxes + 1 = c.in_ok-number.ensures.next before boxes at in
     let there : RepresentsContainers b.now.trees boxes = ap (λ (db : Database). db.trees tables.container.tree) (looked.same before) ∙ at in
-    let why = c.in_err-insert_container.ensures.faults (counted_from 1 boxes) there (next_free 1 n boxes (omega (arith, is))) (none_alike 1 boxes c.args.key.now new) clean (still_unlimited a b looked.goes.on free) in
+    let why = c.in_err-insert_container.ensures.faults (counted_from 1 boxes) there (next_free 1 n boxes (omega (arith, is)), none_alike 1 boxes c.args.key.now new) clean (still_unlimited a b looked.goes.on free) in
     let whole = cause_then a b d looked.goes.on before _ why in
     search (rules, whole)
 

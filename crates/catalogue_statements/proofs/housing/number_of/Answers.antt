@@ -28,7 +28,7 @@ returns-in_default-clause-numbers g c clean boxes at apart =
     if_ok_by c.add_container.result (Goes b d) result
     (λ last.
     let before = early b d _ last.on.crash clean in
-    let got = c.in_ok-found.ensures.rows before (counted_from 1 boxes) at in
+    let got = c.in_ok-found.ensures.answers before (counted_from 1 boxes) at tt in
     let none : number_in boxes key ≡ None =
     sym (number_read boxes key got.0 got.1) ∙ sym (c.copied.ensures ∙ c.first.ensures.value ∙ ap (λ (l : List ℕ). slice_get l 0) (c.deref.ensures.value ∙ got.2)) ∙ c.in_default.is in
     let there : RepresentsContainers b.now.trees boxes = ap (λ (db : Database). db.trees tables.container.tree) (c.in_ok-found.ensures.reads.looks.same before) ∙ at in
@@ -42,7 +42,7 @@ pub returns-clause-numbers : goal.returns-clause-numbers
 returns-clause-numbers g c clean boxes at apart =
     let b = state g.S.Store c.container_number.new.conn in
     let key = c.args.key.now in
-    let got = c.in_ok-found.ensures.rows clean (counted_from 1 boxes) at in
+    let got = c.in_ok-found.ensures.answers clean (counted_from 1 boxes) at tt in
     let some : number_in boxes key ≡ Some c.in-Some.number =
     sym (number_read boxes key got.0 got.1) ∙ sym (c.copied.ensures ∙ c.first.ensures.value ∙ ap (λ (l : List ℕ). slice_get l 0) (c.deref.ensures.value ∙ got.2)) ∙ c.in-Some.is in
     let there : RepresentsContainers b.now.trees boxes = ap (λ (db : Database). db.trees tables.container.tree) (c.in_ok-found.ensures.reads.looks.same clean) ∙ at in
@@ -56,7 +56,7 @@ returns-in_default-clause-faults g c boxes at small clean free =
     let key = c.args.key.now in
     let looked = c.in_ok-found.ensures.reads.looks in
     last_cause a b d looked.goes.on c.add_container.result c.add_container.ensures.cut clean (λ before.
-    let got = c.in_ok-found.ensures.rows before (counted_from 1 boxes) at in
+    let got = c.in_ok-found.ensures.answers before (counted_from 1 boxes) at tt in
     let none : number_in boxes key ≡ None =
     sym (number_read boxes key got.0 got.1) ∙ sym (c.copied.ensures ∙ c.first.ensures.value ∙ ap (λ (l : List ℕ). slice_get l 0) (c.deref.ensures.value ∙ got.2)) ∙ c.in_default.is in
     let there : RepresentsContainers b.now.trees boxes = ap (λ (db : Database). db.trees tables.container.tree) (looked.same before) ∙ at in
@@ -65,7 +65,7 @@ returns-in_default-clause-faults g c boxes at small clean free =
 pub returns-then-number-ge-NO_NUMBER-clause-faults : goal.returns-then-number-ge-NO_NUMBER-clause-faults
 returns-then-number-ge-NO_NUMBER-clause-faults g c boxes at small clean free =
     let key = c.args.key.now in
-    let got = c.in_ok-found.ensures.rows clean (counted_from 1 boxes) at in
+    let got = c.in_ok-found.ensures.answers clean (counted_from 1 boxes) at tt in
     let some : number_in boxes key ≡ Some c.in-Some.number =
     sym (number_read boxes key got.0 got.1) ∙ sym (c.copied.ensures ∙ c.first.ensures.value ∙ ap (λ (l : List ℕ). slice_get l 0) (c.deref.ensures.value ∙ got.2)) ∙ c.in-Some.is in
     absurd (omega (arith, small, number_within boxes key c.in-Some.number some))

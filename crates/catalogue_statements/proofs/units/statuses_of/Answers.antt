@@ -1,7 +1,6 @@
 use Rattle.std.proofs.Common.{map, filter, nat_eq}
 use Rattle.sqlite.specs.Held.{state}
 use Rattle.catalogue_core.specs.Units.{Unit}
-use Rattle.office_tables.proofs.Calls.{early}
 use Rattle.office_tables.proofs.RowReads.{asks}
 use Rattle.std.proofs.Common.{refl, ◌∷◌, [], ap, ◌∙◌, SFits}
 use Rattle.std.specs.Prelude.{IfSome}
@@ -16,6 +15,7 @@ use Rattle.catalogue_statements.specs.Rows.{by_number}
 use Rattle.catalogue_statements.specs.declared.row_types.Status.{Status}
 use Rattle.sqlite_trees.proofs.ListLemmas.{all_weaker, ascending-filter}
 use Rattle.catalogue_statements.proofs.UnitQueries.{status_text, status_columns, status_names, status_means, status_command, numbered_finds, numbered_faults, until_fits, by_number_total}
+use Rattle.office_tables.proofs.StatementEnds.{looks_up}
 use Rattle.catalogue_statements.proofs.units.statuses_of.Goals as goal
 
 abbrev status : Unit → Status
@@ -24,17 +24,13 @@ status u = record { draft = u.draft; until = u.until }
 pub find-requires : goal.find-requires
 find-requires g c = asks status_text 1 status_command (state g.S.Store c.args.conn.now) status_means c.requires.inside
 
-pub returns-clause-rows : goal.returns-clause-rows
-returns-clause-rows g c clean xs stored up =
-    let old = state g.S.Store c.args.conn.now in
-    let new = state g.S.Store c.find.new.conn in
-    let at = c.requires.inside (early old new _ c.find.ensures.reads.crash clean) in
-    let rising = ascending-filter _ (λ (u : Unit). nat_eq c.args.id u.id) xs up in
-    IfOk-weaker c.find.result _ _ (λ all it. it.2 ∙ ap (map status) (only_order by_number by_number_total (filter (λ (u : Unit). nat_eq c.args.id u.id) xs) it.0 rising it.1.1 it.1.0))
-    (numbered_finds old new c.args.id at.0 at.1 status_text status_columns status_names (status_means at.0) xs stored (λ (s : Status). Int (flag s.draft) ∷ or_null Int s.until ∷ []) (λ found. found.items) status (λ _. refl) c.find.result (rw c.number.ensures at (c.find.ensures.found clean)))
-
-pub returns-clause-faults : goal.returns-clause-faults
-returns-clause-faults g c xs stored legible clean free =
-    let at = c.requires.inside (early _ _ _ c.find.ensures.reads.crash clean) in
-    numbered_faults _ _ c.args.id at.0 at.1 status_text status_columns status_names (status_means at.0) xs stored (λ (s : Status). Int (flag s.draft) ∷ or_null Int s.until ∷ []) (λ found. found.items) status (λ _. refl) c.find.result
-    (λ (s : Status). IfSome s.until (SFits w32)) refl (all_weaker IsLegibleUnit (λ (u : Unit). IfSome u.until (SFits w32)) until_fits xs legible) free (rw c.number.ensures at (c.find.ensures.missed clean))
+pub returns : goal.returns
+returns g c =
+    looks_up c.requires.inside c.find.ensures.reads (rw c.number.ensures at c.find.ensures.found) (rw c.number.ensures at c.find.ensures.missed)
+    (λ v has found xs stored up.
+        let rising = ascending-filter _ (λ (u : Unit). nat_eq c.args.id u.id) xs up in
+        IfOk-weaker c.find.result _ _ (λ all it. it.2 ∙ ap (map status) (only_order by_number by_number_total (filter (λ (u : Unit). nat_eq c.args.id u.id) xs) it.0 rising it.1.1 it.1.0))
+        (numbered_finds _ _ c.args.id v has status_text status_columns status_names (status_means v) xs stored (λ (s : Status). Int (flag s.draft) ∷ or_null Int s.until ∷ []) (λ found. found.items) status (λ _. refl) c.find.result found))
+    (λ v has missed xs stored legible free.
+        numbered_faults _ _ c.args.id v has status_text status_columns status_names (status_means v) xs stored (λ (s : Status). Int (flag s.draft) ∷ or_null Int s.until ∷ []) (λ found. found.items) status (λ _. refl) c.find.result
+        (λ (s : Status). IfSome s.until (SFits w32)) refl (all_weaker IsLegibleUnit (λ (u : Unit). IfSome u.until (SFits w32)) until_fits xs legible) free missed)
