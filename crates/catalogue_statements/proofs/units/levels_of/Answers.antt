@@ -18,5 +18,5 @@ returns g c =
     looks_up c.requires.inside c.find.ensures.reads (rw c.number.ensures at c.find.ensures.found) (rw c.number.ensures at c.find.ensures.missed)
     (λ v has found xs stored _. numbered_finds _ _ c.args.id v has level_text level_columns level_names (level_means v) xs stored (λ t. Text t ∷ []) (λ found. found.items) (λ (u : Unit). u.values.level) (λ _. refl) c.find.result found)
     (λ v has missed xs stored legible free.
-        numbered_faults _ _ c.args.id v has level_text level_columns level_names (level_means v) xs stored (λ t. Text t ∷ []) (λ found. found.items) (λ (u : Unit). u.values.level) (λ _. refl) c.find.result
-        IsUtf8 refl (all_weaker IsLegibleUnit (λ (u : Unit). IsUtf8 u.values.level) (λ u h. h.level) xs legible) free missed)
+    numbered_faults _ _ c.args.id v has level_text level_columns level_names (level_means v) xs stored (λ t. Text t ∷ []) (λ found. found.items) (λ (u : Unit). u.values.level) (λ _. refl) c.find.result
+    IsUtf8 refl (all_weaker IsLegibleUnit (λ (u : Unit). IsUtf8 u.values.level) (λ u h. h.level) xs legible) free missed)

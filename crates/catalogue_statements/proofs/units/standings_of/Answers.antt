@@ -25,9 +25,9 @@ pub returns : goal.returns
 returns g c =
     looks_up c.requires.inside c.find.ensures.reads (rw c.number.ensures at c.find.ensures.found) (rw c.number.ensures at c.find.ensures.missed)
     (λ v has found xs stored up.
-        let rising = ascending-filter _ (has_id c.args.id) xs up in
-        IfOk-weaker c.find.result _ _ (λ all it. it.2 ∙ ap (map standing_of) (only_order by_number by_number_total (filter (has_id c.args.id) xs) it.0 rising it.1.1 it.1.0))
-        (numbered_finds _ _ c.args.id v has standing_text standing_columns standing_names (standing_means v) xs stored (λ (s : Standing). Text s.level ∷ Int (flag s.draft) ∷ or_null Int s.until ∷ []) (λ found. found.items) standing_of (λ _. refl) c.find.result found))
+    let rising = ascending-filter _ (has_id c.args.id) xs up in
+    IfOk-weaker c.find.result _ _ (λ all it. it.2 ∙ ap (map standing_of) (only_order by_number by_number_total (filter (has_id c.args.id) xs) it.0 rising it.1.1 it.1.0))
+    (numbered_finds _ _ c.args.id v has standing_text standing_columns standing_names (standing_means v) xs stored (λ (s : Standing). Text s.level ∷ Int (flag s.draft) ∷ or_null Int s.until ∷ []) (λ found. found.items) standing_of (λ _. refl) c.find.result found))
     (λ v has missed xs stored legible free.
-        numbered_faults _ _ c.args.id v has standing_text standing_columns standing_names (standing_means v) xs stored (λ (s : Standing). Text s.level ∷ Int (flag s.draft) ∷ or_null Int s.until ∷ []) (λ found. found.items) standing_of (λ _. refl) c.find.result
-        (λ (s : Standing). IsUtf8 s.level × IfSome s.until (λ day. is_day_number day ≡ true)) refl (all_weaker IsLegibleUnit (λ (u : Unit). IsUtf8 u.values.level × IfSome u.until (λ day. is_day_number day ≡ true)) (λ u h. (h.level, h.until)) xs legible) free missed)
+    numbered_faults _ _ c.args.id v has standing_text standing_columns standing_names (standing_means v) xs stored (λ (s : Standing). Text s.level ∷ Int (flag s.draft) ∷ or_null Int s.until ∷ []) (λ found. found.items) standing_of (λ _. refl) c.find.result
+    (λ (s : Standing). IsUtf8 s.level × IfSome s.until (λ day. is_day_number day ≡ true)) refl (all_weaker IsLegibleUnit (λ (u : Unit). IsUtf8 u.values.level × IfSome u.until (λ day. is_day_number day ≡ true)) (λ u h. (h.level, h.until)) xs legible) free missed)

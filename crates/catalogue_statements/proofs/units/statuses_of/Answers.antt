@@ -28,9 +28,9 @@ pub returns : goal.returns
 returns g c =
     looks_up c.requires.inside c.find.ensures.reads (rw c.number.ensures at c.find.ensures.found) (rw c.number.ensures at c.find.ensures.missed)
     (λ v has found xs stored up.
-        let rising = ascending-filter _ (λ (u : Unit). nat_eq c.args.id u.id) xs up in
-        IfOk-weaker c.find.result _ _ (λ all it. it.2 ∙ ap (map status) (only_order by_number by_number_total (filter (λ (u : Unit). nat_eq c.args.id u.id) xs) it.0 rising it.1.1 it.1.0))
-        (numbered_finds _ _ c.args.id v has status_text status_columns status_names (status_means v) xs stored (λ (s : Status). Int (flag s.draft) ∷ or_null Int s.until ∷ []) (λ found. found.items) status (λ _. refl) c.find.result found))
+    let rising = ascending-filter _ (λ (u : Unit). nat_eq c.args.id u.id) xs up in
+    IfOk-weaker c.find.result _ _ (λ all it. it.2 ∙ ap (map status) (only_order by_number by_number_total (filter (λ (u : Unit). nat_eq c.args.id u.id) xs) it.0 rising it.1.1 it.1.0))
+    (numbered_finds _ _ c.args.id v has status_text status_columns status_names (status_means v) xs stored (λ (s : Status). Int (flag s.draft) ∷ or_null Int s.until ∷ []) (λ found. found.items) status (λ _. refl) c.find.result found))
     (λ v has missed xs stored legible free.
-        numbered_faults _ _ c.args.id v has status_text status_columns status_names (status_means v) xs stored (λ (s : Status). Int (flag s.draft) ∷ or_null Int s.until ∷ []) (λ found. found.items) status (λ _. refl) c.find.result
-        (λ (s : Status). IfSome s.until (SFits w32)) refl (all_weaker IsLegibleUnit (λ (u : Unit). IfSome u.until (SFits w32)) until_fits xs legible) free missed)
+    numbered_faults _ _ c.args.id v has status_text status_columns status_names (status_means v) xs stored (λ (s : Status). Int (flag s.draft) ∷ or_null Int s.until ∷ []) (λ found. found.items) status (λ _. refl) c.find.result
+    (λ (s : Status). IfSome s.until (SFits w32)) refl (all_weaker IsLegibleUnit (λ (u : Unit). IfSome u.until (SFits w32)) until_fits xs legible) free missed)
