@@ -1,17 +1,16 @@
-use Rattle.std.proofs.Common.{◌<◌, ◌∷◌, [], length, Result, IfErr, arith, sym, subst}
+use Rattle.std.proofs.Common.{◌<◌, ◌∷◌, [], ◌++◌, length, map, arith, subst}
+use Rattle.std.proofs.lemmas.List.{take_all}
 use Rattle.sqlite.specs.Held.{state}
-use Rattle.office_tables.specs.Faults.{HasCause}
-use Rattle.office_tables.specs.declared.fault.StoreFault.{StoreFault}
 use Rattle.office_tables.proofs.Calls.{early, goes_then}
-use Rattle.office_tables.proofs.Causes.{cause_then, still_unlimited}
 use Rattle.office_tables.proofs.Touching.{touched_again}
 use Rattle.office_tables.proofs.CallEnds.{same_fault}
+use Rattle.office_tables.proofs.StoreCalls.{makes_cut}
 use Rattle.desk_store.specs.Rows.{run_line_cells}
+use Rattle.desk_store.specs.Runs.{line_of}
 use Rattle.office_tables.specs.RowNumbers.{HasNumbered}
 use Rattle.office_tables.specs.Schema as tables
 use Rattle.desk_store.proofs.RunCalls.{free_line, line_more}
-use Rattle.office_tables.proofs.Sparing.{touched_spares, untouched}
-use Rattle.office_tables.specs.Step.{OnlyTouches, Spares}
+use Rattle.office_tables.proofs.Sparing.{untouched}
 use Rattle.desk_store.proofs.runs.insert_lines.Goals as goal
 
 pub loop-line-preserved : goal.loop-line-preserved
@@ -36,33 +35,32 @@ loop-line-preserved g c =
       ),
     )
 
-pub returns-in_err-insert_line-clause-faults : goal.returns-in_err-insert_line-clause-faults
-returns-in_err-insert_line-clause-faults g c ls at none apart clean free =
-    let a = state g.S.Store c.args.conn.now in
-    let b = state g.S.Store c.loop-line.conn in
-    let d = state g.S.Store c.insert_line.new.conn in
-    let invariant = c.loop-line.invariant in
-    let so_far = invariant.1.0 in
-    let i = c.loop-line.line-index in
-    let low : i < length c.args.taken.now = omega (arith, c.loop-line-test.true) in
-    let before = early b d _ c.in_err-insert_line.ensures.leaves.crash clean in
-    let told = invariant.1.1.1 before ls at in
-    let free_one = free_line c.args.run ls c.args.taken.now i _ none apart low in
-    let why = c.in_err-insert_line.ensures.faults _ told free_one clean (still_unlimited a b so_far.on free) in
-    let whole = cause_then a b d so_far.on before _ why in
-    let e = c.from_residual.ensures in
-    subst (λ (r : Result Unit StoreFault). IfErr r (HasCause a d)) (sym (same_fault c.from_residual.result c.in_err-insert_line.field-0.0 e.0 e.1)) whole
-
-pub returns-in_err-insert_line-clause-spares : goal.returns-in_err-insert_line-clause-spares
-returns-in_err-insert_line-clause-spares g c clean =
-    let a = state g.S.Store c.args.conn.now in
+pub returns-in_err-insert_line : goal.returns-in_err-insert_line
+returns-in_err-insert_line g c =
     let b = state g.S.Store c.loop-line.conn in
     let d = state g.S.Store c.insert_line.new.conn in
     let so_far = c.loop-line.invariant.1 in
-    let lines = tables.run_line.tree ∷ [] in
+    let i = c.loop-line.line-index in
+    let low : i < length c.args.taken.now = omega (arith, c.loop-line-test.true) in
+    let touched = tables.run_line.tree ∷ [] in
     let e = c.in_err-insert_line.field-0.0 in
-    let last = c.in_err-insert_line.ensures.leaves in
-    let before = early b d _ last.crash clean in
-    let all = touched_spares lines a b d so_far.0.on before (so_far.1.0 before) e (untouched lines b d e (last.spares clean)) in
     let handed = c.from_residual.ensures in
-    subst (λ (r : Result Unit StoreFault). IfErr r (Spares (OnlyTouches lines) a d)) (sym (same_fault c.from_residual.result e handed.0 handed.1)) all
+    let last = c.in_err-insert_line.ensures in
+    makes_cut g.S.Store _ _ _ c.args.conn.now c.loop-line.conn c.insert_line.new.conn c.from_residual.result _ touched e (same_fault c.from_residual.result e handed.0 handed.1)
+    so_far.0.on so_far.1.0 last.leaves.cut (λ clean. untouched touched b d e (last.leaves.spares clean))
+    (λ beside ls at may kept before clean free. last.faults _ (so_far.1.1 before ls at) (free_line c.args.run ls c.args.taken.now i _ kept.0 kept.1 low) clean free)
+
+pub returns : goal.returns
+returns g c =
+    let d = state g.S.Store c.loop-line.conn in
+    let so_far = c.loop-line.invariant.1 in
+    let all = take_all c.loop-line.line-index c.args.taken.now (omega (arith, c.loop-line-test.false)) in
+    record {
+      represents_updated = λ clean beside ls at may.
+          subst (λ taken. HasNumbered run_line_cells (d.now.trees tables.run_line.tree) (ls ++ map (line_of c.args.run) taken)) all (so_far.1.1 clean ls at);
+      only = so_far.1.0;
+      goes = so_far.0;
+      cut = tt;
+      spares = λ clean. tt;
+      faults = λ beside ls at may kept clean free. tt;
+    }
