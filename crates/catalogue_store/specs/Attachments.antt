@@ -1,5 +1,5 @@
 -- The units that a container is attached to, and their marks.
-use Rattle.std.specs.Prelude.{◌≡◌, ℕ, nat_eq, Bool, true, false, List, [], ◌∷◌, map, filter, IsPermutation, ⊤}
+use Rattle.std.specs.Prelude.{◌≡◌, ◌-◌, ℕ, nat_eq, Bool, true, false, not, ◌&&◌, if◌then◌else◌, is_none, List, [], ◌∷◌, map, filter, IsPermutation, ⊤}
 use Rattle.std.specs.List.{AllByRecursion}
 use Rattle.tree_core.specs.Forest.{Forest, nodes, each, has, path, tree}
 use Rattle.tree_core.specs.declared.marks.Mark.{Mark}
@@ -41,15 +41,25 @@ unboxed mark = record mark { boxed = false }
 abbrev pub ArePathMarks : List Unit → List Mark → Type 0
 ArePathMarks units marks = map unboxed (map unnumbered marks) ≡ map unboxed (map mark_of units)
 
--- the same marks, but for `boxed` of the first
-abbrev pub with_first_boxed : Bool → List Mark → List Mark
-with_first_boxed boxed [] = []
-with_first_boxed boxed (mark ∷ marks) = record mark { boxed = boxed } ∷ marks
+-- Whether nothing is below its unit, which is neither a draft nor closed. What withholds such a unit withholds the one
+-- above it, too.
+abbrev pub is_plain_leaf : Mark → Bool
+is_plain_leaf mark = not mark.draft && (is_none mark.until && nat_eq (mark.rgt - mark.lft) 1)
 
--- The marks of a unit and of all below it in walk order. `boxed` of the first has no meaning: the question is which units
--- take their containers from it.
+-- the same mark, but a plain leaf's is as of a unit that names no containers
+abbrev pub unboxed_leaf : Mark → Mark
+unboxed_leaf mark = if is_plain_leaf mark then unboxed mark else mark
+
+-- The same marks without `boxed` where it has no meaning: the question is which units take their containers from the
+-- first, and of a plain leaf it does not matter whether it does.
+abbrev pub branch_told : List Mark → List Mark
+branch_told [] = []
+branch_told (mark ∷ marks) = unboxed mark ∷ map unboxed_leaf marks
+
+-- The marks of a unit and of all below it in walk order. `boxed` of the first has no meaning, nor has that of a plain
+-- leaf.
 abbrev pub AreBranchMarks : Forest Unit → List Mark → Type 0
-AreBranchMarks f marks = (boxed : Bool) × AreWalkMarks f (with_first_boxed boxed marks)
+AreBranchMarks f marks = (whole : List Mark) × AreWalkMarks f whole × (branch_told marks ≡ branch_told whole)
 
 -- the marks of the path and of the branch of a unit
 abbrev pub AreMarksOf : Forest Unit → ℕ → Attached → Type 0

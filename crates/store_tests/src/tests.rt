@@ -321,7 +321,8 @@ fn show_statuses(text: &mut String, marks: &[Mark]) -> Result<(), StoreFault> {
     Ok(())
 }
 
-/// The marks of a unit that a container is attached to, and of those below it.
+/// The marks of a unit that a container is attached to, and of those below it. Each of these is closed: of an open leaf
+/// `boxed` has no meaning.
 fn show_branch(text: &mut String, marks: &[Mark]) -> Result<(), StoreFault> {
     if let Some((own, below)) = marks.split_first() {
         let (id, draft) = (own.id, own.draft);
@@ -361,7 +362,7 @@ fn show_path<P: Places, S: Alter>(
     show_marks(text, &path_marks::<P, S>(alloc, conn, 2)?)
 }
 
-/// Unit 2 is moved below unit 4 and closed, and the marks of Box 1, of unit 2's path and of all units are read.
+/// Unit 2 is moved below unit 4, it and unit 3 are closed, and the marks of Box 1, of unit 2's path and of all units are read.
 #[tactic(auto, using(crate::proofs::Going::went_on))]
 fn marked<P: Places, S: Alter>(
     alloc: Global,
@@ -372,6 +373,7 @@ fn marked<P: Places, S: Alter>(
 {
     moved_below::<P, S>(alloc, conn)?;
     set_closure::<P, S>(conn, 2, Day::from_number(21915))?;
+    set_closure::<P, S>(conn, 3, Day::from_number(21916))?;
     show_contents::<P, S>(alloc, conn, text)?;
     show_path::<P, S>(alloc, conn, text)?;
     show_walk(text, &branch_marks::<P, S>(alloc, conn, None)?)
@@ -682,15 +684,15 @@ fn units_are_described_and_marked(rt: HostRuntime) -> Result<(), Fail> {
             done: Act::Mark,
             queries: &[UNITS],
             told: " 1 false 0\n\
-                   \u{20}1 false: 3 true false 0\n\
+                   \u{20}1 false: 3 true false 21916\n\
                    \u{20}1 0 3 3 1 2\n\
                    \u{20}4 false 0\n\
                    \u{20}4 false: 2 false false 21915\n\
                    \u{20}4 0 3 2 1 2\n\
                    \u{20}4 true false 0 2 false false 21915\n\
-                   \u{20}1 true false 0 3 true false 0 4 true false 0 2 false false 21915\n\
+                   \u{20}1 true false 0 3 true false 21916 4 true false 0 2 false false 21915\n\
                    \u{20}1 0 3 3 1 2 4 4 7 2 5 6\n\
-                   \u{20}1 0 -\n 2 0 21915\n 3 0 -\n 4 0 -\n",
+                   \u{20}1 0 -\n 2 0 21915\n 3 0 21916\n 4 0 -\n",
             ..MOVED
         },
         Case {

@@ -8,7 +8,6 @@ use Rattle.catalogue_core.specs.OpenMarks.{is_opened_above, with_permit}
 use Rattle.catalogue_core.specs.UnitMarks.{mark_of}
 use Rattle.catalogue_core.specs.Units.{has_id}
 use Rattle.catalogue_core.proofs.OpenLemmas.{marks_say_clean}
-use Rattle.catalogue_store.specs.Attachments.{with_first_boxed}
 use Rattle.refinement.specs.Openness.{allows}
 use Rattle.refinement.proofs.UnboxedMarks.{contents_told, path_opens, path_withholds, unnumbered_units}
 use Rattle.refinement.proofs.access.is_clean.Goals.{else-clean_path, then-clean_path}
@@ -34,10 +33,10 @@ returns c = λ f u there marks.
     let read = map (with_permit permitted) path in
     let above = is_opened_above read in
     let is_above : c.is_permitted_above-above.result ≡ above = c.is_permitted_above-above.ensures ∙ ap is_opened_above (c.deref-3.ensures.value ∙ path_is) in
-    let says = contents_told today above marks.1.0 permitted branch within (λ k first below numbered is.
+    let says = contents_told today above permitted marks.1.0 branch within marks.1.2 (λ k first below numbered is.
     c.clean_contents-is_within.ensures.branch k first below numbered (c.deref-4.ensures.value ∙ branch_is ∙ is)
     ∙ ap (λ t. list_all (λ way. not (withholds t c.is_permitted_above-above.result way)) (contents_paths first below)) same
     ∙ ap (λ b. list_all (λ way. not (withholds today b way)) (contents_paths first below)) is_above) in
-    both ∙ marks_say_clean f u permitted today (map mark_of units) (with_first_boxed marks.1.0 branch) c.clean_path.result within there (unnumbered_units units) marks.1.1
+    both ∙ marks_say_clean f u permitted today (map mark_of units) marks.1.0 c.clean_path.result within there (unnumbered_units units) marks.1.1
     (c.clean_path.ensures ∙ ap (λ t. not (withholds t false c.deref-5.result.now)) same ∙ ap (λ l. not (withholds today false l)) (c.deref-5.ensures.value ∙ path_is) ∙ ap not (path_withholds permitted today false units path marks.0))
     (λ k first below numbered is. says k first below numbered is ∙ ap (λ b. list_all (λ way. not (withholds today b way)) (contents_paths first below)) (path_opens permitted units path marks.0))
