@@ -6,6 +6,8 @@ mod checks;
 #[cfg(test)]
 mod desk;
 #[cfg(test)]
+mod mark_lines;
+#[cfg(test)]
 mod reading_room;
 #[cfg(test)]
 mod refusals;

@@ -6,6 +6,7 @@ ghost use Rattle.sqlite.specs.State.{HasCleanDisk};
 ghost use Rattle.office_tables.specs.Schema.{no_schema};
 ghost use Rattle.office_tables.specs.Step.{InTransaction};
 
+use crate::mark_lines::{show_branch, show_marks, show_statuses, show_walk};
 use catalogue_store::{
     Head, LinkPlaces, NewUnit, OfficeRow, Places, StoreFault, add_unit, begin, branch_marks,
     commit, contents_marks, create, heads_below, known, move_unit, office_row, path_heads,
@@ -19,7 +20,6 @@ use std::alloc::{AllocError, Global};
 use std::process::Abort;
 use std::test::Fail;
 use std::{array, fs};
-use tree_core::Mark;
 
 /// An office with two seats, on the first of March 2024.
 fn settings(alloc: Global) -> Result<OfficeRow, StoreFault>
@@ -274,62 +274,6 @@ fn revised<P: Places, S: Alter>(
     let after = is_described::<P, S>(alloc, conn, &later, 2)?;
     write!(text, "{before} {after}\n")?;
     Ok(())
-}
-
-fn show_marks(text: &mut String, marks: &[Mark]) -> Result<(), StoreFault> {
-    for mark in marks {
-        let (id, boxed, draft) = (mark.id, mark.boxed, mark.draft);
-        let until = mark.until.unwrap_or(0);
-        write!(text, " {id} {boxed} {draft} {until}")?;
-    }
-    text.push_str("\n")?;
-    Ok(())
-}
-
-/// The same for marks in walk order, with their numbers counted from the first one's, which depends on the version.
-fn show_walk(text: &mut String, marks: &[Mark]) -> Result<(), StoreFault> {
-    show_marks(text, marks)?;
-    show_numbers(text, marks)
-}
-
-/// The numbers of marks in walk order, counted from the first one's.
-fn show_numbers(text: &mut String, marks: &[Mark]) -> Result<(), StoreFault> {
-    let start = match marks.first() {
-        Some(first) => first.lft,
-        None => 0,
-    };
-    for mark in marks {
-        let id = mark.id;
-        let (from, to) = (
-            mark.lft.saturating_sub(start),
-            mark.rgt.saturating_sub(start),
-        );
-        write!(text, " {id} {from} {to}")?;
-    }
-    text.push_str("\n")?;
-    Ok(())
-}
-
-/// The same without `boxed`, which has no meaning for a unit that a container is attached to, nor above it.
-fn show_statuses(text: &mut String, marks: &[Mark]) -> Result<(), StoreFault> {
-    for mark in marks {
-        let (id, draft) = (mark.id, mark.draft);
-        let until = mark.until.unwrap_or(0);
-        write!(text, " {id} {draft} {until}")?;
-    }
-    text.push_str("\n")?;
-    Ok(())
-}
-
-/// The marks of a unit that a container is attached to, and of those below it. Each of these is closed: of an open leaf
-/// `boxed` has no meaning.
-fn show_branch(text: &mut String, marks: &[Mark]) -> Result<(), StoreFault> {
-    if let Some((own, below)) = marks.split_first() {
-        let (id, draft) = (own.id, own.draft);
-        write!(text, " {id} {draft}:")?;
-        show_marks(text, below)?;
-    }
-    show_numbers(text, marks)
 }
 
 /// The marks of the units that Box 1 is attached to.

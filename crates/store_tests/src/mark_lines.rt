@@ -1,0 +1,61 @@
+//! Marks as lines of text, which tests compare.
+
+use catalogue_store::StoreFault;
+use tree_core::Mark;
+
+/// A line of marks: of each unit the number, whether it names containers, whether it is a draft, and its closure.
+pub(crate) fn show_marks(text: &mut String, marks: &[Mark]) -> Result<(), StoreFault> {
+    for mark in marks {
+        let (id, boxed, draft) = (mark.id, mark.boxed, mark.draft);
+        let until = mark.until.unwrap_or(0);
+        write!(text, " {id} {boxed} {draft} {until}")?;
+    }
+    text.push_str("\n")?;
+    Ok(())
+}
+
+/// The same for marks in walk order, with their numbers counted from the first one's, which depends on the version.
+pub(crate) fn show_walk(text: &mut String, marks: &[Mark]) -> Result<(), StoreFault> {
+    show_marks(text, marks)?;
+    show_numbers(text, marks)
+}
+
+/// The numbers of marks in walk order, counted from the first one's.
+fn show_numbers(text: &mut String, marks: &[Mark]) -> Result<(), StoreFault> {
+    let start = match marks.first() {
+        Some(first) => first.lft,
+        None => 0,
+    };
+    for mark in marks {
+        let id = mark.id;
+        let (from, to) = (
+            mark.lft.saturating_sub(start),
+            mark.rgt.saturating_sub(start),
+        );
+        write!(text, " {id} {from} {to}")?;
+    }
+    text.push_str("\n")?;
+    Ok(())
+}
+
+/// The same without `boxed`, which has no meaning for a unit that a container is attached to, nor above it.
+pub(crate) fn show_statuses(text: &mut String, marks: &[Mark]) -> Result<(), StoreFault> {
+    for mark in marks {
+        let (id, draft) = (mark.id, mark.draft);
+        let until = mark.until.unwrap_or(0);
+        write!(text, " {id} {draft} {until}")?;
+    }
+    text.push_str("\n")?;
+    Ok(())
+}
+
+/// The marks of a unit that a container is attached to, and of those below it. Each of these is closed: of an open leaf
+/// `boxed` has no meaning.
+pub(crate) fn show_branch(text: &mut String, marks: &[Mark]) -> Result<(), StoreFault> {
+    if let Some((own, below)) = marks.split_first() {
+        let (id, draft) = (own.id, own.draft);
+        write!(text, " {id} {draft}:")?;
+        show_marks(text, below)?;
+    }
+    show_numbers(text, marks)
+}
