@@ -1,11 +1,15 @@
 -- How answering a question ends.
 use Rattle.std.proofs.Common.{◌≡◌, ℕ, Ok, Err, Result, sym, subst}
+use Rattle.std.specs.Prelude.{⊤, IsErr, IsErrAnd}
 use Rattle.sqlite.specs.Effect.{Database}
 use Rattle.sqlite.specs.State as store
 use Rattle.sqlite.specs.State.{HasCleanDisk}
 use Rattle.sqlite.specs.Tree.{Trees}
 use Rattle.tree_core.specs.Forest.{Forest}
 use Rattle.tree_core.specs.Versions.{Version}
+use Rattle.desk_core.specs.DeskRows.{Desk}
+use Rattle.desk_core.specs.LegibleDesks.{IsLegible}
+use Rattle.desk_store.specs.Representation.{RepresentsDeskAlone}
 use Rattle.office_core.specs.Queries.{answer}
 use Rattle.office_core.specs.SoundOffice.{IsSoundOffice}
 use Rattle.office_core.specs.State.{State}
@@ -13,10 +17,13 @@ use Rattle.office_core.specs.declared.query.Query.{Query}
 use Rattle.office_core.specs.declared.query.Answer.{Answer}
 use Rattle.office_tables.specs.Faults.{HasCause, IsUnlimited}
 use Rattle.office_tables.specs.Step.{IsAborted, LeavesUnchanged}
+use Rattle.office_tables.proofs.CallEnds.{same_fault}
 use Rattle.office_tables.proofs.Calls.{cut_then}
 use Rattle.office_tables.proofs.Causes.{still_unlimited}
 use Rattle.office_tables.proofs.LaterCauses.{next_cause}
 use Rattle.office_tables.specs.declared.fault.StoreFault.{StoreFault}
+use Rattle.state_encoding.specs.OfficeRows.{tables}
+use Rattle.state_encoding.proofs.LegibleRows.{desk_legible}
 use Rattle.refinement.specs.QueryAnswers.{AnswersQuery}
 use Rattle.refinement.specs.Representation.{RepresentsState}
 
@@ -45,3 +52,18 @@ module _ (places : Trees → Forest ℕ → Type 0) (version : Version) where
     pub answers_by : (a b : store.State) (told : Answer) → LeavesUnchanged a b
         → (HasCleanDisk b → (s : State) → IsSoundOffice s → RepresentsState places version a.now s → told ≡ answer s asked) → AnswersQuery places version asked a b (Ok told)
     answers_by a b told looked is = record { answers = is; looks = looked; cut = tt; faults = λ s sound it clean free. tt }
+
+-- ---- it passes the fault of a step on
+
+module _ {places : Trees → Forest ℕ → Type 0} {version : Version} {asked : Query} (e : StoreFault) {r : Result Answer StoreFault} (fault : IsErr r × IsErrAnd r (λ f. f ≡ e)) where
+  -- of its first
+  pub answers_passed : {a b : store.State} → IsAborted a b → ((s : State) → IsSoundOffice s → RepresentsState places version a.now s → HasCleanDisk b → IsUnlimited a → HasCause a b e) → AnswersQuery places version asked a b r
+  answers_passed {a} {b} cut why = answers_not places version asked a b r e (same_fault r e fault.0 fault.1) cut why
+
+  -- which is a call on the desk
+  pub desk_answers_passed : {a b : store.State} → IsAborted a b → ((beside : ⊤) (d : Desk) → RepresentsDeskAlone a.now beside d → ⊤ → IsLegible d → HasCleanDisk b → IsUnlimited a → HasCause a b e) → AnswersQuery places version asked a b r
+  desk_answers_passed cut faults = answers_passed cut (λ s sound it. faults tt (tables version s).desk it.desk tt (desk_legible version s sound))
+
+  -- of a later one, after a look
+  pub answers_passed_later : {a b c : store.State} → LeavesUnchanged a b → IsAborted b c → ((s : State) → IsSoundOffice s → RepresentsState places version b.now s → HasCleanDisk c → IsUnlimited b → HasCause b c e) → AnswersQuery places version asked a c r
+  answers_passed_later {a} {b} {c} looked cut why = stops_later places version asked a b c r e (same_fault r e fault.0 fault.1) looked cut why

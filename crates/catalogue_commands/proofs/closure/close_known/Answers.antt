@@ -4,24 +4,14 @@ use Rattle.catalogue_core.specs.Units.{is_later}
 use Rattle.catalogue_core.specs.UnitLookup.{has_unit}
 use Rattle.office_core.specs.declared.command.Command.TheVariants as command
 use Rattle.office_core.specs.declared.done.Done.TheVariants as done
-use Rattle.office_core.proofs.KeptOffices.{office_kept}
-use Rattle.office_tables.proofs.CallEnds.{same_fault}
 use Rattle.refinement.specs.Gate.{OthersAreOpen}
-use Rattle.refinement.specs.Representation.{office_of}
-use Rattle.refinement.proofs.Doings.{does_not}
+use Rattle.refinement.proofs.Doings.{catalogue_passed}
 use Rattle.refinement.proofs.Passing.{passed_freely, passed_where}
 use Rattle.catalogue_commands.proofs.Closed.{closes, closes_near, ends}
 use Rattle.catalogue_commands.proofs.closure.close_known.Goals as goal
 
 pub returns-in_err-set_closure : goal.returns-in_err-set_closure
-returns-in_err-set_closure g c =
-    let a = state g.S.Store c.args.conn.now in
-    let b = state g.S.Store c.set_closure.new.conn in
-    let made = c.in_err-set_closure.ensures.makes in
-    let e = c.from_residual.ensures in
-    does_not g.P.Places.represents g.P.Places.version _ (command.SetClosure c.args.unit c.args.until) a b c.from_residual.result c.in_err-set_closure.field-0.0
-    (same_fault c.from_residual.result c.in_err-set_closure.field-0.0 e.0 e.1) made.cut
-    (λ s sound so it clean free. made.faults (office_of s) s.catalogue it.catalogue tt (office_kept s sound) clean free)
+returns-in_err-set_closure g c = let made = c.in_err-set_closure.ensures.makes in catalogue_passed _ c.from_residual.ensures made.cut made.faults
 
 pub returns-then-not-is_in_force : goal.returns-then-not-is_in_force
 returns-then-not-is_in_force g c =

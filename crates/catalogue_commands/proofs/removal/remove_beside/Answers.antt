@@ -7,22 +7,17 @@ use Rattle.office_core.specs.declared.done.Done.TheVariants as done
 use Rattle.office_core.proofs.KeptOffices.{office_kept}
 use Rattle.state_encoding.specs.DeskEncoding.{permit_rows}
 use Rattle.state_encoding.specs.OfficeRows.{tables}
-use Rattle.office_tables.proofs.CallEnds.{same_fault}
 use Rattle.refinement.specs.Gate.{AreAsked, AreEnough}
 use Rattle.refinement.specs.Representation.{office_of}
-use Rattle.refinement.proofs.Doings.{does_not}
+use Rattle.refinement.proofs.Doings.{does_pass}
 use Rattle.refinement.proofs.Passing.{passed_where}
 use Rattle.catalogue_commands.proofs.Removed.{removes, removes_near}
 use Rattle.catalogue_commands.proofs.removal.remove_beside.Goals as goal
 
 pub returns-in_err-units : goal.returns-in_err-units
 returns-in_err-units g c =
-    let a = state g.S.Store c.args.conn.now in
-    let b = state g.S.Store c.remove_branch.new.conn in
-    let e = c.from_residual.ensures in
-    does_not g.P.Places.represents g.P.Places.version _ (command.Remove c.args.unit) a b c.from_residual.result c.in_err-units.field-0.0
-    (same_fault c.from_residual.result c.in_err-units.field-0.0 e.0 e.1) c.in_err-units.ensures.cut
-    (λ s sound so it clean free. c.in_err-units.ensures.faults (office_of s) s.catalogue it.catalogue so.1 (office_kept s sound) (permit_rows s) it.desk.permits clean free)
+    does_pass _ c.from_residual.ensures c.in_err-units.ensures.cut
+    (λ s sound so it. c.in_err-units.ensures.faults (office_of s) s.catalogue it.catalogue so.1 (office_kept s sound) (permit_rows s) it.desk.permits)
 
 pub returns : goal.returns
 returns g c =

@@ -4,24 +4,14 @@ use Rattle.catalogue_core.specs.UnitLookup.{has_unit}
 use Rattle.office_core.specs.Rules.{after, gate}
 use Rattle.office_core.specs.declared.command.Command.TheVariants as command
 use Rattle.office_core.specs.declared.done.Done.TheVariants as done
-use Rattle.office_core.proofs.KeptOffices.{office_kept}
-use Rattle.office_tables.proofs.CallEnds.{same_fault}
 use Rattle.refinement.specs.Gate.{OthersAreOpen}
-use Rattle.refinement.specs.Representation.{office_of}
-use Rattle.refinement.proofs.Doings.{does_not}
+use Rattle.refinement.proofs.Doings.{catalogue_passed}
 use Rattle.refinement.proofs.Passing.{passed_freely, passed_where}
 use Rattle.catalogue_commands.proofs.Statused.{publishes, sets, sets_near}
 use Rattle.catalogue_commands.proofs.status.set_known.Goals as goal
 
 pub returns-in_err-units : goal.returns-in_err-units
-returns-in_err-units g c =
-    let a = state g.S.Store c.args.conn.now in
-    let b = state g.S.Store c.set_status.new.conn in
-    let made = c.in_err-units.ensures.makes in
-    let e = c.from_residual.ensures in
-    does_not g.P.Places.represents g.P.Places.version _ (command.SetStatus c.args.unit c.args.draft c.args.whole) a b c.from_residual.result c.in_err-units.field-0.0
-    (same_fault c.from_residual.result c.in_err-units.field-0.0 e.0 e.1) made.cut
-    (λ s sound so it clean free. made.faults (office_of s) s.catalogue it.catalogue tt (office_kept s sound) clean free)
+returns-in_err-units g c = let made = c.in_err-units.ensures.makes in catalogue_passed _ c.from_residual.ensures made.cut made.faults
 
 pub returns-then-not-draft : goal.returns-then-not-draft
 returns-then-not-draft g c =

@@ -1,13 +1,10 @@
-use Rattle.std.proofs.Common.{◌≡◌, true, Err, subst}
+use Rattle.std.proofs.Common.{◌≡◌, Err, subst}
 use Rattle.sqlite.specs.Held.{state}
 use Rattle.atom_csv.specs.FileContents.{file_of}
 use Rattle.atom_csv.specs.ReadProgress.{IsBad}
 use Rattle.atom_csv.specs.declared.file.FileFault.{FileFault}
-use Rattle.desk_core.specs.declared.refusal.Refusal.TheVariants.{BadFile}
-use Rattle.catalogue_core.specs.Sources.{is_source}
-use Rattle.office_core.specs.declared.command.Command.TheVariants as command
 use Rattle.office_tables.proofs.Calls.{looks_nowhere, office_of}
-use Rattle.refinement.proofs.Doings.{does_refuse, refuses}
+use Rattle.refinement.proofs.Doings.{is_refused}
 use Rattle.csv_import.proofs.Refused.{bad}
 use Rattle.csv_import.proofs.catalogue_import.import.Goals as goal
 
@@ -18,5 +15,4 @@ returns-in-Bad g c =
     let source = c.args.source.now in
     let bytes = c.args.file.now in
     let is : file_of bytes ≡ Err (c.in-Bad.row, c.in-Bad.cause) = subst (λ (e : FileFault). IsBad e (λ row cause. file_of c.args.file.now ≡ Err (row, cause))) c.in-Bad.is c.in-Err.ensures.bad in
-    does_refuse g.P.Places.represents v (λ s. (c.args.today ≡ s.day) × (is_source source ≡ true)) (command.Import source bytes) a a (Err (BadFile c.in-Bad.row c.in-Bad.cause)) (looks_nowhere a (office_of v a c.requires.inside))
-    (λ clean s sound so it. refuses g.P.Places.represents v s (command.Import source bytes) (BadFile c.in-Bad.row c.in-Bad.cause) a.now (bad s source bytes c.in-Bad.row c.in-Bad.cause so.1 is))
+    is_refused (looks_nowhere a (office_of v a c.requires.inside)) (λ clean s sound so it. bad s source bytes c.in-Bad.row c.in-Bad.cause so.1 is)

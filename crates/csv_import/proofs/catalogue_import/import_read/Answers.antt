@@ -6,11 +6,9 @@ use Rattle.desk_core.specs.declared.refusal.Refusal.TheVariants.{BadFile}
 use Rattle.catalogue_core.specs.Sources.{is_source}
 use Rattle.office_core.specs.State.{State}
 use Rattle.office_core.specs.declared.command.Command.TheVariants as command
-use Rattle.office_core.proofs.KeptOffices.{office_kept}
-use Rattle.office_tables.proofs.CallEnds.{same_fault}
 use Rattle.office_tables.proofs.Calls.{looks_then, still}
 use Rattle.refinement.specs.Representation.{office_of}
-use Rattle.refinement.proofs.Doings.{does_after, does_not, does_refuse, refuses}
+use Rattle.refinement.proofs.Doings.{catalogue_passed, does_after, does_pass, does_refuse, refuses}
 use Rattle.csv_import.specs.CatalogueImport.{CanBePlaced}
 use Rattle.csv_import.specs.KnownUnits.{KnowsUnits}
 use Rattle.csv_import.specs.RowPlan.{plan_of}
@@ -21,13 +19,9 @@ use Rattle.csv_import.proofs.catalogue_import.import_read.Goals as goal
 pub returns-in_err-catalogued : goal.returns-in_err-catalogued
 returns-in_err-catalogued g c bytes read =
     let a = state g.S.Store c.args.conn.now in
-    let b = state g.S.Store c.known_units.new.conn in
     let told = c.in_err-catalogued.ensures.tells in
-    let e = c.from_residual.ensures in
-    let source = c.args.source.now in
-    does_not g.P.Places.represents g.P.Places.version (λ s. (c.args.today ≡ s.day) × (is_source source ≡ true)) (command.Import source bytes) a b c.from_residual.result c.in_err-catalogued.field-0.0
-    (same_fault c.from_residual.result c.in_err-catalogued.field-0.0 e.0 e.1) told.cut
-    (λ s sound so it clean free. told.faults (office_of s) s.catalogue (entering_of g.P.Places.version a.now (office_of s) s.catalogue it.catalogue.catalogue) sound.sound.units tt clean free)
+    does_pass _ c.from_residual.ensures told.cut
+    (λ s sound so it. told.faults (office_of s) s.catalogue (entering_of g.P.Places.version a.now (office_of s) s.catalogue it.catalogue.catalogue) sound.sound.units tt)
 
 pub plan-requires-clause-inside : goal.plan-requires-clause-inside
 plan-requires-clause-inside g c = still g.P.Places.version (state g.S.Store c.args.conn.now) (state g.S.Store c.known_units.new.conn) c.requires.inside c.in_ok-catalogued.ensures.tells.looks.goes
@@ -39,7 +33,6 @@ returns-in_err-new g c bytes read =
     let d = state g.S.Store c.plan.new.conn in
     let units = c.in_ok-catalogued.ensures.tells in
     let told = c.in_err-new.ensures.tells in
-    let handed = c.from_residual-in_err-new.ensures in
     let source = c.args.source.now in
     let file = c.args.file.now in
     let numbers = get_by_text c.in_ok-catalogued.catalogued in
@@ -47,9 +40,7 @@ returns-in_err-new g c bytes read =
     does_after g.P.Places.represents g.P.Places.version (λ s. (c.args.today ≡ s.day) × (is_source source ≡ true)) (command.Import source bytes) known a b d c.from_residual-in_err-new.result units.looks
     (λ clean s sound so it.
     (so.0, so.1, subst (λ (rows : List RowTold). KnowsUnits s.catalogue source rows numbers) c.as_slice.ensures (units.answers clean (office_of s) s.catalogue (entering_of g.P.Places.version a.now (office_of s) s.catalogue it.catalogue.catalogue) sound.sound.units)))
-    (does_not g.P.Places.represents g.P.Places.version known (command.Import source bytes) b d c.from_residual-in_err-new.result c.in_err-new.field-0.0
-    (same_fault c.from_residual-in_err-new.result c.in_err-new.field-0.0 handed.0 handed.1) told.cut
-    (λ s sound so it clean free. told.faults (office_of s) s.catalogue it.catalogue tt (office_kept s sound) clean free))
+    (catalogue_passed _ c.from_residual-in_err-new.ensures told.cut told.faults)
 
 pub import_rows-requires-clause-inside : goal.import_rows-requires-clause-inside
 import_rows-requires-clause-inside g c =

@@ -8,10 +8,9 @@ use Rattle.catalogue_core.specs.Sources.{is_source}
 use Rattle.office_core.specs.State.{State}
 use Rattle.office_core.specs.declared.command.Command.TheVariants as command
 use Rattle.office_core.proofs.KeptOffices.{office_settings}
-use Rattle.office_tables.proofs.CallEnds.{same_fault}
 use Rattle.office_tables.proofs.Calls.{goes_then, still}
 use Rattle.refinement.specs.Representation.{office_of}
-use Rattle.refinement.proofs.Doings.{does_after, does_not, does_refuse, refuses}
+use Rattle.refinement.proofs.Doings.{does_after, does_pass, does_refuse, refuses}
 use Rattle.csv_import.specs.Arrivals.{IsReady}
 use Rattle.csv_import.specs.RowEntry.{RepresentsLegible, counts_of, entered}
 use Rattle.csv_import.specs.CatalogueImport.{CanBePlaced, FitsIn}
@@ -24,14 +23,9 @@ use Rattle.csv_import.proofs.catalogue_import.import_rows.Goals as goal
 
 pub returns-in_err-next : goal.returns-in_err-next
 returns-in_err-next g c bytes read =
-    let a = state g.S.Store c.args.conn.now in
-    let b = state g.S.Store c.next_with_room.new.conn in
     let told = c.in_err-next.ensures.tells in
-    let e = c.from_residual.ensures in
-    let source = c.args.source.now in
-    does_not g.P.Places.represents g.P.Places.version (λ s. (c.args.today ≡ s.day) × (is_source source ≡ true) × CanBePlaced source c.args.file.now c.args.new s × KnowsUnits s.catalogue source c.args.file.now.rows (get_by_text c.args.catalogued.now)) (command.Import source bytes) a b c.from_residual.result c.in_err-next.field-0.0
-    (same_fault c.from_residual.result c.in_err-next.field-0.0 e.0 e.1) told.cut
-    (λ s sound so it clean free. told.faults s.catalogue (office_of s) it.catalogue tt (settings_shown s (office_settings s sound)) clean free)
+    does_pass _ c.from_residual.ensures told.cut
+    (λ s sound so it. told.faults s.catalogue (office_of s) it.catalogue tt (settings_shown s (office_settings s sound)))
 
 pub returns-in_default : goal.returns-in_default
 returns-in_default g c bytes read =
@@ -63,7 +57,6 @@ returns-in_err-outcome g c bytes read =
     let d = state g.S.Store c.enter_rows.new.conn in
     let told = c.in_ok-next.ensures.tells in
     let made = c.in_err-outcome.ensures.makes in
-    let handed = c.from_residual-in_err-outcome.ensures in
     let source = c.args.source.now in
     let file = c.args.file.now in
     let numbers = get_by_text c.args.catalogued.now in
@@ -71,11 +64,9 @@ returns-in_err-outcome g c bytes read =
     let fits = λ (s : State). (c.args.today ≡ s.day) × (is_source source ≡ true) × FitsIn source file s × KnowsUnits s.catalogue source file.rows numbers × (next ≡ s.catalogue.next) in
     does_after g.P.Places.represents g.P.Places.version (λ s. (c.args.today ≡ s.day) × (is_source source ≡ true) × CanBePlaced source file c.args.new s × KnowsUnits s.catalogue source file.rows numbers) (command.Import source bytes) fits a b d c.from_residual-in_err-outcome.result told.looks
     (λ clean s sound so it. fits_now source file c.args.today numbers c.args.new next s so (sym c.in-Some.is ∙ told.answers clean s.catalogue (office_of s) it.catalogue))
-    (does_not g.P.Places.represents g.P.Places.version fits (command.Import source bytes) b d c.from_residual-in_err-outcome.result c.in_err-outcome.field-0.0
-    (same_fault c.from_residual-in_err-outcome.result c.in_err-outcome.field-0.0 handed.0 handed.1) made.cut
-    (λ s sound so it clean free.
+    (does_pass _ c.from_residual-in_err-outcome.ensures made.cut (λ s sound so it.
     made.faults (office_of s) s.catalogue (shown_legible g.P.Places.represents g.P.Places.version b.now s sound it)
-    (subst (λ (rows : List RowTold). IsReady source rows numbers next s.catalogue) (sym c.as_slice.ensures) (record { can = can_enter s source bytes file read sound so.1 so.2; known = so.3; number = so.4 })) tt clean free))
+    (subst (λ (rows : List RowTold). IsReady source rows numbers next s.catalogue) (sym c.as_slice.ensures) (record { can = can_enter s source bytes file read sound so.1 so.2; known = so.3; number = so.4 })) tt))
 
 pub returns : goal.returns
 returns g c bytes read =

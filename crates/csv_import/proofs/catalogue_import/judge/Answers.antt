@@ -9,11 +9,12 @@ use Rattle.desk_core.specs.declared.refusal.Refusal.TheVariants.{Full}
 use Rattle.office_core.specs.ImportReply as reply
 use Rattle.office_core.specs.declared.done.Done.TheVariants as done
 use Rattle.office_core.specs.declared.done.Remark.{Remark}
-use Rattle.office_tables.proofs.CallEnds.{same_fault, tells_cut, tells_not}
+use Rattle.office_tables.proofs.CallEnds.{same_fault, tells_cut}
 use Rattle.office_tables.proofs.Calls.{early, looks_then, still}
 use Rattle.refinement.specs.Gate.{gated}
 use Rattle.refinement.specs.AccessConditions.{CanBeJudged, RepresentsWhole}
 use Rattle.refinement.specs.Representation.{RepresentsState, office_of}
+use Rattle.refinement.proofs.Doings.{tells_passed}
 use Rattle.csv_import.specs.CatalogueImport.{HasNumbered, judged, told_of}
 use Rattle.csv_import.proofs.Carried.{have_units, settings_shown}
 use Rattle.csv_import.proofs.Tellings.{told_last}
@@ -21,13 +22,9 @@ use Rattle.csv_import.proofs.catalogue_import.judge.Goals as goal
 
 pub returns-in_err-has_many_containers : goal.returns-in_err-has_many_containers
 returns-in_err-has_many_containers g c =
-    let e = c.from_residual.ensures in
     let told = c.in_err-has_many_containers.ensures.tells in
-    let units = c.args.outcome.now.units.items in
     record {
-      tells = λ source. tells_not g.S.Store (RepresentsWhole g.P.Places.represents g.P.Places.version) (HasNumbered source c.args.file.now units) (λ _. ⊤) c.args.conn.now c.has_many_containers.new.conn c.from_residual.result _ c.in_err-has_many_containers.field-0.0
-          (same_fault c.from_residual.result c.in_err-has_many_containers.field-0.0 e.0 e.1) told.cut
-          (λ beside s it may has clean free. told.faults s.catalogue (office_of s) it.catalogue tt (settings_shown s has.imported.settings) clean free);
+      tells = λ source. tells_passed _ c.from_residual.ensures told.cut (λ beside s it may has. told.faults s.catalogue (office_of s) it.catalogue tt (settings_shown s has.imported.settings));
     }
 
 pub returns-then-branch : goal.returns-then-branch

@@ -1,19 +1,15 @@
-use Rattle.std.proofs.Common.{◌≡◌, true, false, length, sym, ap, ◌∙◌}
-use Rattle.std.specs.Prelude.{⊤}
+use Rattle.std.proofs.Common.{true, false, length, sym, ap, ◌∙◌}
 use Rattle.std.proofs.lemmas.List.Sorted.{length_permutation}
 use Rattle.sqlite.specs.Effect.{Database}
 use Rattle.sqlite.specs.Held.{state}
 use Rattle.tree_core.specs.Forest.{nodes}
 use Rattle.catalogue_core.proofs.NodeLemmas.{length-nodes}
-use Rattle.catalogue_statements.specs.Settings.{AreLegibleSettings}
-use Rattle.catalogue_statements.specs.Representation.{RepresentsSettings}
 use Rattle.catalogue_statements.specs.declared.office.OfficeRow.{OfficeRow}
 use Rattle.catalogue_statements.proofs.Offices.{not_refused, same_number}
 use Rattle.office_tables.specs.RowCounts.{capped}
 use Rattle.office_tables.specs.Schema as tables
-use Rattle.office_tables.proofs.CallEnds.{same_fault, tells_cut, tells_not}
 use Rattle.office_tables.proofs.Calls.{cut_after, early, looks_then, office_of, still_office}
-use Rattle.csv_import.specs.CatalogueImport.{next_with_room}
+use Rattle.refinement.proofs.Doings.{tells_passed, tells_passed_later}
 use Rattle.csv_import.proofs.Counting.{next_if}
 use Rattle.csv_import.proofs.catalogue_import.next_with_room.Goals as goal
 
@@ -25,15 +21,10 @@ count_units-requires g c =
 
 pub returns-in_err-counted : goal.returns-in_err-counted
 returns-in_err-counted g c =
-    let handed = c.from_residual-in_err-counted.ensures in
-    let e = c.in_err-counted.field-0.0 in
-    let looked = c.in_ok-office.ensures.tells.looks in
+    let counted = c.in_err-counted.ensures in
     record {
-      tells = tells_cut g.S.Store (RepresentsSettings g.P.Places.represents g.P.Places.version) AreLegibleSettings (λ _. ⊤) c.args.conn.now c.settings.new.conn c.count_units.new.conn c.from_residual-in_err-counted.result (λ k _ next. next ≡ next_with_room c.args.new k) e
-          (same_fault c.from_residual-in_err-counted.result e handed.0 handed.1) looked c.in_err-counted.ensures.reads.cut
-          (λ k o it may legible at_b clean free.
-          let at = it.catalogue.units in
-          c.in_err-counted.ensures.faults at.units (ap (λ (db : Database). db.trees tables.unit.tree) (looked.same at_b) ∙ at.rows) clean free);
+      tells = tells_passed_later _ c.from_residual-in_err-counted.ensures c.in_ok-office.ensures.tells.looks counted.reads.cut
+          (λ k o it may legible. counted.faults it.catalogue.units.units it.catalogue.units.rows);
     }
 
 pub returns-in_err-units : goal.returns-in_err-units
@@ -41,14 +32,10 @@ returns-in_err-units g c =
     let a = state g.S.Store c.args.conn.now in
     let b = state g.S.Store c.settings.new.conn in
     let d = state g.S.Store c.count_units.new.conn in
-    let handed = c.from_residual-in_err-units.ensures in
-    let e = c.in_err-units.field-0.0 in
     let looked_b = c.in_ok-office.ensures.tells.looks in
     let looked = looks_then a b d looked_b c.in_ok-counted.ensures.reads.looks in
     record {
-      tells = tells_not g.S.Store (RepresentsSettings g.P.Places.represents g.P.Places.version) AreLegibleSettings (λ _. ⊤) c.args.conn.now c.count_units.new.conn c.from_residual-in_err-units.result (λ k _ next. next ≡ next_with_room c.args.new k) e
-          (same_fault c.from_residual-in_err-units.result e handed.0 handed.1) (cut_after a d looked.goes.on)
-          (λ k o it may legible clean free.
+      tells = tells_passed _ c.from_residual-in_err-units.ensures (cut_after a d looked.goes.on) (λ k o it may legible clean free.
           let at_b = early b d _ c.in_ok-counted.ensures.reads.looks.goes.on.crash clean in
           let at = it.catalogue.units in
           let counted = c.in_ok-counted.ensures.rows clean at.units (ap (λ (db : Database). db.trees tables.unit.tree) (looked_b.same at_b) ∙ at.rows) in

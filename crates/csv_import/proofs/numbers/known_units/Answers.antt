@@ -1,5 +1,4 @@
 use Rattle.std.proofs.Common.{◌≡◌, ◌+◌, ◌++◌, [], ◌∷◌, take, refl, sym, ap, subst, ◌∙◌, arith}
-use Rattle.std.specs.Prelude.{⊤}
 use Rattle.std.specs.BTreeMap.{get_by_text}
 use Rattle.std.specs.BTreeSet.{contains_text}
 use Rattle.std.specs.List.{AllByRecursion}
@@ -7,12 +6,11 @@ use Rattle.std.proofs.lemmas.List.{take_all, take_more}
 use Rattle.sqlite.specs.Effect.{Database}
 use Rattle.sqlite.specs.Held.{state}
 use Rattle.atom_csv.specs.declared.file.Row.{Row as RowTold}
-use Rattle.catalogue_core.specs.GoodCatalogues.{AreGoodUnits}
 use Rattle.catalogue_core.proofs.EachOf.{all_append}
-use Rattle.office_tables.proofs.CallEnds.{same_fault, tells_cut}
 use Rattle.office_tables.proofs.Calls.{early, looks_nowhere, looks_then, office_of, still}
+use Rattle.refinement.proofs.Doings.{tells_passed_later}
 use Rattle.csv_import.specs.RowEntry.{RepresentsEntering}
-use Rattle.csv_import.specs.KnownUnits.{IsAsked, KnowsUnits}
+use Rattle.csv_import.specs.KnownUnits.{IsAsked}
 use Rattle.csv_import.proofs.KnownUnits.{all_known, asked_nothing, still_asked}
 use Rattle.csv_import.proofs.numbers.known_units.Goals as goal
 
@@ -29,15 +27,9 @@ loop-row-init g c =
 
 pub returns-in_err-look_up_row-clause-tells : goal.returns-in_err-look_up_row-clause-tells
 returns-in_err-look_up_row-clause-tells g c =
-    let v = g.P.Places.version in
     let looks = c.loop-row.invariant.looks in
-    let handed = c.from_residual.ensures in
-    let e = c.in_err-look_up_row.field-0.0 in
     let told = c.in_err-look_up_row.ensures.tells in
-    tells_cut g.S.Store (RepresentsEntering v) (λ _. ⊤) AreGoodUnits c.args.conn.now c.loop-row.conn c.look_up_row.new.conn c.from_residual.result
-    (λ _ k numbers. AreGoodUnits k → KnowsUnits k c.args.source.now c.args.rows.now (get_by_text numbers)) e
-    (same_fault c.from_residual.result e handed.0 handed.1) looks told.cut
-    (λ o k it good kept at_b clean free. told.faults o k (subst (λ (db : Database). RepresentsEntering v db o k) (sym (looks.same at_b)) it) good tt clean free)
+    tells_passed_later _ c.from_residual.ensures looks told.cut (λ o k it good kept. told.faults o k it good tt)
 
 pub loop-row-preserved : goal.loop-row-preserved
 loop-row-preserved g c =

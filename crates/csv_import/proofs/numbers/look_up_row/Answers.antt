@@ -1,15 +1,12 @@
 use Rattle.std.proofs.Common.{◌≡◌, true, false, Option, sym, ap, subst, ◌∙◌}
-use Rattle.std.specs.Prelude.{⊤, IfSome, is_some}
-use Rattle.std.specs.BTreeMap.{get_by_text}
+use Rattle.std.specs.Prelude.{IfSome, is_some}
 use Rattle.std.specs.BTreeSet.{contains_text}
 use Rattle.sqlite.specs.Effect.{Database}
 use Rattle.sqlite.specs.Held.{state}
 use Rattle.isad_core.specs.Texts.{Bytes}
-use Rattle.catalogue_core.specs.GoodCatalogues.{AreGoodUnits}
-use Rattle.office_tables.proofs.CallEnds.{same_fault, tells_cut}
 use Rattle.office_tables.proofs.Calls.{early, looks_then, still}
+use Rattle.refinement.proofs.Doings.{tells_passed_later}
 use Rattle.csv_import.specs.RowEntry.{RepresentsEntering}
-use Rattle.csv_import.specs.KnownUnits.{IsAsked, KnowsAsked}
 use Rattle.csv_import.proofs.Noted.{noted_itself, still_noted}
 use Rattle.csv_import.proofs.numbers.look_up_row.Goals as goal
 
@@ -55,17 +52,9 @@ look_up-requires-2-clause-inside g c = still g.P.Places.version (state g.S.Store
 
 pub returns-in_err-look_up-2-clause-tells : goal.returns-in_err-look_up-2-clause-tells
 returns-in_err-look_up-2-clause-tells g c =
-    let v = g.P.Places.version in
-    let source = c.args.source.now in
-    let handed = c.from_residual-in_err-look_up-2.ensures in
-    let e = c.in_err-look_up-2.field-0.0 in
     let looks = c.in_ok-look_up.ensures.tells.looks in
     let told = c.in_err-look_up-2.ensures.tells in
-    tells_cut g.S.Store (RepresentsEntering v) (λ _. ⊤) AreGoodUnits c.args.conn.now c.look_up.new.conn c.look_up-2.new.conn c.from_residual-in_err-look_up-2.result
-    (λ _ k _. AreGoodUnits k → KnowsAsked k source (contains_text c.args.asked.now) (get_by_text c.args.numbers.now)
-    → KnowsAsked k source (contains_text c.look_up-2.new.asked) (get_by_text c.look_up-2.new.numbers) × IsAsked k source (contains_text c.look_up-2.new.asked) c.args.row.now) e
-    (same_fault c.from_residual-in_err-look_up-2.result e handed.0 handed.1) looks told.cut
-    (λ o k it good kept at_b clean free. told.faults o k (subst (λ (db : Database). RepresentsEntering v db o k) (sym (looks.same at_b)) it) good tt clean free)
+    tells_passed_later _ c.from_residual-in_err-look_up-2.ensures looks told.cut (λ o k it good kept. told.faults o k it good tt)
 
 pub returns-clause-tells : goal.returns-clause-tells
 returns-clause-tells g c =

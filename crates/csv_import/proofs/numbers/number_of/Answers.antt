@@ -4,9 +4,10 @@ use Rattle.sqlite.specs.Held.{state}
 use Rattle.catalogue_core.specs.GoodCatalogues.{AreGoodUnits}
 use Rattle.catalogue_core.specs.EntryByRow.{number_there}
 use Rattle.csv_import.specs.RowEntry.{RepresentsEntering}
-use Rattle.office_tables.proofs.CallEnds.{same_fault, tells_not}
+use Rattle.office_tables.proofs.CallEnds.{tells_not}
 use Rattle.office_tables.proofs.Calls.{cut_after, office_of}
 use Rattle.office_tables.specs.declared.fault.StoreFault.TheVariants as fault
+use Rattle.refinement.proofs.Doings.{tells_passed}
 use Rattle.csv_import.proofs.OneRow.{finds_number, low_number}
 use Rattle.csv_import.proofs.numbers.number_of.Goals as goal
 
@@ -15,11 +16,7 @@ known-requires g c = record { inside = office_of g.P.Places.version (state g.S.S
 
 pub returns-in_err-unit-clause-tells : goal.returns-in_err-unit-clause-tells
 returns-in_err-unit-clause-tells g c =
-    let handed = c.from_residual.ensures in
-    let e = c.in_err-unit.field-0.0 in
-    tells_not g.S.Store (RepresentsEntering g.P.Places.version) (λ _. ⊤) AreGoodUnits c.args.conn.now c.known.new.conn c.from_residual.result (λ _ k found. AreGoodUnits k → found ≡ number_there k c.args.source.now c.args.legacy.now) e
-    (same_fault c.from_residual.result e handed.0 handed.1) c.in_err-unit.ensures.tells.cut
-    (λ o k it good kept clean free. c.in_err-unit.ensures.tells.faults tt k.forest it.units tt tt clean free)
+    tells_passed _ c.from_residual.ensures c.in_err-unit.ensures.tells.cut (λ o k it good kept. c.in_err-unit.ensures.tells.faults tt k.forest it.units tt tt)
 
 pub returns-in_default-clause-tells : goal.returns-in_default-clause-tells
 returns-in_default-clause-tells g c =

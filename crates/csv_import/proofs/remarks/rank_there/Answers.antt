@@ -1,15 +1,12 @@
 use Rattle.std.proofs.Common.{◌≡◌, length, Some, None, sym, ap, ◌∙◌, arith}
-use Rattle.std.specs.Prelude.{⊤}
 use Rattle.std.proofs.lemmas.List.{length-map}
 use Rattle.sqlite.specs.Held.{state}
 use Rattle.isad_core.specs.Levels.{rank_of}
-use Rattle.catalogue_core.specs.Bounds.{IsKept}
 use Rattle.catalogue_core.specs.Units.{Unit as Described}
-use Rattle.catalogue_statements.specs.Representation.{Represents}
 use Rattle.catalogue_statements.proofs.FoundUnits.{none_found, one_found}
 use Rattle.catalogue_store.proofs.MarkCauses.{legible_units}
-use Rattle.office_tables.proofs.CallEnds.{same_fault, tells_not}
 use Rattle.office_tables.proofs.Calls.{office_of}
+use Rattle.refinement.proofs.Doings.{tells_passed}
 use Rattle.csv_import.proofs.remarks.rank_there.Goals as goal
 
 pub levels_of-requires-clause-inside : goal.levels_of-requires-clause-inside
@@ -18,11 +15,8 @@ levels_of-requires-clause-inside g c = office_of g.P.Places.version (state g.S.S
 pub returns-in_err-levels : goal.returns-in_err-levels
 returns-in_err-levels g c =
     let a = state g.S.Store c.args.conn.now in
-    let e = c.from_residual.ensures in
     record {
-      tells = tells_not g.S.Store (Represents g.P.Places.represents g.P.Places.version) IsKept (λ _. ⊤) c.args.conn.now c.levels_of.new.conn c.from_residual.result _ c.in_err-levels.field-0.0
-          (same_fault c.from_residual.result c.in_err-levels.field-0.0 e.0 e.1) c.in_err-levels.ensures.reads.cut
-          (λ o k it may kept clean free. (let at = it.catalogue.units in c.in_err-levels.ensures.faults at.units at.rows (legible_units a.now.trees k at kept) clean free));
+      tells = tells_passed _ c.from_residual.ensures c.in_err-levels.ensures.reads.cut (λ o k it may kept clean free. (let at = it.catalogue.units in c.in_err-levels.ensures.faults at.units at.rows (legible_units a.now.trees k at kept) clean free));
     }
 
 pub returns-in_default : goal.returns-in_default

@@ -9,8 +9,8 @@ use Rattle.catalogue_core.specs.Units.{Unit as Described}
 use Rattle.catalogue_statements.specs.Representation.{Represents}
 use Rattle.catalogue_statements.specs.declared.office.OfficeRow.{OfficeRow}
 use Rattle.office_core.specs.ImportReply as reply
-use Rattle.office_tables.proofs.CallEnds.{same_fault, tells_not}
 use Rattle.office_tables.proofs.Calls.{still}
+use Rattle.refinement.proofs.Doings.{tells_passed}
 use Rattle.csv_import.specs.Remarks.{HaveParents, HaveUnits}
 use Rattle.csv_import.proofs.RightAbove.{above_numbers}
 use Rattle.csv_import.proofs.Tellings.{told_last}
@@ -18,16 +18,10 @@ use Rattle.csv_import.proofs.remarks.remarks.Goals as goal
 
 pub returns-in_err-parents : goal.returns-in_err-parents
 returns-in_err-parents g c =
-    let v = g.P.Places.version in
-    let handed = c.from_residual.ensures in
-    let e = c.in_err-parents.field-0.0 in
     let told = c.in_err-parents.ensures.tells in
     record {
       tells = λ source.
-          tells_not g.S.Store (Represents g.P.Places.represents v) IsKept (HaveUnits source c.args.rows.now c.args.units.now) c.args.conn.now c.parents.new.conn c.from_residual.result
-          (λ _ k told. HaveUnits source c.args.rows.now c.args.units.now k → told ≡ reply.remarks k.forest source c.args.rows.now) e
-          (same_fault c.from_residual.result e handed.0 handed.1) told.cut
-          (λ o k it has kept clean free. told.faults tt (each (λ (u : Described). u.id) k.forest) it.shown tt kept.places clean free);
+          tells_passed _ c.from_residual.ensures told.cut (λ o k it has kept. told.faults tt (each (λ (u : Described). u.id) k.forest) it.shown tt kept.places);
     }
 
 pub remarks_below-requires : goal.remarks_below-requires

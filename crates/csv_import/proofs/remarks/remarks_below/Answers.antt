@@ -7,14 +7,10 @@ use Rattle.std.proofs.lemmas.Slice.Zip.{zip_turn, zip_end}
 use Rattle.sqlite.specs.Effect.{Database}
 use Rattle.sqlite.specs.Held.{state}
 use Rattle.atom_csv.specs.declared.file.Row.{Row as RowTold}
-use Rattle.catalogue_core.specs.Bounds.{IsKept}
 use Rattle.catalogue_statements.specs.Representation.{Represents}
-use Rattle.office_core.specs.ImportReply as reply
 use Rattle.office_core.specs.declared.done.Remark.{Remark}
-use Rattle.office_tables.specs.declared.fault.StoreFault.TheVariants as fault
-use Rattle.office_tables.proofs.CallEnds.{same_fault, tells_cut, tells_not}
-use Rattle.office_tables.proofs.Calls.{cut_after, early, looks_then, still}
-use Rattle.csv_import.specs.Remarks.{HaveParents}
+use Rattle.office_tables.proofs.Calls.{early, looks_then, still}
+use Rattle.refinement.proofs.Doings.{tells_full, tells_passed_later}
 use Rattle.csv_import.proofs.RightAbove.{parent_at, told_all, told_at}
 use Rattle.csv_import.proofs.remarks.remarks_below.Goals as goal
 
@@ -76,7 +72,6 @@ loop-row-preserved g c =
 
 pub returns-in_err-remark : goal.returns-in_err-remark
 returns-in_err-remark g c =
-    let v = g.P.Places.version in
     let rows = c.args.rows.now in
     let parents = c.args.parents.now in
     let item : Bor RowTold × Bor (Option ℕ) = (c.in-Some.row, c.in-Some.parent) in
@@ -88,28 +83,12 @@ returns-in_err-remark g c =
     let looks = c.loop-row.invariant.looks in
     record {
       tells = λ source. (let told = c.in_err-remark.ensures.tells source in
-          tells_cut g.S.Store (Represents g.P.Places.represents v) IsKept (HaveParents source rows parents) c.args.conn.now c.loop-row.conn c.remark_on.new.conn c.from_residual.result
-          (λ _ k told. HaveParents source rows parents k → told ≡ reply.remarks k.forest source rows) e
-          (same_fault c.from_residual.result e handed.0 handed.1) looks told.cut
-          (λ o k it have kept at_b clean free.
-          told.faults o k (subst (λ (db : Database). Represents g.P.Places.represents v db o k) (sym (looks.same at_b)) it) (parent_at k source rows parents (length c.loop-row.yielded) c.in-Some.row.now c.in-Some.parent.now have turn.0 (turn.2 c.in-Some.row.now) (turn.3 c.in-Some.parent.now)) kept clean free));
+          tells_passed_later _ c.from_residual.ensures looks told.cut (λ o k it have kept.
+          told.faults o k it (parent_at k source rows parents (length c.loop-row.yielded) c.in-Some.row.now c.in-Some.parent.now have turn.0 (turn.2 c.in-Some.row.now) (turn.3 c.in-Some.parent.now)) kept));
     }
 
 pub returns-in_err-push : goal.returns-in_err-push
-returns-in_err-push g c =
-    let v = g.P.Places.version in
-    let a = state g.S.Store c.args.conn.now in
-    let b = state g.S.Store c.loop-row.conn in
-    let d = state g.S.Store c.remark_on.new.conn in
-    let rows = c.args.rows.now in
-    let parents = c.args.parents.now in
-    let handed = c.from_residual-in_err-push.ensures in
-    let looks = looks_then a b d c.loop-row.invariant.looks (c.in_ok-remark.ensures.tells []).looks in
-    record {
-      tells = λ source. tells_not g.S.Store (Represents g.P.Places.represents v) IsKept (HaveParents source rows parents) c.args.conn.now c.remark_on.new.conn c.from_residual-in_err-push.result
-          (λ _ k told. HaveParents source rows parents k → told ≡ reply.remarks k.forest source rows) fault.Memory
-          (same_fault c.from_residual-in_err-push.result fault.Memory handed.0 handed.1) (cut_after a d looks.goes.on) (λ o k it have kept clean free. tt);
-    }
+returns-in_err-push g c = record { tells = λ source. tells_full c.from_residual-in_err-push.ensures (looks_then _ _ _ c.loop-row.invariant.looks (c.in_ok-remark.ensures.tells []).looks) }
 
 pub returns : goal.returns
 returns g c =

@@ -1,16 +1,13 @@
 use Rattle.std.proofs.Common.{◌≡◌, ◌∙◌, ◌≤◌, ◌+◌, [], ◌∷◌, arith, drop, sym, subst}
-use Rattle.std.specs.Prelude.{⊤}
 use Rattle.std.specs.BTreeMap.{get_by_text}
 use Rattle.sqlite.specs.Held.{state}
 use Rattle.catalogue_core.specs.CatalogueMerge.{Catalogue}
 use Rattle.catalogue_core.specs.EntryByRow.{number_there}
 use Rattle.catalogue_statements.specs.Representation.{described_trees}
-use Rattle.office_tables.proofs.CallEnds.{makes_cut, same_fault}
 use Rattle.office_tables.proofs.Calls.{early, goes_nowhere, goes_then, office_of, still}
 use Rattle.office_tables.proofs.Touching.{nothing_touched, touched_again}
+use Rattle.refinement.proofs.Doings.{makes_passed_later}
 use Rattle.csv_import.specs.RowEntry.{RepresentsEntering, entered}
-use Rattle.csv_import.specs.KnownUnits.{TellsUnits}
-use Rattle.csv_import.specs.Turns.{AreToCome}
 use Rattle.csv_import.specs.declared.row_entry.Counts.{Counts}
 use Rattle.csv_import.proofs.KnownUnits.{known_still, told_here}
 use Rattle.csv_import.proofs.RowsToCome.{HaveCome, all_come, at_end, counted_few, from_here, next_comes, none_come, one_entered}
@@ -70,17 +67,13 @@ returns-in_err-became-clause-makes g c =
     let row = c.row-item.result in
     let invariant = c.loop-row.invariant in
     let numbers = get_by_text c.args.catalogued.now in
-    let handed = c.from_residual.ensures in
-    let e = c.in_err-became.field-0.0 in
     let step = c.in_err-became.ensures.makes in
-    makes_cut g.S.Store (RepresentsEntering g.P.Places.version) (λ _. ⊤) (λ (k : Catalogue). AreToCome source rows c.args.next k × TellsUnits k source rows numbers) c.args.conn.now c.loop-row.conn c.enter_row.new.conn c.from_residual.result (entered source rows) described_trees e
-    (same_fault c.from_residual.result e handed.0 handed.1) invariant.goes.on step.cut
-    (λ o k it so kept before clean free.
+    makes_passed_later _ c.from_residual.ensures c.loop-row.conn invariant.goes.on step.cut (λ o k it so kept before.
     let x = invariant.so_far before o k it so.0 so.1 in
     let have = from_here source rows c.args.next c.loop-row.counts k x.0 i row c.loop-row-test.true (sym c.row-item.is) x.2 in
     let turn = (one_entered source row (drop (i + 1) rows) (c.args.next + c.loop-row.counts.new) x.0 have.come).turn in
     let here = told_here x.0 source rows numbers i row c.loop-row-test.true (sym c.row-item.is) x.3 in
-    step.faults o x.0 x.1 (turn, c.kept_number-number.ensures ∙ here.0) tt clean free)
+    step.faults o x.0 x.1 (turn, c.kept_number-number.ensures ∙ here.0) tt)
 
 pub returns-clause-makes : goal.returns-clause-makes
 returns-clause-makes g c =

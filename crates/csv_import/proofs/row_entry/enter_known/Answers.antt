@@ -19,6 +19,7 @@ use Rattle.csv_import.proofs.Frames.{at_next, describes_at, kept_at, knows_at, m
 use Rattle.csv_import.proofs.OneRow.{is_valued, not_untold, told_of_it}
 use Rattle.csv_import.proofs.SameValues.{nothing_changes}
 use Rattle.office_tables.proofs.StoreCalls.{as_updates}
+use Rattle.refinement.proofs.Doings.{makes_passed}
 use Rattle.csv_import.proofs.row_entry.enter_known.Goals as goal
 
 pub values-requires-clause-inside : goal.values-requires-clause-inside
@@ -31,12 +32,8 @@ enter_values-requires-clause-inside g c =
 
 pub returns-in_err-found-clause-makes : goal.returns-in_err-found-clause-makes
 returns-in_err-found-clause-makes g c =
-    let handed = c.from_residual.ensures in
-    let e = c.in_err-found.field-0.0 in
     let told = c.in_err-found.ensures.tells in
-    makes_not g.S.Store (RepresentsEntering g.P.Places.version) (λ _. ⊤) (MayChange c.args.unit c.args.values.now) c.args.conn.now c.values.new.conn c.from_residual.result (with_values c.args.unit c.args.values.now) described_trees e
-    (same_fault c.from_residual.result e handed.0 handed.1) told.cut
-    (λ o k it may kept clean free. told.faults o (at_next o.next_unit k) (record { version = g.P.Places.version; catalogue = it; places = all_places k may.units }) (knows_at o.next_unit k may.there.knows) (kept_at o.next_unit k may.kept) clean free)
+    makes_passed _ c.from_residual.ensures told.cut (λ o k it may kept. told.faults o (at_next o.next_unit k) (record { version = g.P.Places.version; catalogue = it; places = all_places k may.units }) (knows_at o.next_unit k may.there.knows) (kept_at o.next_unit k may.kept))
 
 pub returns-in_default-clause-makes : goal.returns-in_default-clause-makes
 returns-in_default-clause-makes g c =

@@ -6,6 +6,7 @@ use Rattle.catalogue_statements.specs.Representation.{catalogue_trees}
 use Rattle.office_tables.proofs.CallEnds.{makes_not, same_fault}
 use Rattle.office_tables.proofs.Calls.{cut_after, goes_nowhere, looks_nowhere, office_of}
 use Rattle.office_tables.specs.declared.fault.StoreFault.TheVariants as fault
+use Rattle.refinement.proofs.Doings.{makes_passed}
 use Rattle.csv_import.specs.Arrivals.{BringUnits, IsReady}
 use Rattle.csv_import.specs.RowEntry.{RepresentsLegible, entered}
 use Rattle.csv_import.specs.Turns.{AreToCome}
@@ -31,16 +32,12 @@ returns-then-next-ge-LAST_NUMBER-clause-makes g c =
 pub returns-in_err-arrivals-clause-makes : goal.returns-in_err-arrivals-clause-makes
 returns-in_err-arrivals-clause-makes g c =
     let a = state g.S.Store c.args.conn.now in
-    let handed = c.from_residual.ensures in
-    makes_not g.S.Store (RepresentsLegible g.P.Places.represents g.P.Places.version) (λ _. ⊤) (IsReady c.args.source.now c.args.rows.now (get_by_text c.args.catalogued.now) c.args.next) c.args.conn.now c.args.conn.now c.from_residual.result (entered c.args.source.now c.args.rows.now) catalogue_trees fault.Memory
-    (same_fault c.from_residual.result fault.Memory handed.0 handed.1) (cut_after a a (goes_nowhere a (office_of g.P.Places.version a c.requires.inside)).on) (λ o k it may kept clean free. tt)
+    makes_passed _ c.from_residual.ensures (cut_after a a (goes_nowhere a (office_of g.P.Places.version a c.requires.inside)).on) (λ o k it may kept clean free. tt)
 
 pub returns-in_err-units-clause-makes : goal.returns-in_err-units-clause-makes
 returns-in_err-units-clause-makes g c =
     let a = state g.S.Store c.args.conn.now in
-    let handed = c.from_residual-in_err-units.ensures in
-    makes_not g.S.Store (RepresentsLegible g.P.Places.represents g.P.Places.version) (λ _. ⊤) (IsReady c.args.source.now c.args.rows.now (get_by_text c.args.catalogued.now) c.args.next) c.args.conn.now c.args.conn.now c.from_residual-in_err-units.result (entered c.args.source.now c.args.rows.now) catalogue_trees fault.Memory
-    (same_fault c.from_residual-in_err-units.result fault.Memory handed.0 handed.1) (cut_after a a (goes_nowhere a (office_of g.P.Places.version a c.requires.inside)).on) (λ o k it may kept clean free. tt)
+    makes_passed _ c.from_residual-in_err-units.ensures (cut_after a a (goes_nowhere a (office_of g.P.Places.version a c.requires.inside)).on) (λ o k it may kept clean free. tt)
 
 pub returns-in_err-counts-clause-makes : goal.returns-in_err-counts-clause-makes
 returns-in_err-counts-clause-makes g c =

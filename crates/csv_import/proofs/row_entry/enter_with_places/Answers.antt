@@ -1,19 +1,16 @@
 use Rattle.std.proofs.Common.{◌≡◌, [], ◌∷◌, refl, sym, ap, subst, ◌∙◌, arith}
-use Rattle.std.specs.Prelude.{⊤}
-use Rattle.std.specs.BTreeMap.{get_by_text}
 use Rattle.sqlite.specs.Held.{state}
 use Rattle.tree_core.specs.Arrivals.{added}
 use Rattle.catalogue_core.specs.CatalogueMerge.{Catalogue}
 use Rattle.catalogue_core.proofs.KeptCatalogues.{kept_within}
 use Rattle.catalogue_statements.specs.Rows.{office_row}
-use Rattle.catalogue_statements.specs.Representation.{RepresentsNumbered, catalogue_trees, described_trees}
+use Rattle.catalogue_statements.specs.Representation.{catalogue_trees, described_trees}
 use Rattle.catalogue_statements.specs.declared.office.OfficeRow.{OfficeRow}
 use Rattle.catalogue_store.specs.Arrivals.{MayJoin}
 use Rattle.office_tables.specs.Schema as tables
-use Rattle.office_tables.proofs.CallEnds.{makes_cut, makes_not, same_fault}
 use Rattle.office_tables.proofs.Calls.{early, goes_then, office_of, still, still_office}
 use Rattle.office_tables.proofs.Touching.{touched_then, touched_wider}
-use Rattle.csv_import.specs.Arrivals.{BringUnits}
+use Rattle.refinement.proofs.Doings.{makes_passed, makes_passed_later}
 use Rattle.csv_import.specs.RowEntry.{entered}
 use Rattle.csv_import.proofs.ComeToStand.{come_to_stand, ids, may_join}
 use Rattle.csv_import.proofs.Frames.{at_next, described_kept}
@@ -40,33 +37,23 @@ pub returns-in_err-add_all-clause-makes : goal.returns-in_err-add_all-clause-mak
 returns-in_err-add_all-clause-makes g c =
     let source = c.args.source.now in
     let rows = c.args.rows.now in
-    let handed = c.from_residual.ensures in
-    let e = c.in_err-add_all.field-0.0 in
     let made = c.in_err-add_all.ensures.makes in
-    makes_not g.S.Store (RepresentsNumbered g.P.Places.represents g.P.Places.version) (λ _. ⊤) (BringUnits source rows (get_by_text c.args.catalogued.now) c.args.next c.args.arrivals.now) c.args.conn.now c.add_all.new.conn c.from_residual.result (entered source rows) catalogue_trees e
-    (same_fault c.from_residual.result e handed.0 handed.1) made.cut
-    (λ o k it may kept clean free.
+    makes_passed _ c.from_residual.ensures made.cut (λ o k it may kept.
     let come = may.come in
     let few = come.few_boxes in
-    made.faults tt (ids k.forest) it.shown (subst (λ l. MayJoin l (ids k.forest)) (sym may.units) (may_join source rows c.args.next k come)) (kept_within k come.units (omega (arith, few)) come.days come.legible).places clean free)
+    made.faults tt (ids k.forest) it.shown (subst (λ l. MayJoin l (ids k.forest)) (sym may.units) (may_join source rows c.args.next k come)) (kept_within k come.units (omega (arith, few)) come.days come.legible).places)
 
 pub returns-in_err-counts-clause-makes : goal.returns-in_err-counts-clause-makes
 returns-in_err-counts-clause-makes g c =
     let a = state g.S.Store c.args.conn.now in
     let b = state g.S.Store c.add_all.new.conn in
     let v = g.P.Places.version in
-    let source = c.args.source.now in
-    let rows = c.args.rows.now in
-    let handed = c.from_residual-in_err-counts.ensures in
-    let e = c.in_err-counts.field-0.0 in
     let placed = c.in_ok-add_all.ensures.makes in
     let made = c.in_err-counts.ensures.makes in
-    makes_cut g.S.Store (RepresentsNumbered g.P.Places.represents v) (λ _. ⊤) (BringUnits source rows (get_by_text c.args.catalogued.now) c.args.next c.args.arrivals.now) c.args.conn.now c.add_all.new.conn c.enter_each.new.conn c.from_residual-in_err-counts.result (entered source rows) catalogue_trees e
-    (same_fault c.from_residual-in_err-counts.result e handed.0 handed.1) placed.goes.on made.cut
-    (λ o k it may kept at_b clean free.
+    makes_passed_later _ c.from_residual-in_err-counts.ensures c.add_all.new.conn placed.goes.on made.cut (λ o k it may kept at_b.
     let only = placed.only at_b in
     let first = described_kept a.now b.now (tables.link.tree ∷ []) only refl (placed.goes.schema at_b) v (counted o k) (counted o k) k k.next (only tables.office.tree refl refl ∙ it.catalogue.office) refl it.catalogue in
-    made.faults (counted o k) k first (may.come, may.known) tt clean free)
+    made.faults (counted o k) k first (may.come, may.known) tt)
 
 pub returns-in_err-set_next_unit-clause-makes : goal.returns-in_err-set_next_unit-clause-makes
 returns-in_err-set_next_unit-clause-makes g c =
@@ -74,17 +61,11 @@ returns-in_err-set_next_unit-clause-makes g c =
     let b = state g.S.Store c.add_all.new.conn in
     let d = state g.S.Store c.enter_each.new.conn in
     let v = g.P.Places.version in
-    let source = c.args.source.now in
-    let rows = c.args.rows.now in
-    let handed = c.from_residual-in_err-set_next_unit.ensures in
-    let e = c.in_err-set_next_unit.field-0.0 in
     let placed = c.in_ok-add_all.ensures.makes in
     let told = c.in_ok-counts.ensures.makes in
-    makes_cut g.S.Store (RepresentsNumbered g.P.Places.represents v) (λ _. ⊤) (BringUnits source rows (get_by_text c.args.catalogued.now) c.args.next c.args.arrivals.now) c.args.conn.now c.enter_each.new.conn c.set_next_unit.new.conn c.from_residual-in_err-set_next_unit.result (entered source rows) catalogue_trees e
-    (same_fault c.from_residual-in_err-set_next_unit.result e handed.0 handed.1) (goes_then a b d placed.goes told.goes).on c.in_err-set_next_unit.ensures.leaves.cut
-    (λ o k it may kept at_d clean free.
+    makes_passed_later _ c.from_residual-in_err-set_next_unit.ensures c.enter_each.new.conn (goes_then a b d placed.goes told.goes).on c.in_err-set_next_unit.ensures.leaves.cut (λ o k it may kept at_d.
     let at_b = early b d _ told.goes.on.crash at_d in
-    c.in_err-set_next_unit.ensures.faults v (counted o k) (told.only at_d tables.office.tree refl refl ∙ (placed.only at_b tables.office.tree refl refl ∙ it.catalogue.office)) clean free)
+    c.in_err-set_next_unit.ensures.faults v (counted o k) (told.only at_d tables.office.tree refl refl ∙ (placed.only at_b tables.office.tree refl refl ∙ it.catalogue.office)))
 
 pub returns-clause-makes : goal.returns-clause-makes
 returns-clause-makes g c =

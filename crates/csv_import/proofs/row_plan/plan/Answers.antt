@@ -1,19 +1,12 @@
 use Rattle.std.proofs.Common.{◌≡◌, ◌+◌, ◌∷◌, drop, sym, ap, subst, ◌∙◌, arith}
-use Rattle.std.specs.Prelude.{⊤}
 use Rattle.std.specs.BTreeMap.{get_by_text}
 use Rattle.std.proofs.lemmas.List.{drop_all, drop_more}
 use Rattle.sqlite.specs.Effect.{Database}
 use Rattle.sqlite.specs.Held.{state}
-use Rattle.isad_core.specs.Texts.{Bytes}
 use Rattle.atom_csv.specs.declared.file.Row.{Row as RowTold}
-use Rattle.catalogue_core.specs.Bounds.{IsKept}
-use Rattle.catalogue_core.specs.GoodCatalogues.{AreGoodUnits}
 use Rattle.catalogue_statements.specs.Representation.{Represents}
-use Rattle.office_tables.specs.declared.fault.StoreFault.TheVariants as fault
-use Rattle.office_tables.proofs.CallEnds.{same_fault, tells_cut, tells_not}
-use Rattle.office_tables.proofs.Calls.{cut_after, early, looks_then, still}
-use Rattle.csv_import.specs.KnownUnits.{KnowsUnits}
-use Rattle.csv_import.specs.RowPlan.{plan_of}
+use Rattle.office_tables.proofs.Calls.{early, looks_then, still}
+use Rattle.refinement.proofs.Doings.{tells_full, tells_passed_later}
 use Rattle.csv_import.proofs.KnownUnits.{parent_at, told_at}
 use Rattle.csv_import.proofs.Planned.{IsPlanned, begins, ends_faulty, ends_well, goes_known, goes_new}
 use Rattle.csv_import.proofs.row_plan.plan.Goals as goal
@@ -31,29 +24,12 @@ loop-row-init g c =
 
 pub returns-in_err-place : goal.returns-in_err-place
 returns-in_err-place g c =
-    let v = g.P.Places.version in
-    let handed = c.from_residual-in_err-place.ensures in
-    let e = c.in_err-place.field-0.0 in
     let looks = c.loop-row.invariant.looks in
     let told = c.in_err-place.ensures.tells in
-    record {
-      tells = tells_cut g.S.Store (Represents g.P.Places.represents v) IsKept (λ _. ⊤) c.args.conn.now c.loop-row.conn c.place.new.conn c.from_residual-in_err-place.result
-          (λ _ k told. AreGoodUnits k → (source : Bytes) → KnowsUnits k source c.args.rows.now (get_by_text c.args.catalogued.now) → told ≡ plan_of k.forest source c.args.rows.now) e
-          (same_fault c.from_residual-in_err-place.result e handed.0 handed.1) looks told.cut
-          (λ o k it may kept at_b clean free. told.faults o k (subst (λ (db : Database). Represents g.P.Places.represents v db o k) (sym (looks.same at_b)) it) tt kept clean free);
-    }
+    record { tells = tells_passed_later _ c.from_residual-in_err-place.ensures looks told.cut (λ o k it may kept. told.faults o k it tt kept) }
 
 pub returns-in_err-remember-in-Fits : goal.returns-in_err-remember-in-Fits
-returns-in_err-remember-in-Fits g c =
-    let a = state g.S.Store c.args.conn.now in
-    let b = state g.S.Store c.loop-row.conn in
-    let d = state g.S.Store c.place.new.conn in
-    let handed = c.from_residual-in_err-remember-in-Fits.ensures in
-    record {
-      tells = tells_not g.S.Store (Represents g.P.Places.represents g.P.Places.version) IsKept (λ _. ⊤) c.args.conn.now c.place.new.conn c.from_residual-in_err-remember-in-Fits.result
-          (λ _ k told. AreGoodUnits k → (source : Bytes) → KnowsUnits k source c.args.rows.now (get_by_text c.args.catalogued.now) → told ≡ plan_of k.forest source c.args.rows.now) fault.Memory
-          (same_fault c.from_residual-in_err-remember-in-Fits.result fault.Memory handed.0 handed.1) (cut_after a d (looks_then a b d c.loop-row.invariant.looks c.in_ok-place.ensures.tells.looks).goes.on) (λ o k it may kept clean free. tt);
-    }
+returns-in_err-remember-in-Fits g c = record { tells = tells_full c.from_residual-in_err-remember-in-Fits.ensures (looks_then _ _ _ c.loop-row.invariant.looks c.in_ok-place.ensures.tells.looks) }
 
 pub returns-in-Faulty : goal.returns-in-Faulty
 returns-in-Faulty g c =

@@ -5,10 +5,8 @@ use Rattle.desk_store.specs.Orders.{IsThere, order_with, state_number}
 use Rattle.desk_store.specs.declared.orders.PlacedOrder.{PlacedOrder}
 use Rattle.office_core.specs.declared.command.Command.TheVariants as command
 use Rattle.state_encoding.specs.OfficeRows.{tables}
-use Rattle.state_encoding.proofs.LegibleRows.{desk_legible}
-use Rattle.office_tables.proofs.CallEnds.{same_fault}
 use Rattle.office_tables.proofs.Calls.{office_of}
-use Rattle.refinement.proofs.Doings.{does_after, does_not, does_refuse}
+use Rattle.refinement.proofs.Doings.{desk_passed, does_refuse, does_then}
 use Rattle.refinement.proofs.OrderRows.{not_placed, was_placed}
 use Rattle.desk_commands.proofs.Cancelled.{not_waiting, unknown_order, waits_or_not}
 use Rattle.desk_commands.proofs.cancellation.cancel.Goals as goal
@@ -17,14 +15,7 @@ pub order-requires : goal.order-requires
 order-requires g c = record { inside = office_of g.P.Places.version (state g.S.Store c.args.conn.now) c.requires.inside }
 
 pub returns-in_err-placed : goal.returns-in_err-placed
-returns-in_err-placed g c =
-    let a = state g.S.Store c.args.conn.now in
-    let b = state g.S.Store c.order.new.conn in
-    let told = c.in_err-placed.ensures.tells in
-    let e = c.from_residual.ensures in
-    does_not g.P.Places.represents g.P.Places.version _ (command.Cancel c.args.number) a b c.from_residual.result c.in_err-placed.field-0.0
-    (same_fault c.from_residual.result c.in_err-placed.field-0.0 e.0 e.1) told.cut
-    (λ s sound so it clean free. told.faults tt (tables g.P.Places.version s).desk it.desk tt (desk_legible g.P.Places.version s sound) clean free)
+returns-in_err-placed g c = let told = c.in_err-placed.ensures.tells in desk_passed _ c.from_residual.ensures told.cut told.faults
 
 pub returns-in_default : goal.returns-in_default
 returns-in_default g c =
@@ -51,15 +42,11 @@ returns-then-not-is_waiting g c =
 
 pub returns : goal.returns
 returns g c =
-    let a = state g.S.Store c.args.conn.now in
-    let b = state g.S.Store c.order.new.conn in
-    let d = state g.S.Store c.end_waiting.new.conn in
     let told = c.in_ok-placed.ensures.tells in
     let placed = c.in-Some.placed in
     let yes : nat_eq (state_number placed.state) 1 ≡ true = sym c.is_waiting.ensures ∙ c.if-not-is_waiting.false in
-    does_after g.P.Places.represents g.P.Places.version _ (command.Cancel c.args.number) _ a b d c.end_waiting.result told.looks
+    does_then told.looks c.end_waiting.ensures
     (λ clean s sound so it.
     let there = was_placed s g.P.Places.version c.args.number placed
     (subst (λ (found : Option PlacedOrder). IsThere (order_with c.args.number (tables g.P.Places.version s).desk) found) c.in-Some.is (told.answers clean tt (tables g.P.Places.version s).desk it.desk)) in
     waits_or_not g.P.Places.represents g.P.Places.version s c.args.number placed.state there.state ∙ yes)
-    c.end_waiting.ensures

@@ -1,10 +1,7 @@
 use Rattle.sqlite.specs.Held.{state}
-use Rattle.office_core.specs.declared.command.Command.TheVariants as command
 use Rattle.state_encoding.specs.OfficeRows.{tables}
-use Rattle.state_encoding.proofs.LegibleRows.{desk_legible}
-use Rattle.office_tables.proofs.CallEnds.{same_fault}
 use Rattle.office_tables.proofs.Calls.{office_of}
-use Rattle.refinement.proofs.Doings.{does_not}
+use Rattle.refinement.proofs.Doings.{desk_passed}
 use Rattle.desk_commands.proofs.Cancelled.{cancels}
 use Rattle.desk_commands.proofs.cancellation.end_waiting.Goals as goal
 
@@ -12,14 +9,7 @@ pub end_order-requires : goal.end_order-requires
 end_order-requires g c = record { inside = office_of g.P.Places.version (state g.S.Store c.args.conn.now) c.requires.inside; number = c.requires.number }
 
 pub returns-in_err-end_order : goal.returns-in_err-end_order
-returns-in_err-end_order g c =
-    let a = state g.S.Store c.args.conn.now in
-    let b = state g.S.Store c.end_order.new.conn in
-    let made = c.in_err-end_order.ensures.makes in
-    let e = c.from_residual.ensures in
-    does_not g.P.Places.represents g.P.Places.version _ (command.Cancel c.args.order) a b c.from_residual.result c.in_err-end_order.field-0.0
-    (same_fault c.from_residual.result c.in_err-end_order.field-0.0 e.0 e.1) made.cut
-    (λ s sound so it clean free. made.faults tt (tables g.P.Places.version s).desk it.desk tt (desk_legible g.P.Places.version s sound) clean free)
+returns-in_err-end_order g c = let made = c.in_err-end_order.ensures.makes in desk_passed _ c.from_residual.ensures made.cut made.faults
 
 pub returns : goal.returns
 returns g c =

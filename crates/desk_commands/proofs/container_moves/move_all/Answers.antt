@@ -7,10 +7,11 @@ use Rattle.desk_core.specs.DeskRows.{HoldingRow}
 use Rattle.desk_store.specs.Representation.{IsLegible, RepresentsDesk, RepresentsDeskAlone}
 use Rattle.office_tables.specs.Schema as tables
 use Rattle.office_tables.specs.declared.fault.StoreFault.TheVariants as fault
-use Rattle.office_tables.proofs.CallEnds.{makes_not, same_fault}
+use Rattle.office_tables.proofs.CallEnds.{makes_not}
 use Rattle.office_tables.proofs.Calls.{cut_after, cut_then, early, goes_nowhere, goes_then, still_office}
 use Rattle.office_tables.proofs.Causes.{cause_then, still_unlimited}
 use Rattle.office_tables.proofs.Touching.{nothing_touched, touched_again}
+use Rattle.refinement.proofs.Doings.{makes_passed}
 use Rattle.desk_commands.specs.ContainerMoves.{with_all_placed}
 use Rattle.desk_commands.proofs.MovedAll.{all_taken, each_of, legible_all, one_more_placed}
 use Rattle.desk_commands.proofs.container_moves.move_all.Goals as goal
@@ -69,13 +70,10 @@ returns-in_err-set_place g c =
     let d = state g.S.Store c.set_place.new.conn in
     let before = c.loop-container.invariant in
     let made = c.in_err-set_place.ensures.makes in
-    let e = c.from_residual.ensures in
     let cs = c.args.containers.now in
     let i = c.loop-container.container-index in
     record {
-      makes = makes_not g.S.Store RepresentsDeskAlone IsLegible (λ _. AllByRecursion IsNumber cs) c.args.conn.now c.set_place.new.conn c.from_residual.result (with_all_placed c.args.place cs) (tables.holding.tree ∷ []) c.in_err-set_place.field-0.0
-          (same_fault c.from_residual.result c.in_err-set_place.field-0.0 e.0 e.1) (cut_then a b d before.goes.on made.cut)
-          (λ s m shown low kept clean free.
+      makes = makes_passed _ c.from_residual.ensures (cut_then a b d before.goes.on made.cut) (λ s m shown low kept clean free.
           let at_b = early b d _ made.cut.crash clean in
           cause_then a b d before.goes.on at_b _
           (made.faults tt (with_all_placed c.args.place (take i cs) m) (before.so_far at_b m shown) tt (legible_all c.args.place (take i cs) m (all_taken IsNumber i cs low) kept) clean (still_unlimited a b before.goes.on free)));

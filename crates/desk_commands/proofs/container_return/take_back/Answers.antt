@@ -2,11 +2,9 @@ use Rattle.std.proofs.Common.{refl, arith}
 use Rattle.sqlite.specs.Held.{state}
 use Rattle.office_core.specs.declared.command.Command.TheVariants as command
 use Rattle.state_encoding.specs.OfficeRows.{tables}
-use Rattle.state_encoding.proofs.LegibleRows.{desk_legible}
 use Rattle.office_tables.specs.declared.fault.StoreFault.TheVariants as fault
-use Rattle.office_tables.proofs.CallEnds.{same_fault}
 use Rattle.office_tables.proofs.Calls.{cut_after, looks_nowhere, office_of}
-use Rattle.refinement.proofs.Doings.{does_not}
+use Rattle.refinement.proofs.Doings.{desk_passed, does_not}
 use Rattle.desk_commands.proofs.Returned.{returns_to_desk, small_order}
 use Rattle.desk_commands.proofs.container_return.take_back.Goals as goal
 
@@ -26,14 +24,7 @@ returns-then-order-ge-NO_NUMBER g c =
     (λ s sound so it clean free. let small = small_order s sound c.args.container c.args.order so in absurd (omega (arith, small, c.if-order-ge-NO_NUMBER.true)))
 
 pub returns-in_err-hand_over : goal.returns-in_err-hand_over
-returns-in_err-hand_over g c =
-    let a = state g.S.Store c.args.conn.now in
-    let b = state g.S.Store c.hand_over.new.conn in
-    let made = c.in_err-hand_over.ensures.makes in
-    let e = c.from_residual.ensures in
-    does_not g.P.Places.represents g.P.Places.version _ (command.Return c.args.container) a b c.from_residual.result c.in_err-hand_over.field-0.0
-    (same_fault c.from_residual.result c.in_err-hand_over.field-0.0 e.0 e.1) made.cut
-    (λ s sound so it clean free. made.faults tt (tables g.P.Places.version s).desk it.desk tt (desk_legible g.P.Places.version s sound) clean free)
+returns-in_err-hand_over g c = let made = c.in_err-hand_over.ensures.makes in desk_passed _ c.from_residual.ensures made.cut made.faults
 
 pub returns : goal.returns
 returns g c =

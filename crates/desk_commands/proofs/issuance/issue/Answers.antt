@@ -4,9 +4,8 @@ use Rattle.desk_core.specs.declared.refusal.Refusal.TheVariants.{UnknownContaine
 use Rattle.desk_store.specs.Stacks.{IsHeaded, box_with}
 use Rattle.desk_store.specs.declared.queue_heads.QueueHead.{QueueHead}
 use Rattle.office_core.specs.declared.command.Command.TheVariants as command
-use Rattle.office_tables.proofs.CallEnds.{same_fault}
 use Rattle.office_tables.proofs.Calls.{office_of}
-use Rattle.refinement.proofs.Doings.{does_after, does_not, does_refuse}
+use Rattle.refinement.proofs.Doings.{does_pass, does_refuse, does_then}
 use Rattle.refinement.proofs.StacksShown.{legible_stacks, shows_stacks, stacks_of}
 use Rattle.desk_commands.proofs.HeadTold.{none_queued, queued_at}
 use Rattle.desk_commands.proofs.Issued.{nothing_to_issue}
@@ -18,12 +17,9 @@ queue_head-requires g c = record { inside = office_of g.P.Places.version (state 
 pub returns-in_err-head : goal.returns-in_err-head
 returns-in_err-head g c =
     let a = state g.S.Store c.args.conn.now in
-    let b = state g.S.Store c.queue_head.new.conn in
     let told = c.in_err-head.ensures.tells in
-    let e = c.from_residual.ensures in
-    does_not g.P.Places.represents g.P.Places.version _ (command.Issue c.args.container c.args.ticket) a b c.from_residual.result c.in_err-head.field-0.0
-    (same_fault c.from_residual.result c.in_err-head.field-0.0 e.0 e.1) told.cut
-    (λ s sound so it clean free. told.faults tt (stacks_of g.P.Places.version s) (shows_stacks g.P.Places.version s g.P.Places.represents a.now sound it) tt (legible_stacks g.P.Places.version s sound) clean free)
+    does_pass _ c.from_residual.ensures told.cut
+    (λ s sound so it. told.faults tt (stacks_of g.P.Places.version s) (shows_stacks g.P.Places.version s g.P.Places.represents a.now sound it) tt (legible_stacks g.P.Places.version s sound))
 
 pub returns-in_default : goal.returns-in_default
 returns-in_default g c =
@@ -39,10 +35,8 @@ returns-in_default g c =
 pub returns : goal.returns
 returns g c =
     let a = state g.S.Store c.args.conn.now in
-    let b = state g.S.Store c.queue_head.new.conn in
-    let d = state g.S.Store c.issue_known.new.conn in
     let told = c.in_ok-head.ensures.tells in
-    does_after g.P.Places.represents g.P.Places.version _ (command.Issue c.args.container c.args.ticket) _ a b d c.issue_known.result told.looks
+    does_then told.looks c.issue_known.ensures
     (λ clean s sound so it. (
       so.0,
       so.1,
@@ -50,4 +44,3 @@ returns g c =
           (subst (λ (head : Option QueueHead). IsHeaded c.args.container (stacks_of g.P.Places.version s) (box_with c.args.container (stacks_of g.P.Places.version s)) head) c.in-Some.is
           (told.answers clean tt (stacks_of g.P.Places.version s) (shows_stacks g.P.Places.version s g.P.Places.represents a.now sound it))),
     ))
-    c.issue_known.ensures

@@ -1,17 +1,12 @@
-use Rattle.std.proofs.Common.{Err, sym, ap, subst, ◌∙◌}
+use Rattle.std.proofs.Common.{sym, ap, subst, ◌∙◌}
 use Rattle.std.specs.Prelude.{option_map}
 use Rattle.sqlite.specs.Effect.{Database}
 use Rattle.sqlite.specs.Held.{state}
 use Rattle.desk_store.specs.declared.orders.WaitingOrder.{WaitingOrder}
-use Rattle.office_core.specs.declared.command.Command.TheVariants as command
 use Rattle.state_encoding.specs.OfficeRows.{tables}
-use Rattle.state_encoding.proofs.LegibleRows.{desk_legible}
-use Rattle.office_tables.proofs.CallEnds.{same_fault}
-use Rattle.office_tables.proofs.Calls.{cut_then, early, looks_then, office_of, still}
-use Rattle.office_tables.proofs.Causes.{cause_then, still_unlimited}
+use Rattle.office_tables.proofs.Calls.{early, looks_then, office_of, still}
 use Rattle.refinement.specs.Representation.{RepresentsState}
-use Rattle.refinement.proofs.CommandSteps.{refuses}
-use Rattle.refinement.proofs.Doings.{does_after, does_not, does_refuse}
+use Rattle.refinement.proofs.Doings.{after_look, desk_passed, does_then, is_refused, office_passed}
 use Rattle.refinement.proofs.Judged.{judged_now}
 use Rattle.desk_commands.proofs.Issued.{decided_as, first_order}
 use Rattle.desk_commands.proofs.issuance.issue_known.Goals as goal
@@ -26,29 +21,12 @@ is_open_to-requires g c =
     record { inside = still g.P.Places.version a b c.requires.inside c.in_ok-who.ensures.tells.looks.goes }
 
 pub returns-in_err-who : goal.returns-in_err-who
-returns-in_err-who g c =
-    let a = state g.S.Store c.args.conn.now in
-    let b = state g.S.Store c.ticket_holder.new.conn in
-    let told = c.in_err-who.ensures.tells in
-    let e = c.from_residual.ensures in
-    does_not g.P.Places.represents g.P.Places.version _ (command.Issue c.args.container c.args.ticket) a b c.from_residual.result c.in_err-who.field-0.0
-    (same_fault c.from_residual.result c.in_err-who.field-0.0 e.0 e.1) told.cut
-    (λ s sound so it clean free. told.faults tt (tables g.P.Places.version s).desk it.desk tt (desk_legible g.P.Places.version s sound) clean free)
+returns-in_err-who g c = let told = c.in_err-who.ensures.tells in desk_passed _ c.from_residual.ensures told.cut told.faults
 
 pub returns-in_err-is_open : goal.returns-in_err-is_open
 returns-in_err-is_open g c =
-    let a = state g.S.Store c.args.conn.now in
-    let b = state g.S.Store c.ticket_holder.new.conn in
-    let d = state g.S.Store c.is_open_to.new.conn in
-    let first = c.in_ok-who.ensures.tells.looks in
     let told = c.in_err-is_open.ensures.tells in
-    let e = c.from_residual-in_err-is_open.ensures in
-    does_not g.P.Places.represents g.P.Places.version _ (command.Issue c.args.container c.args.ticket) a d c.from_residual-in_err-is_open.result c.in_err-is_open.field-0.0
-    (same_fault c.from_residual-in_err-is_open.result c.in_err-is_open.field-0.0 e.0 e.1) (cut_then a b d first.goes.on told.cut)
-    (λ s sound so it clean free.
-    let at_b = early b d _ told.cut.crash clean in
-    cause_then a b d first.goes.on at_b _
-    (told.faults tt s (subst (λ (db : Database). RepresentsState g.P.Places.represents g.P.Places.version db s) (sym (first.same at_b)) it) tt (judged_now s sound) clean (still_unlimited a b first.goes.on free)))
+    after_look c.in_ok-who.ensures.tells.looks (office_passed _ c.from_residual-in_err-is_open.ensures told.cut told.faults)
 
 pub returns-in-Err : goal.returns-in-Err
 returns-in-Err g c =
@@ -59,15 +37,13 @@ returns-in-Err g c =
     let head = c.args.head in
     let told = c.in_ok-who.ensures.tells in
     let opened = c.in_ok-is_open.ensures.tells in
-    does_refuse g.P.Places.represents v _ (command.Issue c.args.container c.args.ticket) a d (Err c.in-Err.why) (looks_then a b d told.looks opened.looks)
-    (λ clean s sound so it.
+    is_refused (looks_then a b d told.looks opened.looks) (λ clean s sound so it.
     let at_b = early b d _ opened.looks.goes.on.crash clean in
     let shown_b = subst (λ (db : Database). RepresentsState g.P.Places.represents v db s) (sym (told.looks.same at_b)) it in
-    refuses g.P.Places.represents v s (command.Issue c.args.container c.args.ticket) d.now c.in-Err.why
-    (sym (c.in-Err.ensures.refused
+    sym (c.in-Err.ensures.refused
     ∙ decided_as v s c.args.container c.args.ticket sound head.place head.first c.in_ok-is_open.is_open c.in_ok-who.who c.args.today c.args.limits.now so.0 so.1 so.2
     (told.answers at_b tt (tables v s).desk it.desk)
-    (opened.answers clean tt s shown_b (judged_now s sound) so.0))))
+    (opened.answers clean tt s shown_b (judged_now s sound) so.0)))
 
 pub returns-in-Ok : goal.returns-in-Ok
 returns-in-Ok g c =
@@ -75,11 +51,10 @@ returns-in-Ok g c =
     let a = state g.S.Store c.args.conn.now in
     let b = state g.S.Store c.ticket_holder.new.conn in
     let d = state g.S.Store c.is_open_to.new.conn in
-    let f = state g.S.Store c.lend.new.conn in
     let head = c.args.head in
     let told = c.in_ok-who.ensures.tells in
     let opened = c.in_ok-is_open.ensures.tells in
-    does_after g.P.Places.represents v _ (command.Issue c.args.container c.args.ticket) _ a d f c.lend.result (looks_then a b d told.looks opened.looks)
+    does_then (looks_then a b d told.looks opened.looks) c.lend.ensures
     (λ clean s sound so it.
     let at_b = early b d _ opened.looks.goes.on.crash clean in
     let shown_b = subst (λ (db : Database). RepresentsState g.P.Places.represents v db s) (sym (told.looks.same at_b)) it in (
@@ -89,4 +64,3 @@ returns-in-Ok g c =
           (opened.answers clean tt s shown_b (judged_now s sound) so.0)),
       first_order s c.args.container c.in-Ok.order (ap (option_map (λ (x : WaitingOrder). x.order)) (sym so.2.is_first) ∙ c.in-Ok.ensures.order),
     ))
-    c.lend.ensures

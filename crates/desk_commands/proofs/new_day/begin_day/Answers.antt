@@ -1,10 +1,8 @@
 use Rattle.sqlite.specs.Held.{state}
-use Rattle.office_core.specs.declared.command.Command.TheVariants as command
 use Rattle.state_encoding.proofs.LegibleRows.{desk_legible}
-use Rattle.office_tables.proofs.CallEnds.{same_fault}
 use Rattle.office_tables.proofs.Calls.{office_of}
 use Rattle.desk_commands.proofs.DayOpened.{house_of, opens_day, shows_house}
-use Rattle.refinement.proofs.Doings.{does_not}
+use Rattle.refinement.proofs.Doings.{does_pass}
 use Rattle.desk_commands.proofs.new_day.begin_day.Goals as goal
 
 pub open_day-requires : goal.open_day-requires
@@ -13,12 +11,9 @@ open_day-requires g c = record { inside = office_of g.P.Places.version (state g.
 pub returns-in_err-open_day : goal.returns-in_err-open_day
 returns-in_err-open_day g c =
     let a = state g.S.Store c.args.conn.now in
-    let b = state g.S.Store c.open_day.new.conn in
     let made = c.in_err-open_day.ensures.makes in
-    let e = c.from_residual.ensures in
-    does_not g.P.Places.represents g.P.Places.version _ (command.OpenDay c.args.day) a b c.from_residual.result c.in_err-open_day.field-0.0
-    (same_fault c.from_residual.result c.in_err-open_day.field-0.0 e.0 e.1) made.cut
-    (λ s sound so it clean free. made.faults tt (house_of g.P.Places.version s) (shows_house g.P.Places.represents g.P.Places.version a.now s it) tt (desk_legible g.P.Places.version s sound) clean free)
+    does_pass _ c.from_residual.ensures made.cut
+    (λ s sound so it. made.faults tt (house_of g.P.Places.version s) (shows_house g.P.Places.represents g.P.Places.version a.now s it) tt (desk_legible g.P.Places.version s sound))
 
 pub returns : goal.returns
 returns g c =

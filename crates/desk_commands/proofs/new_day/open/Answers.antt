@@ -6,11 +6,9 @@ use Rattle.office_core.specs.Words.{is_empty}
 use Rattle.office_core.specs.declared.command.Command.TheVariants as command
 use Rattle.desk_core.specs.declared.refusal.Refusal.TheVariants.{StillIssued}
 use Rattle.state_encoding.specs.OfficeRows.{tables}
-use Rattle.state_encoding.proofs.LegibleRows.{desk_legible}
-use Rattle.office_tables.proofs.CallEnds.{same_fault}
 use Rattle.office_tables.proofs.Calls.{office_of}
 use Rattle.desk_commands.proofs.DayOpened.{refuses_day}
-use Rattle.refinement.proofs.Doings.{does_after, does_not, does_refuse}
+use Rattle.refinement.proofs.Doings.{desk_passed, does_refuse, does_then}
 use Rattle.desk_commands.proofs.StillOut.{out_or_none}
 use Rattle.desk_commands.proofs.new_day.open.Goals as goal
 
@@ -26,14 +24,7 @@ pub issued-requires : goal.issued-requires
 issued-requires g c = record { inside = office_of g.P.Places.version (state g.S.Store c.args.conn.now) c.requires.inside }
 
 pub returns-in_err-loans : goal.returns-in_err-loans
-returns-in_err-loans g c =
-    let a = state g.S.Store c.args.conn.now in
-    let b = state g.S.Store c.issued.new.conn in
-    let told = c.in_err-loans.ensures.tells in
-    let e = c.from_residual.ensures in
-    does_not g.P.Places.represents g.P.Places.version _ (command.OpenDay c.args.day) a b c.from_residual.result c.in_err-loans.field-0.0
-    (same_fault c.from_residual.result c.in_err-loans.field-0.0 e.0 e.1) told.cut
-    (λ s sound so it clean free. told.faults tt (tables g.P.Places.version s).desk it.desk tt (desk_legible g.P.Places.version s sound) clean free)
+returns-in_err-loans g c = let told = c.in_err-loans.ensures.tells in desk_passed _ c.from_residual.ensures told.cut told.faults
 
 pub returns-then-not-are_none : goal.returns-then-not-are_none
 returns-then-not-are_none g c =
@@ -49,16 +40,12 @@ returns-then-not-are_none g c =
 
 pub returns : goal.returns
 returns g c =
-    let a = state g.S.Store c.args.conn.now in
-    let b = state g.S.Store c.issued.new.conn in
-    let d = state g.S.Store c.begin_day.new.conn in
     let told = c.in_ok-loans.ensures.tells in
     let none = c.if-not-are_none.false in
     let empty = c.are_none.ensures in
-    does_after g.P.Places.represents g.P.Places.version _ (command.OpenDay c.args.day) _ a b d c.begin_day.result told.looks
+    does_then told.looks c.begin_day.ensures
     (λ clean s sound so it. (
       so,
       let e : not (list_any (is_out s) (containers s)) ≡ true =
           sym (out_or_none s sound g.P.Places.version) ∙ ap is_empty (sym (told.answers clean tt (tables g.P.Places.version s).desk it.desk)) ∙ ap is_empty (sym c.deref.ensures.value) ∙ sym empty ∙ none in not_true _ e,
     ))
-    c.begin_day.ensures

@@ -1,23 +1,18 @@
-use Rattle.std.proofs.Common.{Err, refl}
+use Rattle.std.proofs.Common.{refl}
 use Rattle.sqlite.specs.Held.{state}
-use Rattle.office_core.specs.declared.command.Command.TheVariants as command
 use Rattle.office_tables.proofs.Calls.{looks_nowhere, office_of}
-use Rattle.refinement.proofs.CommandSteps.{refuses}
-use Rattle.refinement.proofs.Doings.{does_after, does_refuse}
+use Rattle.refinement.proofs.Doings.{does_then, is_refused}
 use Rattle.desk_commands.proofs.Ordered.{may_order, must_not}
 use Rattle.desk_commands.proofs.order_placement.decide.Goals as goal
 
 pub returns-in-Ok : goal.returns-in-Ok
 returns-in-Ok g c =
     let a = state g.S.Store c.args.conn.now in
-    let d = state g.S.Store c.append.new.conn in
-    does_after g.P.Places.represents g.P.Places.version _ (command.Order c.args.ticket c.args.container) _ a a d c.append.result (looks_nowhere a (office_of g.P.Places.version a c.requires.inside))
+    does_then (looks_nowhere a (office_of g.P.Places.version a c.requires.inside)) c.append.ensures
     (λ clean s sound so it. may_order g.P.Places.version s sound c.args.ticket c.args.container c.args.card.now c.args.today c.args.limits.now c.args.is_open so.2 so.0 so.1 so.3 c.ask.result c.ask.ensures _ refl c.in-Ok.ensures)
-    c.append.ensures
 
 pub returns-in-Err : goal.returns-in-Err
 returns-in-Err g c =
     let a = state g.S.Store c.args.conn.now in
-    does_refuse g.P.Places.represents g.P.Places.version _ (command.Order c.args.ticket c.args.container) a a (Err c.in-Err.why) (looks_nowhere a (office_of g.P.Places.version a c.requires.inside))
-    (λ clean s sound so it. refuses g.P.Places.represents g.P.Places.version s (command.Order c.args.ticket c.args.container) a.now c.in-Err.why
-    (must_not g.P.Places.version s sound c.args.ticket c.args.container c.args.card.now c.args.today c.args.limits.now c.args.is_open so.2 so.0 so.1 so.3 c.ask.result c.ask.ensures c.in-Err.why c.in-Err.ensures))
+    is_refused (looks_nowhere a (office_of g.P.Places.version a c.requires.inside))
+    (λ clean s sound so it. must_not g.P.Places.version s sound c.args.ticket c.args.container c.args.card.now c.args.today c.args.limits.now c.args.is_open so.2 so.0 so.1 so.3 c.ask.result c.ask.ensures c.in-Err.why c.in-Err.ensures)

@@ -1,22 +1,13 @@
 use Rattle.std.proofs.Common.{sym, ◌∙◌}
 use Rattle.sqlite.specs.Held.{state}
-use Rattle.office_core.specs.declared.command.Command.TheVariants as command
-use Rattle.office_tables.proofs.CallEnds.{same_fault}
 use Rattle.office_tables.proofs.Calls.{still}
-use Rattle.refinement.proofs.Doings.{does_after, does_not}
+use Rattle.refinement.proofs.Doings.{does_then, office_passed}
 use Rattle.refinement.proofs.Judged.{judged_now}
 use Rattle.desk_commands.proofs.Ordered.{number_of_open, open_with_number}
 use Rattle.desk_commands.proofs.order_placement.order_by.Goals as goal
 
 pub returns-in_err-is_open : goal.returns-in_err-is_open
-returns-in_err-is_open g c =
-    let a = state g.S.Store c.args.conn.now in
-    let b = state g.S.Store c.is_open_to.new.conn in
-    let told = c.in_err-is_open.ensures.tells in
-    let e = c.from_residual.ensures in
-    does_not g.P.Places.represents g.P.Places.version _ (command.Order c.args.ticket c.args.container) a b c.from_residual.result c.in_err-is_open.field-0.0
-    (same_fault c.from_residual.result c.in_err-is_open.field-0.0 e.0 e.1) told.cut
-    (λ s sound so it clean free. told.faults tt s it tt (judged_now s sound) clean free)
+returns-in_err-is_open g c = let told = c.in_err-is_open.ensures.tells in office_passed _ c.from_residual.ensures told.cut told.faults
 
 pub decide-requires : goal.decide-requires
 decide-requires g c =
@@ -30,10 +21,6 @@ decide-requires g c =
 
 pub returns : goal.returns
 returns g c =
-    let a = state g.S.Store c.args.conn.now in
-    let b = state g.S.Store c.is_open_to.new.conn in
-    let d = state g.S.Store c.decide.new.conn in
     let told = c.in_ok-is_open.ensures.tells in
-    does_after g.P.Places.represents g.P.Places.version _ (command.Order c.args.ticket c.args.container) _ a b d c.decide.result told.looks
+    does_then told.looks c.decide.ensures
     (λ clean s sound so it. (so.0, so.1, so.2, c.is_open_with_number.ensures ∙ open_with_number s sound c.args.ticket c.args.container c.in_ok-is_open.is_open (told.answers clean tt s it (judged_now s sound) so.0)))
-    c.decide.ensures

@@ -1,10 +1,8 @@
 use Rattle.sqlite.specs.Held.{state}
-use Rattle.office_core.specs.declared.command.Command.TheVariants as command
 use Rattle.state_encoding.specs.OfficeRows.{tables}
 use Rattle.state_encoding.proofs.LegibleRows.{desk_legible}
-use Rattle.office_tables.proofs.CallEnds.{same_fault}
 use Rattle.office_tables.proofs.Calls.{office_of}
-use Rattle.refinement.proofs.Doings.{does_not}
+use Rattle.refinement.proofs.Doings.{does_pass}
 use Rattle.desk_commands.proofs.Permitted.{may_have, permits}
 use Rattle.desk_commands.proofs.permits.give.Goals as goal
 
@@ -18,12 +16,9 @@ grant-requires g c = record {
 pub returns-in_err-grant : goal.returns-in_err-grant
 returns-in_err-grant g c =
     let a = state g.S.Store c.args.conn.now in
-    let b = state g.S.Store c.grant.new.conn in
     let made = c.in_err-grant.ensures.makes in
-    let e = c.from_residual.ensures in
-    does_not g.P.Places.represents g.P.Places.version _ (command.Permit c.args.ticket c.args.unit c.args.asked) a b c.from_residual.result c.in_err-grant.field-0.0
-    (same_fault c.from_residual.result c.in_err-grant.field-0.0 e.0 e.1) made.cut
-    (λ s sound so it clean free. made.faults tt (tables g.P.Places.version s).desk it.desk (may_have g.P.Places.version s sound c.args.ticket c.args.unit c.args.asked c.args.until so g.P.Places.represents a.now it) (desk_legible g.P.Places.version s sound) clean free)
+    does_pass _ c.from_residual.ensures made.cut
+    (λ s sound so it. made.faults tt (tables g.P.Places.version s).desk it.desk (may_have g.P.Places.version s sound c.args.ticket c.args.unit c.args.asked c.args.until so g.P.Places.represents a.now it) (desk_legible g.P.Places.version s sound))
 
 pub returns : goal.returns
 returns g c =

@@ -1,14 +1,9 @@
-use Rattle.std.proofs.Common.{Err, sym, ◌∙◌}
-use Rattle.desk_core.specs.declared.refusal.Refusal.TheVariants.{UnknownTicket}
+use Rattle.std.proofs.Common.{sym, ◌∙◌}
 use Rattle.sqlite.specs.Held.{state}
-use Rattle.office_core.specs.declared.command.Command.TheVariants as command
 use Rattle.state_encoding.specs.OfficeRows.{tables}
-use Rattle.state_encoding.proofs.LegibleRows.{desk_legible}
-use Rattle.office_tables.proofs.CallEnds.{same_fault}
 use Rattle.office_tables.proofs.Calls.{office_of}
-use Rattle.refinement.proofs.CommandSteps.{refuses}
 use Rattle.refinement.proofs.CardsShown.{known_ticket}
-use Rattle.refinement.proofs.Doings.{does_after, does_not, does_refuse}
+use Rattle.refinement.proofs.Doings.{desk_passed, does_then, is_refused}
 use Rattle.desk_commands.proofs.Permitted.{no_ticket}
 use Rattle.desk_commands.proofs.permits.permit.Goals as goal
 
@@ -16,31 +11,16 @@ pub is_registered-requires : goal.is_registered-requires
 is_registered-requires g c = record { inside = office_of g.P.Places.version (state g.S.Store c.args.conn.now) c.requires.inside }
 
 pub returns-in_err-known : goal.returns-in_err-known
-returns-in_err-known g c =
-    let a = state g.S.Store c.args.conn.now in
-    let b = state g.S.Store c.is_registered.new.conn in
-    let told = c.in_err-known.ensures.tells in
-    let e = c.from_residual.ensures in
-    does_not g.P.Places.represents g.P.Places.version _ (command.Permit c.args.ticket c.args.unit c.args.until) a b c.from_residual.result c.in_err-known.field-0.0
-    (same_fault c.from_residual.result c.in_err-known.field-0.0 e.0 e.1) told.cut
-    (λ s sound so it clean free. told.faults tt (tables g.P.Places.version s).desk it.desk tt (desk_legible g.P.Places.version s sound) clean free)
+returns-in_err-known g c = let told = c.in_err-known.ensures.tells in desk_passed _ c.from_residual.ensures told.cut told.faults
 
 pub returns-then-not-known : goal.returns-then-not-known
 returns-then-not-known g c =
-    let a = state g.S.Store c.args.conn.now in
-    let b = state g.S.Store c.is_registered.new.conn in
     let told = c.in_ok-known.ensures.tells in
-    does_refuse g.P.Places.represents g.P.Places.version _ (command.Permit c.args.ticket c.args.unit c.args.until) a b (Err UnknownTicket) told.looks
-    (λ clean s sound so it. refuses g.P.Places.represents g.P.Places.version s (command.Permit c.args.ticket c.args.unit c.args.until) b.now UnknownTicket
-    (no_ticket s c.args.ticket c.args.unit c.args.until
-    (sym (known_ticket g.P.Places.version s sound c.args.ticket) ∙ sym (told.answers clean tt (tables g.P.Places.version s).desk it.desk) ∙ c.if-not-known.true)))
+    is_refused told.looks (λ clean s sound so it. no_ticket s c.args.ticket c.args.unit c.args.until
+    (sym (known_ticket g.P.Places.version s sound c.args.ticket) ∙ sym (told.answers clean tt (tables g.P.Places.version s).desk it.desk) ∙ c.if-not-known.true))
 
 pub returns : goal.returns
 returns g c =
-    let a = state g.S.Store c.args.conn.now in
-    let b = state g.S.Store c.is_registered.new.conn in
-    let d = state g.S.Store c.give_for.new.conn in
     let told = c.in_ok-known.ensures.tells in
-    does_after g.P.Places.represents g.P.Places.version _ (command.Permit c.args.ticket c.args.unit c.args.until) _ a b d c.give_for.result told.looks
+    does_then told.looks c.give_for.ensures
     (λ clean s sound so it. sym (known_ticket g.P.Places.version s sound c.args.ticket) ∙ sym (told.answers clean tt (tables g.P.Places.version s).desk it.desk) ∙ c.if-not-known.false)
-    c.give_for.ensures

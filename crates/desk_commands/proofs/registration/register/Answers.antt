@@ -3,11 +3,9 @@ use Rattle.std.specs.Prelude.{⊤}
 use Rattle.sqlite.specs.Held.{state}
 use Rattle.office_core.specs.declared.command.Command.TheVariants as command
 use Rattle.state_encoding.specs.OfficeRows.{tables}
-use Rattle.state_encoding.proofs.LegibleRows.{desk_legible}
-use Rattle.office_tables.proofs.CallEnds.{same_fault}
 use Rattle.office_tables.proofs.Calls.{office_of}
 use Rattle.refinement.specs.CommandSteps.{CarriesOut}
-use Rattle.refinement.proofs.Doings.{does_not}
+use Rattle.refinement.proofs.Doings.{desk_passed}
 use Rattle.desk_commands.proofs.Registered.{reply_for, registers}
 use Rattle.desk_commands.proofs.registration.register.Goals as goal
 
@@ -15,14 +13,7 @@ pub add_reader-requires : goal.add_reader-requires
 add_reader-requires g c = record { inside = office_of g.P.Places.version (state g.S.Store c.args.conn.now) c.requires.inside }
 
 pub returns-in_err-ticket : goal.returns-in_err-ticket
-returns-in_err-ticket g c =
-    let a = state g.S.Store c.args.conn.now in
-    let b = state g.S.Store c.add_reader.new.conn in
-    let made = c.in_err-ticket.ensures.makes in
-    let e = c.from_residual.ensures in
-    does_not g.P.Places.represents g.P.Places.version (λ _. ⊤) (command.Register c.args.name.now c.args.until) a b c.from_residual.result c.in_err-ticket.field-0.0
-    (same_fault c.from_residual.result c.in_err-ticket.field-0.0 e.0 e.1) made.cut
-    (λ s sound so it clean free. made.faults tt (tables g.P.Places.version s).desk it.desk tt (desk_legible g.P.Places.version s sound) clean free)
+returns-in_err-ticket g c = let made = c.in_err-ticket.ensures.makes in desk_passed _ c.from_residual.ensures made.cut made.faults
 
 pub returns-in_default : goal.returns-in_default
 returns-in_default g c =

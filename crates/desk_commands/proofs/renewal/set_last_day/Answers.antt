@@ -1,10 +1,7 @@
 use Rattle.sqlite.specs.Held.{state}
-use Rattle.office_core.specs.declared.command.Command.TheVariants as command
 use Rattle.state_encoding.specs.OfficeRows.{tables}
-use Rattle.state_encoding.proofs.LegibleRows.{desk_legible}
-use Rattle.office_tables.proofs.CallEnds.{same_fault}
 use Rattle.office_tables.proofs.Calls.{office_of}
-use Rattle.refinement.proofs.Doings.{does_not}
+use Rattle.refinement.proofs.Doings.{desk_passed}
 use Rattle.desk_commands.proofs.Renewed.{renews}
 use Rattle.desk_commands.proofs.renewal.set_last_day.Goals as goal
 
@@ -12,14 +9,7 @@ pub renew-requires : goal.renew-requires
 renew-requires g c = record { inside = office_of g.P.Places.version (state g.S.Store c.args.conn.now) c.requires.inside; small = c.requires.small }
 
 pub returns-in_err-renew : goal.returns-in_err-renew
-returns-in_err-renew g c =
-    let a = state g.S.Store c.args.conn.now in
-    let b = state g.S.Store c.renew.new.conn in
-    let made = c.in_err-renew.ensures.makes in
-    let e = c.from_residual.ensures in
-    does_not g.P.Places.represents g.P.Places.version _ (command.Renew c.args.ticket c.args.until) a b c.from_residual.result c.in_err-renew.field-0.0
-    (same_fault c.from_residual.result c.in_err-renew.field-0.0 e.0 e.1) made.cut
-    (λ s sound so it clean free. made.faults tt (tables g.P.Places.version s).desk it.desk tt (desk_legible g.P.Places.version s sound) clean free)
+returns-in_err-renew g c = let made = c.in_err-renew.ensures.makes in desk_passed _ c.from_residual.ensures made.cut made.faults
 
 pub returns : goal.returns
 returns g c =

@@ -1,11 +1,9 @@
 use Rattle.sqlite.specs.Held.{state}
 use Rattle.office_core.specs.declared.command.Command.TheVariants as command
 use Rattle.state_encoding.specs.OfficeRows.{tables}
-use Rattle.state_encoding.proofs.LegibleRows.{desk_legible}
-use Rattle.office_tables.proofs.CallEnds.{same_fault}
 use Rattle.office_tables.proofs.Calls.{office_of}
 use Rattle.refinement.specs.Gate.{OthersAreOpen}
-use Rattle.refinement.proofs.Doings.{does_not}
+use Rattle.refinement.proofs.Doings.{desk_passed}
 use Rattle.refinement.proofs.Passing.{passed_where}
 use Rattle.desk_commands.proofs.Revoked.{gate_is_left, judged, revokes_near, represents}
 use Rattle.desk_commands.proofs.revocation.take_back.Goals as goal
@@ -20,14 +18,7 @@ revoke-requires g c = record {
 }
 
 pub returns-in_err-revoke : goal.returns-in_err-revoke
-returns-in_err-revoke g c =
-    let a = state g.S.Store c.args.conn.now in
-    let b = state g.S.Store c.revoke.new.conn in
-    let made = c.in_err-revoke.ensures.makes in
-    let e = c.from_residual.ensures in
-    does_not g.P.Places.represents g.P.Places.version _ (command.Revoke c.args.ticket c.args.unit) a b c.from_residual.result c.in_err-revoke.field-0.0
-    (same_fault c.from_residual.result c.in_err-revoke.field-0.0 e.0 e.1) made.cut
-    (λ s sound so it clean free. made.faults tt (tables g.P.Places.version s).desk it.desk tt (desk_legible g.P.Places.version s sound) clean free)
+returns-in_err-revoke g c = let made = c.in_err-revoke.ensures.makes in desk_passed _ c.from_residual.ensures made.cut made.faults
 
 pub returns : goal.returns
 returns g c =

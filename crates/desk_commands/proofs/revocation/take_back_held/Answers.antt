@@ -1,16 +1,11 @@
-use Rattle.std.proofs.Common.{◌≡◌, true, false, not, Err, sym, ap, subst, ◌∙◌}
+use Rattle.std.proofs.Common.{◌≡◌, true, false, not, sym, ap, subst, ◌∙◌}
 use Rattle.std.specs.Prelude.{is_some}
-use Rattle.desk_core.specs.declared.refusal.Refusal.TheVariants.{NoPermit}
 use Rattle.desk_store.specs.Permits.{by_unit, permits_of}
 use Rattle.sqlite.specs.Held.{state}
-use Rattle.office_core.specs.declared.command.Command.TheVariants as command
 use Rattle.state_encoding.specs.OfficeRows.{tables}
-use Rattle.state_encoding.proofs.LegibleRows.{desk_legible}
-use Rattle.office_tables.proofs.CallEnds.{same_fault}
 use Rattle.office_tables.proofs.Calls.{office_of}
 use Rattle.office_tables.specs.Order.{IsOrdered}
-use Rattle.refinement.proofs.CommandSteps.{refuses}
-use Rattle.refinement.proofs.Doings.{does_after, does_not, does_refuse}
+use Rattle.refinement.proofs.Doings.{desk_passed, does_then, is_refused}
 use Rattle.desk_commands.proofs.Permitted.{has_read}
 use Rattle.desk_commands.proofs.Revoked.{no_permit}
 use Rattle.desk_commands.proofs.revocation.take_back_held.Goals as goal
@@ -19,34 +14,20 @@ pub permits-requires : goal.permits-requires
 permits-requires g c = record { inside = office_of g.P.Places.version (state g.S.Store c.args.conn.now) c.requires.inside }
 
 pub returns-in_err-held : goal.returns-in_err-held
-returns-in_err-held g c =
-    let a = state g.S.Store c.args.conn.now in
-    let b = state g.S.Store c.permits.new.conn in
-    let told = c.in_err-held.ensures.tells in
-    let e = c.from_residual.ensures in
-    does_not g.P.Places.represents g.P.Places.version _ (command.Revoke c.args.ticket c.args.unit) a b c.from_residual.result c.in_err-held.field-0.0
-    (same_fault c.from_residual.result c.in_err-held.field-0.0 e.0 e.1) told.cut
-    (λ s sound so it clean free. told.faults tt (tables g.P.Places.version s).desk it.desk tt (desk_legible g.P.Places.version s sound) clean free)
+returns-in_err-held g c = let told = c.in_err-held.ensures.tells in desk_passed _ c.from_residual.ensures told.cut told.faults
 
 pub returns-then-is_none : goal.returns-then-is_none
 returns-then-is_none g c =
-    let a = state g.S.Store c.args.conn.now in
-    let b = state g.S.Store c.permits.new.conn in
     let told = c.in_ok-held.ensures.tells in
     let none : is_some c.last_day-until.result ≡ false = c.is_none.ensures ∙ ap not c.if-is_none.true in
-    does_refuse g.P.Places.represents g.P.Places.version _ (command.Revoke c.args.ticket c.args.unit) a b (Err NoPermit) told.looks
-    (λ clean s sound so it. refuses g.P.Places.represents g.P.Places.version s (command.Revoke c.args.ticket c.args.unit) b.now NoPermit
-    (no_permit s c.args.ticket c.args.unit so.1 so.2
-    (sym (has_read g.P.Places.version s sound c.args.ticket c.args.unit c.deref.result.now (subst (IsOrdered by_unit (permits_of c.args.ticket (tables g.P.Places.version s).desk)) (sym c.deref.ensures.value) (told.answers clean tt (tables g.P.Places.version s).desk it.desk))) ∙ ap is_some (sym c.last_day-until.ensures) ∙ none)))
+    is_refused told.looks (λ clean s sound so it. no_permit s c.args.ticket c.args.unit so.1 so.2
+    (sym (has_read g.P.Places.version s sound c.args.ticket c.args.unit c.deref.result.now (subst (IsOrdered by_unit (permits_of c.args.ticket (tables g.P.Places.version s).desk)) (sym c.deref.ensures.value) (told.answers clean tt (tables g.P.Places.version s).desk it.desk))) ∙ ap is_some (sym c.last_day-until.ensures) ∙ none))
 
 pub returns : goal.returns
 returns g c =
-    let a = state g.S.Store c.args.conn.now in
-    let b = state g.S.Store c.permits.new.conn in
-    let d = state g.S.Store c.take_back.new.conn in
     let told = c.in_ok-held.ensures.tells in
     let some : is_some c.last_day-until.result ≡ true = c.is_none.ensures ∙ ap not c.if-is_none.false in
-    does_after g.P.Places.represents g.P.Places.version _ (command.Revoke c.args.ticket c.args.unit) _ a b d c.take_back.result told.looks
+    does_then told.looks c.take_back.ensures
     (λ clean s sound so it. (
       so.0,
       record {
@@ -55,4 +36,3 @@ returns g c =
         held = sym (has_read g.P.Places.version s sound c.args.ticket c.args.unit c.deref.result.now (subst (IsOrdered by_unit (permits_of c.args.ticket (tables g.P.Places.version s).desk)) (sym c.deref.ensures.value) (told.answers clean tt (tables g.P.Places.version s).desk it.desk))) ∙ ap is_some (sym c.last_day-until.ensures) ∙ some;
       },
     ))
-    c.take_back.ensures

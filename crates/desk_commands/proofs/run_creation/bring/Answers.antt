@@ -5,15 +5,13 @@ use Rattle.isad_core.specs.Limits.{IsNumber}
 use Rattle.desk_core.specs.declared.reader.Place.TheVariants.{Desk}
 use Rattle.desk_store.specs.Runs.{TakesEachOnce, next_run, with_run}
 use Rattle.desk_store.specs.Representation.{RepresentsDesk}
-use Rattle.office_core.specs.declared.command.Command.TheVariants as command
 use Rattle.state_encoding.specs.OfficeRows.{tables}
 use Rattle.state_encoding.proofs.LegibleRows.{desk_legible}
 use Rattle.office_tables.specs.Schema as schema
-use Rattle.office_tables.proofs.CallEnds.{same_fault}
 use Rattle.office_tables.proofs.Calls.{cut_then, early, goes_then, office_of, still_office}
 use Rattle.office_tables.proofs.Causes.{cause_then, still_unlimited}
 use Rattle.office_tables.proofs.Touching.{touched_again, touched_wider}
-use Rattle.refinement.proofs.Doings.{does_not}
+use Rattle.refinement.proofs.Doings.{does_pass}
 use Rattle.desk_commands.specs.ContainerMoves.{with_all_placed}
 use Rattle.desk_commands.proofs.Fetched.{taken_once}
 use Rattle.desk_commands.proofs.RunMade.{legible_run, runs_out, runs_with, small_containers, today_legible}
@@ -30,14 +28,9 @@ move_all-requires g c =
 
 pub returns-in_err-run : goal.returns-in_err-run
 returns-in_err-run g c =
-    let a = state g.S.Store c.args.conn.now in
-    let b = state g.S.Store c.record_run.new.conn in
     let made = c.in_err-run.ensures.makes in
-    let e = c.from_residual.ensures in
-    does_not g.P.Places.represents g.P.Places.version _ command.Run a b c.from_residual.result c.in_err-run.field-0.0
-    (same_fault c.from_residual.result c.in_err-run.field-0.0 e.0 e.1) made.cut
-    (λ s sound so it clean free. made.faults tt (tables g.P.Places.version s).desk it.desk
-    tt (desk_legible g.P.Places.version s sound, subst TakesEachOnce (sym so.1) (taken_once g.P.Places.version s sound)) clean free)
+    does_pass _ c.from_residual.ensures made.cut
+    (λ s sound so it. made.faults tt (tables g.P.Places.version s).desk it.desk tt (desk_legible g.P.Places.version s sound, subst TakesEachOnce (sym so.1) (taken_once g.P.Places.version s sound)))
 
 pub returns-in_default : goal.returns-in_default
 returns-in_default g c =
@@ -59,10 +52,7 @@ returns-in_err-move_all g c =
     let d = state g.S.Store c.move_all.new.conn in
     let made = c.in_ok-run.ensures.makes in
     let moved = c.in_err-move_all.ensures.makes in
-    let e = c.from_residual-in_err-move_all.ensures in
-    does_not g.P.Places.represents v _ command.Run a d c.from_residual-in_err-move_all.result c.in_err-move_all.field-0.0
-    (same_fault c.from_residual-in_err-move_all.result c.in_err-move_all.field-0.0 e.0 e.1) (cut_then a b d made.goes.on moved.cut)
-    (λ s sound so it clean free.
+    does_pass _ c.from_residual-in_err-move_all.ensures (cut_then a b d made.goes.on moved.cut) (λ s sound so it clean free.
     let desk = (tables v s).desk in
     let at_b = early b d _ moved.cut.crash clean in
     cause_then a b d made.goes.on at_b _

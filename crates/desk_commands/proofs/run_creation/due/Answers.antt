@@ -3,40 +3,23 @@ use Rattle.std.specs.Prelude.{⊤}
 use Rattle.std.proofs.lemmas.List.{append-nil, take_all}
 use Rattle.std.proofs.lemmas.List.Elements.{filter_more}
 use Rattle.sqlite.specs.Held.{state}
-use Rattle.desk_store.proofs.ToldCalls.{ends_full, ends_not, ends_well, shown_on}
+use Rattle.desk_store.proofs.ToldCalls.{ends_well, shown_on}
 use Rattle.desk_store.specs.declared.holdings.FirstOrder.{FirstOrder}
 use Rattle.office_core.specs.State.{opens}
-use Rattle.office_tables.proofs.CallEnds.{same_fault}
 use Rattle.office_tables.proofs.Calls.{early, looks_then, still}
-use Rattle.office_tables.specs.declared.fault.StoreFault.TheVariants.{Memory}
 use Rattle.refinement.specs.AccessConditions.{CanBeJudged, RepresentsWhole}
-use Rattle.desk_commands.specs.RunCreation.{due_of}
+use Rattle.refinement.proofs.Doings.{tells_full, tells_passed_later}
 use Rattle.desk_commands.proofs.Fetched.{enough, one_more_fits}
 use Rattle.desk_commands.proofs.run_creation.due.Goals.{then-branch+in_ok-push, else-branch}
 use Rattle.desk_commands.proofs.run_creation.due.Goals as goal
 
 pub returns-in_err-is_open_to : goal.returns-in_err-is_open_to
 returns-in_err-is_open_to g c =
-    let v = g.P.Places.version in
-    let e = c.from_residual.ensures in
     let told = c.in_err-is_open_to.ensures.tells in
-    record {
-      tells = ends_not (RepresentsWhole g.P.Places.represents v) CanBeJudged (λ _. ⊤) g.S.Store c.args.conn.now c.loop-order.conn c.is_open_to.new.conn (λ _ s due. CanBeJudged s → c.args.today ≡ s.day → due.items ≡ due_of s c.args.most c.args.waiting.now)
-          c.loop-order.invariant.looks c.in_err-is_open_to.field-0.0 told.cut
-          (λ s it may judged clean free. told.faults tt s it tt judged clean free)
-          c.from_residual.result (same_fault c.from_residual.result c.in_err-is_open_to.field-0.0 e.0 e.1);
-    }
+    record { tells = tells_passed_later _ c.from_residual.ensures c.loop-order.invariant.looks told.cut (λ beside s it may judged. told.faults tt s it tt judged) }
 
 pub returns-in_err-push : goal.returns-in_err-push
-returns-in_err-push g c =
-    let a = state g.S.Store c.args.conn.now in
-    let b = state g.S.Store c.loop-order.conn in
-    let d = state g.S.Store c.is_open_to.new.conn in
-    let e = c.from_residual-in_err-push.ensures in
-    record {
-      tells = ends_full (RepresentsWhole g.P.Places.represents g.P.Places.version) CanBeJudged (λ _. ⊤) g.S.Store c.args.conn.now c.args.conn.now c.is_open_to.new.conn _ (looks_then a b d c.loop-order.invariant.looks c.in_ok-is_open_to.ensures.tells.looks)
-          c.from_residual-in_err-push.result (same_fault c.from_residual-in_err-push.result Memory e.0 e.1);
-    }
+returns-in_err-push g c = record { tells = tells_full c.from_residual-in_err-push.ensures (looks_then _ _ _ c.loop-order.invariant.looks c.in_ok-is_open_to.ensures.tells.looks) }
 
 pub loop-order-preserved : goal.loop-order-preserved
 loop-order-preserved g c =

@@ -6,12 +6,9 @@ use Rattle.desk_core.specs.declared.refusal.Refusal.TheVariants.{NothingToMove}
 use Rattle.office_core.specs.Words.{is_empty}
 use Rattle.office_core.specs.declared.command.Command.TheVariants as command
 use Rattle.state_encoding.specs.OfficeRows.{tables}
-use Rattle.state_encoding.proofs.LegibleRows.{desk_legible}
-use Rattle.office_tables.proofs.CallEnds.{same_fault}
-use Rattle.office_tables.proofs.Calls.{cut_then, early, looks_then, office_of, still}
-use Rattle.office_tables.proofs.Causes.{cause_then, still_unlimited}
+use Rattle.office_tables.proofs.Calls.{early, looks_then, office_of, still}
 use Rattle.refinement.specs.Representation.{RepresentsState}
-use Rattle.refinement.proofs.Doings.{does_after, does_not, does_refuse}
+use Rattle.refinement.proofs.Doings.{after_look, desk_passed, does_refuse, does_then, office_passed}
 use Rattle.refinement.proofs.Judged.{judged_now}
 use Rattle.desk_commands.specs.RunCreation.{due_of, taken_by}
 use Rattle.desk_commands.proofs.RunMade.{nothing_due}
@@ -35,29 +32,12 @@ bring_due-requires g c =
     record { inside = still v b d (still v a b c.requires.inside c.in_ok-waiting.ensures.tells.looks.goes) c.in_ok-due.ensures.tells.looks.goes }
 
 pub returns-in_err-waiting : goal.returns-in_err-waiting
-returns-in_err-waiting g c =
-    let a = state g.S.Store c.args.conn.now in
-    let b = state g.S.Store c.candidates.new.conn in
-    let told = c.in_err-waiting.ensures.tells in
-    let e = c.from_residual.ensures in
-    does_not g.P.Places.represents g.P.Places.version _ command.Run a b c.from_residual.result c.in_err-waiting.field-0.0
-    (same_fault c.from_residual.result c.in_err-waiting.field-0.0 e.0 e.1) told.cut
-    (λ s sound so it clean free. told.faults tt (tables g.P.Places.version s).desk it.desk tt (desk_legible g.P.Places.version s sound) clean free)
+returns-in_err-waiting g c = let told = c.in_err-waiting.ensures.tells in desk_passed _ c.from_residual.ensures told.cut told.faults
 
 pub returns-in_err-due : goal.returns-in_err-due
 returns-in_err-due g c =
-    let a = state g.S.Store c.args.conn.now in
-    let b = state g.S.Store c.candidates.new.conn in
-    let d = state g.S.Store c.due.new.conn in
-    let first = c.in_ok-waiting.ensures.tells.looks in
     let told = c.in_err-due.ensures.tells in
-    let e = c.from_residual-in_err-due.ensures in
-    does_not g.P.Places.represents g.P.Places.version _ command.Run a d c.from_residual-in_err-due.result c.in_err-due.field-0.0
-    (same_fault c.from_residual-in_err-due.result c.in_err-due.field-0.0 e.0 e.1) (cut_then a b d first.goes.on told.cut)
-    (λ s sound so it clean free.
-    let at_b = early b d _ told.cut.crash clean in
-    cause_then a b d first.goes.on at_b _
-    (told.faults tt s (subst (λ (db : Database). RepresentsState g.P.Places.represents g.P.Places.version db s) (sym (first.same at_b)) it) tt (judged_now s sound) clean (still_unlimited a b first.goes.on free)))
+    after_look c.in_ok-waiting.ensures.tells.looks (office_passed _ c.from_residual-in_err-due.ensures told.cut told.faults)
 
 pub returns-then-are_none : goal.returns-then-are_none
 returns-then-are_none g c =
@@ -83,10 +63,9 @@ returns g c =
     let a = state g.S.Store c.args.conn.now in
     let b = state g.S.Store c.candidates.new.conn in
     let d = state g.S.Store c.due.new.conn in
-    let f = state g.S.Store c.bring_due.new.conn in
     let first = c.in_ok-waiting.ensures.tells in
     let told = c.in_ok-due.ensures.tells in
-    does_after g.P.Places.represents v _ command.Run _ a d f c.bring_due.result (looks_then a b d first.looks told.looks)
+    does_then (looks_then a b d first.looks told.looks) c.bring_due.ensures
     (λ clean s sound so it.
     let at_b = early b d _ told.looks.goes.on.crash clean in
     let shown_b = subst (λ (db : Database). RepresentsState g.P.Places.represents v db s) (sym (first.looks.same at_b)) it in
@@ -95,4 +74,3 @@ returns g c =
     ∙ ap (λ (l : Limits). due_of s l.run c.deref.result.now) so.1
     ∙ ap (due_of s s.settings.run_size) (c.deref.ensures.value ∙ first.answers at_b tt (tables v s).desk it.desk) in
     (so.0, c.deref-3.ensures.value ∙ is, ap is_empty (c.deref-3.ensures.value ∙ sym c.deref-2.ensures.value) ∙ sym c.are_none.ensures ∙ c.if-are_none.false))
-    c.bring_due.ensures

@@ -1,10 +1,8 @@
 use Rattle.sqlite.specs.Held.{state}
-use Rattle.office_core.specs.declared.command.Command.TheVariants as command
 use Rattle.state_encoding.specs.OfficeRows.{tables}
 use Rattle.state_encoding.proofs.LegibleRows.{desk_legible}
-use Rattle.office_tables.proofs.CallEnds.{same_fault}
 use Rattle.office_tables.proofs.Calls.{office_of}
-use Rattle.refinement.proofs.Doings.{does_not}
+use Rattle.refinement.proofs.Doings.{does_pass}
 use Rattle.desk_commands.proofs.Seated.{sits, may_take}
 use Rattle.desk_commands.proofs.seats.take.Goals as goal
 
@@ -13,13 +11,9 @@ set_seat-requires g c = record { inside = office_of g.P.Places.version (state g.
 
 pub returns-in_err-set_seat : goal.returns-in_err-set_seat
 returns-in_err-set_seat g c =
-    let a = state g.S.Store c.args.conn.now in
-    let b = state g.S.Store c.set_seat.new.conn in
     let made = c.in_err-set_seat.ensures.makes in
-    let e = c.from_residual.ensures in
-    does_not g.P.Places.represents g.P.Places.version _ (command.TakeSeat c.args.ticket) a b c.from_residual.result c.in_err-set_seat.field-0.0
-    (same_fault c.from_residual.result c.in_err-set_seat.field-0.0 e.0 e.1) made.cut
-    (λ s sound so it clean free. made.faults tt (tables g.P.Places.version s).desk it.desk (may_take s sound c.args.ticket g.P.Places.version c.args.seat so) (desk_legible g.P.Places.version s sound) clean free)
+    does_pass _ c.from_residual.ensures made.cut
+    (λ s sound so it. made.faults tt (tables g.P.Places.version s).desk it.desk (may_take s sound c.args.ticket g.P.Places.version c.args.seat so) (desk_legible g.P.Places.version s sound))
 
 pub returns : goal.returns
 returns g c =

@@ -1,37 +1,23 @@
 use Rattle.std.proofs.Common.{◌∙◌}
 use Rattle.sqlite.specs.Held.{state}
-use Rattle.office_core.specs.declared.command.Command.TheVariants as command
 use Rattle.state_encoding.specs.OfficeRows.{tables}
-use Rattle.state_encoding.proofs.LegibleRows.{desk_legible}
-use Rattle.office_tables.proofs.CallEnds.{same_fault}
 use Rattle.office_tables.proofs.Calls.{office_of}
 use Rattle.refinement.proofs.CardsShown.{holder_shown}
-use Rattle.refinement.proofs.Doings.{does_after, does_not}
+use Rattle.refinement.proofs.Doings.{desk_passed, does_then}
 use Rattle.desk_commands.proofs.seats.take_seat.Goals as goal
 
 pub ticket_holder-requires : goal.ticket_holder-requires
 ticket_holder-requires g c = record { inside = office_of g.P.Places.version (state g.S.Store c.args.conn.now) c.requires.inside }
 
 pub returns-in_err-who : goal.returns-in_err-who
-returns-in_err-who g c =
-    let a = state g.S.Store c.args.conn.now in
-    let b = state g.S.Store c.ticket_holder.new.conn in
-    let told = c.in_err-who.ensures.tells in
-    let e = c.from_residual.ensures in
-    does_not g.P.Places.represents g.P.Places.version _ (command.TakeSeat c.args.ticket) a b c.from_residual.result c.in_err-who.field-0.0
-    (same_fault c.from_residual.result c.in_err-who.field-0.0 e.0 e.1) told.cut
-    (λ s sound so it clean free. told.faults tt (tables g.P.Places.version s).desk it.desk tt (desk_legible g.P.Places.version s sound) clean free)
+returns-in_err-who g c = let told = c.in_err-who.ensures.tells in desk_passed _ c.from_residual.ensures told.cut told.faults
 
 pub returns : goal.returns
 returns g c =
-    let a = state g.S.Store c.args.conn.now in
-    let b = state g.S.Store c.ticket_holder.new.conn in
-    let d = state g.S.Store c.sit_down.new.conn in
     let told = c.in_ok-who.ensures.tells in
-    does_after g.P.Places.represents g.P.Places.version _ (command.TakeSeat c.args.ticket) _ a b d c.sit_down.result told.looks
+    does_then told.looks c.sit_down.ensures
     (λ clean s sound so it. (
       so.0,
       so.1,
       told.answers clean tt (tables g.P.Places.version s).desk it.desk ∙ holder_shown g.P.Places.version s sound c.args.ticket,
     ))
-    c.sit_down.ensures

@@ -6,10 +6,8 @@ use Rattle.office_core.specs.State.{idle}
 use Rattle.office_core.specs.Words.{is_empty}
 use Rattle.office_core.specs.declared.command.Command.TheVariants as command
 use Rattle.state_encoding.specs.OfficeRows.{tables}
-use Rattle.state_encoding.proofs.LegibleRows.{desk_legible}
-use Rattle.office_tables.proofs.CallEnds.{same_fault}
 use Rattle.office_tables.proofs.Calls.{office_of}
-use Rattle.refinement.proofs.Doings.{does_after, does_not, does_refuse}
+use Rattle.refinement.proofs.Doings.{desk_passed, does_refuse, does_then}
 use Rattle.desk_commands.proofs.Reshelved.{nothing_idle, picks_idle}
 use Rattle.desk_commands.proofs.shelf_return.reshelve.Goals as goal
 
@@ -17,14 +15,7 @@ pub at_desk-requires : goal.at_desk-requires
 at_desk-requires g c = record { inside = office_of g.P.Places.version (state g.S.Store c.args.conn.now) c.requires.inside }
 
 pub returns-in_err-told : goal.returns-in_err-told
-returns-in_err-told g c =
-    let a = state g.S.Store c.args.conn.now in
-    let b = state g.S.Store c.at_desk.new.conn in
-    let told = c.in_err-told.ensures.tells in
-    let e = c.from_residual.ensures in
-    does_not g.P.Places.represents g.P.Places.version _ command.Reshelve a b c.from_residual.result c.in_err-told.field-0.0
-    (same_fault c.from_residual.result c.in_err-told.field-0.0 e.0 e.1) told.cut
-    (λ s sound so it clean free. told.faults tt (tables g.P.Places.version s).desk it.desk tt (desk_legible g.P.Places.version s sound) clean free)
+returns-in_err-told g c = let told = c.in_err-told.ensures.tells in desk_passed _ c.from_residual.ensures told.cut told.faults
 
 pub returns-then-are_none : goal.returns-then-are_none
 returns-then-are_none g c =
@@ -40,14 +31,10 @@ returns-then-are_none g c =
 
 pub returns : goal.returns
 returns g c =
-    let a = state g.S.Store c.args.conn.now in
-    let b = state g.S.Store c.at_desk.new.conn in
-    let d = state g.S.Store c.shelve.new.conn in
     let told = c.in_ok-told.ensures.tells in
-    does_after g.P.Places.represents g.P.Places.version _ command.Reshelve _ a b d c.shelve.result told.looks
+    does_then told.looks c.shelve.ensures
     (λ clean s sound so it.
     let is : c.in_ok-idle.idle.items ≡ idle s =
     c.in_ok-idle.ensures ∙ ap decided.reshelved (c.deref.ensures.value ∙ told.answers clean tt (tables g.P.Places.version s).desk it.desk) ∙ picks_idle g.P.Places.version s sound in
     let some : is_empty (idle s) ≡ false = ap is_empty (sym is) ∙ ap is_empty (sym c.deref-2.ensures.value) ∙ sym c.are_none.ensures ∙ c.if-are_none.false in
     (is, some))
-    c.shelve.ensures

@@ -8,10 +8,9 @@ use Rattle.office_core.specs.declared.command.Command.TheVariants as command
 use Rattle.office_core.specs.declared.done.Done.TheVariants as done
 use Rattle.state_encoding.specs.OfficeRows.{tables}
 use Rattle.state_encoding.proofs.LegibleRows.{desk_legible}
-use Rattle.office_tables.proofs.CallEnds.{same_fault}
 use Rattle.office_tables.proofs.Calls.{office_of}
 use Rattle.refinement.specs.CommandSteps.{CarriesOutStep}
-use Rattle.refinement.proofs.Doings.{does_not}
+use Rattle.refinement.proofs.Doings.{does_pass}
 use Rattle.desk_commands.specs.ContainerMoves.{with_all_placed}
 use Rattle.desk_commands.proofs.Reshelved.{reshelves, small_idle}
 use Rattle.desk_commands.proofs.shelf_return.shelve.Goals as goal
@@ -21,14 +20,9 @@ move_all-requires-clause-inside g c = office_of g.P.Places.version (state g.S.St
 
 pub returns-in_err-move_all : goal.returns-in_err-move_all
 returns-in_err-move_all g c =
-    let a = state g.S.Store c.args.conn.now in
-    let b = state g.S.Store c.move_all.new.conn in
     let made = c.in_err-move_all.ensures.makes in
-    let e = c.from_residual.ensures in
-    does_not g.P.Places.represents g.P.Places.version _ command.Reshelve a b c.from_residual.result c.in_err-move_all.field-0.0
-    (same_fault c.from_residual.result c.in_err-move_all.field-0.0 e.0 e.1) made.cut
-    (λ s sound so it clean free. made.faults tt (tables g.P.Places.version s).desk it.desk
-    (subst (AllByRecursion IsNumber) (sym (c.deref.ensures.value ∙ so.0)) (small_idle g.P.Places.version s sound)) (desk_legible g.P.Places.version s sound) clean free)
+    does_pass _ c.from_residual.ensures made.cut
+    (λ s sound so it. made.faults tt (tables g.P.Places.version s).desk it.desk (subst (AllByRecursion IsNumber) (sym (c.deref.ensures.value ∙ so.0)) (small_idle g.P.Places.version s sound)) (desk_legible g.P.Places.version s sound))
 
 pub returns : goal.returns
 returns g c =

@@ -5,11 +5,9 @@ use Rattle.office_core.specs.Json.{list}
 use Rattle.office_core.specs.declared.query.Answer.TheVariants.{Json}
 use Rattle.office_core.specs.declared.query.Query.TheVariants as query
 use Rattle.state_encoding.specs.OfficeRows.{tables}
-use Rattle.state_encoding.proofs.LegibleRows.{desk_legible}
-use Rattle.office_tables.proofs.CallEnds.{same_fault}
 use Rattle.office_tables.proofs.Calls.{office_of}
 use Rattle.serde_json.specs.Written.{compact_text}
-use Rattle.refinement.proofs.Answerings.{answers_by, answers_not}
+use Rattle.refinement.proofs.Answerings.{answers_by, desk_answers_passed}
 use Rattle.desk_queries.specs.JsonValues.{loan_data}
 use Rattle.desk_queries.proofs.IssuedTold.{issued_told}
 use Rattle.desk_queries.proofs.Lists.{no_float}
@@ -19,15 +17,7 @@ pub issued-requires : goal.issued-requires
 issued-requires g c = record { inside = office_of g.P.Places.version (state g.S.Store c.args.conn.now) c.requires.inside }
 
 pub returns-in_err-loans : goal.returns-in_err-loans
-returns-in_err-loans g c =
-    let v = g.P.Places.version in
-    let a = state g.S.Store c.args.conn.now in
-    let b = state g.S.Store c.issued.new.conn in
-    let told = c.in_err-loans.ensures.tells in
-    let e = c.from_residual.ensures in
-    answers_not g.P.Places.represents v query.IssuedNow a b c.from_residual.result c.in_err-loans.field-0.0
-    (same_fault c.from_residual.result c.in_err-loans.field-0.0 e.0 e.1) told.cut
-    (λ s sound it clean free. told.faults tt (tables v s).desk it.desk tt (desk_legible v s sound) clean free)
+returns-in_err-loans g c = let told = c.in_err-loans.ensures.tells in desk_answers_passed _ c.from_residual.ensures told.cut told.faults
 
 pub list_text-requires : goal.list_text-requires
 list_text-requires g c = record { whole = no_float loan_data (λ loan. refl) c.deref.result.now }

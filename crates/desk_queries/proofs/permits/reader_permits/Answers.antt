@@ -7,11 +7,10 @@ use Rattle.office_core.specs.declared.query.Answer.TheVariants.{Json, Unknown}
 use Rattle.office_core.specs.declared.query.Query.TheVariants as query
 use Rattle.state_encoding.specs.OfficeRows.{tables}
 use Rattle.state_encoding.proofs.LegibleRows.{desk_legible}
-use Rattle.office_tables.proofs.CallEnds.{same_fault}
 use Rattle.office_tables.proofs.Calls.{early, looks_then, office_of, still_office}
 use Rattle.serde_json.specs.Written.{compact_text}
 use Rattle.refinement.proofs.CardsShown.{known_ticket}
-use Rattle.refinement.proofs.Answerings.{answers_by, answers_not, still_shown, stops_later}
+use Rattle.refinement.proofs.Answerings.{answers_by, answers_passed_later, desk_answers_passed, still_shown}
 use Rattle.desk_queries.specs.JsonValues.{permit_data}
 use Rattle.desk_queries.proofs.Lists.{no_float}
 use Rattle.desk_queries.proofs.PermitsTold.{has_ticket, no_ticket, permits_told}
@@ -21,15 +20,7 @@ pub is_registered-requires : goal.is_registered-requires
 is_registered-requires g c = record { inside = office_of g.P.Places.version (state g.S.Store c.args.conn.now) c.requires.inside }
 
 pub returns-in_err-known : goal.returns-in_err-known
-returns-in_err-known g c =
-    let v = g.P.Places.version in
-    let a = state g.S.Store c.args.conn.now in
-    let b = state g.S.Store c.is_registered.new.conn in
-    let told = c.in_err-known.ensures.tells in
-    let e = c.from_residual.ensures in
-    answers_not g.P.Places.represents v (query.ReaderPermits c.args.ticket) a b c.from_residual.result c.in_err-known.field-0.0
-    (same_fault c.from_residual.result c.in_err-known.field-0.0 e.0 e.1) told.cut
-    (λ s sound it clean free. told.faults tt (tables v s).desk it.desk tt (desk_legible v s sound) clean free)
+returns-in_err-known g c = let told = c.in_err-known.ensures.tells in desk_answers_passed _ c.from_residual.ensures told.cut told.faults
 
 pub returns-then-not-known : goal.returns-then-not-known
 returns-then-not-known g c =
@@ -50,14 +41,9 @@ permits-requires g c =
 pub returns-in_err-granted : goal.returns-in_err-granted
 returns-in_err-granted g c =
     let v = g.P.Places.version in
-    let a = state g.S.Store c.args.conn.now in
-    let b = state g.S.Store c.is_registered.new.conn in
-    let z = state g.S.Store c.permits.new.conn in
     let told = c.in_err-granted.ensures.tells in
-    let e = c.from_residual-in_err-granted.ensures in
-    stops_later g.P.Places.represents v (query.ReaderPermits c.args.ticket) a b z c.from_residual-in_err-granted.result c.in_err-granted.field-0.0
-    (same_fault c.from_residual-in_err-granted.result c.in_err-granted.field-0.0 e.0 e.1) c.in_ok-known.ensures.tells.looks told.cut
-    (λ s sound it clean free. told.faults tt (tables v s).desk it.desk tt (desk_legible v s sound) clean free)
+    answers_passed_later _ c.from_residual-in_err-granted.ensures c.in_ok-known.ensures.tells.looks told.cut
+    (λ s sound it. told.faults tt (tables v s).desk it.desk tt (desk_legible v s sound))
 
 pub list_text-requires : goal.list_text-requires
 list_text-requires g c = record { whole = no_float permit_data (λ permit. refl) c.deref.result.now }

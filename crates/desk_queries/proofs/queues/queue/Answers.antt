@@ -6,9 +6,8 @@ use Rattle.desk_store.specs.declared.queues.ContainerQueue.{ContainerQueue}
 use Rattle.office_core.specs.Queries.{known_json}
 use Rattle.office_core.specs.declared.query.Answer.TheVariants.{Json, Unknown}
 use Rattle.office_core.specs.declared.query.Query.TheVariants as query
-use Rattle.office_tables.proofs.CallEnds.{same_fault}
 use Rattle.office_tables.proofs.Calls.{office_of}
-use Rattle.refinement.proofs.Answerings.{answers_by, answers_not}
+use Rattle.refinement.proofs.Answerings.{answers_by, answers_passed}
 use Rattle.refinement.proofs.StacksShown.{legible_stacks, shows_stacks, stacks_of}
 use Rattle.desk_queries.specs.JsonValues.{queue_data}
 use Rattle.desk_queries.proofs.QueueTold.{queue_answer}
@@ -21,12 +20,9 @@ pub returns-in_err-found : goal.returns-in_err-found
 returns-in_err-found g c =
     let v = g.P.Places.version in
     let a = state g.S.Store c.args.conn.now in
-    let b = state g.S.Store c.queue.new.conn in
     let told = c.in_err-found.ensures.tells in
-    let e = c.from_residual.ensures in
-    answers_not g.P.Places.represents v (query.Queue c.args.container) a b c.from_residual.result c.in_err-found.field-0.0
-    (same_fault c.from_residual.result c.in_err-found.field-0.0 e.0 e.1) told.cut
-    (λ s sound it clean free. told.faults tt (stacks_of v s) (shows_stacks v s g.P.Places.represents a.now sound it) tt (legible_stacks v s sound) clean free)
+    answers_passed _ c.from_residual.ensures told.cut
+    (λ s sound it. told.faults tt (stacks_of v s) (shows_stacks v s g.P.Places.represents a.now sound it) tt (legible_stacks v s sound))
 
 pub returns-in_default : goal.returns-in_default
 returns-in_default g c =

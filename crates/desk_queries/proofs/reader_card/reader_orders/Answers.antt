@@ -7,10 +7,8 @@ use Rattle.office_core.specs.Queries.{known_json}
 use Rattle.office_core.specs.declared.query.Answer.TheVariants.{Json, Unknown}
 use Rattle.office_core.specs.declared.query.Query.TheVariants as query
 use Rattle.state_encoding.specs.OfficeRows.{tables}
-use Rattle.state_encoding.proofs.LegibleRows.{desk_legible}
-use Rattle.office_tables.proofs.CallEnds.{same_fault}
 use Rattle.office_tables.proofs.Calls.{office_of}
-use Rattle.refinement.proofs.Answerings.{answers_by, answers_not}
+use Rattle.refinement.proofs.Answerings.{answers_by, desk_answers_passed}
 use Rattle.desk_queries.specs.JsonValues.{card_data}
 use Rattle.desk_queries.proofs.CardTold.{card_answer}
 use Rattle.desk_queries.proofs.reader_card.reader_orders.Goals as goal
@@ -19,15 +17,7 @@ pub reader-requires : goal.reader-requires
 reader-requires g c = record { inside = office_of g.P.Places.version (state g.S.Store c.args.conn.now) c.requires.inside }
 
 pub returns-in_err-card : goal.returns-in_err-card
-returns-in_err-card g c =
-    let v = g.P.Places.version in
-    let a = state g.S.Store c.args.conn.now in
-    let b = state g.S.Store c.reader.new.conn in
-    let told = c.in_err-card.ensures.tells in
-    let e = c.from_residual.ensures in
-    answers_not g.P.Places.represents v (query.ReaderOrders c.args.ticket) a b c.from_residual.result c.in_err-card.field-0.0
-    (same_fault c.from_residual.result c.in_err-card.field-0.0 e.0 e.1) told.cut
-    (λ s sound it clean free. told.faults tt (tables v s).desk it.desk tt (desk_legible v s sound) clean free)
+returns-in_err-card g c = let told = c.in_err-card.ensures.tells in desk_answers_passed _ c.from_residual.ensures told.cut told.faults
 
 pub returns-in_default : goal.returns-in_default
 returns-in_default g c =

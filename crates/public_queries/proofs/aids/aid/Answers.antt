@@ -11,14 +11,13 @@ use Rattle.desk_core.specs.declared.refusal.Refusal.TheVariants.{UnknownUnit}
 use Rattle.office_core.specs.declared.query.Query.TheVariants as query
 use Rattle.office_core.specs.declared.query.Answer.TheVariants.{Text, Unknown}
 use Rattle.office_core.proofs.KeptOffices.{office_kept}
-use Rattle.office_tables.proofs.CallEnds.{same_fault}
 use Rattle.office_tables.proofs.Calls.{early, looks_nowhere, looks_then, office_of as in_office}
 use Rattle.refinement.specs.Representation.{office_of}
 use Rattle.refinement.proofs.Answerings.{still_shown}
 use Rattle.public_queries.specs.HeadLines.{ids_of, repository_of, shows_last}
 use Rattle.catalogue_store.specs.declared.heads.Head.{Head}
 use Rattle.public_queries.proofs.AidAnswers.{apart, far_off, hidden, shown, tellable}
-use Rattle.public_queries.proofs.Knowings.{knows_by, knows_no_more, knows_not}
+use Rattle.public_queries.proofs.Knowings.{catalogue_passed, knows_by, knows_passed_later}
 use Rattle.public_queries.proofs.aids.aid.Goals as goal
 
 pub returns-then-unit-ge-NO_NUMBER : goal.returns-then-unit-ge-NO_NUMBER
@@ -30,13 +29,7 @@ returns-then-unit-ge-NO_NUMBER g c =
     (λ clean s sound so it. far_off s sound c.args.unit c.if-unit-ge-NO_NUMBER.true)
 
 pub returns-in_err-way : goal.returns-in_err-way
-returns-in_err-way g c =
-    let a = state g.S.Store c.args.conn.now in
-    let told = c.in_err-way.ensures.tells in
-    let e = c.from_residual.ensures in
-    knows_not g.P.Places.represents g.P.Places.version (λ s. c.args.known.now ≡ office_of s) (query.Aid c.args.unit) a _ c.from_residual.result c.in_err-way.field-0.0
-    (same_fault c.from_residual.result c.in_err-way.field-0.0 e.0 e.1) told.cut
-    (λ s sound so it clean free. told.faults (office_of s) s.catalogue it.catalogue tt (office_kept s sound) clean free)
+returns-in_err-way g c = let told = c.in_err-way.ensures.tells in catalogue_passed _ c.from_residual.ensures told.cut told.faults
 
 pub returns-then-not-shows_last : goal.returns-then-not-shows_last
 returns-then-not-shows_last g c =
@@ -50,13 +43,9 @@ returns-then-not-shows_last g c =
 
 pub returns-in_err-text : goal.returns-in_err-text
 returns-in_err-text g c =
-    let a = state g.S.Store c.args.conn.now in
-    let d = state g.S.Store c.branch_text.new.conn in
     let last = c.in_err-text.ensures.tells in
-    let e = c.from_residual-in_err-text.ensures in
-    knows_no_more g.P.Places.represents g.P.Places.version (λ s. c.args.known.now ≡ office_of s) (query.Aid c.args.unit) a _ d c.from_residual-in_err-text.result c.in_err-text.field-0.0
-    (same_fault c.from_residual-in_err-text.result c.in_err-text.field-0.0 e.0 e.1) c.in_ok-way.ensures.tells.looks last.cut
-    (λ s sound so it clean free. last.faults (office_of s) s.catalogue it.catalogue (tellable s sound, apart s sound) (office_kept s sound) clean free)
+    knows_passed_later _ c.from_residual-in_err-text.ensures c.in_ok-way.ensures.tells.looks last.cut
+    (λ s sound so it. last.faults (office_of s) s.catalogue it.catalogue (tellable s sound, apart s sound) (office_kept s sound))
 
 pub returns : goal.returns
 returns g c =

@@ -5,7 +5,7 @@ use Rattle.isad_core.specs.PrintedDescriptions.{aid}
 use Rattle.catalogue_core.specs.Bounds.{IsKept}
 use Rattle.catalogue_core.specs.Units.{has_id}
 use Rattle.catalogue_statements.specs.Representation.{Represents}
-use Rattle.office_tables.proofs.CallEnds.{same_fault, tells_not}
+use Rattle.refinement.proofs.Doings.{tells_passed}
 use Rattle.public_queries.specs.HeadLines.{repository_of}
 use Rattle.public_queries.specs.FindingAids.{public_units}
 use Rattle.public_queries.proofs.AidCalls.{tells_then}
@@ -31,9 +31,4 @@ returns g c =
 pub returns-in_err-kept : goal.returns-in_err-kept
 returns-in_err-kept g c =
     let told = c.in_err-kept.ensures.tells in
-    let e = c.from_residual.ensures in
-    record {
-      tells = tells_not g.S.Store (Represents g.P.Places.represents g.P.Places.version) IsKept _ c.args.conn.now c.kept_of.new.conn c.from_residual.result _ c.in_err-kept.field-0.0
-          (same_fault c.from_residual.result c.in_err-kept.field-0.0 e.0 e.1) told.cut
-          (λ o k it may kept clean free. told.faults o k it tt kept clean free);
-    }
+    record { tells = tells_passed _ c.from_residual.ensures told.cut (λ o k it may kept. told.faults o k it tt kept) }

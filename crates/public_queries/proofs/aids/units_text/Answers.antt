@@ -1,14 +1,12 @@
-use Rattle.std.proofs.Common.{rules, ◌≡◌, ◌≤◌, ◌+◌, ◌++◌, ◌∷◌, [], length, take, drop, sym, ap, subst, ◌∙◌, arith, append-nil}
+use Rattle.std.proofs.Common.{◌≡◌, ◌≤◌, ◌+◌, ◌++◌, ◌∷◌, [], length, take, drop, sym, ap, subst, ◌∙◌, arith, append-nil}
 use Rattle.std.proofs.lemmas.List.{length-map}
 use Rattle.sqlite.specs.Effect.{Database}
 use Rattle.sqlite.specs.Held.{state}
 use Rattle.isad_core.specs.PrintedDescriptions.{aid, unit_lines}
 use Rattle.tree_core.specs.declared.marks.Kept.{Kept}
-use Rattle.catalogue_core.specs.Bounds.{IsKept}
 use Rattle.catalogue_statements.specs.Representation.{Represents}
-use Rattle.office_tables.proofs.CallEnds.{same_fault, tells_cut, tells_not}
-use Rattle.office_tables.proofs.Calls.{cut_after, early, looks_then}
-use Rattle.office_tables.specs.declared.fault.StoreFault.TheVariants as fault
+use Rattle.office_tables.proofs.Calls.{early, looks_then}
+use Rattle.refinement.proofs.Doings.{tells_full, tells_passed_later}
 use Rattle.public_queries.specs.HeadLines.{repository_of}
 use Rattle.public_queries.specs.FindingAids.{along, kept_row, shown_at}
 use Rattle.public_queries.proofs.AidPrinted.{along_more, drop_past, row_at}
@@ -16,43 +14,19 @@ use Rattle.public_queries.proofs.aids.units_text.Goals as goal
 
 pub returns-in_err-seen : goal.returns-in_err-seen
 returns-in_err-seen g c =
-    let a = state g.S.Store c.args.conn.now in
-    let b = state g.S.Store c.loop-unit.conn in
     let last = c.in_err-seen.ensures.tells in
-    let looked = c.loop-unit.invariant.looks in
-    let e = c.from_residual.ensures in
     record {
-      tells = tells_cut g.S.Store (Represents g.P.Places.represents g.P.Places.version) IsKept _ c.args.conn.now c.loop-unit.conn c.seen_unit.new.conn c.from_residual.result _ c.in_err-seen.field-0.0
-          (same_fault c.from_residual.result c.in_err-seen.field-0.0 e.0 e.1) looked last.cut
-          (λ o k it may kept at_b clean free.
-          let shown = subst (λ (db : Database). Represents g.P.Places.represents g.P.Places.version db o k) (sym (looked.same at_b)) it in
+      tells = tells_passed_later _ c.from_residual.ensures c.loop-unit.invariant.looks last.cut
+          (λ o k it may kept.
           let here = row_at c.args.known.now.day k c.args.kept.now may.1 c.loop-unit.unit-index may.2 c.loop-unit-test.true in
-          last.faults o k shown (may.0, here.item, here.holds, here.is) kept clean free);
+          last.faults o k it (may.0, here.item, here.holds, here.is) kept);
     }
 
 pub returns-in_err-text : goal.returns-in_err-text
-returns-in_err-text g c =
-    let a = state g.S.Store c.args.conn.now in
-    let b = state g.S.Store c.loop-unit.conn in
-    let d = state g.S.Store c.seen_unit.new.conn in
-    let looked = looks_then a b d c.loop-unit.invariant.looks c.in_ok-seen.ensures.tells.looks in
-    let e = c.from_residual-in_err-text.ensures in
-    record {
-      tells = tells_not g.S.Store (Represents g.P.Places.represents g.P.Places.version) IsKept _ c.args.conn.now c.seen_unit.new.conn c.from_residual-in_err-text.result _ fault.Memory
-          (search (rules, e)) (cut_after a d looked.goes.on) (λ o k it may kept clean free. tt);
-    }
+returns-in_err-text g c = record { tells = tells_full c.from_residual-in_err-text.ensures (looks_then _ _ _ c.loop-unit.invariant.looks c.in_ok-seen.ensures.tells.looks) }
 
 pub returns-in_err-extend_from_slice : goal.returns-in_err-extend_from_slice
-returns-in_err-extend_from_slice g c =
-    let a = state g.S.Store c.args.conn.now in
-    let b = state g.S.Store c.loop-unit.conn in
-    let d = state g.S.Store c.seen_unit.new.conn in
-    let looked = looks_then a b d c.loop-unit.invariant.looks c.in_ok-seen.ensures.tells.looks in
-    let e = c.from_residual-in_err-extend_from_slice.ensures in
-    record {
-      tells = tells_not g.S.Store (Represents g.P.Places.represents g.P.Places.version) IsKept _ c.args.conn.now c.seen_unit.new.conn c.from_residual-in_err-extend_from_slice.result _ fault.Memory
-          (search (rules, e)) (cut_after a d looked.goes.on) (λ o k it may kept clean free. tt);
-    }
+returns-in_err-extend_from_slice g c = record { tells = tells_full c.from_residual-in_err-extend_from_slice.ensures (looks_then _ _ _ c.loop-unit.invariant.looks c.in_ok-seen.ensures.tells.looks) }
 
 pub loop-unit-preserved : goal.loop-unit-preserved
 loop-unit-preserved g c =

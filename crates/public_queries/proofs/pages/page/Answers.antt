@@ -1,16 +1,14 @@
 use Rattle.std.proofs.Common.{◌≡◌, List, sym, ap, ◌∙◌}
 use Rattle.sqlite.specs.Held.{state}
 use Rattle.desk_core.specs.declared.refusal.Refusal.TheVariants.{UnknownUnit}
-use Rattle.office_core.proofs.KeptOffices.{office_kept}
 use Rattle.office_core.specs.declared.query.Answer.TheVariants.{Unknown}
 use Rattle.office_core.specs.declared.query.Query.TheVariants as query
-use Rattle.office_tables.proofs.CallEnds.{same_fault}
 use Rattle.office_tables.proofs.Calls.{looks_nowhere, office_of as in_office}
 use Rattle.refinement.specs.Representation.{office_of}
 use Rattle.public_queries.specs.HeadLines.{shows_last}
 use Rattle.public_queries.specs.KnownPaths.{RepresentsUnit}
 use Rattle.catalogue_store.specs.declared.heads.Head.{Head}
-use Rattle.public_queries.proofs.Knowings.{knows_by, knows_not}
+use Rattle.public_queries.proofs.Knowings.{catalogue_passed, knows_by}
 use Rattle.public_queries.proofs.LaterKnowing.{knows_then}
 use Rattle.public_queries.proofs.PageAnswers.{far, hidden, judged}
 use Rattle.public_queries.proofs.pages.page.Goals as goal
@@ -24,14 +22,7 @@ returns-then-unit-ge-NO_NUMBER g c =
     (λ clean s sound so it. far s sound c.args.unit c.if-unit-ge-NO_NUMBER.true)
 
 pub returns-in_err-way : goal.returns-in_err-way
-returns-in_err-way g c =
-    let a = state g.S.Store c.args.conn.now in
-    let b = state g.S.Store c.path_heads.new.conn in
-    let told = c.in_err-way.ensures.tells in
-    let e = c.from_residual.ensures in
-    knows_not g.P.Places.represents g.P.Places.version (λ s. c.args.known.now ≡ office_of s) (query.Page c.args.unit) a b c.from_residual.result c.in_err-way.field-0.0
-    (same_fault c.from_residual.result c.in_err-way.field-0.0 e.0 e.1) told.cut
-    (λ s sound so it clean free. told.faults (office_of s) s.catalogue it.catalogue tt (office_kept s sound) clean free)
+returns-in_err-way g c = let told = c.in_err-way.ensures.tells in catalogue_passed _ c.from_residual.ensures told.cut told.faults
 
 pub returns-then-not-shows_last : goal.returns-then-not-shows_last
 returns-then-not-shows_last g c =

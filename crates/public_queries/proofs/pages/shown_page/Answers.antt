@@ -16,7 +16,7 @@ use Rattle.catalogue_store.specs.Heads.{head_of}
 use Rattle.public_queries.specs.HeadLines.{bare, repository_of}
 use Rattle.public_queries.specs.KnownPaths.{AreHeadsOf, IsTellable, RepresentsUnit}
 use Rattle.catalogue_store.specs.declared.heads.Head.{Head}
-use Rattle.public_queries.proofs.Knowings.{knows_by, knows_not, knows_no_more, knows_short}
+use Rattle.public_queries.proofs.Knowings.{knows_by, knows_passed, knows_passed_later, knows_short}
 use Rattle.public_queries.proofs.PageAnswers.{path_found, answers_closed, answers_told}
 use Rattle.public_queries.proofs.pages.shown_page.Goals as goal
 
@@ -37,24 +37,15 @@ returns-then-is_closed g c =
 
 pub returns-in_err-told : goal.returns-in_err-told
 returns-in_err-told g c =
-    let a = state g.S.Store c.args.conn.now in
-    let b = state g.S.Store c.values_of_all.new.conn in
     let told = c.in_err-told.ensures.tells in
-    let e = c.from_residual-in_err-told.ensures in
-    knows_not g.P.Places.represents g.P.Places.version (RepresentsUnit c.args.known.now c.args.unit c.args.way.now) (query.Page c.args.unit) a b c.from_residual-in_err-told.result c.in_err-told.field-0.0
-    (same_fault c.from_residual-in_err-told.result c.in_err-told.field-0.0 e.0 e.1) told.cut
-    (λ s sound so it clean free. told.faults (office_of s) s.catalogue it.catalogue (tellable s sound, heads_of s sound c.args.unit c.args.way.now so.way_is) (office_kept s sound) clean free)
+    knows_passed _ c.from_residual-in_err-told.ensures told.cut
+    (λ s sound so it. told.faults (office_of s) s.catalogue it.catalogue (tellable s sound, heads_of s sound c.args.unit c.args.way.now so.way_is) (office_kept s sound))
 
 pub returns-in_err-heads : goal.returns-in_err-heads
 returns-in_err-heads g c =
-    let a = state g.S.Store c.args.conn.now in
-    let b = state g.S.Store c.values_of_all.new.conn in
-    let d = state g.S.Store c.heads_below.new.conn in
     let told = c.in_err-heads.ensures.tells in
-    let e = c.from_residual-in_err-heads.ensures in
-    knows_no_more g.P.Places.represents g.P.Places.version (RepresentsUnit c.args.known.now c.args.unit c.args.way.now) (query.Page c.args.unit) a b d c.from_residual-in_err-heads.result c.in_err-heads.field-0.0
-    (same_fault c.from_residual-in_err-heads.result c.in_err-heads.field-0.0 e.0 e.1) c.in_ok-told.ensures.tells.looks told.cut
-    (λ s sound so it clean free. told.faults (office_of s) s.catalogue it.catalogue tt (office_kept s sound) clean free)
+    knows_passed_later _ c.from_residual-in_err-heads.ensures c.in_ok-told.ensures.tells.looks told.cut
+    (λ s sound so it. told.faults (office_of s) s.catalogue it.catalogue tt (office_kept s sound))
 
 pub returns-in_err-text-2 : goal.returns-in_err-text-2
 returns-in_err-text-2 g c =

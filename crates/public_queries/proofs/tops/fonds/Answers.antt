@@ -2,25 +2,16 @@ use Rattle.std.proofs.Common.{◌≡◌, [], sym, ap, ◌∙◌}
 use Rattle.sqlite.specs.Held.{state}
 use Rattle.catalogue_core.specs.Pages.{tops_text}
 use Rattle.catalogue_statements.specs.declared.office.OfficeRow.{OfficeRow}
-use Rattle.office_core.proofs.KeptOffices.{office_kept}
 use Rattle.office_core.specs.declared.query.Answer.TheVariants.{Text}
 use Rattle.office_core.specs.declared.query.Query.TheVariants as query
-use Rattle.office_tables.proofs.CallEnds.{same_fault}
 use Rattle.refinement.specs.Representation.{office_of}
 use Rattle.public_queries.specs.HeadLines.{all_bare, repository_of}
 use Rattle.public_queries.proofs.FondsPrinted.{fonds_printed}
-use Rattle.public_queries.proofs.Knowings.{knows_by, knows_not}
+use Rattle.public_queries.proofs.Knowings.{catalogue_passed, knows_by}
 use Rattle.public_queries.proofs.tops.fonds.Goals as goal
 
 pub returns-in_err-heads : goal.returns-in_err-heads
-returns-in_err-heads g c =
-    let a = state g.S.Store c.args.conn.now in
-    let b = state g.S.Store c.heads_below.new.conn in
-    let told = c.in_err-heads.ensures.tells in
-    let e = c.from_residual.ensures in
-    knows_not g.P.Places.represents g.P.Places.version (λ s. c.args.known.now ≡ office_of s) query.Fonds a b c.from_residual.result c.in_err-heads.field-0.0
-    (same_fault c.from_residual.result c.in_err-heads.field-0.0 e.0 e.1) told.cut
-    (λ s sound so it clean free. told.faults (office_of s) s.catalogue it.catalogue tt (office_kept s sound) clean free)
+returns-in_err-heads g c = let told = c.in_err-heads.ensures.tells in catalogue_passed _ c.from_residual.ensures told.cut told.faults
 
 pub returns : goal.returns
 returns g c =

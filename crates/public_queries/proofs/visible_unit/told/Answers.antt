@@ -1,10 +1,8 @@
 use Rattle.std.proofs.Common.{◌≡◌, Some, None, sym, ap, ◌∙◌}
 use Rattle.std.specs.Prelude.{option_map}
 use Rattle.sqlite.specs.Held.{state}
-use Rattle.catalogue_core.specs.Bounds.{IsKept}
-use Rattle.catalogue_statements.specs.Representation.{Represents}
-use Rattle.office_tables.proofs.CallEnds.{same_fault, tells_not}
 use Rattle.office_tables.proofs.Calls.{cut_after, office_of}
+use Rattle.refinement.proofs.Doings.{tells_passed}
 use Rattle.public_queries.specs.FindingAids.{seen_values}
 use Rattle.public_queries.proofs.AidUnits.{seen_read, values_read}
 use Rattle.public_queries.proofs.visible_unit.told.Goals as goal
@@ -21,11 +19,8 @@ values-requires g c = record { inside = office_of g.P.Places.version (state g.S.
 pub returns-in_err-found : goal.returns-in_err-found
 returns-in_err-found g c =
     let told = c.in_err-found.ensures.tells in
-    let e = c.from_residual.ensures in
     record {
-      tells = tells_not g.S.Store (Represents g.P.Places.represents g.P.Places.version) IsKept _ c.args.conn.now c.values.new.conn c.from_residual.result _ c.in_err-found.field-0.0
-          (same_fault c.from_residual.result c.in_err-found.field-0.0 e.0 e.1) told.cut
-          (λ o k it may kept clean free. told.faults o k (record { version = g.P.Places.version; catalogue = it.catalogue; places = may.0.places }) may.0.containers kept clean free);
+      tells = tells_passed _ c.from_residual.ensures told.cut (λ o k it may kept. told.faults o k (record { version = g.P.Places.version; catalogue = it.catalogue; places = may.0.places }) may.0.containers kept);
     }
 
 pub returns-in_default : goal.returns-in_default
