@@ -14,6 +14,7 @@ pub mod Wholes
 pub mod WorkedHeads
 pub mod WorkedPieces
 pub mod Faults
+pub mod Endings
 pub mod Bounds
 pub mod Views
 pub mod Options

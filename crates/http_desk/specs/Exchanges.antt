@@ -16,6 +16,8 @@ use Rattle.http_desk.specs.AcceptedMessages.{IsAccepted, LastLeavesOpen, LeavesO
 use Rattle.http_desk.specs.Messages.{Message, Begins}
 use Rattle.http_desk.specs.Session.{closes, message_text, state_after, refusal, Stops, Session}
 use Rattle.http_desk.specs.Laws.{HasEnded}
+use Rattle.http_desk.specs.StreamFaults.{FlushesAll, IsFlushed, NoBound, NoWriteBound, TellsBound, TellsReadFault, TellsWriteFault}
+use Rattle.http_desk.specs.Streams.{Stream}
 
 -- a message was answered, and the next may come
 pub record GoesOn (number : ℕ) (s : State) (input out : Bytes) (new : State) (rest : Bytes) : Type 0 where
@@ -96,3 +98,30 @@ abbrev pub TalksWhole : {M : Type 0} → (M → State → Type 0) → (M → Typ
 TalksWhole represents is_intact is_open remaining held held_after old end new =
     IfSome remaining (λ input. HasEnded end → (written : Bytes) × Appends held held_after written
     × Through represents is_intact old new (λ s t. Keeps (is_open old) (is_open new) s input written end t))
+
+-- What comes next agrees with how the calls on the writer went: after an answer the input has not ended.
+pub record WritesAsCalled (writer writer_after : Stream) (next : Next) : Type 0 where
+  pub no_end : IsNoEnd next
+  pub flushed : IsFlushed writer_after next  -- all that was written, unless a write fault or a bound is told
+  pub writes : TellsWriteFault writer writer_after next  -- a write fault is told exactly if one came
+  pub turns : NoWriteBound writer writer_after next  -- a bound is told only if a call was interrupted
+  pub same : writer_after.name ≡ writer.name  -- it is the same writer
+
+-- What comes next, of a message or a session, agrees with how the calls on the reader and the writer went. `Takes` says
+-- how many reads were made.
+pub record EndsAsCalled (Takes : Stream → Stream → Type 0) (reader reader_after writer writer_after : Stream)
+    (next : Next) : Type 0 where
+  pub at_end : AtEndIf reader_after.bytes next  -- the input has ended, if that is told
+  pub flushed : FlushesAll writer writer_after next  -- all that was written, unless a write fault or a bound is told
+  pub reads : TellsReadFault reader reader_after next  -- a read fault is told exactly if one came
+  pub writes : TellsWriteFault writer writer_after next  -- a write fault is told exactly if one came
+  pub turns : NoBound reader reader_after writer writer_after next  -- a bound is told only if a call was interrupted
+  pub used_up : TellsBound reader_after writer_after next  -- a bound is told only if all calls were made
+  pub calls : Takes reader reader_after
+  pub same : writer_after.name ≡ writer.name  -- it is the same writer
+
+-- A store that had failed has still failed: if it has returned what was written to it, it had done so before; and if it
+-- is open then, it was open before.
+pub record StaysFailed {M : Type 0} (is_intact is_open : M → Type 0) (old new : M) : Type 0 where
+  pub intact : is_intact new → is_intact old
+  pub was_open : is_intact new → is_open new → is_open old

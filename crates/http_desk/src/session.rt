@@ -14,11 +14,10 @@ ghost use Rattle.http_desk.specs.AnswerOutput.{Sends};
 ghost use Rattle.http_desk.specs.Bounds.{ExchangeBounded, StopsBounded, TalksBounded};
 ghost use Rattle.http_desk.specs.Session.{continue_if, most_answers, refusal};
 ghost use Rattle.http_desk.specs.Streams.{most_reads};
-ghost use Rattle.http_desk.specs.Exchanges.{Turn, Through, Exchange, Talks, TalksWhole, AtEndIf, IsNoEnd};
-ghost use Rattle.http_desk.specs.Exchanges.{Refused, Replies, after_sending};
-ghost use Rattle.http_desk.specs.StreamFaults.{FlushesAll, IsFlushed, IsQuiet, IsUsedUp, NoBound, NoWriteBound};
-ghost use Rattle.http_desk.specs.StreamFaults.{TellsBound, TellsReadFault, TellsSomeWriteBound, TellsWriteBound};
-ghost use Rattle.http_desk.specs.StreamFaults.{TakesCalls, TakesTurns, TellsWriteFault, TextIsUsedUp, send_failed};
+ghost use Rattle.http_desk.specs.Exchanges.{EndsAsCalled, Exchange, Refused, Replies, StaysFailed, Talks, TalksWhole};
+ghost use Rattle.http_desk.specs.Exchanges.{Through, Turn, WritesAsCalled, after_sending};
+ghost use Rattle.http_desk.specs.StreamFaults.{IsQuiet, IsUsedUp, TakesCalls, TakesTurns, TellsSomeWriteBound};
+ghost use Rattle.http_desk.specs.StreamFaults.{TellsWriteBound, TextIsUsedUp, send_failed};
 
 use crate::message_input::{FoundBody, FoundHead, body_len, gather_body, gather_head};
 use crate::output::Sent;
@@ -50,11 +49,8 @@ fn after(sent: Sent, next: Next) -> Next
 /// Writes a fixed answer, after which the session ends.
 fn refuse<W: Write>(writer: &mut Sink<'_, W>, bare: bool, status: Status) -> Next
     ensures sent { Refused writer.old.bytes writer.new.bytes bare status result }
-    ensures flushed { IsFlushed writer.new result }
-    ensures writes { TellsWriteFault writer.old writer.new result }
-    ensures turns { NoWriteBound writer.old writer.new result }
+    ensures stream { WritesAsCalled writer.old writer.new result }
     ensures used_up { TellsWriteBound (refusal bare (error status)) writer.new result }
-    ensures same { writer.new.name ≡ writer.old.name }
 {
     let sent = send_answer(writer, bare, true, AnswerView::fixed(status));
     after(sent, Next::Ends(Ended::Closed))
@@ -69,11 +65,8 @@ fn reply<W: Write>(
 ) -> Next
     ensures sent { Replies writer.old.bytes writer.new.bytes closing
         (answer_text bare closing (viewed answer.entry)) result }
-    ensures flushed { IsFlushed writer.new result }
-    ensures writes { TellsWriteFault writer.old writer.new result }
-    ensures turns { NoWriteBound writer.old writer.new result }
+    ensures stream { WritesAsCalled writer.old writer.new result }
     ensures used_up { TellsWriteBound (answer_text bare closing (viewed answer.entry)) writer.new result }
-    ensures same { writer.new.name ≡ writer.old.name }
 {
     let sent = send_answer(writer, bare, closing, answer);
     if closing {
@@ -94,14 +87,10 @@ fn reply_or_refuse<W: Write>(
     ensures sent { MatchResult answered.entry
         (λ view. Replies writer.old.bytes writer.new.bytes closing (answer_text bare closing (viewed view)) result)
         (λ _. Refused writer.old.bytes writer.new.bytes false Status.Busy result) }
-    ensures no_end { IsNoEnd result }
-    ensures flushed { IsFlushed writer.new result }
-    ensures writes { TellsWriteFault writer.old writer.new result }
-    ensures turns { NoWriteBound writer.old writer.new result }
+    ensures stream { WritesAsCalled writer.old writer.new result }
     ensures used_up { MatchResult answered.entry
         (λ view. TellsWriteBound (answer_text bare closing (viewed view)) writer.new result)
         (λ _. TellsWriteBound (refusal false (error Status.Busy)) writer.new result) }
-    ensures same { writer.new.name ≡ writer.old.name }
 {
     match answered {
         Ok(answer) => reply(writer, bare, closing, answer),
@@ -161,18 +150,13 @@ fn act<W: Write, M: Machine>(
         × Through M.represents M.is_intact office.old office.new (λ s t.
         Turn (M.is_open office.old) (M.is_open office.new) number s buffer.old.items result
         (continue_if head.waits ++ written) t buffer.new.items) }
-    ensures intact { M.is_intact office.new → M.is_intact office.old }
-    ensures was_open { M.is_intact office.new → M.is_open office.new → M.is_open office.old }
-    ensures no_end { IsNoEnd result }
-    ensures flushed { IsFlushed writer.new result }
-    ensures writes { TellsWriteFault writer.old writer.new result }
-    ensures turns { NoWriteBound writer.old writer.new result }
+    ensures store { StaysFailed M.is_intact M.is_open office.old office.new }
+    ensures stream { WritesAsCalled writer.old writer.new result }
     ensures used_up { TellsSomeWriteBound writer.new result }
     ensures breaks_off { result ≡ Next.Ends Ended.Bound
         → (written : Bytes) × Appends writer.old.bytes writer.new.bytes written
         × Through M.represents M.is_intact office.old office.new (λ s t. StopsBounded number s buffer.old.items
         (continue_if head.waits ++ written) t writer.new) }
-    ensures same { writer.new.name ≡ writer.old.name }
 {
     let closing = is_closing(head, number);
     let bare = is_bare(&buffer[..size], head);
@@ -203,19 +187,11 @@ fn receive<R: Read, W: Write, M: Machine>(
         (Accepted (request_in (take size buffer.old.items) head)) (drop size buffer.old.items) }
     ensures turn { Exchange M.represents M.is_intact M.is_open number reader.old.bytes reader.new.bytes
         writer.old.bytes writer.new.bytes office.old buffer.old.items result office.new buffer.new.items }
-    ensures intact { M.is_intact office.new → M.is_intact office.old }
-    ensures was_open { M.is_intact office.new → M.is_open office.new → M.is_open office.old }
-    ensures at_end { AtEndIf reader.new.bytes result }
-    ensures flushed { FlushesAll writer.old writer.new result }
-    ensures reads { TellsReadFault reader.old reader.new result }
-    ensures writes { TellsWriteFault writer.old writer.new result }
-    ensures turns { NoBound reader.old reader.new writer.old writer.new result }
-    ensures used_up { TellsBound reader.new writer.new result }
+    ensures store { StaysFailed M.is_intact M.is_open office.old office.new }
+    ensures streams { EndsAsCalled TakesTurns reader.old reader.new writer.old writer.new result }
     ensures breaks_off { result ≡ Next.Ends Ended.Bound → IsUsedUp most_reads reader.new
         ⊎ ExchangeBounded M.represents M.is_intact number reader.old.bytes reader.new.bytes
         writer.old.bytes writer.new office.old buffer.old.items office.new }
-    ensures calls { TakesTurns reader.old reader.new }
-    ensures same { writer.new.name ≡ writer.old.name }
 {
     match allow_body(writer, head) {
         Sent::All => {}
@@ -243,19 +219,11 @@ pub fn exchange<R: Read, W: Write, M: Machine>(
 ) -> Next
     ensures turn { Exchange M.represents M.is_intact M.is_open number reader.old.bytes reader.new.bytes
         writer.old.bytes writer.new.bytes office.old buffer.old.items result office.new buffer.new.items }
-    ensures intact { M.is_intact office.new → M.is_intact office.old }
-    ensures was_open { M.is_intact office.new → M.is_open office.new → M.is_open office.old }
-    ensures at_end { AtEndIf reader.new.bytes result }
-    ensures flushed { FlushesAll writer.old writer.new result }
-    ensures reads { TellsReadFault reader.old reader.new result }
-    ensures writes { TellsWriteFault writer.old writer.new result }
-    ensures turns { NoBound reader.old reader.new writer.old writer.new result }
-    ensures used_up { TellsBound reader.new writer.new result }
+    ensures store { StaysFailed M.is_intact M.is_open office.old office.new }
+    ensures streams { EndsAsCalled (TakesCalls most_reads) reader.old reader.new writer.old writer.new result }
     ensures breaks_off { result ≡ Next.Ends Ended.Bound → IsUsedUp most_reads reader.new
         ⊎ ExchangeBounded M.represents M.is_intact number reader.old.bytes reader.new.bytes
         writer.old.bytes writer.new office.old buffer.old.items office.new }
-    ensures calls { TakesCalls most_reads reader.old reader.new }
-    ensures same { writer.new.name ≡ writer.old.name }
 {
     reader.begin_message();
     match gather_head(reader, buffer) {
@@ -283,18 +251,11 @@ fn talk_with<R: Read, W: Write, M: Machine>(
 ) -> Ended
     ensures session { Talks M.represents M.is_intact M.is_open reader.old.bytes reader.new.bytes
         writer.old.bytes writer.new.bytes office.old result office.new }
-    ensures intact { M.is_intact office.new → M.is_intact office.old }
-    ensures was_open { M.is_intact office.new → M.is_open office.new → M.is_open office.old }
-    ensures at_end { AtEndIf reader.new.bytes (Next.Ends result) }
-    ensures flushed { FlushesAll writer.old writer.new (Next.Ends result) }
-    ensures read_fault { TellsReadFault reader.old reader.new (Next.Ends result) }
-    ensures write_fault { TellsWriteFault writer.old writer.new (Next.Ends result) }
-    ensures bound { reader.new.interrupted ≡ false → writer.new.interrupted ≡ false → result ≢ Ended.Bound }
-    ensures used_up { TellsBound reader.new writer.new (Next.Ends result) }
+    ensures store { StaysFailed M.is_intact M.is_open office.old office.new }
+    ensures streams { EndsAsCalled (TakesCalls (most_answers * most_reads)) reader.old reader.new
+        writer.old writer.new (Next.Ends result) }
     ensures breaks_off { result ≡ Ended.Bound → TalksBounded M.represents M.is_intact reader.old.bytes reader.new
         writer.old.bytes writer.new office.old office.new }
-    ensures calls { TakesCalls (most_answers * most_reads) reader.old reader.new }
-    ensures same { writer.new.name ≡ writer.old.name }
 {
     let mut buffer = means.empty_buffer();
     for number in 1..10_001u32 {
@@ -319,24 +280,16 @@ pub fn talk<R: Read, W: Write, M: Machine>(
     // If the reader's bytes are known, and no fault broke the session off, it is a session of all of them.
     ensures whole { TalksWhole M.represents M.is_intact M.is_open reader.old.bytes
         writer.old.bytes writer.new.bytes office.old result office.new }
-    ensures intact { M.is_intact office.new → M.is_intact office.old }
-    ensures was_open { M.is_intact office.new → M.is_open office.new → M.is_open office.old }
-    ensures at_end { AtEndIf reader.new.bytes (Next.Ends result) }
-    // All that was written was flushed, unless a fault of the writer or a bound ends the session.
-    ensures flushed { FlushesAll writer.old writer.new (Next.Ends result) }
-    // If no such call had failed before, a read or write fault is returned exactly if one failed now. A bound is
-    // returned only if a call was interrupted, and as many calls were made as the message, or the text that broke off,
-    // may have: one read for each byte of the longest message and one more, or one write or flush for each byte of the
-    // text and 16 more.
-    ensures read_fault { TellsReadFault reader.old reader.new (Next.Ends result) }
-    ensures write_fault { TellsWriteFault writer.old writer.new (Next.Ends result) }
-    ensures bound { reader.new.interrupted ≡ false → writer.new.interrupted ≡ false → result ≢ Ended.Bound }
-    ensures used_up { TellsBound reader.new writer.new (Next.Ends result) }
+    ensures store { StaysFailed M.is_intact M.is_open office.old office.new }
+    // All that was written was flushed, unless a fault of the writer or a bound ends the session. If no such call had
+    // failed before, a read or write fault is returned exactly if one failed now. A bound is returned only if a call was
+    // interrupted, and as many calls were made as the message, or the text that broke off, may have: one read for each
+    // byte of the longest message and one more, or one write or flush for each byte of the text and 16 more.
+    ensures streams { EndsAsCalled (TakesCalls (most_answers * most_reads)) reader.old reader.new
+        writer.old writer.new (Next.Ends result) }
     ensures breaks_off { result ≡ Ended.Bound → TalksBounded M.represents M.is_intact reader.old.bytes reader.new
         writer.old.bytes writer.new office.old office.new }
     ensures quiet { IsQuiet reader.new → IsQuiet writer.new → HasEnded result }
-    ensures calls { TakesCalls (most_answers * most_reads) reader.old reader.new }
-    ensures same { writer.new.name ≡ writer.old.name }
 {
     match Means::new(alloc) {
         Ok(mut means) => talk_with(&mut means, reader, writer, office),

@@ -7,7 +7,9 @@ use Rattle.http_messages.specs.HeadVerdict.{request_in, verdict_in}
 use Rattle.http_desk.specs.Messages.{IsBlank, IsHeadCut, IsTooLong, NoHead, Refuses, Fails, HasHead, HeadCut, Nothing}
 use Rattle.http_desk.specs.Exchanges.{Turn, Through}
 use Rattle.http_desk.proofs.Turns.{refused, head_found, may_fail, bound_here, stops_early}
-use Rattle.http_desk.proofs.Faults.{used_up}
+use Rattle.http_desk.specs.StreamFaults.{TakesTurns}
+use Rattle.http_desk.proofs.Endings.{begun, came, came_then, ends_on, ran_out}
+use Rattle.http_desk.proofs.Faults.{takes_on, used_up}
 use Rattle.http_desk.specs.Bounds.{StopsBounded}
 use Rattle.http_desk.proofs.Bounds.{refused_to_bound}
 use Rattle.http_desk.proofs.session.exchange.Goals as goal
@@ -66,10 +68,19 @@ returns-in-Failed-clause-turn g c =
     let (got, consumed, e) = rw c.begin_message.ensures at c.gather_head.ensures.got in
     (got, [], consumed, Appends-nil _, λ i s shown. (s, shown, stops_early (g.M.Machine.is_open c.args.office.now) c.args.number s (c.args.buffer.now.items ++ got) (subst (λ l. IsBlank l ⊎ IsHeadCut l) e c.in-Failed.ensures.found)))
 
-pub returns-in-Bound-clause-turn : goal.returns-in-Bound-clause-turn
-returns-in-Bound-clause-turn g c =
+pub returns-in-Bound : goal.returns-in-Bound
+returns-in-Bound g c =
     let (got, consumed, e) = rw c.begin_message.ensures at c.gather_head.ensures.got in
-    (got, [], consumed, Appends-nil _, λ i s shown. (s, shown, bound_here (g.M.Machine.is_open c.args.office.now) c.args.number s (c.args.buffer.now.items ++ got) false (may_fail (c.args.buffer.now.items ++ got))))
+    -- without an interruption the turns would have been enough
+    let all_taken = used_up _ c.gather_head.new.reader ((rw c.begin_message.ensures at c.gather_head.ensures.calls).2) (λ q.
+    let (before, few) = (rw c.begin_message.ensures at c.in-Bound.ensures.bound) q in
+    omega arith) (c.in-Bound.ensures.used_up refl) in
+    record {
+      turn = (got, [], consumed, Appends-nil _, λ i s shown. (s, shown, bound_here (g.M.Machine.is_open c.args.office.now) c.args.number s (c.args.buffer.now.items ++ got) false (may_fail (c.args.buffer.now.items ++ got))));
+      store = record { intact = λ i. i; was_open = λ i stays. stays };
+      streams = begun _ _ _ _ _ _ c.begin_message.ensures (ran_out _ _ _ c.in-Bound.ensures.failed all_taken c.gather_head.ensures.calls);
+      breaks_off = λ e. inl all_taken;
+    }
 
 pub returns-in-NoMemory-clause-turn : goal.returns-in-NoMemory-clause-turn
 returns-in-NoMemory-clause-turn g c =
@@ -78,21 +89,26 @@ returns-in-NoMemory-clause-turn g c =
     (may_fail (c.args.buffer.now.items ++ got)) tt (λ s. (refl, refl)) (λ i s h. h) (λ s never. absurd never) in
     (got, written, consumed, appended, through)
 
-pub returns-in-Refused-clause-used_up : goal.returns-in-Refused-clause-used_up
-returns-in-Refused-clause-used_up g c = λ e. inr (_, c.refuse.ensures.used_up e)
+pub returns-in-Refused-clause-streams : goal.returns-in-Refused-clause-streams
+returns-in-Refused-clause-streams g c =
+    begun _ _ _ _ _ _ c.begin_message.ensures
+    (came_then _ _ _ _ _ c.in-Whole.ensures.failed (λ q. (c.in-Whole.ensures.bound q).0) c.gather_head.ensures.calls c.refuse.ensures.stream (λ e. (_, c.refuse.ensures.used_up e)))
 
-pub returns-in-TooLong-clause-used_up : goal.returns-in-TooLong-clause-used_up
-returns-in-TooLong-clause-used_up g c = λ e. inr (_, c.refuse-in-TooLong.ensures.used_up e)
+pub returns-in-Accepted-clause-streams : goal.returns-in-Accepted-clause-streams
+returns-in-Accepted-clause-streams g c =
+    begun _ _ _ _ _ _ c.begin_message.ensures
+    (ends_on _ _ _ _ _ _ _ (came {T = TakesTurns} _ _ _ c.in-Whole.ensures.failed (λ q. (c.in-Whole.ensures.bound q).0) c.gather_head.ensures.calls) c.receive.ensures.streams
+    (takes_on c.begin_message.new.self c.gather_head.new.reader c.receive.new.reader c.gather_head.ensures.calls c.receive.ensures.streams.calls))
 
--- without an interruption the turns would have been enough
-pub returns-in-Bound-clause-used_up : goal.returns-in-Bound-clause-used_up
-returns-in-Bound-clause-used_up g c = λ e.
-    inl (used_up _ c.gather_head.new.reader ((rw c.begin_message.ensures at c.gather_head.ensures.calls).2) (λ q.
-    let (before, few) = (rw c.begin_message.ensures at c.in-Bound.ensures.bound) q in
-    omega arith) (c.in-Bound.ensures.used_up refl))
+pub returns-in-TooLong-clause-streams : goal.returns-in-TooLong-clause-streams
+returns-in-TooLong-clause-streams g c =
+    begun _ _ _ _ _ _ c.begin_message.ensures
+    (came_then _ _ _ _ _ c.in-TooLong.ensures.failed (λ q. (c.in-TooLong.ensures.bound q).0) c.gather_head.ensures.calls c.refuse-in-TooLong.ensures.stream (λ e. (_, c.refuse-in-TooLong.ensures.used_up e)))
 
-pub returns-in-NoMemory-clause-used_up : goal.returns-in-NoMemory-clause-used_up
-returns-in-NoMemory-clause-used_up g c = λ e. inr (_, c.refuse-in-NoMemory.ensures.used_up e)
+pub returns-in-NoMemory-clause-streams : goal.returns-in-NoMemory-clause-streams
+returns-in-NoMemory-clause-streams g c =
+    begun _ _ _ _ _ _ c.begin_message.ensures
+    (came_then _ _ _ _ _ c.in-NoMemory.ensures.failed (λ q. (c.in-NoMemory.ensures.bound q).0) c.gather_head.ensures.calls c.refuse-in-NoMemory.ensures.stream (λ e. (_, c.refuse-in-NoMemory.ensures.used_up e)))
 
 pub returns-in-Refused-clause-breaks_off : goal.returns-in-Refused-clause-breaks_off
 returns-in-Refused-clause-breaks_off g c = λ bound.
@@ -131,12 +147,6 @@ returns-in-TooLong-clause-breaks_off g c = λ bound.
     let (written, appended, through) = refused_to_bound g.M.Machine.represents g.M.Machine.is_intact g.M.Machine.is_open c.args.number c.args.office.now c.args.office.now (c.args.buffer.now.items ++ got) [] NoHead false BadRequest _ _ _ c.refuse-in-TooLong.new.writer c.refuse-in-TooLong.ensures.sent c.refuse-in-TooLong.ensures.used_up
     (subst IsTooLong e c.in-TooLong.ensures.found) refl (λ s. refl) (λ s. (refl, refl)) (λ i s h. h) bound in
     inr (got, written, consumed, appended, through)
-
-pub returns-in-Bound-clause-breaks_off : goal.returns-in-Bound-clause-breaks_off
-returns-in-Bound-clause-breaks_off g c = λ e.
-    inl (used_up _ c.gather_head.new.reader ((rw c.begin_message.ensures at c.gather_head.ensures.calls).2) (λ q.
-    let (before, few) = (rw c.begin_message.ensures at c.in-Bound.ensures.bound) q in
-    omega arith) (c.in-Bound.ensures.used_up refl))
 
 pub returns-in-NoMemory-clause-breaks_off : goal.returns-in-NoMemory-clause-breaks_off
 returns-in-NoMemory-clause-breaks_off g c = λ bound.

@@ -14,6 +14,7 @@ use Rattle.http_desk.specs.declared.session_end.Next.{Next}
 use Rattle.http_desk.specs.declared.session_end.Next.TheVariants.{Ends}
 use Rattle.http_desk.specs.declared.output.Sent.{Sent}
 use Rattle.http_desk.specs.declared.output.Sent.TheVariants.{All as SendAll, Failed as SendFailed, Bound as SendBound}
+use Rattle.http_desk.proofs.Endings.{allowed, came_then, ends_on, ran_out}
 use Rattle.http_desk.proofs.Faults.{closed_no_bound, no_read_told, not_all_sent, tells_bound, used_up, writes_told}
 use Rattle.http_desk.specs.Bounds.{StopsBounded}
 use Rattle.http_desk.proofs.Bounds.{leave_to_bound, refused_to_bound}
@@ -37,24 +38,25 @@ returns-in_default g c =
     c.allow_body.ensures.sends in
     record {
       turn = turn;
-      intact = λ i. i;
-      was_open = λ i stays. stays;
-      at_end = at_end;
-      flushed = λ q. not_all_sent c.allow_body.new.writer c.allow_body.result _ c.after.result c.in_default.not-All c.after.ensures;
-      reads =
-          let none = no_read_told c.allow_body.result (Ends Closed) c.after.result refl c.after.ensures in
-          ap (λ b. b || c.args.reader.now.failed) (sym none);
-      writes = writes_told c.allow_body.result _ c.after.result _ _ refl c.after.ensures c.allow_body.ensures.writes;
-      turns = λ p q.
-          let (before, here) = c.allow_body.ensures.turns q in
-          (p, before, no_bound c.allow_body.result _ c.after.ensures here);
-      used_up = λ e. inr (continue_text, tells_bound continue_text c.allow_body.new.writer c.allow_body.result (Ends Closed) c.after.result closed_no_bound c.after.ensures c.allow_body.ensures.used_up e);
+      store = record { intact = λ i. i; was_open = λ i stays. stays };
+      streams = record {
+        at_end = at_end;
+        flushed = λ q. not_all_sent c.allow_body.new.writer c.allow_body.result _ c.after.result c.in_default.not-All c.after.ensures;
+        reads =
+            let none = no_read_told c.allow_body.result (Ends Closed) c.after.result refl c.after.ensures in
+            ap (λ b. b || c.args.reader.now.failed) (sym none);
+        writes = writes_told c.allow_body.result _ c.after.result _ _ refl c.after.ensures c.allow_body.ensures.writes;
+        turns = λ p q.
+            let (before, here) = c.allow_body.ensures.turns q in
+            (p, before, no_bound c.allow_body.result _ c.after.ensures here);
+        used_up = λ e. inr (continue_text, tells_bound continue_text c.allow_body.new.writer c.allow_body.result (Ends Closed) c.after.result closed_no_bound c.after.ensures c.allow_body.ensures.used_up e);
+        calls = (refl, omega arith, refl);
+        same = c.allow_body.ensures.same;
+      };
       breaks_off = λ bound.
           inr (leave_to_bound g.M.Machine.represents g.M.Machine.is_intact g.M.Machine.is_open c.args.number c.args.office.now items block
           (drop size items) (request_in block c.args.head) _ _ c.allow_body.new.writer c.allow_body.result c.after.result c.after.ensures c.requires.accepted
           c.allow_body.ensures.sends c.allow_body.ensures.due c.allow_body.ensures.used_up bound);
-      calls = (refl, omega arith, refl);
-      same = c.allow_body.ensures.same;
     }
 
 pub act-requires-clause-accepted : goal.act-requires-clause-accepted
@@ -103,18 +105,30 @@ returns-in-Failed-clause-turn g c =
       λ i s shown. (s, shown, stops_in_body (g.M.Machine.is_open c.args.office.now) c.args.number s items c.gather_body.new.buffer.items got size (request_in (take size items) c.args.head) ReadFault c.requires.within e short c.requires.accepted (inr refl)),
     )
 
-pub returns-in-Bound-clause-turn : goal.returns-in-Bound-clause-turn
-returns-in-Bound-clause-turn g c =
+pub returns-in-Bound : goal.returns-in-Bound
+returns-in-Bound g c =
     let items = c.args.buffer.now.items in
     let size = c.args.size in
     let (got, consumed, e) = c.gather_body.ensures.got in
-    let there = head_more items (take size items) (Accepted (request_in (take size items) c.args.head)) (drop size items) got c.requires.accepted in (
-      got,
-      continue_if c.args.head.waits,
-      consumed,
-      c.in-All.ensures.sends,
-      λ i s shown. (s, shown, bound_here (g.M.Machine.is_open c.args.office.now) c.args.number s (items ++ got) c.args.head.waits (may_fail_after (items ++ got) (take size items) (drop size items ++ got) (request_in (take size items) c.args.head) there)),
-    )
+    let there = head_more items (take size items) (Accepted (request_in (take size items) c.args.head)) (drop size items) got c.requires.accepted in
+    let written = allowed c.args.reader.now c.args.writer.now c.allow_body.new.writer c.in-All.ensures.writes c.in-All.ensures.turns c.in-All.ensures.same (c.in-All.ensures.flushed refl) in
+    -- without an interruption the turns would have been enough
+    let all_taken = used_up _ c.gather_body.new.reader (c.gather_body.ensures.calls.2 ∙ c.requires.given) (λ q.
+    let (before, few) = c.in-Bound.ensures.bound q in
+    let enough = c.requires.turns before in
+    omega arith) (c.in-Bound.ensures.used_up refl) in
+    record {
+      turn = (
+        got,
+        continue_if c.args.head.waits,
+        consumed,
+        c.in-All.ensures.sends,
+        λ i s shown. (s, shown, bound_here (g.M.Machine.is_open c.args.office.now) c.args.number s (items ++ got) c.args.head.waits (may_fail_after (items ++ got) (take size items) (drop size items ++ got) (request_in (take size items) c.args.head) there)),
+      );
+      store = record { intact = λ i. i; was_open = λ i stays. stays };
+      streams = ends_on _ _ _ _ _ _ _ written (ran_out _ _ _ c.in-Bound.ensures.failed all_taken c.gather_body.ensures.calls) c.gather_body.ensures.calls;
+      breaks_off = λ e. inl all_taken;
+    }
 
 pub returns-in-NoMemory-clause-turn : goal.returns-in-NoMemory-clause-turn
 returns-in-NoMemory-clause-turn g c =
@@ -126,19 +140,17 @@ returns-in-NoMemory-clause-turn g c =
     (may_fail_after (items ++ got) (take size items) (drop size items ++ got) (request_in (take size items) c.args.head) there) tt (λ s. (refl, refl)) (λ i s h. h) (λ s never. absurd never) in
     (got, continue_if c.args.head.waits ++ written, consumed, Appends-trans _ _ _ _ _ c.in-All.ensures.sends appended, through)
 
-pub returns-in-Whole-clause-used_up : goal.returns-in-Whole-clause-used_up
-returns-in-Whole-clause-used_up g c = λ e. inr (c.act.ensures.used_up e)
+pub returns-in-Whole-clause-streams : goal.returns-in-Whole-clause-streams
+returns-in-Whole-clause-streams g c =
+    let written = allowed c.args.reader.now c.args.writer.now c.allow_body.new.writer c.in-All.ensures.writes c.in-All.ensures.turns c.in-All.ensures.same (c.in-All.ensures.flushed refl) in
+    ends_on _ _ _ _ _ _ _ written
+    (came_then _ _ _ _ _ c.in-Whole.ensures.failed (λ q. (c.in-Whole.ensures.bound q).0) c.gather_body.ensures.calls c.act.ensures.stream c.act.ensures.used_up) c.gather_body.ensures.calls
 
--- without an interruption the turns would have been enough
-pub returns-in-Bound-clause-used_up : goal.returns-in-Bound-clause-used_up
-returns-in-Bound-clause-used_up g c = λ e.
-    inl (used_up _ c.gather_body.new.reader (c.gather_body.ensures.calls.2 ∙ c.requires.given) (λ q.
-    let (before, few) = c.in-Bound.ensures.bound q in
-    let enough = c.requires.turns before in
-    omega arith) (c.in-Bound.ensures.used_up refl))
-
-pub returns-in-NoMemory-clause-used_up : goal.returns-in-NoMemory-clause-used_up
-returns-in-NoMemory-clause-used_up g c = λ e. inr (_, c.refuse.ensures.used_up e)
+pub returns-in-NoMemory-clause-streams : goal.returns-in-NoMemory-clause-streams
+returns-in-NoMemory-clause-streams g c =
+    let written = allowed c.args.reader.now c.args.writer.now c.allow_body.new.writer c.in-All.ensures.writes c.in-All.ensures.turns c.in-All.ensures.same (c.in-All.ensures.flushed refl) in
+    ends_on _ _ _ _ _ _ _ written
+    (came_then _ _ _ _ _ c.in-NoMemory.ensures.failed (λ q. (c.in-NoMemory.ensures.bound q).0) c.gather_body.ensures.calls c.refuse.ensures.stream (λ e. (_, c.refuse.ensures.used_up e))) c.gather_body.ensures.calls
 
 pub returns-in-Whole-clause-breaks_off : goal.returns-in-Whole-clause-breaks_off
 returns-in-Whole-clause-breaks_off g c = λ bound.
@@ -151,13 +163,6 @@ returns-in-Whole-clause-breaks_off g c = λ bound.
       Appends-trans _ _ _ _ _ c.in-All.ensures.sends appended,
       subst (λ input. Through g.M.Machine.represents g.M.Machine.is_intact c.args.office.now c.act.new.office (λ s t. StopsBounded c.args.number s input (continue_if c.args.head.waits ++ written) t c.act.new.writer)) e through,
     )
-
-pub returns-in-Bound-clause-breaks_off : goal.returns-in-Bound-clause-breaks_off
-returns-in-Bound-clause-breaks_off g c = λ e.
-    inl (used_up _ c.gather_body.new.reader (c.gather_body.ensures.calls.2 ∙ c.requires.given) (λ q.
-    let (before, few) = c.in-Bound.ensures.bound q in
-    let enough = c.requires.turns before in
-    omega arith) (c.in-Bound.ensures.used_up refl))
 
 pub returns-in-NoMemory-clause-breaks_off : goal.returns-in-NoMemory-clause-breaks_off
 returns-in-NoMemory-clause-breaks_off g c = λ bound.

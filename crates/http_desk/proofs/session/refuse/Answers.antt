@@ -1,16 +1,16 @@
-use Rattle.std.proofs.Common.{◌≡◌, refl, subst, true}
+use Rattle.std.proofs.Common.{◌≡◌, subst, true}
 use Rattle.http_messages.specs.Answers.{answer_text}
 use Rattle.http_desk.specs.AnswerOutput.{Sends}
 use Rattle.http_desk.specs.StreamFaults.{TextIsUsedUp}
 use Rattle.http_desk.specs.declared.output.Sent.TheVariants.{Bound}
-use Rattle.http_desk.proofs.Faults.{closed_no_bound, flushed_after, tells_bound, writes_told}
+use Rattle.http_desk.proofs.Endings.{answered}
+use Rattle.http_desk.proofs.Faults.{closed_no_bound, tells_bound}
 use Rattle.http_desk.proofs.session.refuse.Goals as goal
 
-pub returns-clause-writes : goal.returns-clause-writes
-returns-clause-writes g c = writes_told c.send_answer-sent.result _ c.after.result _ _ refl c.after.ensures c.send_answer-sent.ensures.failed
-
-pub returns-clause-flushed : goal.returns-clause-flushed
-returns-clause-flushed g c = flushed_after c.send_answer-sent.new.writer c.send_answer-sent.result _ c.after.result c.after.ensures c.send_answer-sent.ensures.flushed
+pub returns-clause-stream : goal.returns-clause-stream
+returns-clause-stream g c =
+    let sent = c.send_answer-sent.ensures in
+    answered _ _ c.send_answer-sent.result true c.after.result c.after.ensures sent.flushed sent.failed sent.bound sent.calls.0
 
 pub returns-clause-sent : goal.returns-clause-sent
 returns-clause-sent g c =
