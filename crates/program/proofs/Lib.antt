@@ -1,4 +1,3 @@
-pub mod Agreements
 pub mod Calls
 pub mod ClosedLemmas
 pub mod DoneLemmas

@@ -1,9 +1,10 @@
 -- How the calls on a stream went: what was written, and why a stream failed.
-use Rattle.std.specs.Prelude.{◌≡◌, ◌⊎◌, ◌≤◌, ◌+◌, ◌++◌, List, ℕ, true}
+use Rattle.std.specs.Prelude.{◌≡◌, ◌⊎◌, ◌≤◌, ◌+◌, ◌*◌, ◌++◌, List, ℕ, true}
 use Rattle.std.specs.Io.KnownBytes.{Appends}
-use Rattle.http_desk.specs.Exchanges.{AtEndIf}
-use Rattle.http_desk.specs.StreamFaults.{FlushesAll, TellsBound, TellsReadFault, TellsWriteFault}
-use Rattle.http_desk.specs.Streams.{Stream, most_calls}
+use Rattle.http_desk.specs.Exchanges.{EndsAsCalled}
+use Rattle.http_desk.specs.Session.{most_answers}
+use Rattle.http_desk.specs.StreamFaults.{TakesCalls}
+use Rattle.http_desk.specs.Streams.{Stream, most_calls, most_reads}
 use Rattle.http_desk.specs.declared.session_end.Ended.{Ended}
 use Rattle.http_desk.specs.declared.session_end.Next.TheVariants.{Ends}
 
@@ -31,9 +32,6 @@ PrintsPart text old new =
 
 -- The end of a session agrees with how the calls on its reader and its writer went. If it ended with its input, all of
 -- the input was read.
-pub record AgreesWithCalls (reader reader_after writer writer_after : Stream) (end : Ended) : Type 0 where
-  pub at_end : AtEndIf reader_after.bytes (Ends end)
-  pub flushed : FlushesAll writer writer_after (Ends end)
-  pub read_fault : TellsReadFault reader reader_after (Ends end)
-  pub write_fault : TellsWriteFault writer writer_after (Ends end)
-  pub used_up : TellsBound reader_after writer_after (Ends end)
+abbrev pub AgreesWithCalls : Stream → Stream → Stream → Stream → Ended → Type 0
+AgreesWithCalls reader reader_after writer writer_after end =
+    EndsAsCalled (TakesCalls (most_answers * most_reads)) reader reader_after writer writer_after (Ends end)

@@ -1,6 +1,6 @@
 //! Sessions with an office over streams.
 ghost use Rattle.std.specs.Prelude.{◌≡◌, IfErr, OnOk};
-ghost use Rattle.http_desk.specs.Exchanges.{Talks};
+ghost use Rattle.http_desk.specs.Exchanges.{StaysFailed, Talks};
 ghost use Rattle.program.specs.CommandEffects.{EndsWell, TrialDone, TrialFails, ended_by};
 ghost use Rattle.program.specs.Streams.{AgreesWithCalls};
 
@@ -42,8 +42,7 @@ pub fn talk_with<M: Machine, R: Read, W: Write>(
         × AgreesWithCalls reader.old reader.new out.old out.new (ended_by broken)
         × Talks M.represents M.is_intact M.is_open reader.old.bytes reader.new.bytes
         out.old.bytes out.new.bytes office.old (ended_by broken) office.new) }
-    ensures intact { M.is_intact office.new → M.is_intact office.old }
-    ensures was_open { M.is_intact office.new → M.is_open office.new → M.is_open office.old }
+    ensures store { StaysFailed M.is_intact M.is_open office.old office.new }
 {
     after(talk(alloc, reader, out, office))
 }

@@ -1,23 +1,18 @@
 use Rattle.std.proofs.Common.{subst}
 use Rattle.std.proofs.lemmas.Result.{IfErr-weaker, on_ok_weaker}
 use Rattle.http_desk.specs.Exchanges.{Talks}
-use Rattle.program.proofs.Agreements.{agreed}
 use Rattle.program.specs.Streams.{AgreesWithCalls}
 use Rattle.program.proofs.sessions.talk_with.Goals as goal
 
 pub returns-clause-done : goal.returns-clause-done
 returns-clause-done g c =
-    let agrees = agreed c.args.reader.now c.talk.new.reader c.args.out.now c.talk.new.writer c.talk.result c.talk.ensures.at_end c.talk.ensures.flushed
-    c.talk.ensures.read_fault c.talk.ensures.write_fault c.talk.ensures.used_up in
-    on_ok_weaker c.after.result (λ well. (c.talk.result, well, agrees, c.talk.ensures.session)) c.after.ensures.well
+    on_ok_weaker c.after.result (λ well. (c.talk.result, well, c.talk.ensures.streams, c.talk.ensures.session)) c.after.ensures.well
 
 pub returns-clause-broken : goal.returns-clause-broken
 returns-clause-broken g c =
-    let agrees = agreed c.args.reader.now c.talk.new.reader c.args.out.now c.talk.new.writer c.talk.result c.talk.ensures.at_end c.talk.ensures.flushed
-    c.talk.ensures.read_fault c.talk.ensures.write_fault c.talk.ensures.used_up in
     IfErr-weaker c.after.result _ _ (λ f (broken, is, ended). (
       broken,
       is,
-      subst (AgreesWithCalls c.args.reader.now c.talk.new.reader c.args.out.now c.talk.new.writer) ended agrees,
+      subst (AgreesWithCalls c.args.reader.now c.talk.new.reader c.args.out.now c.talk.new.writer) ended c.talk.ensures.streams,
       subst (λ e. Talks g.M.Machine.represents g.M.Machine.is_intact g.M.Machine.is_open c.args.reader.now.bytes c.talk.new.reader.bytes c.args.out.now.bytes c.talk.new.writer.bytes c.args.office.now e c.talk.new.office) ended c.talk.ensures.session,
     )) c.after.ensures.broken
