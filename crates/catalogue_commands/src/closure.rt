@@ -8,7 +8,7 @@ ghost use Rattle.catalogue_core.specs.Units.{is_later};
 ghost use Rattle.catalogue_core.specs.GoodCatalogues.{IsSomeDay};
 ghost use Rattle.office_core.specs.declared.command.Command.TheVariants as command;
 ghost use Rattle.office_tables.specs.Step.{InTransaction};
-ghost use Rattle.refinement.specs.CommandSteps.{CarriesOut};
+ghost use Rattle.refinement.specs.CommandSteps.{Performs};
 
 use catalogue_store::{Places, is_unit, set_closure};
 use isad_core::Day;
@@ -41,8 +41,8 @@ fn close_known<P: Places, S: Alter>(
     requires small { IsNumber unit }
     requires calendar { IsSomeDay until }
     requires lasts { is_in_force ≡ is_later today until }
-    ensures { CarriesOut P.represents P.version (λ s. (today ≡ s.day) × (has_unit s.catalogue.forest unit ≡ true))
-        (command.SetClosure unit until) (state S.Store conn.old) (state S.Store conn.new) result }
+    ensures { Performs P.Places S.Store (λ s. (today ≡ s.day) × (has_unit s.catalogue.forest unit ≡ true))
+        (command.SetClosure unit until) conn.old conn.new result }
 {
     set_closure::<P, S>(conn, unit, until)?;
     if !is_in_force {
@@ -62,8 +62,7 @@ pub fn change_closure<P: Places, S: Alter>(
     until: Option<Day>,
 ) -> Result<Result<Done, Refusal>, StoreFault>
     requires inside { InTransaction P.version (state S.Store conn.old) }
-    ensures { CarriesOut P.represents P.version (λ s. today ≡ s.day) (command.SetClosure unit until)
-        (state S.Store conn.old) (state S.Store conn.new) result }
+    ensures { Performs P.Places S.Store (λ s. today ≡ s.day) (command.SetClosure unit until) conn.old conn.new result }
 {
     if !is_unit::<P, S>(alloc, conn, unit)? {
         return Ok(Err(Refusal::UnknownUnit));

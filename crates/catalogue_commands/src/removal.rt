@@ -8,7 +8,7 @@ ghost use Rattle.desk_store.specs.Holdings.{issued_of};
 ghost use Rattle.office_core.specs.declared.command.Command.TheVariants as command;
 ghost use Rattle.state_encoding.specs.OfficeRows.{tables};
 ghost use Rattle.office_tables.specs.Step.{InTransaction};
-ghost use Rattle.refinement.specs.CommandSteps.{CarriesOut};
+ghost use Rattle.refinement.specs.CommandSteps.{Performs};
 ghost use Rattle.refinement.specs.Gate.{AreAsked};
 
 use catalogue_store::{Places, is_unit, remove_branch};
@@ -31,10 +31,9 @@ fn remove_beside<P: Places, S: Alter>(
 ) -> Result<Result<Done, Refusal>, StoreFault>
     requires inside { InTransaction P.version (state S.Store conn.old) }
     requires small { IsNumber unit }
-    ensures { CarriesOut P.represents P.version
-        (λ s. (today ≡ s.day) × (has_unit s.catalogue.forest unit ≡ true)
-        × AreAsked unit s (issued_of (tables P.version s).desk) loans.now)
-        (command.Remove unit) (state S.Store conn.old) (state S.Store conn.new) result }
+    ensures { Performs P.Places S.Store (λ s. (today ≡ s.day) × (has_unit s.catalogue.forest unit ≡ true)
+        × AreAsked unit s (issued_of (tables P.version s).desk) loans.now) (command.Remove unit)
+        conn.old conn.new result }
 {
     let units = remove_branch::<P, S>(alloc, conn, unit)?;
     pass_of::<P, S>(alloc, conn, today, loans, Done::Remove { units })
@@ -50,8 +49,8 @@ fn remove_known<P: Places, S: Alter>(
 ) -> Result<Result<Done, Refusal>, StoreFault>
     requires inside { InTransaction P.version (state S.Store conn.old) }
     requires small { IsNumber unit }
-    ensures { CarriesOut P.represents P.version (λ s. (today ≡ s.day) × (has_unit s.catalogue.forest unit ≡ true))
-        (command.Remove unit) (state S.Store conn.old) (state S.Store conn.new) result }
+    ensures { Performs P.Places S.Store (λ s. (today ≡ s.day) × (has_unit s.catalogue.forest unit ≡ true))
+        (command.Remove unit) conn.old conn.new result }
 {
     // Once the units are removed, no row says which containers they named.
     let loans = loans_near::<P, S>(alloc, conn, unit)?;
@@ -68,8 +67,7 @@ pub fn remove_unit<P: Places, S: Alter>(
     unit: u64,
 ) -> Result<Result<Done, Refusal>, StoreFault>
     requires inside { InTransaction P.version (state S.Store conn.old) }
-    ensures { CarriesOut P.represents P.version (λ s. today ≡ s.day) (command.Remove unit) (state S.Store conn.old)
-        (state S.Store conn.new) result }
+    ensures { Performs P.Places S.Store (λ s. today ≡ s.day) (command.Remove unit) conn.old conn.new result }
 {
     if !is_unit::<P, S>(alloc, conn, unit)? {
         return Ok(Err(Refusal::UnknownUnit));

@@ -6,7 +6,7 @@ ghost use Rattle.isad_core.specs.Limits.{IsNumber};
 ghost use Rattle.catalogue_core.specs.UnitLookup.{has_unit};
 ghost use Rattle.office_core.specs.declared.command.Command.TheVariants as command;
 ghost use Rattle.office_tables.specs.Step.{InTransaction};
-ghost use Rattle.refinement.specs.CommandSteps.{CarriesOut};
+ghost use Rattle.refinement.specs.CommandSteps.{Performs};
 
 use catalogue_store::{Places, is_unit, set_status};
 use isad_core::Day;
@@ -28,8 +28,8 @@ fn set_known<P: Places, S: Alter>(
 ) -> Result<Result<Done, Refusal>, StoreFault>
     requires inside { InTransaction P.version (state S.Store conn.old) }
     requires small { IsNumber unit }
-    ensures { CarriesOut P.represents P.version (λ s. (today ≡ s.day) × (has_unit s.catalogue.forest unit ≡ true))
-        (command.SetStatus unit draft whole) (state S.Store conn.old) (state S.Store conn.new) result }
+    ensures { Performs P.Places S.Store (λ s. (today ≡ s.day) × (has_unit s.catalogue.forest unit ≡ true))
+        (command.SetStatus unit draft whole) conn.old conn.new result }
 {
     let units = set_status::<P, S>(alloc, conn, unit, draft, whole)?;
     let done = Done::SetStatus { units };
@@ -51,8 +51,8 @@ pub fn change_status<P: Places, S: Alter>(
     whole: bool,
 ) -> Result<Result<Done, Refusal>, StoreFault>
     requires inside { InTransaction P.version (state S.Store conn.old) }
-    ensures { CarriesOut P.represents P.version (λ s. today ≡ s.day) (command.SetStatus unit draft whole)
-        (state S.Store conn.old) (state S.Store conn.new) result }
+    ensures { Performs P.Places S.Store (λ s. today ≡ s.day) (command.SetStatus unit draft whole)
+        conn.old conn.new result }
 {
     if !is_unit::<P, S>(alloc, conn, unit)? {
         return Ok(Err(Refusal::UnknownUnit));

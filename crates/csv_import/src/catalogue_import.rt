@@ -13,7 +13,7 @@ ghost use Rattle.office_tables.specs.Calls.{Answers};
 ghost use Rattle.office_tables.specs.Step.{InTransaction};
 ghost use Rattle.catalogue_statements.specs.Settings.{AreLegibleSettings};
 ghost use Rattle.catalogue_statements.specs.Representation.{RepresentsSettings};
-ghost use Rattle.refinement.specs.CommandSteps.{CarriesOut};
+ghost use Rattle.refinement.specs.CommandSteps.{Performs};
 ghost use Rattle.refinement.specs.AccessConditions.{RepresentsWhole};
 ghost use Rattle.csv_import.specs.CatalogueImport.{CanBePlaced, HasNumbered, judged, told_of};
 ghost use Rattle.csv_import.specs.CatalogueImport as spec;
@@ -122,10 +122,10 @@ fn import_rows<P: Places, S: Alter>(
 ) -> Result<Result<Done, Refusal>, StoreFault>
     requires inside { InTransaction P.version (state S.Store conn.old) }
     requires low { (legacy : Bytes) → IfSome (get_by_text catalogued.now legacy) IsNumber }
-    ensures { (bytes : Bytes) → file_of bytes ≡ Ok file.now → CarriesOut P.represents P.version
-        (λ s. (today ≡ s.day) × (is_source source.now ≡ true) × CanBePlaced source.now file.now new s
+    ensures { (bytes : Bytes) → file_of bytes ≡ Ok file.now → Performs P.Places S.Store (λ s. (today ≡ s.day)
+        × (is_source source.now ≡ true) × CanBePlaced source.now file.now new s
         × KnowsUnits s.catalogue source.now file.now.rows (get_by_text catalogued.now))
-        (command.Import source.now bytes) (state S.Store conn.old) (state S.Store conn.new) result }
+        (command.Import source.now bytes) conn.old conn.new result }
 {
     let Some(next) = next_with_room::<P, S>(alloc, conn, new)? else {
         return Ok(Err(Refusal::Full));
@@ -143,9 +143,9 @@ fn import_read<P: Places, S: Alter>(
     file: &File,
 ) -> Result<Result<Done, Refusal>, StoreFault>
     requires inside { InTransaction P.version (state S.Store conn.old) }
-    ensures { (bytes : Bytes) → file_of bytes ≡ Ok file.now → CarriesOut P.represents P.version
+    ensures { (bytes : Bytes) → file_of bytes ≡ Ok file.now → Performs P.Places S.Store
         (λ s. (today ≡ s.day) × (is_source source.now ≡ true)) (command.Import source.now bytes)
-        (state S.Store conn.old) (state S.Store conn.new) result }
+        conn.old conn.new result }
 {
     let catalogued = known_units::<P, S>(alloc, conn, source, file.rows.as_slice())?;
     match plan::<P, S>(alloc, conn, &catalogued, file.rows.as_slice())? {
@@ -167,8 +167,8 @@ pub fn import<P: Places, S: Alter>(
     file: &[u8],
 ) -> Result<Result<Done, Refusal>, StoreFault>
     requires inside { InTransaction P.version (state S.Store conn.old) }
-    ensures { CarriesOut P.represents P.version (λ s. (today ≡ s.day) × (is_source source.now ≡ true))
-        (command.Import source.now file.now) (state S.Store conn.old) (state S.Store conn.new) result }
+    ensures { Performs P.Places S.Store (λ s. (today ≡ s.day) × (is_source source.now ≡ true))
+        (command.Import source.now file.now) conn.old conn.new result }
 {
     match read_file(alloc, file) {
         Ok(read) => import_read::<P, S>(alloc, conn, today, source, &read),

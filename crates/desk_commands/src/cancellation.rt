@@ -7,7 +7,7 @@ ghost use Rattle.desk_store.specs.Orders.{state_number};
 ghost use Rattle.office_core.specs.State.{waits};
 ghost use Rattle.office_core.specs.declared.command.Command.TheVariants as command;
 ghost use Rattle.office_tables.specs.Step.{InTransaction};
-ghost use Rattle.refinement.specs.CommandSteps.{CarriesOut};
+ghost use Rattle.refinement.specs.CommandSteps.{Performs};
 
 use catalogue_store::Places;
 use desk_store::{OrderState, end_order, order};
@@ -30,8 +30,7 @@ fn end_waiting<P: Places, S: Alter>(
 ) -> Result<Result<Done, Refusal>, StoreFault>
     requires inside { InTransaction P.version (state S.Store conn.old) }
     requires number { IsNumber order }
-    ensures { CarriesOut P.represents P.version (λ s. waits s order ≡ true) (command.Cancel order)
-        (state S.Store conn.old) (state S.Store conn.new) result }
+    ensures { Performs P.Places S.Store (λ s. waits s order ≡ true) (command.Cancel order) conn.old conn.new result }
 {
     end_order(conn, order, OrderState::Cancelled)?;
     Ok(Ok(Done::Cancel { order }))
@@ -44,8 +43,7 @@ pub fn cancel<P: Places, S: Alter>(
     number: u64,
 ) -> Result<Result<Done, Refusal>, StoreFault>
     requires inside { InTransaction P.version (state S.Store conn.old) }
-    ensures { CarriesOut P.represents P.version (λ _. ⊤) (command.Cancel number) (state S.Store conn.old)
-        (state S.Store conn.new) result }
+    ensures { Performs P.Places S.Store (λ _. ⊤) (command.Cancel number) conn.old conn.new result }
 {
     let Some(placed) = order(alloc, conn, number)? else {
         return Ok(Err(Refusal::UnknownOrder));

@@ -6,7 +6,7 @@ ghost use Rattle.isad_core.specs.Limits.{IsNumber};
 ghost use Rattle.desk_core.specs.declared.reader.Place.TheVariants.{Out};
 ghost use Rattle.office_core.specs.declared.command.Command.TheVariants as command;
 ghost use Rattle.office_tables.specs.Step.{InTransaction};
-ghost use Rattle.refinement.specs.CommandSteps.{CarriesOut};
+ghost use Rattle.refinement.specs.CommandSteps.{Performs};
 
 use crate::container_moves::hand_over;
 use catalogue_store::Places;
@@ -26,8 +26,8 @@ fn take_back<P: Places, S: Alter>(
 ) -> Result<Result<Done, Refusal>, StoreFault>
     requires inside { InTransaction P.version (state S.Store conn.old) }
     requires number { IsNumber container }
-    ensures { CarriesOut P.represents P.version (λ s. s.place container ≡ Out order) (command.Return container)
-        (state S.Store conn.old) (state S.Store conn.new) result }
+    ensures { Performs P.Places S.Store (λ s. s.place container ≡ Out order) (command.Return container)
+        conn.old conn.new result }
 {
     if order >= NO_NUMBER {
         return Err(StoreFault::Schema);
@@ -43,8 +43,7 @@ pub fn return_container<P: Places, S: Alter>(
     container: u64,
 ) -> Result<Result<Done, Refusal>, StoreFault>
     requires inside { InTransaction P.version (state S.Store conn.old) }
-    ensures { CarriesOut P.represents P.version (λ _. ⊤) (command.Return container) (state S.Store conn.old)
-        (state S.Store conn.new) result }
+    ensures { Performs P.Places S.Store (λ _. ⊤) (command.Return container) conn.old conn.new result }
 {
     let Some(head) = queue_head(alloc, conn, container)? else {
         return Ok(Err(Refusal::UnknownContainer));

@@ -13,7 +13,7 @@ ghost use Rattle.office_core.specs.Words.{first as first_of};
 ghost use Rattle.office_core.specs.declared.command.Command.TheVariants as command;
 ghost use Rattle.office_tables.specs.Step.{InTransaction};
 ghost use Rattle.refinement.specs.ReadingRoomLimits.{limits_of};
-ghost use Rattle.refinement.specs.CommandSteps.{CarriesOut};
+ghost use Rattle.refinement.specs.CommandSteps.{Performs};
 ghost use Rattle.desk_commands.specs.Issuance.{IsQueuedFor, asked_for};
 
 use crate::container_moves::hand_over;
@@ -71,9 +71,9 @@ fn lend<P: Places, S: Alter>(
 ) -> Result<Result<Done, Refusal>, StoreFault>
     requires inside { InTransaction P.version (state S.Store conn.old) }
     requires number { IsNumber container }
-    ensures { CarriesOut P.represents P.version (λ s. (refusal s (command.Issue container ticket) ≡ None)
-        × (first_of (s.queue container) ≡ Some order)) (command.Issue container ticket) (state S.Store conn.old)
-        (state S.Store conn.new) result }
+    ensures { Performs P.Places S.Store
+        (λ s. (refusal s (command.Issue container ticket) ≡ None) × (first_of (s.queue container) ≡ Some order))
+        (command.Issue container ticket) conn.old conn.new result }
 {
     if order >= NO_NUMBER {
         return Err(StoreFault::Schema);
@@ -94,9 +94,9 @@ fn issue_known<P: Places, S: Alter>(
 ) -> Result<Result<Done, Refusal>, StoreFault>
     requires inside { InTransaction P.version (state S.Store conn.old) }
     requires number { IsNumber container }
-    ensures { CarriesOut P.represents P.version (λ s. (today ≡ s.day) × (limits.now ≡ limits_of s)
-        × IsQueuedFor s container head.place head.first) (command.Issue container ticket)
-        (state S.Store conn.old) (state S.Store conn.new) result }
+    ensures { Performs P.Places S.Store
+        (λ s. (today ≡ s.day) × (limits.now ≡ limits_of s) × IsQueuedFor s container head.place head.first)
+        (command.Issue container ticket) conn.old conn.new result }
 {
     let who = ticket_holder(alloc, conn, ticket)?;
     let is_open = is_open_to::<P, S>(alloc, conn, container, ticket, today)?;
@@ -118,8 +118,8 @@ pub fn issue<P: Places, S: Alter>(
     ticket: u64,
 ) -> Result<Result<Done, Refusal>, StoreFault>
     requires inside { InTransaction P.version (state S.Store conn.old) }
-    ensures { CarriesOut P.represents P.version (λ s. (today ≡ s.day) × (limits.now ≡ limits_of s))
-        (command.Issue container ticket) (state S.Store conn.old) (state S.Store conn.new) result }
+    ensures { Performs P.Places S.Store (λ s. (today ≡ s.day) × (limits.now ≡ limits_of s))
+        (command.Issue container ticket) conn.old conn.new result }
 {
     let Some(head) = queue_head(alloc, conn, container)? else {
         return Ok(Err(Refusal::UnknownContainer));

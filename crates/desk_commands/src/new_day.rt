@@ -7,7 +7,7 @@ ghost use Rattle.office_core.specs.State.{containers, is_out};
 ghost use Rattle.office_core.specs.Words.{is_empty};
 ghost use Rattle.office_core.specs.declared.command.Command.TheVariants as command;
 ghost use Rattle.office_tables.specs.Step.{InTransaction};
-ghost use Rattle.refinement.specs.CommandSteps.{CarriesOut};
+ghost use Rattle.refinement.specs.CommandSteps.{Performs};
 
 use catalogue_store::Places;
 use desk_store::{Loan, issued, open_day};
@@ -30,9 +30,8 @@ fn begin_day<P: Places, S: Alter>(
     day: Day,
 ) -> Result<Result<Done, Refusal>, StoreFault>
     requires inside { InTransaction P.version (state S.Store conn.old) }
-    ensures { CarriesOut P.represents P.version
-        (λ s. (int_lt s.day day ≡ true) × (list_any (is_out s) (containers s) ≡ false)) (command.OpenDay day)
-        (state S.Store conn.old) (state S.Store conn.new) result }
+    ensures { Performs P.Places S.Store (λ s. (int_lt s.day day ≡ true) × (list_any (is_out s) (containers s) ≡ false))
+        (command.OpenDay day) conn.old conn.new result }
 {
     open_day(conn, day)?;
     Ok(Ok(Done::OpenDay { day }))
@@ -45,8 +44,7 @@ pub fn open<P: Places, S: Alter>(
     day: Day,
 ) -> Result<Result<Done, Refusal>, StoreFault>
     requires inside { InTransaction P.version (state S.Store conn.old) }
-    ensures { CarriesOut P.represents P.version (λ s. int_lt s.day day ≡ true) (command.OpenDay day)
-        (state S.Store conn.old) (state S.Store conn.new) result }
+    ensures { Performs P.Places S.Store (λ s. int_lt s.day day ≡ true) (command.OpenDay day) conn.old conn.new result }
 {
     let loans = issued(alloc, conn)?;
     if !are_none(&loans) {

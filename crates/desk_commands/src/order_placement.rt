@@ -9,7 +9,7 @@ ghost use Rattle.office_core.specs.State.{opens};
 ghost use Rattle.office_core.specs.declared.command.Command.TheVariants as command;
 ghost use Rattle.office_tables.specs.Step.{InTransaction};
 ghost use Rattle.refinement.specs.ReadingRoomLimits.{limits_of};
-ghost use Rattle.refinement.specs.CommandSteps.{CarriesOut};
+ghost use Rattle.refinement.specs.CommandSteps.{Performs};
 ghost use Rattle.desk_commands.specs.OrderPlacement.{IsCardOf, MayOrder, ask_of};
 
 use catalogue_store::Places;
@@ -54,8 +54,8 @@ fn append<P: Places, S: Alter>(
     requires number { IsNumber order }
     requires small { IsNumber ticket }
     requires known { IsNumber container }
-    ensures { CarriesOut P.represents P.version (λ s. MayOrder s ticket container order today)
-        (command.Order ticket container) (state S.Store conn.old) (state S.Store conn.new) result }
+    ensures { Performs P.Places S.Store (λ s. MayOrder s ticket container order today) (command.Order ticket container)
+        conn.old conn.new result }
 {
     append_order(conn, order, ticket, container, today)?;
     Ok(Ok(Done::Order { order }))
@@ -74,9 +74,9 @@ fn decide<P: Places, S: Alter>(
     requires inside { InTransaction P.version (state S.Store conn.old) }
     requires small { IsNumber ticket }
     requires known { is_open ≡ true → IsNumber container }
-    ensures { CarriesOut P.represents P.version (λ s. (today ≡ s.day) × (limits.now ≡ limits_of s)
-        × IsCardOf P.version s ticket card.now × (is_open ≡ opens s ticket container))
-        (command.Order ticket container) (state S.Store conn.old) (state S.Store conn.new) result }
+    ensures { Performs P.Places S.Store (λ s. (today ≡ s.day) × (limits.now ≡ limits_of s)
+        × IsCardOf P.version s ticket card.now × (is_open ≡ opens s ticket container)) (command.Order ticket container)
+        conn.old conn.new result }
 {
     match may_order(
         Some(&card.reader),
@@ -108,9 +108,9 @@ fn order_by<P: Places, S: Alter>(
 ) -> Result<Result<Done, Refusal>, StoreFault>
     requires inside { InTransaction P.version (state S.Store conn.old) }
     requires small { IsNumber ticket }
-    ensures { CarriesOut P.represents P.version
+    ensures { Performs P.Places S.Store
         (λ s. (today ≡ s.day) × (limits.now ≡ limits_of s) × IsCardOf P.version s ticket card.now)
-        (command.Order ticket container) (state S.Store conn.old) (state S.Store conn.new) result }
+        (command.Order ticket container) conn.old conn.new result }
 {
     let is_open = is_open_to::<P, S>(alloc, conn, container, ticket, today)?;
     decide::<P, S>(
@@ -135,8 +135,8 @@ pub fn order<P: Places, S: Alter>(
     container: u64,
 ) -> Result<Result<Done, Refusal>, StoreFault>
     requires inside { InTransaction P.version (state S.Store conn.old) }
-    ensures { CarriesOut P.represents P.version (λ s. (today ≡ s.day) × (limits.now ≡ limits_of s))
-        (command.Order ticket container) (state S.Store conn.old) (state S.Store conn.new) result }
+    ensures { Performs P.Places S.Store (λ s. (today ≡ s.day) × (limits.now ≡ limits_of s))
+        (command.Order ticket container) conn.old conn.new result }
 {
     let Some(card) = reader(alloc, conn, ticket, today)? else {
         return Ok(Err(Refusal::UnknownTicket));

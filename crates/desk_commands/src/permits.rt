@@ -7,7 +7,7 @@ ghost use Rattle.catalogue_core.specs.UnitLookup.{has_unit};
 ghost use Rattle.office_core.specs.State.{is_ticket};
 ghost use Rattle.office_core.specs.declared.command.Command.TheVariants as command;
 ghost use Rattle.office_tables.specs.Step.{InTransaction};
-ghost use Rattle.refinement.specs.CommandSteps.{CarriesOut};
+ghost use Rattle.refinement.specs.CommandSteps.{Performs};
 ghost use Rattle.desk_commands.specs.Permits.{MayPermit, later_of, until_for};
 
 use catalogue_store::{Places, is_unit};
@@ -59,8 +59,8 @@ fn give<P: Places, S: Alter>(
     requires inside { InTransaction P.version (state S.Store conn.old) }
     requires small { IsNumber ticket }
     requires known { IsNumber unit }
-    ensures { CarriesOut P.represents P.version (λ s. MayPermit s ticket unit asked until)
-        (command.Permit ticket unit asked) (state S.Store conn.old) (state S.Store conn.new) result }
+    ensures { Performs P.Places S.Store (λ s. MayPermit s ticket unit asked until) (command.Permit ticket unit asked)
+        conn.old conn.new result }
 {
     grant(conn, ticket, unit, until)?;
     Ok(Ok(Done::Permit {
@@ -81,9 +81,8 @@ fn give_within<P: Places, S: Alter>(
     requires inside { InTransaction P.version (state S.Store conn.old) }
     requires small { IsNumber ticket }
     requires known { IsNumber unit }
-    ensures { CarriesOut P.represents P.version
-        (λ s. (is_ticket s ticket ≡ true) × (has_unit s.catalogue.forest unit ≡ true))
-        (command.Permit ticket unit asked) (state S.Store conn.old) (state S.Store conn.new) result }
+    ensures { Performs P.Places S.Store (λ s. (is_ticket s ticket ≡ true) × (has_unit s.catalogue.forest unit ≡ true))
+        (command.Permit ticket unit asked) conn.old conn.new result }
 {
     let held = permits(alloc, conn, ticket)?;
     if is_full(&held, unit) {
@@ -103,8 +102,8 @@ fn give_for<P: Places, S: Alter>(
 ) -> Result<Result<Done, Refusal>, StoreFault>
     requires inside { InTransaction P.version (state S.Store conn.old) }
     requires small { IsNumber ticket }
-    ensures { CarriesOut P.represents P.version (λ s. is_ticket s ticket ≡ true) (command.Permit ticket unit asked)
-        (state S.Store conn.old) (state S.Store conn.new) result }
+    ensures { Performs P.Places S.Store (λ s. is_ticket s ticket ≡ true) (command.Permit ticket unit asked)
+        conn.old conn.new result }
 {
     let there = is_unit::<P, S>(alloc, conn, unit)?;
     if !there {
@@ -123,8 +122,7 @@ pub fn permit<P: Places, S: Alter>(
     until: Day,
 ) -> Result<Result<Done, Refusal>, StoreFault>
     requires inside { InTransaction P.version (state S.Store conn.old) }
-    ensures { CarriesOut P.represents P.version (λ _. ⊤) (command.Permit ticket unit until)
-        (state S.Store conn.old) (state S.Store conn.new) result }
+    ensures { Performs P.Places S.Store (λ _. ⊤) (command.Permit ticket unit until) conn.old conn.new result }
 {
     let known = is_registered(alloc, conn, ticket)?;
     if !known {

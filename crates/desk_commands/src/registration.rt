@@ -5,7 +5,7 @@ ghost use Rattle.sqlite.specs.Held.{state};
 ghost use Rattle.office_core.specs.Rules.{is_name};
 ghost use Rattle.office_core.specs.declared.command.Command.TheVariants as command;
 ghost use Rattle.office_tables.specs.Step.{InTransaction};
-ghost use Rattle.refinement.specs.CommandSteps.{CarriesOut};
+ghost use Rattle.refinement.specs.CommandSteps.{Performs};
 
 use catalogue_store::Places;
 use desk_store::add_reader;
@@ -23,8 +23,7 @@ pub fn register<P: Places, S: Alter>(
     requires inside { InTransaction P.version (state S.Store conn.old) }
     requires named { is_name name.now ≡ true }
     requires text { IsUtf8 name.now }
-    ensures { CarriesOut P.represents P.version (λ _. ⊤) (command.Register name.now until) (state S.Store conn.old)
-        (state S.Store conn.new) result }
+    ensures { Performs P.Places S.Store (λ _. ⊤) (command.Register name.now until) conn.old conn.new result }
 {
     let Some(ticket) = add_reader(conn, name, until)? else {
         return Ok(Err(Refusal::Full));

@@ -5,7 +5,7 @@ ghost use Rattle.sqlite.specs.Held.{state};
 ghost use Rattle.office_core.specs.State.{is_ticket};
 ghost use Rattle.office_core.specs.declared.command.Command.TheVariants as command;
 ghost use Rattle.office_tables.specs.Step.{InTransaction};
-ghost use Rattle.refinement.specs.CommandSteps.{CarriesOut};
+ghost use Rattle.refinement.specs.CommandSteps.{Performs};
 
 use catalogue_store::Places;
 use desk_store::{is_registered, renew};
@@ -23,8 +23,8 @@ fn set_last_day<P: Places, S: Alter>(
 ) -> Result<Result<Done, Refusal>, StoreFault>
     requires inside { InTransaction P.version (state S.Store conn.old) }
     requires small { ticket < 2 ^ 63 }
-    ensures { CarriesOut P.represents P.version (λ s. is_ticket s ticket ≡ true) (command.Renew ticket until)
-        (state S.Store conn.old) (state S.Store conn.new) result }
+    ensures { Performs P.Places S.Store (λ s. is_ticket s ticket ≡ true) (command.Renew ticket until)
+        conn.old conn.new result }
 {
     renew(conn, ticket, until)?;
     Ok(Ok(Done::Renew { ticket }))
@@ -38,8 +38,7 @@ pub fn renew_ticket<P: Places, S: Alter>(
     until: Day,
 ) -> Result<Result<Done, Refusal>, StoreFault>
     requires inside { InTransaction P.version (state S.Store conn.old) }
-    ensures { CarriesOut P.represents P.version (λ _. ⊤) (command.Renew ticket until) (state S.Store conn.old)
-        (state S.Store conn.new) result }
+    ensures { Performs P.Places S.Store (λ _. ⊤) (command.Renew ticket until) conn.old conn.new result }
 {
     let known = is_registered(alloc, conn, ticket)?;
     if !known {

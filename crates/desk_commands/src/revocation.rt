@@ -7,7 +7,7 @@ ghost use Rattle.catalogue_core.specs.UnitLookup.{has_unit};
 ghost use Rattle.office_core.specs.State.{is_ticket};
 ghost use Rattle.office_core.specs.declared.command.Command.TheVariants as command;
 ghost use Rattle.office_tables.specs.Step.{InTransaction};
-ghost use Rattle.refinement.specs.CommandSteps.{CarriesOut};
+ghost use Rattle.refinement.specs.CommandSteps.{Performs};
 ghost use Rattle.desk_commands.specs.Revocation.{HasPermit};
 
 use crate::permits::last_day;
@@ -31,8 +31,8 @@ fn take_back<P: Places, S: Alter>(
     requires inside { InTransaction P.version (state S.Store conn.old) }
     requires small { IsNumber ticket }
     requires known { IsNumber unit }
-    ensures { CarriesOut P.represents P.version (λ s. (today ≡ s.day) × HasPermit s ticket unit)
-        (command.Revoke ticket unit) (state S.Store conn.old) (state S.Store conn.new) result }
+    ensures { Performs P.Places S.Store (λ s. (today ≡ s.day) × HasPermit s ticket unit) (command.Revoke ticket unit)
+        conn.old conn.new result }
 {
     revoke(conn, ticket, unit)?;
     pass_near::<P, S>(alloc, conn, today, unit, Done::Revoke { unit })
@@ -49,9 +49,9 @@ fn take_back_held<P: Places, S: Alter>(
     requires inside { InTransaction P.version (state S.Store conn.old) }
     requires small { IsNumber ticket }
     requires known { IsNumber unit }
-    ensures { CarriesOut P.represents P.version
+    ensures { Performs P.Places S.Store
         (λ s. (today ≡ s.day) × (is_ticket s ticket ≡ true) × (has_unit s.catalogue.forest unit ≡ true))
-        (command.Revoke ticket unit) (state S.Store conn.old) (state S.Store conn.new) result }
+        (command.Revoke ticket unit) conn.old conn.new result }
 {
     let held = permits(alloc, conn, ticket)?;
     let until = last_day(&held, unit);
@@ -71,8 +71,8 @@ fn take_back_for<P: Places, S: Alter>(
 ) -> Result<Result<Done, Refusal>, StoreFault>
     requires inside { InTransaction P.version (state S.Store conn.old) }
     requires small { IsNumber ticket }
-    ensures { CarriesOut P.represents P.version (λ s. (today ≡ s.day) × (is_ticket s ticket ≡ true))
-        (command.Revoke ticket unit) (state S.Store conn.old) (state S.Store conn.new) result }
+    ensures { Performs P.Places S.Store (λ s. (today ≡ s.day) × (is_ticket s ticket ≡ true))
+        (command.Revoke ticket unit) conn.old conn.new result }
 {
     let there = is_unit::<P, S>(alloc, conn, unit)?;
     if !there {
@@ -91,8 +91,7 @@ pub fn revoke_permit<P: Places, S: Alter>(
     unit: u64,
 ) -> Result<Result<Done, Refusal>, StoreFault>
     requires inside { InTransaction P.version (state S.Store conn.old) }
-    ensures { CarriesOut P.represents P.version (λ s. today ≡ s.day) (command.Revoke ticket unit)
-        (state S.Store conn.old) (state S.Store conn.new) result }
+    ensures { Performs P.Places S.Store (λ s. today ≡ s.day) (command.Revoke ticket unit) conn.old conn.new result }
 {
     let known = is_registered(alloc, conn, ticket)?;
     if !known {

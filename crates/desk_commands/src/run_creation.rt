@@ -10,7 +10,7 @@ ghost use Rattle.office_core.specs.declared.command.Command.TheVariants as comma
 ghost use Rattle.office_tables.specs.Calls.{Answers};
 ghost use Rattle.office_tables.specs.Step.{InTransaction};
 ghost use Rattle.refinement.specs.ReadingRoomLimits.{limits_of};
-ghost use Rattle.refinement.specs.CommandSteps.{CarriesOut};
+ghost use Rattle.refinement.specs.CommandSteps.{Performs};
 ghost use Rattle.refinement.specs.AccessConditions.{CanBeJudged, RepresentsWhole};
 ghost use Rattle.desk_commands.specs.RunCreation.{due_of, has_numbers, taken_by};
 
@@ -82,9 +82,9 @@ fn bring<P: Places, S: Alter>(
     requires inside { InTransaction P.version (state S.Store conn.old) }
     requires numbers { AllByRecursion IsNumbered due.now }
     requires theirs { containers.now ≡ map (λ (o : Taken). o.container) due.now }
-    ensures { CarriesOut P.represents P.version
+    ensures { Performs P.Places S.Store
         (λ s. (today ≡ s.day) × (due.now ≡ taken_by P.version s) × (is_empty due.now ≡ false)) command.Run
-        (state S.Store conn.old) (state S.Store conn.new) result }
+        conn.old conn.new result }
 {
     let Some(run) = record_run(conn, today, due)? else {
         return Ok(Err(Refusal::Full));
@@ -104,9 +104,9 @@ fn bring_due<P: Places, S: Alter>(
     due: &[FirstOrder],
 ) -> Result<Result<Done, Refusal>, StoreFault>
     requires inside { InTransaction P.version (state S.Store conn.old) }
-    ensures { CarriesOut P.represents P.version
+    ensures { Performs P.Places S.Store
         (λ s. (today ≡ s.day) × (due.now ≡ taken_by P.version s) × (is_empty due.now ≡ false)) command.Run
-        (state S.Store conn.old) (state S.Store conn.new) result }
+        conn.old conn.new result }
 {
     if !are_kept(due) {
         return Err(StoreFault::Schema);
@@ -125,8 +125,8 @@ pub fn fetch<P: Places, S: Alter>(
     limits: &Limits,
 ) -> Result<Result<Done, Refusal>, StoreFault>
     requires inside { InTransaction P.version (state S.Store conn.old) }
-    ensures { CarriesOut P.represents P.version (λ s. (today ≡ s.day) × (limits.now ≡ limits_of s)) command.Run
-        (state S.Store conn.old) (state S.Store conn.new) result }
+    ensures { Performs P.Places S.Store (λ s. (today ≡ s.day) × (limits.now ≡ limits_of s)) command.Run
+        conn.old conn.new result }
 {
     let waiting = candidates(alloc, conn)?;
     let due = due::<P, S>(alloc, conn, today, limits.run, &waiting)?;

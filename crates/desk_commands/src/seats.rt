@@ -8,7 +8,7 @@ ghost use Rattle.desk_store.specs.declared.taken_seats.TakenSeat.{TakenSeat as T
 ghost use Rattle.office_core.specs.declared.command.Command.TheVariants as command;
 ghost use Rattle.office_tables.specs.Step.{InTransaction};
 ghost use Rattle.refinement.specs.ReadingRoomLimits.{limits_of};
-ghost use Rattle.refinement.specs.CommandSteps.{CarriesOut};
+ghost use Rattle.refinement.specs.CommandSteps.{Performs};
 ghost use Rattle.refinement.specs.Sitters.{sitter};
 ghost use Rattle.desk_commands.specs.Seats.{MayLeave, MaySit};
 
@@ -28,8 +28,8 @@ fn free_seat<P: Places, S: Alter>(
     seat: u32,
 ) -> Result<Result<Done, Refusal>, StoreFault>
     requires inside { InTransaction P.version (state S.Store conn.old) }
-    ensures { CarriesOut P.represents P.version (λ s. MayLeave s ticket seat) (command.LeaveSeat ticket)
-        (state S.Store conn.old) (state S.Store conn.new) result }
+    ensures { Performs P.Places S.Store (λ s. MayLeave s ticket seat) (command.LeaveSeat ticket)
+        conn.old conn.new result }
 {
     set_seat(conn, seat, None)?;
     Ok(Ok(Done::LeaveSeat { seat }))
@@ -42,8 +42,7 @@ pub fn leave_seat<P: Places, S: Alter>(
     ticket: u64,
 ) -> Result<Result<Done, Refusal>, StoreFault>
     requires inside { InTransaction P.version (state S.Store conn.old) }
-    ensures { CarriesOut P.represents P.version (λ _. ⊤) (command.LeaveSeat ticket) (state S.Store conn.old)
-        (state S.Store conn.new) result }
+    ensures { Performs P.Places S.Store (λ _. ⊤) (command.LeaveSeat ticket) conn.old conn.new result }
 {
     let who = ticket_holder(alloc, conn, ticket)?;
     match may_leave(who.as_ref()) {
@@ -73,8 +72,7 @@ fn take<P: Places, S: Alter>(
 ) -> Result<Result<Done, Refusal>, StoreFault>
     requires inside { InTransaction P.version (state S.Store conn.old) }
     requires small { IsNumber ticket }
-    ensures { CarriesOut P.represents P.version (λ s. MaySit s ticket seat) (command.TakeSeat ticket)
-        (state S.Store conn.old) (state S.Store conn.new) result }
+    ensures { Performs P.Places S.Store (λ s. MaySit s ticket seat) (command.TakeSeat ticket) conn.old conn.new result }
 {
     set_seat(conn, seat, Some(ticket))?;
     Ok(Ok(Done::TakeSeat { seat }))
@@ -91,9 +89,8 @@ fn sit_down<P: Places, S: Alter>(
 ) -> Result<Result<Done, Refusal>, StoreFault>
     requires inside { InTransaction P.version (state S.Store conn.old) }
     requires small { IfSome who (λ _. IsNumber ticket) }
-    ensures { CarriesOut P.represents P.version
-        (λ s. (today ≡ s.day) × (limits.now ≡ limits_of s) × (who ≡ sitter s ticket)) (command.TakeSeat ticket)
-        (state S.Store conn.old) (state S.Store conn.new) result }
+    ensures { Performs P.Places S.Store (λ s. (today ≡ s.day) × (limits.now ≡ limits_of s) × (who ≡ sitter s ticket))
+        (command.TakeSeat ticket) conn.old conn.new result }
 {
     let taken = seats(alloc, conn)?;
     let numbers = numbers_of(alloc, &taken)?;
@@ -113,8 +110,8 @@ pub fn take_seat<P: Places, S: Alter>(
     ticket: u64,
 ) -> Result<Result<Done, Refusal>, StoreFault>
     requires inside { InTransaction P.version (state S.Store conn.old) }
-    ensures { CarriesOut P.represents P.version (λ s. (today ≡ s.day) × (limits.now ≡ limits_of s))
-        (command.TakeSeat ticket) (state S.Store conn.old) (state S.Store conn.new) result }
+    ensures { Performs P.Places S.Store (λ s. (today ≡ s.day) × (limits.now ≡ limits_of s)) (command.TakeSeat ticket)
+        conn.old conn.new result }
 {
     let who = ticket_holder(alloc, conn, ticket)?;
     sit_down::<P, S>(alloc, conn, today, limits, ticket, who)

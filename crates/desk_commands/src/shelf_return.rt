@@ -6,7 +6,7 @@ ghost use Rattle.office_core.specs.State.{idle};
 ghost use Rattle.office_core.specs.Words.{is_empty};
 ghost use Rattle.office_core.specs.declared.command.Command.TheVariants as command;
 ghost use Rattle.office_tables.specs.Step.{InTransaction};
-ghost use Rattle.refinement.specs.CommandSteps.{CarriesOut};
+ghost use Rattle.refinement.specs.CommandSteps.{Performs};
 
 use crate::container_moves::move_all;
 use catalogue_store::Places;
@@ -31,8 +31,8 @@ fn shelve<P: Places, S: Alter>(
     containers: Vec<u64>,
 ) -> Result<Result<Done, Refusal>, StoreFault>
     requires inside { InTransaction P.version (state S.Store conn.old) }
-    ensures { CarriesOut P.represents P.version (λ s. (containers.items ≡ idle s) × (is_empty (idle s) ≡ false))
-        command.Reshelve (state S.Store conn.old) (state S.Store conn.new) result }
+    ensures { Performs P.Places S.Store (λ s. (containers.items ≡ idle s) × (is_empty (idle s) ≡ false))
+        command.Reshelve conn.old conn.new result }
 {
     move_all(conn, &containers, Place::Shelf)?;
     Ok(Ok(Done::Reshelve {
@@ -46,8 +46,7 @@ pub fn reshelve<P: Places, S: Alter>(
     conn: &mut Connection<S>,
 ) -> Result<Result<Done, Refusal>, StoreFault>
     requires inside { InTransaction P.version (state S.Store conn.old) }
-    ensures { CarriesOut P.represents P.version (λ _. ⊤) command.Reshelve (state S.Store conn.old)
-        (state S.Store conn.new) result }
+    ensures { Performs P.Places S.Store (λ _. ⊤) command.Reshelve conn.old conn.new result }
 {
     let told = at_desk(alloc, conn)?;
     let idle = pick_reshelve(alloc, &told)?;

@@ -3,7 +3,7 @@
 ghost use Rattle.sqlite.specs.Held.{state};
 ghost use Rattle.office_core.specs.declared.query.Query.TheVariants as query;
 ghost use Rattle.office_tables.specs.Step.{InTransaction};
-ghost use Rattle.refinement.specs.QueryAnswers.{AnswersQuery};
+ghost use Rattle.refinement.specs.QueryAnswers.{Responds};
 
 use crate::json_values::{Told, list_text};
 use catalogue_store::Places;
@@ -30,8 +30,7 @@ pub fn issued_now<P: Places, S: Alter>(
     conn: &mut Connection<S>,
 ) -> Result<Answer, StoreFault>
     requires inside { InTransaction P.version (state S.Store conn.old) }
-    ensures { AnswersQuery P.represents P.version query.IssuedNow (state S.Store conn.old) (state S.Store conn.new)
-        result }
+    ensures { Responds P.Places S.Store query.IssuedNow conn.old conn.new result }
 {
     let loans = issued(alloc, conn)?;
     let text = list_text(alloc, &loans)?;

@@ -3,7 +3,7 @@
 ghost use Rattle.sqlite.specs.Held.{state};
 ghost use Rattle.office_core.specs.declared.query.Query.TheVariants as query;
 ghost use Rattle.office_tables.specs.Step.{InTransaction};
-ghost use Rattle.refinement.specs.QueryAnswers.{AnswersQuery};
+ghost use Rattle.refinement.specs.QueryAnswers.{Responds};
 
 use crate::json_values::{Told, day_value, list_text};
 use catalogue_store::Places;
@@ -32,8 +32,7 @@ pub fn reader_permits<P: Places, S: Alter>(
     ticket: u64,
 ) -> Result<Answer, StoreFault>
     requires inside { InTransaction P.version (state S.Store conn.old) }
-    ensures { AnswersQuery P.represents P.version (query.ReaderPermits ticket) (state S.Store conn.old)
-        (state S.Store conn.new) result }
+    ensures { Responds P.Places S.Store (query.ReaderPermits ticket) conn.old conn.new result }
 {
     let known = is_registered(alloc, conn, ticket)?;
     if !known {

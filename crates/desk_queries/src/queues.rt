@@ -9,7 +9,7 @@ ghost use Rattle.office_core.specs.Queries.{place_name};
 ghost use Rattle.office_core.specs.State.{order_out};
 ghost use Rattle.office_core.specs.declared.query.Query.TheVariants as query;
 ghost use Rattle.office_tables.specs.Step.{InTransaction};
-ghost use Rattle.refinement.specs.QueryAnswers.{AnswersQuery};
+ghost use Rattle.refinement.specs.QueryAnswers.{Responds};
 ghost use Rattle.desk_queries.specs.JsonValues.{queue_data};
 
 use crate::json_values::{Told, text_of, values_of};
@@ -86,8 +86,7 @@ pub fn queue<P: Places, S: Alter>(
     container: u64,
 ) -> Result<Answer, StoreFault>
     requires inside { InTransaction P.version (state S.Store conn.old) }
-    ensures { AnswersQuery P.represents P.version (query.Queue container) (state S.Store conn.old)
-        (state S.Store conn.new) result }
+    ensures { Responds P.Places S.Store (query.Queue container) conn.old conn.new result }
 {
     let Some(found) = desk_store::queue(alloc, conn, container)? else {
         return Ok(Answer::Unknown(Refusal::UnknownContainer));

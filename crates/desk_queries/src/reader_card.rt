@@ -7,7 +7,7 @@ ghost use Rattle.sqlite.specs.Held.{state};
 ghost use Rattle.office_core.specs.Json.{count, or_null};
 ghost use Rattle.office_core.specs.declared.query.Query.TheVariants as query;
 ghost use Rattle.office_tables.specs.Step.{InTransaction};
-ghost use Rattle.refinement.specs.QueryAnswers.{AnswersQuery};
+ghost use Rattle.refinement.specs.QueryAnswers.{Responds};
 ghost use Rattle.desk_queries.specs.JsonValues.{card_data};
 
 use crate::json_values::{Told, day_value, text_of, values_of};
@@ -77,8 +77,7 @@ pub fn reader_orders<P: Places, S: Alter>(
     ticket: u64,
 ) -> Result<Answer, StoreFault>
     requires inside { InTransaction P.version (state S.Store conn.old) }
-    ensures { AnswersQuery P.represents P.version (query.ReaderOrders ticket) (state S.Store conn.old)
-        (state S.Store conn.new) result }
+    ensures { Responds P.Places S.Store (query.ReaderOrders ticket) conn.old conn.new result }
 {
     let Some(card) = reader(alloc, conn, ticket, today)? else {
         return Ok(Answer::Unknown(Refusal::UnknownTicket));

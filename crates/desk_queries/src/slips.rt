@@ -3,7 +3,7 @@
 ghost use Rattle.sqlite.specs.Held.{state};
 ghost use Rattle.office_core.specs.declared.query.Query.TheVariants as query;
 ghost use Rattle.office_tables.specs.Step.{InTransaction};
-ghost use Rattle.refinement.specs.QueryAnswers.{AnswersQuery};
+ghost use Rattle.refinement.specs.QueryAnswers.{Responds};
 
 use catalogue_store::Places;
 use desk_core::slip_text;
@@ -21,8 +21,7 @@ pub fn run_slip<P: Places, S: Alter>(
     run: u64,
 ) -> Result<Answer, StoreFault>
     requires inside { InTransaction P.version (state S.Store conn.old) }
-    ensures { AnswersQuery P.represents P.version (query.RunSlip run) (state S.Store conn.old)
-        (state S.Store conn.new) result }
+    ensures { Responds P.Places S.Store (query.RunSlip run) conn.old conn.new result }
 {
     let Some(brought) = desk_store::run(alloc, conn, run)? else {
         return Ok(Answer::Unknown(Refusal::UnknownRun));

@@ -15,7 +15,7 @@ ghost use Rattle.catalogue_core.specs.PublicForest.{public_of};
 ghost use Rattle.office_core.specs.declared.query.Query.TheVariants as query;
 ghost use Rattle.refinement.specs.Representation.{office_of};
 ghost use Rattle.public_queries.specs.HeadLines.{repository_of};
-ghost use Rattle.public_queries.specs.InformedAnswers.{AnswersKnowing};
+ghost use Rattle.public_queries.specs.InformedAnswers.{RespondsKnowing};
 ghost use Rattle.public_queries.specs.FindingAids.{KeepsUnits, Walked, along, kept_row, public_units, shown_at};
 ghost use Rattle.public_queries.specs.KnownPaths.{IsTellable};
 
@@ -136,8 +136,8 @@ pub fn aid<P: Places, S: Alter>(
     unit: u64,
 ) -> Result<Answer, StoreFault>
     requires inside { InTransaction P.version (state S.Store conn.old) }
-    ensures { AnswersKnowing P.represents P.version (λ s. known.now ≡ office_of s) (query.Aid unit)
-        (state S.Store conn.old) (state S.Store conn.new) result }
+    ensures { RespondsKnowing P.Places S.Store (λ s. known.now ≡ office_of s) (query.Aid unit)
+        conn.old conn.new result }
 {
     if unit >= NO_NUMBER {
         return Ok(Answer::Unknown(Refusal::UnknownUnit));

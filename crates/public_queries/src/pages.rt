@@ -13,7 +13,7 @@ ghost use Rattle.office_tables.specs.Calls.{Answers};
 ghost use Rattle.office_tables.specs.Step.{InTransaction};
 ghost use Rattle.refinement.specs.Representation.{office_of};
 ghost use Rattle.public_queries.specs.HeadLines.{all_bare, repository_of};
-ghost use Rattle.public_queries.specs.InformedAnswers.{AnswersKnowing};
+ghost use Rattle.public_queries.specs.InformedAnswers.{RespondsKnowing};
 ghost use Rattle.public_queries.specs.KnownPaths.{AreHeadsOf, IsTellable, RepresentsUnit};
 ghost use Rattle.public_queries.specs.PageLines.{told_page};
 ghost use Rattle.public_queries.specs.PathValues.{coded_way, unit_values};
@@ -99,8 +99,8 @@ fn shown_page<P: Places, S: Alter>(
 ) -> Result<Answer, StoreFault>
     requires inside { InTransaction P.version (state S.Store conn.old) }
     requires small { IsNumber unit }
-    ensures { AnswersKnowing P.represents P.version (RepresentsUnit known.now unit way.now) (query.Page unit)
-        (state S.Store conn.old) (state S.Store conn.new) result }
+    ensures { RespondsKnowing P.Places S.Store (RepresentsUnit known.now unit way.now) (query.Page unit)
+        conn.old conn.new result }
 {
     let Some((last, _above)) = way.split_last() else {
         return Err(StoreFault::Schema);
@@ -126,8 +126,8 @@ pub fn page<P: Places, S: Alter>(
     unit: u64,
 ) -> Result<Answer, StoreFault>
     requires inside { InTransaction P.version (state S.Store conn.old) }
-    ensures { AnswersKnowing P.represents P.version (λ s. known.now ≡ office_of s) (query.Page unit)
-        (state S.Store conn.old) (state S.Store conn.new) result }
+    ensures { RespondsKnowing P.Places S.Store (λ s. known.now ≡ office_of s) (query.Page unit)
+        conn.old conn.new result }
 {
     if unit >= NO_NUMBER {
         return Ok(Answer::Unknown(Refusal::UnknownUnit));

@@ -7,7 +7,7 @@ ghost use Rattle.office_core.specs.declared.query.Query.TheVariants as query;
 ghost use Rattle.office_tables.specs.Step.{InTransaction};
 ghost use Rattle.refinement.specs.Representation.{office_of};
 ghost use Rattle.public_queries.specs.HeadLines.{all_bare, repository_of};
-ghost use Rattle.public_queries.specs.InformedAnswers.{AnswersKnowing};
+ghost use Rattle.public_queries.specs.InformedAnswers.{RespondsKnowing};
 
 use crate::head_lines::bare_units;
 use catalogue_store::{Head, OfficeRow, Places, heads_below};
@@ -34,8 +34,7 @@ pub fn fonds<P: Places, S: Alter>(
     known: &OfficeRow,
 ) -> Result<Answer, StoreFault>
     requires inside { InTransaction P.version (state S.Store conn.old) }
-    ensures { AnswersKnowing P.represents P.version (λ s. known.now ≡ office_of s) query.Fonds
-        (state S.Store conn.old) (state S.Store conn.new) result }
+    ensures { RespondsKnowing P.Places S.Store (λ s. known.now ≡ office_of s) query.Fonds conn.old conn.new result }
 {
     let heads = heads_below::<P, S>(alloc, conn, None)?;
     let text = print_tops(alloc, known, heads.as_slice())?;

@@ -1,11 +1,14 @@
 -- What a command does inside its transaction.
 use Rattle.std.specs.Prelude.{◌≡◌, ℕ, IsOk, IfOk, OnOk, OnErr, Result}
+use Rattle.sqlite_trees.specs.declared.store.Store as trees
 use Rattle.sqlite.specs.Effect.{Database}
+use Rattle.sqlite.specs.Held.{Held, state}
 use Rattle.sqlite.specs.State as store
 use Rattle.sqlite.specs.State.{HasCleanDisk}
 use Rattle.sqlite.specs.Tree.{Trees}
 use Rattle.tree_core.specs.Forest.{Forest}
 use Rattle.tree_core.specs.Versions.{Version}
+use Rattle.catalogue_store.specs.declared.places.Places as house
 use Rattle.office_core.specs.Rules.{Reply, step}
 use Rattle.office_core.specs.SoundOffice.{IsSoundOffice}
 use Rattle.office_core.specs.State.{State}
@@ -28,3 +31,7 @@ pub record CarriesOut (places : Trees → Forest ℕ → Type 0) (version : Vers
   pub goes : OnOk r (Goes old new)
   pub cut : OnErr r (IsAborted old new)
   pub faults : (s : State) → IsSoundOffice s → known s → RepresentsState places version old.now s → FaultsHaveCause old new r
+
+-- the same, of a call that has a connection: a command's contract
+abbrev pub Performs : {P S : Type 0} → house.Ghosts P → trees.Ghosts S → (State → Type 0) → Command → Held S → Held S → Result Reply StoreFault → Type 0
+Performs p g known asked before after r = CarriesOut p.represents p.version known asked (state g before) (state g after) r
