@@ -16,7 +16,7 @@ returns-in_err-found g c =
     record {
       tells = tells_not g.S.Store (RepresentsAlone RepresentsUnits) (λ _. ⊤) (λ _. ⊤) c.args.conn.now c.units_from.new.conn c.from_residual.result (λ _ f. Finds (is_from c.args.source.now c.args.legacy.now) f) e
           (same_fault c.from_residual.result e handed.0 handed.1) c.in_err-found.ensures.reads.cut c.in_err-found.ensures.reads.spares
-          (λ beside f shown may kept clean free. c.in_err-found.ensures.faults shown.units shown.rows clean free);
+          (λ beside f shown may kept clean free. c.in_err-found.ensures.faults shown.units shown.rows tt clean free);
     }
 
 pub returns : goal.returns
@@ -25,7 +25,7 @@ returns g c =
     record {
       tells = record {
         answers = λ clean beside f shown.
-            let got = c.in_ok-found.ensures.rows clean shown.units shown.rows in
+            let got = c.in_ok-found.ensures.answers clean shown.units shown.rows tt in
             let e : c.copied.result ≡ slice_get (map (λ (u : Unit). u.id) got.0) 0 = c.copied.ensures ∙ c.first.ensures.value ∙ ap (λ l. slice_get l 0) (c.deref.ensures.value ∙ got.2) in
             subst (Finds is f) (sym e) (finds_first is f shown.units got.0 shown.are got.1.0);
         looks = c.in_ok-found.ensures.reads.looks;

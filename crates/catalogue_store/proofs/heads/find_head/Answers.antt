@@ -50,7 +50,7 @@ returns-in_default g c =
         answers = λ clean o k it.
             let at = it.catalogue.units in
             let rows = filter (has_id c.args.unit) at.units in
-            let got = c.in_ok-found.ensures.rows clean at.units at.rows at.rise in
+            let got = c.in_ok-found.ensures.answers clean at.units at.rows at.rise in
             let few : length rows ≡ 0 = omega (arith, c.in_default.ensures.cases.0, c.in_ok-found.found.ok.0, ap length got, length-map rows standing_of) in
             sym (ap (option_map head_of) (none_found a.now.trees k.forest at c.args.unit rows (IsPermutation-refl rows) few));
         looks = c.in_ok-found.ensures.reads.looks;
@@ -118,12 +118,12 @@ returns g c =
             let texts = it.catalogue.elements in
             let at_b = early b d _ c.in_ok-elements.ensures.reads.looks.goes.on.crash clean in
             let rows = filter (has_id c.args.unit) at.units in
-            let got = c.in_ok-found.ensures.rows at_b at.units at.rows at.rise in
+            let got = c.in_ok-found.ensures.answers at_b at.units at.rows at.rise in
             let found = one_told a.now.trees k.forest at c.args.unit rows (IsPermutation-refl rows) standing_of c.pop.new.self.items c.in-Some.standing (sym got ∙ c.in-Some.ensures.items) in
             let u = found.0 in
             let told = subst (λ n. IsPermutation (element_cells u.values) (elements_of n texts.elements)) (sym found.2)
             (all_has (λ (u : Unit). IsPermutation (element_cells u.values) (elements_of u.id texts.elements)) (nodes k.forest) u texts.are found.1) in
-            let read = c.in_ok-elements.ensures.rows clean texts.elements (still_numbered element_row _ _ texts.elements (ap (λ (db : Database). db.trees tables.element.tree) (looked.same at_b)) texts.rows) in
+            let read = c.in_ok-elements.ensures.answers clean texts.elements (still_numbered element_row _ _ texts.elements (ap (λ (db : Database). db.trees tables.element.tree) (looked.same at_b)) texts.rows) tt in
             let identifier = c.in_ok-identifier.ensures ∙ ap (among 1) (c.deref.ensures.value ∙ read.2) ∙ ap (λ t. unwrap_or t []) (text_among_first c.args.unit 0 2 u.values texts.elements read.0 (omega arith) told read.1.0) in
             let title = c.in_ok-title.ensures ∙ ap (among 2) (c.deref-2.ensures.value ∙ read.2) ∙ ap (λ t. unwrap_or t []) (text_among_first c.args.unit 1 2 u.values texts.elements read.0 (omega arith) told read.1.0) in
             head_told k.forest c.args.unit u c.in-Some.standing c.in_ok-identifier.identifier c.in_ok-title.title found.2 found.3 found.4 identifier title;

@@ -36,8 +36,10 @@ returns-in_err-insert_unit g c =
           (same_fault c.from_residual.result e handed.0 handed.1) c.in_err-insert_unit.ensures.leaves.cut c.in_err-insert_unit.ensures.leaves.spares
           (λ o k it may kept clean free.
           let at = it.units in
-          c.in_err-insert_unit.ensures.faults at.units at.rows (sym (list_any-IsPermutation (has_id u.id) (nodes k.forest) at.units at.are) ∙ kept.1.number)
-          (sym (list_any-IsPermutation (is_from u.source u.legacy) (nodes k.forest) at.units at.are) ∙ kept.1.origin) clean free);
+          c.in_err-insert_unit.ensures.faults at.units at.rows (
+            sym (list_any-IsPermutation (has_id u.id) (nodes k.forest) at.units at.are) ∙ kept.1.number,
+            sym (list_any-IsPermutation (is_from u.source u.legacy) (nodes k.forest) at.units at.are) ∙ kept.1.origin,
+          ) clean free);
     }
 
 pub returns : goal.returns

@@ -47,7 +47,7 @@ returns-in_err-containers g c =
       tells = tells_cut g.S.Store (RepresentsSettings g.P.Places.represents g.P.Places.version) AreLegibleSettings (λ _. ⊤) c.args.conn.now c.count_units.new.conn c.count_containers.new.conn c.from_residual-in_err-containers.result (λ k o office. office ≡ told_office k o) e
           (same_fault c.from_residual-in_err-containers.result e handed.0 handed.1) looked c.in_err-containers.ensures.reads.cut c.in_err-containers.ensures.reads.spares
           (λ k o it may legible at_d clean free.
-          c.in_err-containers.ensures.faults (counted_from 1 k.containers) (ap (λ (db : Database). db.trees tables.container.tree) (looked.same at_d) ∙ it.catalogue.containers) clean free);
+          c.in_err-containers.ensures.faults (counted_from 1 k.containers) (ap (λ (db : Database). db.trees tables.container.tree) (looked.same at_d) ∙ it.catalogue.containers) tt clean free);
     }
 
 pub returns-in_default : goal.returns-in_default
@@ -82,7 +82,7 @@ returns-in_err-only_number g c =
           let at_d = early d e _ c.in_ok-containers.ensures.reads.looks.goes.on.crash clean in
           let at_b = early b d _ c.in_ok-units.ensures.reads.looks.goes.on.crash at_d in
           let at = it.catalogue.units in
-          let counted = c.in_ok-units.ensures.rows at_d at.units (ap (λ (db : Database). db.trees tables.unit.tree) (c.in_ok-rows.ensures.reads.looks.same at_b) ∙ at.rows) in
+          let counted = c.in_ok-units.ensures.answers at_d at.units (ap (λ (db : Database). db.trees tables.unit.tree) (c.in_ok-rows.ensures.reads.looks.same at_b) ∙ at.rows) tt in
           absurd (not_refused (c.in_err-only_number.ensures.value (capped (length at.units)) (c.deref.ensures.value ∙ counted))));
     }
 
@@ -101,7 +101,7 @@ returns-in_err-only_number-2 g c =
           (same_fault c.from_residual-in_err-only_number-2.result fault handed.0 handed.1) (cut_after a e looked.goes.on) (λ clean. spares_own a e looked clean fault c.in_err-only_number-2.ensures.fair)
           (λ k o it may legible clean free.
           let at_d = early d e _ c.in_ok-containers.ensures.reads.looks.goes.on.crash clean in
-          let boxes = c.in_ok-containers.ensures.rows clean (counted_from 1 k.containers) (ap (λ (db : Database). db.trees tables.container.tree) (looked_d.same at_d) ∙ it.catalogue.containers) in
+          let boxes = c.in_ok-containers.ensures.answers clean (counted_from 1 k.containers) (ap (λ (db : Database). db.trees tables.container.tree) (looked_d.same at_d) ∙ it.catalogue.containers) tt in
           absurd (not_refused (c.in_err-only_number-2.ensures.value (capped (length (counted_from 1 k.containers))) (c.deref-2.ensures.value ∙ boxes))));
     }
 
@@ -120,10 +120,10 @@ returns g c =
             let at_d = early d e _ c.in_ok-containers.ensures.reads.looks.goes.on.crash clean in
             let at_b = early b d _ c.in_ok-units.ensures.reads.looks.goes.on.crash at_d in
             let row = last_of c.pop.new.self.items c.in-Some.row o (sym (c.in_ok-rows.ensures.rows at_b g.P.Places.version o at.office) ∙ c.in-Some.ensures.items) in
-            let counted = c.in_ok-units.ensures.rows at_d at.units.units (ap (λ (db : Database). db.trees tables.unit.tree) (looked_b.same at_b) ∙ at.units.rows) in
+            let counted = c.in_ok-units.ensures.answers at_d at.units.units (ap (λ (db : Database). db.trees tables.unit.tree) (looked_b.same at_b) ∙ at.units.rows) tt in
             let units = same_number (c.in_ok-only_number.ensures.value (capped (length at.units.units)) (c.deref.ensures.value ∙ counted))
             ∙ ap capped (length_permutation (nodes k.forest) at.units.units at.units.are ∙ length-nodes k.forest) in
-            let boxes = c.in_ok-containers.ensures.rows clean (counted_from 1 k.containers) (ap (λ (db : Database). db.trees tables.container.tree) (looked_d.same at_d) ∙ at.containers) in
+            let boxes = c.in_ok-containers.ensures.answers clean (counted_from 1 k.containers) (ap (λ (db : Database). db.trees tables.container.tree) (looked_d.same at_d) ∙ at.containers) tt in
             let containers = same_number (c.in_ok-only_number-2.ensures.value (capped (length (counted_from 1 k.containers))) (c.deref-2.ensures.value ∙ boxes)) ∙ ap capped (length-counted 1 k.containers) in
             rw (row, units, containers) refl;
         looks = looks_then a d e looked_d c.in_ok-containers.ensures.reads.looks;

@@ -8,7 +8,7 @@ use Rattle.catalogue_store.proofs.unit_values.container_of.Goals as goal
 
 pub returns-clause-key : goal.returns-clause-key
 returns-clause-key g c clean boxes at b is =
-    let got = c.in_ok-found.ensures.rows clean (counted_from 1 boxes) at in
+    let got = c.in_ok-found.ensures.answers clean (counted_from 1 boxes) at tt in
     found_is boxes b c.in-Some.key c.args.number got.0 c.pop.new.self.items is got.1.0 (sym got.2 ∙ c.in-Some.ensures.items)
 
 pub returns-then-number-ge-NO_NUMBER-clause-faults : goal.returns-then-number-ge-NO_NUMBER-clause-faults
@@ -23,6 +23,6 @@ returns-in_err-found-clause-faults g c boxes at legible few b known is clean fre
 
 pub returns-in_default-clause-faults : goal.returns-in_default-clause-faults
 returns-in_default-clause-faults g c boxes at legible few b known is clean free =
-    let got = c.in_ok-found.ensures.rows clean (counted_from 1 boxes) at in
+    let got = c.in_ok-found.ensures.answers clean (counted_from 1 boxes) at tt in
     box_found boxes b c.args.number got.0 known is got.1.0
     (omega (arith, c.in_default.ensures.cases.0, c.in_ok-found.found.ok.0, ap length got.2, length-map got.0 (λ (x : ℕ × BoxKey). x.1)))

@@ -9,7 +9,7 @@ use Rattle.catalogue_store.proofs.unit_values.containers_of.Goals as goal
 
 pub returns-clause-numbers : goal.returns-clause-numbers
 returns-clause-numbers g c clean xs stored boxes values tell =
-    let got = c.in_ok-found.ensures.rows clean xs stored in
+    let got = c.in_ok-found.ensures.answers clean xs stored tt in
     let cells = cells_read (λ (h : HousingRow). h.unit) housing_cell c.args.unit (housing_cells boxes values) xs got.0 (housings_in_order boxes values) tell got.1.0 got.1.1 in
     let second = λ (c : ℕ × ℕ). c.1 in
     let read = λ (h : HousingRow). (let x : Housing = record { ord = h.ord; container = h.container } in x) in
@@ -19,5 +19,5 @@ returns-clause-numbers g c clean xs stored boxes values tell =
 
 pub returns-in_err-found-clause-faults : goal.returns-in_err-found-clause-faults
 returns-in_err-found-clause-faults g c xs at clean free =
-    let why = c.in_err-found.ensures.faults xs at clean free in
+    let why = c.in_err-found.ensures.faults xs at tt clean free in
     search (rules, why)

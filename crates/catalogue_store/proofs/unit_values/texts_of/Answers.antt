@@ -39,7 +39,7 @@ returns g c =
     let told = map told_of c.in_ok-found.found.items in
     let are : HasCleanDisk new → (values : Description) (xs : List ElementRow) → TellsTexts c.args.unit old.now values xs → told ≡ element_cells values =
     λ clean values xs it.
-    let got = c.in_ok-found.ensures.rows clean xs it.rows in
+    let got = c.in_ok-found.ensures.answers clean xs it.rows tt in
     let cells = cells_read (λ (e : ElementRow). e.unit) cell_of c.args.unit (element_cells values) xs got.0 (elements_in_order values) it.are got.1.0 got.1.1 in
     ap (map told_of) got.2 ∙ map-map told_of read got.0 ∙ cells in
     record {

@@ -41,7 +41,7 @@ returns-in_default g c =
       tells = record {
         answers = λ clean o k it.
             let at = it.catalogue.units in
-            let got = c.in_ok-levels.ensures.rows clean at.units at.rows in
+            let got = c.in_ok-levels.ensures.answers clean at.units at.rows tt in
             let few : length got.0 ≡ 0 = omega (arith, c.in_default.ensures.cases.0, c.in_ok-levels.levels.ok.0, ap length got.2, length-map got.0 (λ (u : Unit). u.values.level)) in
             let told = λ (u : Unit). (let x : UnitValues = record { values = u.values; containers = map (box_number k.containers) u.values.boxes } in x) in
             sym (ap (option_map told) (none_found a.now.trees k.forest at c.args.unit got.0 got.1.0 few));
@@ -63,7 +63,7 @@ returns-in_err-texts g c =
           (same_fault c.from_residual-in_err-texts.result e handed.0 handed.1) looked c.in_err-texts.ensures.tells.cut c.in_err-texts.ensures.tells.spares
           (λ o k it knows kept at_b clean free.
           let at = it.catalogue in
-          let got = c.in_ok-levels.ensures.rows at_b at.units.units at.units.rows in
+          let got = c.in_ok-levels.ensures.answers at_b at.units.units at.units.rows tt in
           let found = one_found a.now.trees k.forest at.units c.args.unit got.0 got.1.0 c.pop.new.self.items c.in-Some.level (sym got.2 ∙ c.in-Some.ensures.items) in
           let texts = subst (λ (db : Database). TellsTexts c.args.unit db found.0.values at.elements.elements) (sym (looked.same at_b)) (texts_told a.now o k it c.args.unit found.0 found.1 found.2) in
           c.in_err-texts.ensures.tells.faults found.0.values at.elements.elements texts tt (legible_elements a.now.trees k.forest at.elements kept.units) clean free);
@@ -102,7 +102,7 @@ returns-in_err-boxes g c =
           let at = it.catalogue in
           let at_d = early d e _ c.in_ok-containers.ensures.reads.looks.goes.on.crash at_e in
           let at_b = early b d _ c.in_ok-texts.ensures.tells.looks.goes.on.crash at_d in
-          let got = c.in_ok-levels.ensures.rows at_b at.units.units at.units.rows in
+          let got = c.in_ok-levels.ensures.answers at_b at.units.units at.units.rows tt in
           let found = one_found a.now.trees k.forest at.units c.args.unit got.0 got.1.0 c.pop.new.self.items c.in-Some.level (sym got.2 ∙ c.in-Some.ensures.items) in
           let u = found.0 in
           let housed = containers_told a.now o k it c.args.unit u found.1 found.2 in
@@ -128,7 +128,7 @@ returns g c =
             let at_e = early e h _ c.in_ok-boxes.ensures.reads.looks.goes.on.crash clean in
             let at_d = early d e _ c.in_ok-containers.ensures.reads.looks.goes.on.crash at_e in
             let at_b = early b d _ c.in_ok-texts.ensures.tells.looks.goes.on.crash at_d in
-            let got = c.in_ok-levels.ensures.rows at_b at.units.units at.units.rows in
+            let got = c.in_ok-levels.ensures.answers at_b at.units.units at.units.rows tt in
             let found = one_found a.now.trees k.forest at.units c.args.unit got.0 got.1.0 c.pop.new.self.items c.in-Some.level (sym got.2 ∙ c.in-Some.ensures.items) in
             let u = found.0 in
             let told = subst (λ (db : Database). TellsTexts c.args.unit db u.values at.elements.elements) (sym (looked_b.same at_b)) (texts_told a.now o k it c.args.unit u found.1 found.2) in

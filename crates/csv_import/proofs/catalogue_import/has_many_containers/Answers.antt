@@ -16,7 +16,7 @@ count_containers-requires g c = record { inside = office_of g.P.Places.version (
 pub returns-in_err-counted : goal.returns-in_err-counted
 returns-in_err-counted g c =
     record {
-      tells = tells_passed _ c.from_residual.ensures c.in_err-counted.ensures.reads.cut (λ k o it may legible. c.in_err-counted.ensures.faults (counted_from 1 k.containers) it.catalogue.containers);
+      tells = tells_passed _ c.from_residual.ensures c.in_err-counted.ensures.reads.cut (λ k o it may legible. c.in_err-counted.ensures.faults (counted_from 1 k.containers) it.catalogue.containers tt);
     }
 
 pub returns-in_err-containers : goal.returns-in_err-containers
@@ -25,7 +25,7 @@ returns-in_err-containers g c =
     let b = state g.S.Store c.count_containers.new.conn in
     record {
       tells = tells_passed _ c.from_residual-in_err-containers.ensures (cut_after a b c.in_ok-counted.ensures.reads.looks.goes.on) (λ k o it may legible clean free.
-          absurd (not_refused (c.in_err-containers.ensures.value (capped (length (counted_from 1 k.containers))) (c.deref.ensures.value ∙ c.in_ok-counted.ensures.rows clean (counted_from 1 k.containers) it.catalogue.containers))));
+          absurd (not_refused (c.in_err-containers.ensures.value (capped (length (counted_from 1 k.containers))) (c.deref.ensures.value ∙ c.in_ok-counted.ensures.answers clean (counted_from 1 k.containers) it.catalogue.containers tt))));
     }
 
 pub returns : goal.returns
@@ -33,7 +33,7 @@ returns g c =
     record {
       tells = record {
         answers = λ clean k o it.
-            let boxes = c.in_ok-counted.ensures.rows clean (counted_from 1 k.containers) it.catalogue.containers in
+            let boxes = c.in_ok-counted.ensures.answers clean (counted_from 1 k.containers) it.catalogue.containers tt in
             let containers = same_number (c.in_ok-containers.ensures.value (capped (length (counted_from 1 k.containers))) (c.deref.ensures.value ∙ boxes)) ∙ ap capped (length-counted 1 k.containers) in
             ap (nat_lt most_containers) containers ∙ many_counted (length k.containers);
         looks = c.in_ok-counted.ensures.reads.looks;

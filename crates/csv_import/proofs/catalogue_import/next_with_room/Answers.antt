@@ -24,7 +24,7 @@ returns-in_err-counted g c =
     let counted = c.in_err-counted.ensures in
     record {
       tells = tells_passed_later _ c.from_residual-in_err-counted.ensures c.in_ok-office.ensures.tells.looks counted.reads.cut
-          (λ k o it may legible. counted.faults it.catalogue.units.units it.catalogue.units.rows);
+          (λ k o it may legible. counted.faults it.catalogue.units.units it.catalogue.units.rows tt);
     }
 
 pub returns-in_err-units : goal.returns-in_err-units
@@ -38,7 +38,7 @@ returns-in_err-units g c =
       tells = tells_passed _ c.from_residual-in_err-units.ensures (cut_after a d looked.goes.on) (λ k o it may legible clean free.
           let at_b = early b d _ c.in_ok-counted.ensures.reads.looks.goes.on.crash clean in
           let at = it.catalogue.units in
-          let counted = c.in_ok-counted.ensures.rows clean at.units (ap (λ (db : Database). db.trees tables.unit.tree) (looked_b.same at_b) ∙ at.rows) in
+          let counted = c.in_ok-counted.ensures.answers clean at.units (ap (λ (db : Database). db.trees tables.unit.tree) (looked_b.same at_b) ∙ at.rows) tt in
           absurd (not_refused (c.in_err-units.ensures.value (capped (length at.units)) (c.deref.ensures.value ∙ counted))));
     }
 
@@ -54,7 +54,7 @@ returns-then-has_space g c =
             let at_b = early b d _ c.in_ok-counted.ensures.reads.looks.goes.on.crash clean in
             let at = it.catalogue.units in
             let next = ap (λ (row : OfficeRow). row.next_unit) (c.in_ok-office.ensures.tells.answers at_b k o it) ∙ it.catalogue.next in
-            let counted = c.in_ok-counted.ensures.rows clean at.units (ap (λ (db : Database). db.trees tables.unit.tree) (looked_b.same at_b) ∙ at.rows) in
+            let counted = c.in_ok-counted.ensures.answers clean at.units (ap (λ (db : Database). db.trees tables.unit.tree) (looked_b.same at_b) ∙ at.rows) tt in
             let units = same_number (c.in_ok-units.ensures.value (capped (length at.units)) (c.deref.ensures.value ∙ counted)) ∙ ap capped (length_permutation (nodes k.forest) at.units at.are ∙ length-nodes k.forest) in
             next_if c.args.new k c.in_ok-units.units c.in_ok-office.office.next_unit units next true (sym c.has_space.ensures ∙ c.if-has_space.true);
         looks = looks_then a b d looked_b c.in_ok-counted.ensures.reads.looks;
@@ -75,7 +75,7 @@ returns g c =
             let at_b = early b d _ c.in_ok-counted.ensures.reads.looks.goes.on.crash clean in
             let at = it.catalogue.units in
             let next = ap (λ (row : OfficeRow). row.next_unit) (c.in_ok-office.ensures.tells.answers at_b k o it) ∙ it.catalogue.next in
-            let counted = c.in_ok-counted.ensures.rows clean at.units (ap (λ (db : Database). db.trees tables.unit.tree) (looked_b.same at_b) ∙ at.rows) in
+            let counted = c.in_ok-counted.ensures.answers clean at.units (ap (λ (db : Database). db.trees tables.unit.tree) (looked_b.same at_b) ∙ at.rows) tt in
             let units = same_number (c.in_ok-units.ensures.value (capped (length at.units)) (c.deref.ensures.value ∙ counted)) ∙ ap capped (length_permutation (nodes k.forest) at.units at.are ∙ length-nodes k.forest) in
             next_if c.args.new k c.in_ok-units.units c.in_ok-office.office.next_unit units next false (sym c.has_space.ensures ∙ c.if-has_space.false);
         looks = looks_then a b d looked_b c.in_ok-counted.ensures.reads.looks;

@@ -26,7 +26,7 @@ returns-in_default g c =
       tells = record {
         answers = λ clean o k it unit is.
             let at = it.catalogue.units in
-            let got = c.in_ok-levels.ensures.rows clean at.units at.rows in
+            let got = c.in_ok-levels.ensures.answers clean at.units at.rows tt in
             let few : length got.0 ≡ 0 = omega (arith, c.in_default.ensures.cases.0, c.in_ok-levels.levels.ok.0, ap length got.2, length-map got.0 (λ (u : Described). u.values.level)) in
             let clash : None ≡ Some unit = sym (none_found a.now.trees k.forest at c.args.unit got.0 got.1.0 few) ∙ is in
             absurd (cc);
@@ -43,7 +43,7 @@ returns g c =
       tells = record {
         answers = λ clean o k it unit is.
             let at = it.catalogue.units in
-            let got = c.in_ok-levels.ensures.rows clean at.units at.rows in
+            let got = c.in_ok-levels.ensures.answers clean at.units at.rows tt in
             let found = one_found a.now.trees k.forest at c.args.unit got.0 got.1.0 c.pop.new.self.items c.in-Some.level (sym got.2 ∙ c.in-Some.ensures.items) in
             let both : Some found.0 ≡ Some unit = sym found.3 ∙ is in
             let same : found.0 ≡ unit = cc in

@@ -48,7 +48,7 @@ returns-in_err-units g c =
     record {
       tells = tells_not g.S.Store (RepresentsWhole g.P.Places.represents g.P.Places.version) CanBeJudged (λ _. ⊤) c.args.conn.now c.housed_in.new.conn c.from_residual.result (Tells c.args.unit c.args.housed.now c.args.container) c.in_err-units.field-0.0
           (same_fault c.from_residual.result c.in_err-units.field-0.0 e.0 e.1) read.reads.cut
-          (λ beside s it may judged clean free. let housings = it.catalogue.catalogue.housings in read.faults housings.housings housings.rows clean free);
+          (λ beside s it may judged clean free. let housings = it.catalogue.catalogue.housings in read.faults housings.housings housings.rows tt clean free);
     }
 
 pub returns-then-len-gt-FEW : goal.returns-then-len-gt-FEW
@@ -93,7 +93,7 @@ returns g c =
           (λ clean s shown judged housed yes.
           let before = early b d _ told.looks.goes.on.crash clean in
           let housings = shown.catalogue.catalogue.housings in
-          let found = read.rows before housings.housings housings.rows in
+          let found = read.answers before housings.housings housings.rows tt in
           let off = told.answers clean tt s (shown_on represents a b read.reads.looks before s shown) (not_near c.in_ok-is_near.is_near yes) in
           apart_by_rows s judged c.args.unit c.args.container it housed a.now.trees housings found.0 found.1.0 outside
           (ap (list_any (is_on_path c.args.unit s)) (sym (c.deref-2.ensures.value ∙ found.2)) ∙ off));

@@ -6,12 +6,12 @@ use Rattle.refinement.proofs.housed_units.has_containers.Goals as goal
 
 pub returns-in_err-housings-clause-faults : goal.returns-in_err-housings-clause-faults
 returns-in_err-housings-clause-faults g c xs stored clean free =
-    let why = c.in_err-housings.ensures.faults xs stored clean free in
+    let why = c.in_err-housings.ensures.faults xs stored tt clean free in
     search (rules, why)
 
 pub returns-clause-rows : goal.returns-clause-rows
 returns-clause-rows g c clean xs stored =
-    let found = c.in_ok-housings.ensures.rows clean xs stored in
+    let found = c.in_ok-housings.ensures.answers clean xs stored tt in
     let long : length c.in_ok-housings.housings.items ≡ c.in_ok-housings.housings.len = omega arith in
     let tell : HousingRow → Housing = λ (h : HousingRow). record { ord = h.ord; container = h.container } in
     ap not (c.is_empty.ensures ∙ ap (λ k. nat_eq k 0) (sym long) ∙ ap (λ (l : List Housing). nat_eq (length l) 0) found.2)
