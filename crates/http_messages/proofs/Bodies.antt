@@ -1,5 +1,5 @@
 -- Lemmas on bodies.
-use Rattle.std.proofs.Common.{◌≡◌, Bool, true, false, cond, Some, None, refl, sym, ap}
+use Rattle.std.proofs.Common.{◌≡◌, Bool, true, false, Some, None, refl, sym}
 use Rattle.std.specs.Str.{IsUtf8, is_utf8}
 use Rattle.std.proofs.lemmas.Str.{IsUtf8-from_is_utf8, is_utf8-from_IsUtf8}
 use Rattle.serde_json.specs.Data.{Data}
@@ -19,14 +19,3 @@ no_value body h = by_cases (is_utf8 body) refl
 
 pub never_true : false ≡ true → ⊥
 never_true e = cc
-
--- whether bytes are text
-pub is_text : (b : Bytes) (x : Bytes) → x ≡ b → IsUtf8 b → Some x ≡ cond (is_utf8 b) (Some b) None
-is_text b x e u = let t = is_utf8-from_IsUtf8 b u in rw t (ap Some e)
-
-pub is_no_text : (b : Bytes) → (IsUtf8 b → ⊥) → None ≡ cond (is_utf8 b) (Some b) None
-is_no_text b h = by_cases (is_utf8 b) refl
-  where
-    by_cases : (v : Bool) → is_utf8 b ≡ v → None ≡ cond (is_utf8 b) (Some b) None
-    by_cases true e = absurd (h (IsUtf8-from_is_utf8 b e))
-    by_cases false e = let t = e in rw t refl

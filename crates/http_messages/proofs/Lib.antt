@@ -3,7 +3,6 @@ pub mod Folds
 pub mod Numbers
 pub mod Weighs
 pub mod Options
-pub mod Paths
 pub mod Bodies
 pub mod Matched
 pub mod Routed

@@ -1,9 +1,10 @@
 -- Which of a router's rows a path finds, where a parameter stands at the end of a row alone and no two rows take one
 -- path.
-use Rattle.std.proofs.Common.{◌≡◌, ◌<◌, ◌≤◌, ◌-◌, ◌==◌, ℕ, zero, suc, List, [], ◌∷◌, length, drop, get_or, Option, Some, None, Bool, true, false, cond, refl, sym, ap, ◌∙◌, subst, arith, drop_of_length-le}
+use Rattle.std.proofs.Common.{◌≡◌, ◌<◌, ◌≤◌, ◌-◌, ◌==◌, ℕ, zero, suc, List, [], ◌∷◌, length, drop, get_or, Option, Some, None, Bool, true, false, cond, refl, ap, ◌∙◌, subst, arith, drop_of_length-le}
 use Rattle.std.specs.Prelude.{◌&&◌, ◌||◌, not, ltb}
 use Rattle.std.proofs.lemmas.Bool.Decides.{nat_tests}
-use Rattle.matchit.specs.Rows.{RowsOf}
+use Rattle.matchit.specs.Rows.{RowsOf, comes_before}
+use Rattle.matchit.specs.Order.{placed}
 use Rattle.matchit.specs.Seek.{own, step, or_else, seek, first, param_step, has_slash, segment, longest_from}
 use Rattle.http_messages.proofs.Bodies.{never_true}
 
@@ -17,11 +18,6 @@ is_nil (x ∷ t) = false
 abbrev pub is_shaped : List ℕ → Bool
 is_shaped [] = true
 is_shaped (x ∷ t) = cond (x == 256) (is_nil t) (ltb x 256 && is_shaped t)
-
--- bytes alone
-abbrev pub is_literal : List ℕ → Bool
-is_literal [] = true
-is_literal (x ∷ t) = ltb x 256 && is_literal t
 
 -- the row takes the path
 abbrev pub hits : List ℕ → List ℕ → Bool
@@ -55,13 +51,10 @@ module _ {K : Type 0} where
   picked [] p = None
   picked ((t, key) ∷ rs) p = or_else (cond (hits t p) (Some key) None) (picked rs p)
 
-  abbrev pub literals : RowsOf K → RowsOf K
-  literals [] = []
-  literals ((t, key) ∷ rs) = cond (is_literal t) ((t, key) ∷ literals rs) (literals rs)
-
-  abbrev pub endings : RowsOf K → RowsOf K
-  endings [] = []
-  endings ((t, key) ∷ rs) = cond (is_literal t) (endings rs) ((t, key) ∷ endings rs)
+  -- the rows in the order of a router
+  abbrev pub settled : RowsOf K → RowsOf K
+  settled [] = []
+  settled (r ∷ rs) = placed r (settled rs)
 
 -- each number is a byte
 abbrev pub AllBytes : List ℕ → Type 0
@@ -260,7 +253,7 @@ first_picked {K} rs (b ∷ p) h s a =
     let deeper = first_picked (step b rs) p (tail_bytes b p h) (step_shaped b rs byte s) (step_apart b rs byte a) in
     rw (no_catch rs s, param_takes b p rs s, deeper, or_else_nothing (cond (has_slash (b ∷ p)) None (own (step 256 rs)))) (step_picked b p rs byte s a)
 
--- ---- rows of bytes alone, and the others
+-- ---- rows that are put in their places
 
 pub excluded : (t u p : List ℕ) → are_apart t u ≡ true → hits t p ≡ true → hits u p ≡ false
 excluded [] [] p a h = absurd (never_true a)
@@ -294,27 +287,39 @@ none_picked t ((u, key) ∷ rs) p a h =
     let not_this = excluded t u p (both_left (are_apart t u) (all_apart_from t rs) a) h in
     rw not_this (none_picked t rs p (both_right (are_apart t u) (all_apart_from t rs) a) h)
 
-literals_apart : {K : Type 0} (t : List ℕ) (rs : RowsOf K) → all_apart_from t rs ≡ true → all_apart_from t (literals rs) ≡ true
-literals_apart t [] a = refl
-literals_apart {K} t ((u, key) ∷ rs) a = by (literals_apart t rs (both_right (are_apart t u) (all_apart_from t rs) a)) (is_literal u) refl
+apart_placed : {K : Type 0} (t u : List ℕ) (key : K) (rs : RowsOf K) → are_apart t u ≡ true → all_apart_from t rs ≡ true
+    → all_apart_from t (placed (u, key) rs) ≡ true
+apart_placed t u key [] one a = rw one refl
+apart_placed t u key ((v, other) ∷ rs) one a = by (apart_placed t u key rs one (both_right (are_apart t v) (all_apart_from t rs) a)) (comes_before u v) refl
   where
-    by : all_apart_from t (literals rs) ≡ true → (v : Bool) → is_literal u ≡ v → all_apart_from t (literals ((u, key) ∷ rs)) ≡ true
-    by more true e = rw (e, both_left (are_apart t u) (all_apart_from t rs) a) more
-    by more false e = rw e more
+    by : all_apart_from t (placed (u, key) rs) ≡ true → (b : Bool) → comes_before u v ≡ b → all_apart_from t (placed (u, key) ((v, other) ∷ rs)) ≡ true
+    by more true e = rw (e, one) a
+    by more false e = let this = both_left (are_apart t v) (all_apart_from t rs) a in rw (e, this) more
 
-pub picked_apart : {K : Type 0} (rs : RowsOf K) (p : List ℕ) → all_apart rs ≡ true
-    → picked rs p ≡ or_else (picked (literals rs) p) (picked (endings rs) p)
-picked_apart [] p a = refl
-picked_apart {K} ((t, key) ∷ rs) p a = by (picked_apart rs p (both_right (all_apart_from t rs) (all_apart rs) a)) (is_literal t) refl
+apart_settled : {K : Type 0} (t : List ℕ) (rs : RowsOf K) → all_apart_from t rs ≡ true → all_apart_from t (settled rs) ≡ true
+apart_settled t [] a = refl
+apart_settled t ((u, key) ∷ rs) a =
+    apart_placed t u key (settled rs) (both_left (are_apart t u) (all_apart_from t rs) a) (apart_settled t rs (both_right (are_apart t u) (all_apart_from t rs) a))
+
+picked_placed : {K : Type 0} (t : List ℕ) (key : K) (rs : RowsOf K) (p : List ℕ) → all_apart_from t rs ≡ true
+    → picked (placed (t, key) rs) p ≡ or_else (cond (hits t p) (Some key) None) (picked rs p)
+picked_placed t key [] p a = refl
+picked_placed {K} t key ((u, other) ∷ rs) p a = by_place (picked_placed t key rs p (both_right (are_apart t u) (all_apart_from t rs) a)) (comes_before t u) refl
   where
-    by_hit : picked rs p ≡ or_else (picked (literals rs) p) (picked (endings rs) p) → (v : Bool) → hits t p ≡ v → is_literal t ≡ false
-        → picked ((t, key) ∷ rs) p ≡ or_else (picked (literals ((t, key) ∷ rs)) p) (picked (endings ((t, key) ∷ rs)) p)
-    by_hit more false h e = rw (e, h) more
-    by_hit more true h e =
-        let none = none_picked t (literals rs) p (literals_apart t rs (both_left (all_apart_from t rs) (all_apart rs) a)) h in
-        rw (e, h, none) refl
+    by_hit : (b : Bool) → hits t p ≡ b
+        → or_else (cond (hits u p) (Some other) None) (or_else (cond (hits t p) (Some key) None) (picked rs p))
+        ≡ or_else (cond (hits t p) (Some key) None) (or_else (cond (hits u p) (Some other) None) (picked rs p))
+    by_hit false h = rw h refl
+    by_hit true h = let none = excluded t u p (both_left (are_apart t u) (all_apart_from t rs) a) h in rw (h, none) refl
 
-    by : picked rs p ≡ or_else (picked (literals rs) p) (picked (endings rs) p) → (v : Bool) → is_literal t ≡ v → picked ((t, key) ∷ rs) p ≡ or_else (picked (literals ((t, key) ∷ rs)) p) (picked (endings ((t, key) ∷ rs)) p)
-    by more true e =
-        rw e (ap (or_else (cond (hits t p) (Some key) None)) more ∙ sym (or_else_grouped (cond (hits t p) (Some key) None) (picked (literals rs) p) (picked (endings rs) p)))
-    by more false e = by_hit more (hits t p) refl e
+    by_place : picked (placed (t, key) rs) p ≡ or_else (cond (hits t p) (Some key) None) (picked rs p) → (b : Bool) → comes_before t u ≡ b
+        → picked (placed (t, key) ((u, other) ∷ rs)) p ≡ or_else (cond (hits t p) (Some key) None) (picked ((u, other) ∷ rs) p)
+    by_place more true e = rw e refl
+    by_place more false e = rw e (ap (or_else (cond (hits u p) (Some other) None)) more ∙ by_hit (hits t p) refl)
+
+-- a router's order does not matter
+pub picked_settled : {K : Type 0} (rs : RowsOf K) (p : List ℕ) → all_apart rs ≡ true → picked (settled rs) p ≡ picked rs p
+picked_settled [] p a = refl
+picked_settled ((t, key) ∷ rs) p a =
+    picked_placed t key (settled rs) p (apart_settled t rs (both_left (all_apart_from t rs) (all_apart rs) a))
+    ∙ ap (or_else (cond (hits t p) (Some key) None)) (picked_settled rs p (both_right (all_apart_from t rs) (all_apart rs) a))

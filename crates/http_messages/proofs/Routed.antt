@@ -1,405 +1,293 @@
 -- What a path leads to in the router of the table, and by the definitions.
-use Rattle.std.proofs.Common.{◌≡◌, ◌+◌, ◌==◌, ℕ, List, [], ◌∷◌, ◌++◌, length, map, Option, Some, None, Bool, true, false, refl, sym, ap, ◌∙◌, subst, arith, codes, lit<, zero, suc}
-use Rattle.std.specs.Prelude.{◌&&◌, not, ltb, nat_le, option_and_then}
-use Rattle.std.specs.Char.{is_ascii_digit}
+use Rattle.std.proofs.Common.{◌≡◌, ◌<◌, ◌≤◌, ◌+◌, ◌-◌, ◌==◌, ℕ, zero, suc, List, [], ◌∷◌, length, map, drop, get_or, Option, Some, None, Bool, true, false, cond, refl, sym, ap, ◌∙◌, subst, arith, lit<}
+use Rattle.std.specs.Prelude.{◌&&◌, ltb, leb}
 use Rattle.std.specs.List.{list_all, list_any}
-use Rattle.std.specs.Str.{bytes_eq, IsUtf8, is_utf8, IsAscii}
-use Rattle.std.proofs.lemmas.Str.{IsUtf8-append, IsUtf8-from_ascii, IsUtf8-from_is_utf8}
-use Rattle.std.proofs.lemmas.Slice.Eq.{bytes_eq-Decides}
-use Rattle.office_core.specs.declared.query.Query.{Query}
-use Rattle.office_core.specs.declared.query.Query.TheVariants as query
+use Rattle.std.specs.Str.{IsUtf8, is_utf8, IsAscii}
+use Rattle.std.proofs.lemmas.Str.{IsUtf8-from_ascii, IsUtf8-from_is_utf8, is_utf8-from_IsUtf8, IsUtf8-drop, IsCharBoundary-after_ascii}
+use Rattle.std.proofs.lemmas.List.{take_rest}
 use Rattle.std.proofs.lemmas.Bool.Decides.{nat_tests}
 use Rattle.matchit.specs.Rows.{RowsOf, param_token}
 use Rattle.matchit.specs.Seek.{first, has_slash}
-use Rattle.matchit.specs.Seek as seek
+use Rattle.matchit.specs.Params.{walk, wild_from, wild_stop, part_of, AllText}
 use Rattle.matchit.specs.Router.{RouteOf}
 use Rattle.matchit.proofs.OnLiterals.{matchit_on_literals}
 use Rattle.isad_core.specs.Texts.{Bytes}
-use Rattle.http_messages.specs.declared.routes.Leads.{Leads}
-use Rattle.http_messages.specs.declared.routes.Leads.TheVariants as leads
-use Rattle.http_messages.specs.declared.routes.Plain.{Plain}
-use Rattle.http_messages.specs.declared.routes.Plain.TheVariants as plains
-use Rattle.http_messages.specs.declared.routes.Ending.{Ending}
-use Rattle.http_messages.specs.declared.routes.Ending.TheVariants as endings
-use Rattle.http_messages.specs.declared.body_form.Form.TheVariants as form
-use Rattle.http_messages.specs.Routes.{Route, plain, ending, plain_route, ending_route, route_of, or_else, after, is_number, is_source_segment, is_segment, numbered, named}
-use Rattle.http_messages.specs.Router.{plain_in, makes, beginning, table}
+use Rattle.http_messages.specs.declared.table.Leads.{Leads}
+use Rattle.http_messages.specs.Routes.{Route, table, first_route, route_of, or_else, parameter_in, leads_to}
+use Rattle.http_messages.specs.Router.{rows_of_table, first_part}
 use Rattle.http_messages.proofs.Bodies.{never_true}
-use Rattle.http_messages.proofs.Matched.{is_literal, hits, picked, all_shaped, all_apart, all_apart_from, AllBytes, first_picked, picked_apart, none_picked, both_left, both_right}
+use Rattle.http_messages.proofs.Matched.{hits, picked, settled, all_shaped, all_apart, all_apart_from, AllBytes, first_picked, picked_settled, none_picked, both_left, both_right}
 
 -- ---- the rows of the router
 
-abbrev parameter : Ending → Bytes
-parameter endings.Aid = codes "unit"
-parameter endings.Page = codes "unit"
-parameter endings.RunSlip = codes "run"
-parameter endings.ReaderOrders = codes "ticket"
-parameter endings.Queue = codes "container"
-parameter endings.ReaderPermits = codes "ticket"
-parameter endings.Import = codes "source"
+abbrev tokens : Bytes → List ℕ
+tokens [] = []
+tokens (a ∷ pattern) = cond (a == 123) (param_token ∷ []) (a ∷ tokens pattern)
 
-abbrev plain_row : Bytes × Plain → List ℕ × RouteOf Leads
-plain_row (text, to) = (text, record { pattern = text; text = text; names = []; value = leads.Plain to })
+abbrev has_parameter : Bytes → Bool
+has_parameter pattern = list_any (λ a. a == 123) pattern
 
-abbrev ending_row : Ending → List ℕ × RouteOf Leads
-ending_row to = (
-  beginning to ++ param_token ∷ [],
-  record {
-    pattern = beginning to ++ param_token ∷ [];
-    text = beginning to ++ (123 ∷ (parameter to ++ 125 ∷ []));
-    names = (length (beginning to) + 1, length (beginning to) + 1 + length (parameter to)) ∷ [];
-    value = leads.Ending to;
-  },
+-- how many bytes stand before the parameter
+abbrev front : Bytes → ℕ
+front [] = 0
+front (a ∷ pattern) = cond (a == 123) 0 (suc (front pattern))
+
+-- where the parameter's name begins and ends
+abbrev name_at : Bytes → ℕ × ℕ
+name_at pattern = (front pattern + 1, length pattern - 1)
+
+abbrev row : Bytes × Leads → List ℕ × RouteOf Leads
+row (pattern, to) = (
+  tokens pattern,
+  record { pattern = tokens pattern; text = pattern; names = cond (has_parameter pattern) (name_at pattern ∷ []) []; value = to },
 )
 
-abbrev all_plain : List (Bytes × Plain)
-all_plain =
-    (codes "/desk/cancel", (plains.TakesForm form.Cancel))
-    ∷ (codes "/desk/closure", (plains.TakesForm form.SetClosure))
-    ∷ (codes "/desk/day", (plains.TakesForm form.OpenDay))
-    ∷ (codes "/desk/issued", plains.IssuedNow)
-    ∷ (codes "/desk/issue", (plains.TakesForm form.Issue))
-    ∷ (codes "/desk/leave", (plains.TakesForm form.LeaveSeat))
-    ∷ (codes "/desk/move", (plains.TakesForm form.Move))
-    ∷ (codes "/desk/permit", (plains.TakesForm form.Permit))
-    ∷ (codes "/desk/register", (plains.TakesForm form.Register))
-    ∷ (codes "/desk/remove", (plains.TakesForm form.Remove))
-    ∷ (codes "/desk/renew", (plains.TakesForm form.Renew))
-    ∷ (codes "/desk/reshelve", plains.Reshelve)
-    ∷ (codes "/desk/return", (plains.TakesForm form.Return))
-    ∷ (codes "/desk/revoke", (plains.TakesForm form.Revoke))
-    ∷ (codes "/desk/run", plains.Run)
-    ∷ (codes "/desk/seat", (plains.TakesForm form.TakeSeat))
-    ∷ (codes "/desk/status", (plains.TakesForm form.SetStatus))
-    ∷ (codes "/public/fonds", plains.Fonds)
-    ∷ (codes "/public/orders", (plains.TakesForm form.Order))
-    ∷ []
-
-abbrev all_ending : List Ending
-all_ending =
-    endings.Import ∷ endings.ReaderPermits ∷ endings.Queue ∷ endings.ReaderOrders ∷ endings.RunSlip ∷ endings.Aid ∷ endings.Page ∷ []
-
--- in the router's order
 abbrev rows : RowsOf (RouteOf Leads)
-rows =
-    plain_row (codes "/desk/cancel", (plains.TakesForm form.Cancel))
-    ∷ plain_row (codes "/desk/closure", (plains.TakesForm form.SetClosure))
-    ∷ plain_row (codes "/desk/day", (plains.TakesForm form.OpenDay))
-    ∷ ending_row endings.Import
-    ∷ plain_row (codes "/desk/issued", plains.IssuedNow)
-    ∷ plain_row (codes "/desk/issue", (plains.TakesForm form.Issue))
-    ∷ plain_row (codes "/desk/leave", (plains.TakesForm form.LeaveSeat))
-    ∷ plain_row (codes "/desk/move", (plains.TakesForm form.Move))
-    ∷ ending_row endings.ReaderPermits
-    ∷ plain_row (codes "/desk/permit", (plains.TakesForm form.Permit))
-    ∷ ending_row endings.Queue
-    ∷ ending_row endings.ReaderOrders
-    ∷ plain_row (codes "/desk/register", (plains.TakesForm form.Register))
-    ∷ plain_row (codes "/desk/remove", (plains.TakesForm form.Remove))
-    ∷ plain_row (codes "/desk/renew", (plains.TakesForm form.Renew))
-    ∷ plain_row (codes "/desk/reshelve", plains.Reshelve)
-    ∷ plain_row (codes "/desk/return", (plains.TakesForm form.Return))
-    ∷ plain_row (codes "/desk/revoke", (plains.TakesForm form.Revoke))
-    ∷ ending_row endings.RunSlip
-    ∷ plain_row (codes "/desk/run", plains.Run)
-    ∷ plain_row (codes "/desk/seat", (plains.TakesForm form.TakeSeat))
-    ∷ plain_row (codes "/desk/status", (plains.TakesForm form.SetStatus))
-    ∷ ending_row endings.Aid
-    ∷ plain_row (codes "/public/fonds", plains.Fonds)
-    ∷ plain_row (codes "/public/orders", (plains.TakesForm form.Order))
-    ∷ ending_row endings.Page
-    ∷ []
+rows = map row table
 
-table_rows : table ≡ rows
+abbrev is_ascii : Bytes → Bool
+is_ascii bytes = list_all (λ b. ltb b 128) bytes
+
+-- the pattern and the name of its parameter are ASCII
+abbrev is_plain : Bytes × Leads → Bool
+is_plain (pattern, to) = is_ascii pattern && is_ascii (part_of pattern (name_at pattern).0 (name_at pattern).1)
+
+table_rows : rows_of_table ≡ settled rows
 unfolding matchit_on_literals
 table_rows = refl
 
-rows_shaped : all_shaped rows ≡ true
+rows_shaped : all_shaped (settled rows) ≡ true
 rows_shaped = refl
 
 rows_apart : all_apart rows ≡ true
 rows_apart = refl
 
-endings_apart : all_apart (map ending_row all_ending) ≡ true
-endings_apart = refl
+settled_apart : all_apart (settled rows) ≡ true
+settled_apart = refl
 
-abbrev plain_pair : Bytes × Plain → Bytes × Route
-plain_pair (text, to) = (text, plain_in to)
+table_plain : list_all is_plain table ≡ true
+table_plain = refl
 
-abbrev ending_pair : Ending → Bytes × (Bytes → Option Route)
-ending_pair to = (beginning to, makes to)
+-- ---- what a pattern takes
 
--- ---- what a row leads to
+byte_below : (a : ℕ) (t : Bytes) → is_ascii (a ∷ t) ≡ true → a < 128
+byte_below a t h = let e : ltb a 128 ≡ true = both_left (ltb a 128) (is_ascii t) h in grind (arith, nat_tests)
 
-abbrev pub to_route : Bytes → Leads → Option Route
-to_route path (leads.Plain to) = Some (plain_in to)
-to_route path (leads.Ending to) = option_and_then (makes to) (after (beginning to) path)
+bytes_below : (a : ℕ) (t : Bytes) → is_ascii (a ∷ t) ≡ true → is_ascii t ≡ true
+bytes_below a t h = both_right (ltb a 128) (is_ascii t) h
 
-abbrev of_row : Bytes → RouteOf Leads → Option Route
-of_row path row = to_route path row.value
+no_token : (a : ℕ) → a < 128 → (a == param_token) ≡ false
+no_token a h = grind (arith, nat_tests)
 
-abbrev all_literal : List (Bytes × Plain) → Bool
-all_literal [] = true
-all_literal ((text, to) ∷ others) = is_literal text && all_literal others
-
-hits_literal : (t p : List ℕ) → is_literal t ≡ true → hits t p ≡ bytes_eq t p
-hits_literal [] [] h = refl
-hits_literal [] (b ∷ p) h = refl
-hits_literal (x ∷ t) [] h = refl
-hits_literal (x ∷ t) (b ∷ p) h =
-    let below : ltb x 256 ≡ true = both_left (ltb x 256) (is_literal t) h in
-    let n : (x == 256) ≡ false = grind (arith, nat_tests) in
-    rw n (ap (λ v. (x == b) && v) (hits_literal t p (both_right (ltb x 256) (is_literal t) h)))
-
--- paths of one route come first
-plain_then : (others : List (Bytes × Plain)) (p : Bytes) (more : Option (RouteOf Leads)) (to : Option Route) → all_literal others ≡ true
-    → option_and_then (of_row p) more ≡ to
-    → option_and_then (of_row p) (seek.or_else (picked (map plain_row others) p) more) ≡ or_else (plain_route (map plain_pair others) p) to
-plain_then [] p more to l e = e
-plain_then ((text, leads_to) ∷ others) p more to l e = by (plain_then others p more to (both_right (is_literal text) (all_literal others) l) e) (bytes_eq text p) refl
+same_slash : (bytes : Bytes) → list_any (λ b. b == 47) bytes ≡ has_slash bytes
+same_slash [] = refl
+same_slash (b ∷ bytes) = by (same_slash bytes) (b == 47) refl
   where
-    same : hits text p ≡ bytes_eq text p
-    same = hits_literal text p (both_left (is_literal text) (all_literal others) l)
+    by : list_any (λ c. c == 47) bytes ≡ has_slash bytes → (v : Bool) → (b == 47) ≡ v → list_any (λ c. c == 47) (b ∷ bytes) ≡ has_slash (b ∷ bytes)
+    by more true e = rw e refl
+    by more false e = rw e more
 
-    by : option_and_then (of_row p) (seek.or_else (picked (map plain_row others) p) more) ≡ or_else (plain_route (map plain_pair others) p) to → (v : Bool) → bytes_eq text p ≡ v
-        → option_and_then (of_row p) (seek.or_else (picked (map plain_row ((text, leads_to) ∷ others)) p) more)
-        ≡ or_else (plain_route (map plain_pair ((text, leads_to) ∷ others)) p) to
-    by deep true f = rw (same, f) refl
-    by deep false f = rw (same, f) deep
-
--- ---- paths that end in a number or a name
-
-no_digits : (bytes : Bytes) → has_slash bytes ≡ true → list_all is_ascii_digit bytes ≡ false
-no_digits [] h = absurd (never_true h)
-no_digits (b ∷ bytes) h = by (λ g. no_digits bytes g) (b == 47) refl
+-- a path that the row does not take has no parameter
+missed : (t p : Bytes) → is_ascii t ≡ true → hits (tokens t) p ≡ false → parameter_in t p ≡ None
+missed [] [] l h = absurd (never_true (sym h))
+missed [] (b ∷ p) l h = refl
+missed (a ∷ t) [] l h = refl
+missed (a ∷ t) (b ∷ p) l h = by (λ g. missed t p (bytes_below a t l) g) (a == 123) refl
   where
-    by : (has_slash bytes ≡ true → list_all is_ascii_digit bytes ≡ false) → (v : Bool) → (b == 47) ≡ v → list_all is_ascii_digit (b ∷ bytes) ≡ false
-    by deep true e =
-        let none : is_ascii_digit b ≡ false = grind (arith, nat_tests) in
-        rw none refl
-    by deep false e =
-        let none = deep (rw e at h) in
-        elim (is_ascii_digit b) as (λ v. (v && list_all is_ascii_digit bytes) ≡ false) [ true ↦ none | false ↦ refl ]
+    by_byte : (hits (tokens t) p ≡ false → parameter_in t p ≡ None) → (v : Bool) → (a == b) ≡ v → (a == 123) ≡ false → parameter_in (a ∷ t) (b ∷ p) ≡ None
+    by_byte deep false e f = rw (f, e) refl
+    by_byte deep true e f =
+        let n = no_token a (byte_below a t l) in
+        rw (f, e) (deep (rw (f, n, e) at h))
 
-no_number : (bytes : Bytes) → has_slash bytes ≡ true → is_number bytes ≡ false
-no_number [] h = refl
-no_number (b ∷ bytes) h = by (is_ascii_digit b) refl
+    by_slash : (v : Bool) → has_slash (b ∷ p) ≡ v → (a == 123) ≡ true → parameter_in (a ∷ t) (b ∷ p) ≡ None
+    by_slash false e f = absurd (never_true (sym (rw (f, e) at h)))
+    by_slash true e f = let any : list_any (λ c. c == 47) (b ∷ p) ≡ true = same_slash (b ∷ p) ∙ e in rw (f, any) refl
+
+    by : (hits (tokens t) p ≡ false → parameter_in t p ≡ None) → (v : Bool) → (a == 123) ≡ v → parameter_in (a ∷ t) (b ∷ p) ≡ None
+    by deep true f = by_slash (has_slash (b ∷ p)) refl f
+    by deep false f = by_byte deep (a == b) refl f
+
+past_byte : (b : ℕ) (p : Bytes) → b < 128 → IsUtf8 (b ∷ p) → IsUtf8 p
+past_byte b p h u = IsUtf8-drop (b ∷ p) 1 u (IsCharBoundary-after_ascii (b ∷ p) 0 u (omega arith) h)
+
+-- in a path that the row takes, the parameter is all that follows what stands before it in the pattern
+record Taken (t p : Bytes) : Type 0 where
+  within : front t ≤ length p
+  parameter : parameter_in t p ≡ Some (drop (front t) p)
+  whole : has_parameter t ≡ false → drop (front t) p ≡ []
+  text : IsUtf8 p → IsUtf8 (drop (front t) p)
+
+taken : (t p : Bytes) → is_ascii t ≡ true → hits (tokens t) p ≡ true → Taken t p
+taken [] [] l h = record { within = omega arith; parameter = refl; whole = λ f. refl; text = λ u. u }
+taken [] (b ∷ p) l h = absurd (never_true h)
+taken (a ∷ t) [] l h = by (a == 123) refl
   where
-    by : (v : Bool) → is_ascii_digit b ≡ v → is_number (b ∷ bytes) ≡ false
-    by false e = rw e (elim (not (b == 48)) as (λ v. (v && false) ≡ false) [ true ↦ refl | false ↦ refl ])
-    by true e =
-        let all : list_all is_ascii_digit (b ∷ bytes) ≡ false = no_digits (b ∷ bytes) h in
-        let none : list_all is_ascii_digit bytes ≡ false = rw e at all in
-        rw (e, none) (elim (not (b == 48)) as (λ v. (v && false) ≡ false) [ true ↦ refl | false ↦ refl ])
-
-slash_there : (bytes : Bytes) → has_slash bytes ≡ true → list_any (λ b. b == 47) bytes ≡ true
-slash_there [] h = absurd (never_true h)
-slash_there (b ∷ bytes) h = by (λ g. slash_there bytes g) (b == 47) refl
+    by : (v : Bool) → (a == 123) ≡ v → Taken (a ∷ t) []
+    by true f = absurd (never_true (rw f at h))
+    by false f = absurd (never_true (rw f at h))
+taken (a ∷ t) (b ∷ p) l h = by (λ g. taken t p (bytes_below a t l) g) (a == 123) refl
   where
-    by : (has_slash bytes ≡ true → list_any (λ c. c == 47) bytes ≡ true) → (v : Bool) → (b == 47) ≡ v → list_any (λ c. c == 47) (b ∷ bytes) ≡ true
-    by deep true e = rw e refl
-    by deep false e = rw e (deep (rw e at h))
+    by_slash : (v : Bool) → has_slash (b ∷ p) ≡ v → (a == 123) ≡ true → Taken (a ∷ t) (b ∷ p)
+    by_slash true e f = absurd (never_true (rw (f, e) at h))
+    by_slash false e f =
+        let none : list_any (λ c. c == 47) (b ∷ p) ≡ false = same_slash (b ∷ p) ∙ e in
+        record { within = rw f (omega arith); parameter = rw (f, none) refl; whole = λ g. absurd (never_true (sym (rw f at g))); text = rw f (λ u. u) }
 
-no_name : (bytes : Bytes) → has_slash bytes ≡ true → is_source_segment bytes ≡ false
-no_name bytes h =
-    let any = slash_there bytes h in
-    rw any (elim (nat_le 1 (length bytes)) as (λ v. ((v && false) && is_utf8 bytes) ≡ false) [ true ↦ refl | false ↦ refl ])
+    by : (hits (tokens t) p ≡ true → Taken t p) → (v : Bool) → (a == 123) ≡ v → Taken (a ∷ t) (b ∷ p)
+    by deep true f = by_slash (has_slash (b ∷ p)) refl f
+    by deep false f =
+        let n = no_token a (byte_below a t l) in
+        let both : (a == b && hits (tokens t) p) ≡ true = rw (f, n) at h in
+        let e : (a == b) ≡ true = both_left (a == b) (hits (tokens t) p) both in
+        let more = deep (both_right (a == b) (hits (tokens t) p) both) in
+        let fits = more.within in
+        let small : a < 128 = byte_below a t l in
+        let below : b < 128 = grind (arith, nat_tests) in
+        record {
+          within = rw f (omega arith);
+          parameter = rw (f, e) more.parameter;
+          whole = λ g. rw f (more.whole (rw f at g));
+          text = rw f (λ u. more.text (past_byte b p below u));
+        }
 
--- nothing ends in nothing, nor in what has a slash
-nothing_made : (to : Ending) → makes to [] ≡ None
-nothing_made endings.Aid = refl
-nothing_made endings.Page = refl
-nothing_made endings.RunSlip = refl
-nothing_made endings.ReaderOrders = refl
-nothing_made endings.Queue = refl
-nothing_made endings.ReaderPermits = refl
-nothing_made endings.Import = refl
+-- ---- what a router says of the parameter
 
-none_made : (to : Ending) (bytes : Bytes) → has_slash bytes ≡ true → makes to bytes ≡ None
-none_made endings.Aid bytes h = let n = no_number bytes h in rw n refl
-none_made endings.Page bytes h = let n = no_number bytes h in rw n refl
-none_made endings.RunSlip bytes h = let n = no_number bytes h in rw n refl
-none_made endings.ReaderOrders bytes h = let n = no_number bytes h in rw n refl
-none_made endings.Queue bytes h = let n = no_number bytes h in rw n refl
-none_made endings.ReaderPermits bytes h = let n = no_number bytes h in rw n refl
-none_made endings.Import bytes h = let n = no_name bytes h in rw n refl
+pairs : (a b c d : ℕ) → a ≡ c → b ≡ d → ◌≡◌ {A = ℕ × ℕ} (a, b) (c, d)
+pairs a b c d e f = λ i. (e i, f i)
 
-missed : (to : Ending) (front p : Bytes) → is_literal front ≡ true → hits (front ++ param_token ∷ []) p ≡ false
-    → option_and_then (makes to) (after front p) ≡ None
-missed to [] [] l h = nothing_made to
-missed to [] (b ∷ p) l h = by (has_slash (b ∷ p)) refl
+begins : (t p : Bytes) (len k at : ℕ) → len ≡ at + length p → is_ascii t ≡ true → has_parameter t ≡ true → hits (tokens t) p ≡ true
+    → wild_from (tokens t) len k at ≡ (k + front t, at + front t)
+begins [] p len k at n l q h = absurd (never_true q)
+begins (a ∷ t) [] len k at n l q h = by (a == 123) refl
   where
-    by : (v : Bool) → has_slash (b ∷ p) ≡ v → makes to (b ∷ p) ≡ None
-    by true e = none_made to (b ∷ p) e
-    by false e = absurd (never_true (sym (rw e at h)))
-missed to (a ∷ front) [] l h = refl
-missed to (a ∷ front) (b ∷ p) l h = by (λ g k. missed to front p g k) (a == b) refl
+    by : (v : Bool) → (a == 123) ≡ v → wild_from (tokens (a ∷ t)) len k at ≡ (k + front (a ∷ t), at + front (a ∷ t))
+    by true f = absurd (never_true (rw f at h))
+    by false f = absurd (never_true (rw f at h))
+begins (a ∷ t) (b ∷ p) len k at n l q h = by (λ m. begins t p len (k + 1) (at + 1) m (bytes_below a t l)) (a == 123) refl
   where
-    by : (is_literal front ≡ true → hits (front ++ param_token ∷ []) p ≡ false → option_and_then (makes to) (after front p) ≡ None) → (v : Bool) → (a == b) ≡ v → option_and_then (makes to) (after (a ∷ front) (b ∷ p)) ≡ None
-    by deep false e = rw e refl
-    by deep true e =
-        let below : ltb a 256 ≡ true = both_left (ltb a 256) (is_literal front) l in
-        let n : (a == 256) ≡ false = grind (arith, nat_tests) in
-        let deeper : hits (front ++ param_token ∷ []) p ≡ false = rw (n, e) at h in
-        rw e (deep (both_right (ltb a 256) (is_literal front) l) deeper)
+    by : (len ≡ at + 1 + length p → has_parameter t ≡ true → hits (tokens t) p ≡ true → wild_from (tokens t) len (k + 1) (at + 1) ≡ (k + 1 + front t, at + 1 + front t))
+        → (v : Bool) → (a == 123) ≡ v → wild_from (tokens (a ∷ t)) len k at ≡ (k + front (a ∷ t), at + front (a ∷ t))
+    by deep true f = rw f (pairs k at (k + 0) (at + 0) (omega arith) (omega arith))
+    by deep false f =
+        let small : a < 128 = byte_below a t l in
+        let m = no_token a small in
+        let both : (a == b && hits (tokens t) p) ≡ true = rw (f, m) at h in
+        let byte : ltb a param_token ≡ true = grind (arith, nat_tests) in
+        let on : ltb at len ≡ true = grind (arith, nat_tests) in
+        let more = deep (omega (arith, n)) (rw f at q) (both_right (a == b) (hits (tokens t) p) both) in
+        rw (f, byte, on) (more ∙ pairs (k + 1 + front t) (at + 1 + front t) (k + suc (front t)) (at + suc (front t)) (omega arith) (omega arith))
 
-literal_beginning : (to : Ending) → is_literal (beginning to) ≡ true
-literal_beginning endings.Aid = refl
-literal_beginning endings.Page = refl
-literal_beginning endings.RunSlip = refl
-literal_beginning endings.ReaderOrders = refl
-literal_beginning endings.Queue = refl
-literal_beginning endings.ReaderPermits = refl
-literal_beginning endings.Import = refl
+tokens_end : (t : Bytes) → has_parameter t ≡ true → length (tokens t) ≡ front t + 1
+tokens_end [] q = absurd (never_true q)
+tokens_end (a ∷ t) q = by (λ g. tokens_end t g) (a == 123) refl
+  where
+    by : (has_parameter t ≡ true → length (tokens t) ≡ front t + 1) → (v : Bool) → (a == 123) ≡ v → length (tokens (a ∷ t)) ≡ front (a ∷ t) + 1
+    by deep true f = rw f refl
+    by deep false f = let more = deep (rw f at q) in rw f (omega (arith, more))
+
+last_false : (a b : Bool) → (a && b && false) ≡ false
+last_false true true = refl
+last_false true false = refl
+last_false false true = refl
+last_false false false = refl
+
+ends : (t p : Bytes) → has_parameter t ≡ true → wild_stop (tokens t) (front t) p (front t) ≡ length p
+ends t p q =
+    let len = tokens_end t q in
+    let last : ltb (front t + 1) (length (tokens t)) ≡ false = grind (arith, nat_tests) in
+    rw last (rw (last_false (ltb (front t) (length (tokens t))) (get_or (tokens t) (front t) 0 == param_token)) refl)
+
+part_taken : (t p : Bytes) → front t ≤ length p → part_of p (front t) (length p) ≡ drop (front t) p
+part_taken t p h =
+    let low : leb (front t) (length p) ≡ true = grind (arith, nat_tests) in
+    let high : leb (length p) (length p) ≡ true = grind (arith, nat_tests) in
+    rw (low, high) (take_rest p (front t))
+
+ascii_all : (bytes : Bytes) → is_ascii bytes ≡ true → IsAscii bytes
+ascii_all [] h i = lit< tt
+ascii_all (b ∷ bytes) h zero = byte_below b bytes h
+ascii_all (b ∷ bytes) h (suc i) = ascii_all bytes (bytes_below b bytes h) i
+
+-- the first part is what the row took, and all parts are text
+abbrev Says : RouteOf Leads → Bytes → Bytes → Type 0
+Says r p part = AllText (walk r.pattern r.text p r.names 0 0) × (first_part (walk r.pattern r.text p r.names 0 0) ≡ part)
+
+says : (t : Bytes) (to : Leads) (p : Bytes) → is_plain (t, to) ≡ true → IsUtf8 p → hits (tokens t) p ≡ true → Says (row (t, to)).1 p (drop (front t) p)
+says t to p l u h = by (has_parameter t) refl
+  where
+    ascii : is_ascii t ≡ true
+    ascii = both_left (is_ascii t) (is_ascii (part_of t (name_at t).0 (name_at t).1)) l
+
+    name : IsUtf8 (part_of t (name_at t).0 (name_at t).1)
+    name = IsUtf8-from_ascii _ (ascii_all _ (both_right (is_ascii t) (is_ascii (part_of t (name_at t).0 (name_at t).1)) l))
+
+    it : Taken t p
+    it = taken t p ascii h
+
+    by : (v : Bool) → has_parameter t ≡ v → Says (row (t, to)).1 p (drop (front t) p)
+    by false q = rw q (tt, sym (it.whole q))
+    by true q =
+        let place : wild_from (tokens t) (length p) 0 0 ≡ (front t, front t) = begins t p (length p) 0 0 (omega arith) ascii q h ∙ pairs (0 + front t) (0 + front t) (front t) (front t) (omega arith) (omega arith) in
+        let stop = ends t p q in
+        let part = part_taken t p it.within in
+        rw (q, place, stop, part) ((name, it.text u, tt), refl)
+
+-- ---- the whole table
+
+-- what is found leads where the definitions say
+abbrev Finds : Bytes → Option (RouteOf Leads) → Option Route → Type 0
+Finds p None to = None ≡ to
+Finds p (Some r) to = AllText (walk r.pattern r.text p r.names 0 0) × (leads_to r.value (first_part (walk r.pattern r.text p r.names 0 0)) ≡ to)
 
 or_nothing : (a : Option Route) → or_else a None ≡ a
 or_nothing None = refl
 or_nothing (Some route) = refl
 
-ending_picked : (others : List Ending) (p : Bytes) → all_apart (map ending_row others) ≡ true
-    → option_and_then (of_row p) (picked (map ending_row others) p) ≡ ending_route (map ending_pair others) p
-ending_picked [] p a = refl
-ending_picked (to ∷ others) p a = by (ending_picked others p (both_right (all_apart_from (beginning to ++ param_token ∷ []) (map ending_row others)) (all_apart (map ending_row others)) a)) (hits (beginning to ++ param_token ∷ []) p) refl
+finds : (lines : List (Bytes × Leads)) (p : Bytes) → IsUtf8 p → list_all is_plain lines ≡ true → all_apart (map row lines) ≡ true
+    → Finds p (picked (map row lines) p) (first_route lines p)
+finds [] p u l a = refl
+finds ((t, to) ∷ others) p u l a = by (finds others p u (both_right (is_plain (t, to)) (list_all is_plain others) l) (both_right apart (all_apart (map row others)) a)) (hits (tokens t) p) refl
   where
-    text : List ℕ
-    text = beginning to ++ param_token ∷ []
+    apart : Bool
+    apart = all_apart_from (tokens t) (map row others)
 
-    by : option_and_then (of_row p) (picked (map ending_row others) p) ≡ ending_route (map ending_pair others) p → (v : Bool) → hits (beginning to ++ param_token ∷ []) p ≡ v
-        → option_and_then (of_row p) (picked (map ending_row (to ∷ others)) p) ≡ ending_route (map ending_pair (to ∷ others)) p
-    by more false e =
-        let none = missed to (beginning to) p (literal_beginning to) e in
-        rw (e, none) more
-    by more true e =
-        let rest = none_picked (beginning to ++ param_token ∷ []) (map ending_row others) p (both_left (all_apart_from (beginning to ++ param_token ∷ []) (map ending_row others)) (all_apart (map ending_row others)) a) e in
-        let none : None ≡ ending_route (map ending_pair others) p = rw rest at more in
-        rw (e, ← none) (sym (or_nothing (option_and_then (makes to) (after (beginning to) p))))
+    plain : is_plain (t, to) ≡ true
+    plain = both_left (is_plain (t, to)) (list_all is_plain others) l
 
--- what the router finds leads where the definitions say
-pub found_route : (p : Bytes) → AllBytes p → option_and_then (of_row p) (first table p) ≡ route_of p
-found_route p h =
-    ap (λ t. option_and_then (of_row p) (first t p)) table_rows
-    ∙ ap (option_and_then (of_row p)) (first_picked rows p h rows_shaped rows_apart ∙ picked_apart rows p rows_apart)
-    ∙ plain_then all_plain p (picked (map ending_row all_ending) p) (ending_route ending p) refl (ending_picked all_ending p endings_apart)
+    ascii : is_ascii t ≡ true
+    ascii = both_left (is_ascii t) (is_ascii (part_of t (name_at t).0 (name_at t).1)) plain
 
--- ---- a path that is no text leads nowhere
+    by : Finds p (picked (map row others) p) (first_route others p) → (v : Bool) → hits (tokens t) p ≡ v
+        → Finds p (picked (map row ((t, to) ∷ others)) p) (first_route ((t, to) ∷ others) p)
+    by more false h = let none = missed t p ascii h in rw (h, none) more
+    by more true h =
+        let rest : picked (map row others) p ≡ None = none_picked (tokens t) (map row others) p (both_left apart (all_apart (map row others)) a) h in
+        let none : None ≡ first_route others p = rw rest at more in
+        let parameter = (taken t p ascii h).parameter in
+        let said = says t to p plain u h in
+        rw (h, parameter, ← none) (said.0, ap (leads_to to) said.1 ∙ sym (or_nothing (leads_to to (drop (front t) p))))
 
-abbrev is_ascii : Bytes → Bool
-is_ascii [] = true
-is_ascii (b ∷ bytes) = ltb b 128 && is_ascii bytes
+table_finds : (p : Bytes) → AllBytes p → IsUtf8 p → Finds p (first rows_of_table p) (route_of p)
+table_finds p h u =
+    let same : first rows_of_table p ≡ picked rows p =
+    ap (λ r. first r p) table_rows ∙ first_picked (settled rows) p h rows_shaped settled_apart ∙ picked_settled rows p rows_apart in
+    let text = is_utf8-from_IsUtf8 p u in
+    rw (same, text) (finds table p u table_plain rows_apart)
 
-ascii_all : (bytes : Bytes) → is_ascii bytes ≡ true → IsAscii bytes
-ascii_all [] h i = lit< tt
-ascii_all (b ∷ bytes) h zero = let e : ltb b 128 ≡ true = both_left (ltb b 128) (is_ascii bytes) h in grind (arith, nat_tests)
-ascii_all (b ∷ bytes) h (suc i) = ascii_all bytes (both_right (ltb b 128) (is_ascii bytes) h) i
+pub leads_on : (held : RowsOf (RouteOf Leads)) (p q : Bytes) (r : RouteOf Leads) → AllBytes p → IsUtf8 p → held ≡ rows_of_table → first held p ≡ Some r → q ≡ p
+    → AllText (walk r.pattern r.text q r.names 0 0) × (leads_to r.value (first_part (walk r.pattern r.text q r.names 0 0)) ≡ route_of p)
+leads_on held p q r h u t e f =
+    subst (λ o. AllText (walk r.pattern r.text o r.names 0 0) × (leads_to r.value (first_part (walk r.pattern r.text o r.names 0 0)) ≡ route_of p)) (sym f)
+    (subst (λ o. Finds p o (route_of p)) (ap (λ l. first l p) (sym t) ∙ e) (table_finds p h u))
 
-ascii_text : (bytes : Bytes) → is_ascii bytes ≡ true → IsUtf8 bytes
-ascii_text bytes h = IsUtf8-from_ascii bytes (ascii_all bytes h)
+pub leads_nowhere : (held : RowsOf (RouteOf Leads)) (p : Bytes) → AllBytes p → IsUtf8 p → held ≡ rows_of_table → first held p ≡ None → None ≡ route_of p
+leads_nowhere held p h u t e = subst (λ o. Finds p o (route_of p)) (ap (λ l. first l p) (sym t) ∙ e) (table_finds p h u)
 
-digits_ascii : (bytes : Bytes) → list_all is_ascii_digit bytes ≡ true → is_ascii bytes ≡ true
-digits_ascii [] h = refl
-digits_ascii (b ∷ bytes) h =
-    let digit : is_ascii_digit b ≡ true = both_left (is_ascii_digit b) (list_all is_ascii_digit bytes) h in
-    let below : ltb b 128 ≡ true = grind (arith, nat_tests) in
-    rw below (digits_ascii bytes (both_right (is_ascii_digit b) (list_all is_ascii_digit bytes) h))
-
-number_digits : (bytes : Bytes) → is_number bytes ≡ true → list_all is_ascii_digit bytes ≡ true
-number_digits [] h = refl
-number_digits (b ∷ bytes) h =
-    let rest = both_right (not (b == 48)) (is_ascii_digit b && (list_all is_ascii_digit bytes && nat_le (length bytes) 9)) h in
-    let digit = both_left (is_ascii_digit b) (list_all is_ascii_digit bytes && nat_le (length bytes) 9) rest in
-    let digits = both_left (list_all is_ascii_digit bytes) (nat_le (length bytes) 9) (both_right (is_ascii_digit b) (list_all is_ascii_digit bytes && nat_le (length bytes) 9) rest) in
-    rw (digit, digits) refl
-
-nothing_there : {A : Type 0} (a : A) → None ≡ Some a → ⊥
-nothing_there a e = cc
-
--- what leads anywhere is text
-numbered_text : (asks : ℕ → Query) (bytes : Bytes) (route : Route) → numbered asks bytes ≡ Some route → IsUtf8 bytes
-numbered_text asks bytes route h = by (is_number bytes) refl
-  where
-    by : (v : Bool) → is_number bytes ≡ v → IsUtf8 bytes
-    by true e = ascii_text bytes (digits_ascii bytes (number_digits bytes e))
-    by false e = absurd (nothing_there route (rw e at h))
-
-named_text : (bytes : Bytes) (route : Route) → named bytes ≡ Some route → IsUtf8 bytes
-named_text bytes route h = by (is_source_segment bytes) refl
-  where
-    by : (v : Bool) → is_source_segment bytes ≡ v → IsUtf8 bytes
-    by true e = IsUtf8-from_is_utf8 bytes (both_right (is_segment bytes) (is_utf8 bytes) e)
-    by false e = absurd (nothing_there route (rw e at h))
-
-made_text : (to : Ending) (bytes : Bytes) (route : Route) → makes to bytes ≡ Some route → IsUtf8 bytes
-made_text endings.Aid bytes route h = numbered_text query.Aid bytes route h
-made_text endings.Page bytes route h = numbered_text query.Page bytes route h
-made_text endings.RunSlip bytes route h = numbered_text query.RunSlip bytes route h
-made_text endings.ReaderOrders bytes route h = numbered_text query.ReaderOrders bytes route h
-made_text endings.Queue bytes route h = numbered_text query.Queue bytes route h
-made_text endings.ReaderPermits bytes route h = numbered_text query.ReaderPermits bytes route h
-made_text endings.Import bytes route h = named_text bytes route h
-
-ascii_beginning : (to : Ending) → is_ascii (beginning to) ≡ true
-ascii_beginning endings.Aid = refl
-ascii_beginning endings.Page = refl
-ascii_beginning endings.RunSlip = refl
-ascii_beginning endings.ReaderOrders = refl
-ascii_beginning endings.Queue = refl
-ascii_beginning endings.ReaderPermits = refl
-ascii_beginning endings.Import = refl
-
-after_whole : (front p rest : Bytes) → after front p ≡ Some rest → p ≡ front ++ rest
-after_whole [] p rest e = cc
-after_whole (a ∷ front) [] rest e = absurd (nothing_there rest e)
-after_whole (a ∷ front) (b ∷ p) rest e = by (λ g. after_whole front p rest g) (a == b) refl
-  where
-    by : (after front p ≡ Some rest → p ≡ front ++ rest) → (v : Bool) → (a == b) ≡ v → b ∷ p ≡ (a ∷ front) ++ rest
-    by deep false f = absurd (nothing_there rest (rw f at e))
-    by deep true f =
-        let same : b ≡ a = grind (arith, nat_tests) in
-        let more = deep (rw f at e) in
-        λ i. same i ∷ more i
-
-ending_leads : (to : Ending) (p : Bytes) → (IsUtf8 p → ⊥) → option_and_then (makes to) (after (beginning to) p) ≡ None
-ending_leads to p unread = by_rest (after (beginning to) p) refl
-  where
-    by_route : (rest : Bytes) (o : Option Route) → after (beginning to) p ≡ Some rest → makes to rest ≡ o → makes to rest ≡ None
-    by_route rest None e f = f
-    by_route rest (Some route) e f =
-        absurd (unread (subst IsUtf8 (sym (after_whole (beginning to) p rest e)) (IsUtf8-append (beginning to) rest (ascii_text (beginning to) (ascii_beginning to)) (made_text to rest route f))))
-
-    by_rest : (o : Option Bytes) → after (beginning to) p ≡ o → option_and_then (makes to) (after (beginning to) p) ≡ None
-    by_rest None e = rw e refl
-    by_rest (Some rest) e = rw e (by_route rest (makes to rest) e refl)
-
-endings_lead : (others : List Ending) (p : Bytes) → (IsUtf8 p → ⊥) → ending_route (map ending_pair others) p ≡ None
-endings_lead [] p unread = refl
-endings_lead (to ∷ others) p unread =
-    let none = ending_leads to p unread in
-    rw none (endings_lead others p unread)
-
-abbrev all_ascii : List (Bytes × Plain) → Bool
-all_ascii [] = true
-all_ascii ((text, to) ∷ others) = is_ascii text && all_ascii others
-
-plains_lead : (others : List (Bytes × Plain)) (p : Bytes) → all_ascii others ≡ true → (IsUtf8 p → ⊥) → plain_route (map plain_pair others) p ≡ None
-plains_lead [] p a unread = refl
-plains_lead ((text, to) ∷ others) p a unread = by (plains_lead others p (both_right (is_ascii text) (all_ascii others) a) unread) (bytes_eq text p) refl
-  where
-    by : plain_route (map plain_pair others) p ≡ None → (v : Bool) → bytes_eq text p ≡ v → plain_route (map plain_pair ((text, to) ∷ others)) p ≡ None
-    by deep false e = rw e deep
-    by deep true e = absurd (unread (subst IsUtf8 ((bytes_eq-Decides text p).0 e) (ascii_text text (both_left (is_ascii text) (all_ascii others) a))))
-
+-- a path that is no text leads nowhere
 pub no_route : (p : Bytes) → (IsUtf8 p → ⊥) → None ≡ route_of p
-no_route p unread =
-    let first_none = plains_lead all_plain p refl unread in
-    let last_none = endings_lead all_ending p unread in
-    let e : plain_route plain p ≡ None = first_none in
-    let f : ending_route ending p ≡ None = last_none in
-    rw (e, f) refl
-
-pub leads_on : (held : RowsOf (RouteOf Leads)) (p : Bytes) (row : RouteOf Leads) (to : Leads) → AllBytes p → held ≡ table → first held p ≡ Some row
-    → row.value ≡ to → to_route p to ≡ route_of p
-leads_on held p row to h t e f =
-    ap (to_route p) (sym f) ∙ ap (option_and_then (of_row p)) (sym e ∙ ap (λ r. first r p) t) ∙ found_route p h
-
-pub leads_nowhere : (held : RowsOf (RouteOf Leads)) (p : Bytes) → AllBytes p → held ≡ table → first held p ≡ None → None ≡ route_of p
-leads_nowhere held p h t e = ap (option_and_then (of_row p)) (sym e ∙ ap (λ r. first r p) t) ∙ found_route p h
+no_route p unread = by (is_utf8 p) refl
+  where
+    by : (v : Bool) → is_utf8 p ≡ v → None ≡ route_of p
+    by true e = absurd (unread (IsUtf8-from_is_utf8 p e))
+    by false e = rw e refl

@@ -10,5 +10,6 @@ pub mod head_verdict;
 pub mod members;
 pub mod routes;
 pub mod status;
+pub mod table;
 pub mod targets;
 pub mod worked;

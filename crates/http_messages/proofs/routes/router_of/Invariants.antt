@@ -1,6 +1,6 @@
 use Rattle.std.proofs.Common.{◌≡◌, [], drop, map}
-use Rattle.http_messages.specs.Router.{with_all, pattern_entry}
+use Rattle.http_messages.specs.Router.{with_all}
 use Rattle.http_messages.proofs.routes.router_of.Given as goal
 
-abbrev pub invariant-loop-pattern : goal.invariant-loop-pattern
-invariant-loop-pattern l = with_all l.router (map pattern_entry (drop l.pattern-index l.patterns)) ≡ with_all [] (map pattern_entry l.patterns)
+abbrev pub invariant-loop-line : goal.invariant-loop-line
+invariant-loop-line l = with_all l.router (map (λ line. (line.0.now, line.1)) (drop l.line-index l.lines)) ≡ with_all [] (map (λ line. (line.0.now, line.1)) l.lines)

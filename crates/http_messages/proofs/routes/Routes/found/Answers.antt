@@ -1,25 +1,16 @@
-use Rattle.std.proofs.Common.{Some, ap, ◌∙◌, arith}
-use Rattle.std.specs.Prelude.{option_and_then}
-use Rattle.http_messages.specs.Routes.{after}
-use Rattle.http_messages.specs.Router.{makes, beginning}
+use Rattle.std.proofs.Common.{ap, ◌∙◌, arith}
+use Rattle.http_messages.specs.Routes.{leads_to}
 use Rattle.http_messages.proofs.Matched.{AllBytes}
 use Rattle.http_messages.proofs.Routed.{leads_on, leads_nowhere}
 use Rattle.http_messages.proofs.routes.Routes.found.Goals as goal
 
-pub returns-in-Plain : goal.returns-in-Plain
-returns-in-Plain c =
+pub returns-in-Ok : goal.returns-in-Ok
+returns-in-Ok c =
     let bytes : AllBytes c.args.text.now = λ k. let fits = c.type_inv.text k in omega arith in
-    ap Some c.of_plain.ensures
-    ∙ leads_on c.args.self.now.router c.args.text.now _ _ bytes c.args.self.now.holds c.in-Ok.ensures.found c.in-Plain.is
-
-pub returns-in-Ending : goal.returns-in-Ending
-returns-in-Ending c =
-    let bytes : AllBytes c.args.text.now = λ k. let fits = c.type_inv.text k in omega arith in
-    c.ended.ensures
-    ∙ ap (λ p. option_and_then (makes c.in-Ending.ending) (after (beginning c.in-Ending.ending) p)) c.as_bytes.ensures.value
-    ∙ leads_on c.args.self.now.router c.args.text.now _ _ bytes c.args.self.now.holds c.in-Ok.ensures.found c.in-Ending.is
+    let it = leads_on c.args.self.now.router c.args.text.now _ _ bytes c.utf8.text c.args.self.now.holds c.in-Ok.ensures.found c.in-Ok.ensures.path in
+    c.led_to.ensures ∙ ap (leads_to _) (c.first_of.ensures it.0) ∙ it.1
 
 pub returns-in-Err : goal.returns-in-Err
 returns-in-Err c =
     let bytes : AllBytes c.args.text.now = λ k. let fits = c.type_inv.text k in omega arith in
-    leads_nowhere c.args.self.now.router c.args.text.now bytes c.args.self.now.holds c.in-Err.ensures.missing
+    leads_nowhere c.args.self.now.router c.args.text.now bytes c.utf8.text c.args.self.now.holds c.in-Err.ensures.missing

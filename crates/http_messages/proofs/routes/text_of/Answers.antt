@@ -1,8 +1,0 @@
-use Rattle.http_messages.proofs.Bodies.{is_text, is_no_text}
-use Rattle.http_messages.proofs.routes.text_of.Goals as goal
-
-pub returns-in-Ok : goal.returns-in-Ok
-returns-in-Ok c = is_text c.args.bytes.now _ c.in-Ok.ensures.cases.0 c.in-Ok.ensures.cases.1
-
-pub returns-in-Err : goal.returns-in-Err
-returns-in-Err c = is_no_text c.args.bytes.now c.in-Err.ensures.cases.0
