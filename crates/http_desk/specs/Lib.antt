@@ -8,6 +8,7 @@ pub mod Parts
 pub mod StreamFaults
 pub mod MessageInput
 pub mod Exchanges
+pub mod MachineAnswers
 pub mod Bounds
 pub mod Runs
 pub mod Headline

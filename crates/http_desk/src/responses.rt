@@ -1,8 +1,7 @@
 //! Answers to requests.
-ghost use Rattle.std.specs.Prelude.{◌&&◌, ◌≡◌, ◌≤◌, ◌+◌, [], length, take, drop, unwrap_or, IfOk, OnOk, OnErr};
+ghost use Rattle.std.specs.Prelude.{◌&&◌, ◌≡◌, ◌≤◌, ◌+◌, [], length, take, drop, unwrap_or, IfOk, OnOk, ⊤};
 ghost use Rattle.std.specs.Prelude.{IsOk, is_none, Some, true, codes};
 ghost use Rattle.httparse.specs.Spans.{IsWithin};
-ghost use Rattle.office_core.specs.State.{State};
 ghost use Rattle.office_core.specs.Rules as rules;
 ghost use Rattle.office_core.specs.Json.{reply_text};
 ghost use Rattle.office_core.specs.Queries.{answer};
@@ -12,6 +11,7 @@ ghost use Rattle.http_messages.specs.HeadVerdict.{request_in};
 ghost use Rattle.http_messages.specs.Replies.{answer_in};
 ghost use Rattle.http_messages.specs.Router.{route_in};
 ghost use Rattle.http_desk.specs.AnswerOutput.{IsViewOf};
+ghost use Rattle.http_desk.specs.MachineAnswers.{AnswersAs};
 ghost use Rattle.http_messages.specs.declared.status.Status.TheVariants.{Fine};
 ghost use Rattle.office_core.specs.declared.command.Command.TheVariants as commands;
 
@@ -74,13 +74,8 @@ fn of_told(told: Answer) -> Answered
 
 /// Carries out a command, and takes no memory once the office has answered.
 fn done<M: Machine>(alloc: Global, office: &mut M, command: Command) -> Result<Answered, Busy>
-    ensures intact { M.is_intact office.new → M.is_intact office.old }
-    ensures was_open { M.is_intact office.new → M.is_open office.new → M.is_open office.old }
-    ensures kept { IfOk result (λ a. M.is_intact office.new → (answer_in a).status ≡ Fine → M.is_open office.new) }
-    ensures answers { IfOk result (λ a. M.is_intact office.new → (s : State) → M.represents office.old s →
-        M.represents office.new (spec.done s command).1 × (answer_in a ≡ (spec.done s command).0)) }
-    ensures busy { OnErr result (M.is_intact office.new → (s : State) → M.represents office.old s
-        → M.represents office.new s) }
+    ensures { AnswersAs M.represents M.is_intact M.is_open office.old office.new
+        (λ s. spec.done s command) ⊤ result }
 {
     match office.apply(alloc, command) {
         Ok(reply) => Ok(of_reply(reply)),
@@ -90,12 +85,8 @@ fn done<M: Machine>(alloc: Global, office: &mut M, command: Command) -> Result<A
 
 /// Answers a question, and takes no memory once the office has answered.
 fn asked<M: Machine>(alloc: Global, office: &mut M, query: Query) -> Result<Answered, Busy>
-    ensures intact { M.is_intact office.new → M.is_intact office.old }
-    ensures was_open { M.is_intact office.new → M.is_open office.new → M.is_open office.old }
-    ensures answers { IfOk result (λ a. M.is_intact office.new → (s : State) → M.represents office.old s →
-        M.represents office.new s × (answer_in a ≡ spec.of_told (answer s query))) }
-    ensures busy { OnErr result (M.is_intact office.new → (s : State) → M.represents office.old s
-        → M.represents office.new s) }
+    ensures { AnswersAs M.represents M.is_intact M.is_open office.old office.new
+        (λ s. (spec.of_told (answer s query), s)) ⊥ result }
 {
     match office.ask(alloc, query) {
         Ok(told) => Ok(of_told(told)),
@@ -109,13 +100,8 @@ fn done_if_read<M: Machine>(
     office: &mut M,
     command: Option<Command>,
 ) -> Result<Answered, Busy>
-    ensures intact { M.is_intact office.new → M.is_intact office.old }
-    ensures was_open { M.is_intact office.new → M.is_open office.new → M.is_open office.old }
-    ensures kept { IfOk result (λ a. M.is_intact office.new → (answer_in a).status ≡ Fine → M.is_open office.new) }
-    ensures answers { IfOk result (λ a. M.is_intact office.new → (s : State) → M.represents office.old s →
-        M.represents office.new (spec.done_if_read s command).1 × (answer_in a ≡ (spec.done_if_read s command).0)) }
-    ensures busy { OnErr result (M.is_intact office.new → (s : State) → M.represents office.old s
-        → M.represents office.new s) }
+    ensures { AnswersAs M.represents M.is_intact M.is_open office.old office.new
+        (λ s. spec.done_if_read s command) ⊤ result }
 {
     match command {
         Some(command) => done(alloc, office, command),
@@ -152,15 +138,9 @@ fn carried_out<M: Machine>(
     body: Vec<u8>,
     route: Route<'_>,
 ) -> Result<Answered, Busy>
-    ensures intact { M.is_intact office.new → M.is_intact office.old }
-    ensures was_open { M.is_intact office.new → M.is_open office.new → M.is_open office.old }
-    ensures kept { routes.is_post (route_in route.entry) ≡ true
-        → IfOk result (λ a. M.is_intact office.new → (answer_in a).status ≡ Fine → M.is_open office.new) }
-    ensures answers { IfOk result (λ a. M.is_intact office.new → (s : State) → M.represents office.old s →
-        M.represents office.new (spec.carried_out s body.items (route_in route.entry)).1
-        × (answer_in a ≡ (spec.carried_out s body.items (route_in route.entry)).0)) }
-    ensures busy { OnErr result (M.is_intact office.new → (s : State) → M.represents office.old s
-        → M.represents office.new s) }
+    ensures { AnswersAs M.represents M.is_intact M.is_open office.old office.new
+        (λ s. spec.carried_out s body.items (route_in route.entry))
+        (routes.is_post (route_in route.entry) ≡ true) result }
 {
     match route {
         Route::Asks(query) => asked(alloc, office, query),
@@ -187,15 +167,9 @@ fn by_route<M: Machine>(
     route: Route<'_>,
 ) -> Result<Answered, Busy>
     requires { IsWithin (length block.now) head.method }
-    ensures intact { M.is_intact office.new → M.is_intact office.old }
-    ensures was_open { M.is_intact office.new → M.is_open office.new → M.is_open office.old }
-    ensures kept { (request_in block.now head).method ≡ codes "POST"
-        → IfOk result (λ a. M.is_intact office.new → (answer_in a).status ≡ Fine → M.is_open office.new) }
-    ensures answers { IfOk result (λ a. M.is_intact office.new → (s : State) → M.represents office.old s →
-        M.represents office.new (spec.by_route s (request_in block.now head) body.items (Some (route_in route.entry))).1
-        × (answer_in a ≡ (spec.by_route s (request_in block.now head) body.items (Some (route_in route.entry))).0)) }
-    ensures busy { OnErr result (M.is_intact office.new → (s : State) → M.represents office.old s
-        → M.represents office.new s) }
+    ensures { AnswersAs M.represents M.is_intact M.is_open office.old office.new
+        (λ s. spec.by_route s (request_in block.now head) body.items (Some (route_in route.entry)))
+        ((request_in block.now head).method ≡ codes "POST") result }
 {
     let post = is_post(route);
     if !is_method(head.method.of(block), post) {
@@ -217,15 +191,9 @@ fn respond<M: Machine>(
 ) -> Result<Answered, Busy>
     requires method { IsWithin (length block.now) head.method }
     requires target { IsWithin (length block.now) head.target }
-    ensures intact { M.is_intact office.new → M.is_intact office.old }
-    ensures was_open { M.is_intact office.new → M.is_open office.new → M.is_open office.old }
-    ensures kept { (request_in block.now head).method ≡ codes "POST"
-        → IfOk result (λ a. M.is_intact office.new → (answer_in a).status ≡ Fine → M.is_open office.new) }
-    ensures answers { IfOk result (λ a. M.is_intact office.new → (s : State) → M.represents office.old s →
-        M.represents office.new (spec.answered s (request_in block.now head) body.items).1
-        × (answer_in a ≡ (spec.answered s (request_in block.now head) body.items).0)) }
-    ensures busy { OnErr result (M.is_intact office.new → (s : State) → M.represents office.old s
-        → M.represents office.new s) }
+    ensures { AnswersAs M.represents M.is_intact M.is_open office.old office.new
+        (λ s. spec.answered s (request_in block.now head) body.items)
+        ((request_in block.now head).method ≡ codes "POST") result }
 {
     match means.routes.route_of(path_of(head.target.of(block))) {
         None => Ok(Answered::Error(Status::NotFound)),
@@ -244,17 +212,11 @@ fn answer_first<M: Machine>(
     requires whole { size + unwrap_or head.length 0 ≤ length buffer.old.items }
     requires method { IsWithin (length (take size buffer.old.items)) head.method }
     requires target { IsWithin (length (take size buffer.old.items)) head.target }
-    ensures intact { M.is_intact office.new → M.is_intact office.old }
-    ensures was_open { M.is_intact office.new → M.is_open office.new → M.is_open office.old }
-    ensures kept { (request_in (take size buffer.old.items) head).method ≡ codes "POST"
-        → IfOk result (λ a. M.is_intact office.new → (answer_in a).status ≡ Fine → M.is_open office.new) }
-    ensures answers { IfOk result (λ a. M.is_intact office.new → (s : State) → M.represents office.old s →
-        let told = spec.answered s (request_in (take size buffer.old.items) head)
-        (take (unwrap_or head.length 0) (drop size buffer.old.items)) in
-        M.represents office.new told.1 × (answer_in a ≡ told.0)) }
+    ensures machine { AnswersAs M.represents M.is_intact M.is_open office.old office.new
+        (λ s. spec.answered s (request_in (take size buffer.old.items) head)
+        (take (unwrap_or head.length 0) (drop size buffer.old.items)))
+        ((request_in (take size buffer.old.items) head).method ≡ codes "POST") result }
     ensures left { OnOk result (buffer.new.items ≡ drop (size + unwrap_or head.length 0) buffer.old.items) }
-    ensures busy { OnErr result (M.is_intact office.new → (s : State) → M.represents office.old s
-        → M.represents office.new s) }
 {
     match take_message(buffer, size, body_len(head)) {
         Ok((block, body)) => respond(means, office, &block, head, body),
@@ -301,16 +263,10 @@ pub fn prepare<'b, M: Machine>(
     requires whole { size + unwrap_or head.length 0 ≤ length buffer.old.items }
     requires method { IsWithin (length (take size buffer.old.items)) head.method }
     requires target { IsWithin (length (take size buffer.old.items)) head.target }
-    ensures intact { M.is_intact office.new → M.is_intact office.old }
-    ensures was_open { M.is_intact office.new → M.is_open office.new → M.is_open office.old }
-    ensures kept { (request_in (take size buffer.old.items) head).method ≡ codes "POST"
-        → IfOk result.answered (λ a. M.is_intact office.new → (answer_in a).status ≡ Fine → M.is_open office.new) }
-    ensures answers { IfOk result.answered (λ a. M.is_intact office.new → (s : State) → M.represents office.old s →
-        let told = spec.answered s (request_in (take size buffer.old.items) head)
-        (take (unwrap_or head.length 0) (drop size buffer.old.items)) in
-        M.represents office.new told.1 × (answer_in a ≡ told.0)) }
-    ensures busy { OnErr result.answered (M.is_intact office.new → (s : State) → M.represents office.old s
-        → M.represents office.new s) }
+    ensures machine { AnswersAs M.represents M.is_intact M.is_open office.old office.new
+        (λ s. spec.answered s (request_in (take size buffer.old.items) head)
+        (take (unwrap_or head.length 0) (drop size buffer.old.items)))
+        ((request_in (take size buffer.old.items) head).method ≡ codes "POST") result.answered }
     ensures left { OnOk result.answered
         (result.buffer.now.items ≡ drop (size + unwrap_or head.length 0) buffer.old.items) }
     ensures same_reference { result.buffer.ghost_name ≡ buffer.entry.ghost_name }
