@@ -8,19 +8,9 @@ use Rattle.http_desk.specs.declared.session_end.Next.TheVariants.{Goes, Ends}
 use Rattle.http_desk.specs.declared.session_end.Ended.TheVariants as ends
 use Rattle.http_desk.specs.declared.output.Sent.{Sent}
 use Rattle.http_desk.specs.declared.output.Sent.TheVariants.{All, Failed, Bound}
-use Rattle.http_desk.specs.StreamFaults.{is_read_fault, is_write_fault, send_failed, IsFlushed, IsUsedUp, TakesTurns, TellsSomeWriteBound, TellsWriteBound, TextIsUsedUp}
+use Rattle.http_desk.specs.StreamFaults.{is_write_fault, send_failed, IsFlushed, IsUsedUp, TakesTurns, TellsSomeWriteBound, TellsWriteBound, TextIsUsedUp}
 use Rattle.http_desk.specs.Streams.{Stream, counted}
 use Rattle.http_desk.specs.Exchanges.{IsNoEnd, after_answer, after_sending}
-
-no_read : (sent : Sent) (next : Next) → is_read_fault next ≡ false → is_read_fault (after_sending sent next) ≡ false
-no_read All next e = e
-no_read Failed next e = refl
-no_read Bound next e = refl
-
--- after a sending no read's fault is told
-pub no_read_told : (sent : Sent) (next result : Next) → is_read_fault next ≡ false → result ≡ after_sending sent next
-    → is_read_fault result ≡ false
-no_read_told sent next result n e = ap is_read_fault e ∙ no_read sent next n
 
 a_write : (sent : Sent) (next : Next) → is_write_fault next ≡ false → is_write_fault (after_sending sent next) ≡ send_failed sent
 a_write All next e = e
@@ -74,10 +64,6 @@ flushed_by writer Bound next f = tt
 pub flushed_after : (writer : Stream) (sent : Sent) (next result : Next) → result ≡ after_sending sent next → (sent ≡ All → writer.flushed ≡ true)
     → IsFlushed writer result
 flushed_after writer sent next result e f = subst (IsFlushed writer) (sym e) (flushed_by writer sent next f)
-
--- the same, where not all was sent, whatever was flushed
-pub not_all_sent : (writer : Stream) (sent : Sent) (next result : Next) → (sent ≡ All → ⊥) → result ≡ after_sending sent next → IsFlushed writer result
-not_all_sent writer sent next result n e = flushed_after writer sent next result e (λ all. absurd (n all))
 
 -- ---- bounds
 

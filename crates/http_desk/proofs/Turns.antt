@@ -22,7 +22,7 @@ use Rattle.http_desk.specs.Messages.{longest_head, HasHead, Message, Begins, Las
 use Rattle.http_desk.specs.AcceptedMessages.{IsAccepted, LastLeavesOpen}
 use Rattle.http_desk.specs.Session.{IsFront, Stops, IsClosing, closes, continue_if, refusal, message_text, state_after, last_text, state_after_last}
 use Rattle.http_desk.specs.AnswerOutput.{Sends}
-use Rattle.http_desk.specs.Exchanges.{Turn, Through, Exchange, AtEndIf, Refused, Replies, after_sending}
+use Rattle.http_desk.specs.Exchanges.{Turn, Through, Exchange, Refused, Replies, after_sending}
 use Rattle.http_messages.proofs.Scans.{scan_take_more}
 
 -- ---- heads
@@ -226,55 +226,49 @@ module _ {M : Type 0} (represents : M → State → Type 0) (is_intact is_open :
   -- the leave to send a body was broken off
   pub leave_broken : (number : ℕ) (office : M) (items block more : Bytes) (request : Request) (a b c : Option Bytes) (sent : Sent) (next result : Next)
       → (sent ≡ All → ⊥) → result ≡ after_sending sent next → HasHead items block (Accepted request) more → Sends b c (continue_if request.waits) sent
-      → Exchange represents is_intact is_open number a a b c office items result office items × AtEndIf a result
+      → Exchange represents is_intact is_open number a a b c office items result office items
   leave_broken number office items block more request a b c All next result n e h s = absurd (n refl)
   leave_broken number office items block more request a b c Failed next result n e h (front, (others, f), s) =
       let there : HasHead (items ++ []) block (Accepted request) (more ++ []) = head_more items block (Accepted request) more [] h in (
-        (
-          [],
-          front,
-          Consumes-nil a,
-          s,
-          λ i x shown. (
-            x,
-            shown,
-            subst (λ r. Turn (is_open office) (is_open office) number x (items ++ []) r front x items) (sym e) (
-              record {
-                last = Fails request.waits false;
-                stands = may_fail_after (items ++ []) block (more ++ []) request there;
-                ends = tt;
-                written = (others ++ refusal false (error Busy), ap (λ l. l ++ refusal false (error Busy)) f ∙ append_assoc front others (refusal false (error Busy)));
-                leaves = refl;
-              },
-              λ never. absurd never,
-            ),
+        [],
+        front,
+        Consumes-nil a,
+        s,
+        λ i x shown. (
+          x,
+          shown,
+          subst (λ r. Turn (is_open office) (is_open office) number x (items ++ []) r front x items) (sym e) (
+            record {
+              last = Fails request.waits false;
+              stands = may_fail_after (items ++ []) block (more ++ []) request there;
+              ends = tt;
+              written = (others ++ refusal false (error Busy), ap (λ l. l ++ refusal false (error Busy)) f ∙ append_assoc front others (refusal false (error Busy)));
+              leaves = refl;
+            },
+            λ never. absurd never,
           ),
         ),
-        subst (AtEndIf a) (sym e) tt,
       )
   leave_broken number office items block more request a b c OutOfTurns next result n e h (front, (others, f), s) =
       let there : HasHead (items ++ []) block (Accepted request) (more ++ []) = head_more items block (Accepted request) more [] h in (
-        (
-          [],
-          front,
-          Consumes-nil a,
-          s,
-          λ i x shown. (
-            x,
-            shown,
-            subst (λ r. Turn (is_open office) (is_open office) number x (items ++ []) r front x items) (sym e) (
-              record {
-                last = Fails request.waits false;
-                stands = may_fail_after (items ++ []) block (more ++ []) request there;
-                ends = tt;
-                written = (others ++ refusal false (error Busy), ap (λ l. l ++ refusal false (error Busy)) f ∙ append_assoc front others (refusal false (error Busy)));
-                leaves = refl;
-              },
-              λ never. absurd never,
-            ),
+        [],
+        front,
+        Consumes-nil a,
+        s,
+        λ i x shown. (
+          x,
+          shown,
+          subst (λ r. Turn (is_open office) (is_open office) number x (items ++ []) r front x items) (sym e) (
+            record {
+              last = Fails request.waits false;
+              stands = may_fail_after (items ++ []) block (more ++ []) request there;
+              ends = tt;
+              written = (others ++ refusal false (error Busy), ap (λ l. l ++ refusal false (error Busy)) f ∙ append_assoc front others (refusal false (error Busy)));
+              leaves = refl;
+            },
+            λ never. absurd never,
           ),
         ),
-        subst (AtEndIf a) (sym e) tt,
       )
 
 -- a head that was found is the same in a buffer that has grown

@@ -1,7 +1,8 @@
 //! Writes whole answers, in few writes. Nothing here takes an allocator.
 ghost use Rattle.std.specs.Prelude.{◌≡◌, ◌≢◌, ◌+◌, ◌<◌, ◌≤◌, ◌||◌, ◌^◌, ℕ, List, [], ◌++◌, length};
 ghost use Rattle.std.specs.Prelude.{true, false};
-ghost use Rattle.http_desk.specs.StreamFaults.{IsUsedUp, QuietSend, TakesCalls, TakesTurns, send_failed};
+ghost use Rattle.http_desk.specs.AnswerOutput.{SendsAsCalled};
+ghost use Rattle.http_desk.specs.StreamFaults.{QuietSend, TakesTurns, send_failed};
 ghost use Rattle.std.specs.List.{flat_map};
 ghost use Rattle.std.specs.Io.KnownBytes.{Appends};
 ghost use Rattle.http_desk.specs.Session.{IsFront};
@@ -115,16 +116,7 @@ fn gather_or_send<W: Write>(
 /// into one lot are written together.
 pub fn send<W: Write>(writer: &mut Sink<'_, W>, pieces: &[&[u8]]) -> Sent
     requires { length (flat_map (λ p. p.now) pieces.now) + more_writes < 2 ^ 64 }
-    ensures all { result ≡ Sent.All
-        → Appends writer.old.bytes writer.new.bytes (flat_map (λ p. p.now) pieces.now) }
-    ensures flushed { result ≡ Sent.All → writer.new.flushed ≡ true }
-    ensures failed { writer.new.failed ≡ (send_failed result || writer.old.failed) }
-    ensures bound { writer.new.interrupted ≡ false → (writer.old.interrupted ≡ false) × (result ≢ Sent.Bound) }
-    ensures used_up { result ≡ Sent.Bound
-        → IsUsedUp (length (flat_map (λ p. p.now) pieces.now) + more_writes) writer.new }
-    ensures calls { TakesCalls (length (flat_map (λ p. p.now) pieces.now) + more_writes) writer.old writer.new }
-    ensures front { (written : List ℕ) × IsFront written (flat_map (λ p. p.now) pieces.now)
-        × Appends writer.old.bytes writer.new.bytes written }
+    ensures { SendsAsCalled (flat_map (λ p. p.now) pieces.now) writer.old writer.new result }
 {
     writer.begin_text(length_of(pieces));
     let mut lot = ArrayVec::new();

@@ -1,11 +1,10 @@
 //! Writes answers, whose texts are borrowed. Nothing here takes an allocator.
-ghost use Rattle.std.specs.Prelude.{◌≡◌, ◌≢◌, ◌+◌, ◌<◌, ◌^◌, ◌||◌, length, true, false};
+ghost use Rattle.std.specs.Prelude.{◌+◌, ◌<◌, ◌^◌, length};
 ghost use Rattle.http_messages.specs.Answers.{answer_text, continue_text};
 ghost use Rattle.http_messages.specs.Replies.{viewed};
-ghost use Rattle.http_desk.specs.AnswerOutput.{Sends};
+ghost use Rattle.http_desk.specs.AnswerOutput.{SendsAsCalled};
 ghost use Rattle.http_desk.specs.Parts.{parts_text};
 ghost use Rattle.http_desk.specs.Streams.{more_writes};
-ghost use Rattle.http_desk.specs.StreamFaults.{TakesCalls, TextIsUsedUp, send_failed};
 
 use crate::output::{Sent, send};
 use crate::streams::Sink;
@@ -28,12 +27,7 @@ struct Parts<'a> {
 /// Writes the parts of an answer, with the text between them.
 fn send_parts<W: Write>(writer: &mut Sink<'_, W>, parts: Parts<'_>) -> Sent
     requires { length (parts_text parts) + more_writes < 2 ^ 64 }
-    ensures flushed { result ≡ Sent.All → writer.new.flushed ≡ true }
-    ensures failed { writer.new.failed ≡ (send_failed result || writer.old.failed) }
-    ensures bound { writer.new.interrupted ≡ false → (writer.old.interrupted ≡ false) × (result ≢ Sent.Bound) }
-    ensures used_up { result ≡ Sent.Bound → TextIsUsedUp (parts_text parts.entry) writer.new }
-    ensures calls { TakesCalls (length (parts_text parts.entry) + more_writes) writer.old writer.new }
-    ensures sends { Sends writer.old.bytes writer.new.bytes (parts_text parts.entry) result }
+    ensures { SendsAsCalled (parts_text parts.entry) writer.old writer.new result }
 {
     send(
         writer,
@@ -62,15 +56,7 @@ pub fn send_answer<W: Write>(
     closing: bool,
     answer: AnswerView<'_>,
 ) -> Sent
-    ensures flushed { result ≡ Sent.All → writer.new.flushed ≡ true }
-    ensures failed { writer.new.failed ≡ (send_failed result || writer.old.failed) }
-    ensures bound { writer.new.interrupted ≡ false → (writer.old.interrupted ≡ false) × (result ≢ Sent.Bound) }
-    ensures used_up { result ≡ Sent.Bound
-        → TextIsUsedUp (answer_text bare closing (viewed answer.entry)) writer.new }
-    ensures calls { TakesCalls (length (answer_text bare closing (viewed answer.entry)) + more_writes)
-        writer.old writer.new }
-    ensures sends { Sends writer.old.bytes writer.new.bytes
-        (answer_text bare closing (viewed answer.entry)) result }
+    ensures { SendsAsCalled (answer_text bare closing (viewed answer.entry)) writer.old writer.new result }
 {
     let status = answer.status();
     let mut digits = Buffer::new();
@@ -91,12 +77,7 @@ pub fn send_answer<W: Write>(
 
 /// Writes 100 Continue: the peer may send the body.
 pub fn send_continue<W: Write>(writer: &mut Sink<'_, W>) -> Sent
-    ensures flushed { result ≡ Sent.All → writer.new.flushed ≡ true }
-    ensures failed { writer.new.failed ≡ (send_failed result || writer.old.failed) }
-    ensures bound { writer.new.interrupted ≡ false → (writer.old.interrupted ≡ false) × (result ≢ Sent.Bound) }
-    ensures used_up { result ≡ Sent.Bound → TextIsUsedUp continue_text writer.new }
-    ensures calls { TakesCalls (length continue_text + more_writes) writer.old writer.new }
-    ensures sends { Sends writer.old.bytes writer.new.bytes continue_text result }
+    ensures { SendsAsCalled continue_text writer.old writer.new result }
 {
     send(writer, &[b"HTTP/1.1 100 Continue\r\n\r\n"])
 }

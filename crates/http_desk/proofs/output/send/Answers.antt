@@ -7,7 +7,7 @@ use Rattle.http_desk.specs.Session.{IsFront}
 use Rattle.http_desk.specs.StreamFaults.{send_failed}
 use Rattle.http_desk.specs.declared.output.Sent.TheVariants.{Bound}
 use Rattle.http_desk.proofs.Faults.{used_up}
-use Rattle.http_desk.proofs.Sends.{one_more, all_pieces, gathers, front_of_all, front_at_end, within, turns_left}
+use Rattle.http_desk.proofs.Sends.{one_more, all_pieces, gathers, front_of_all, front_at_end, sends, within, turns_left}
 use Rattle.http_desk.proofs.output.send.Goals as goal
 
 pub loop-piece-preserved : goal.loop-piece-preserved
@@ -42,7 +42,6 @@ returns-in_default g c =
     turns_left c.gather_or_send.result _ _ _ _ (length written) here (quiet before)
     (within (λ p. p.now) c.args.pieces.now c.loop-piece.piece-index _ written c.loop-piece.lot.items h split) in
     record {
-      all = λ e. absurd (c.in_default.not-All e);
       flushed = λ e. absurd (c.in_default.not-All e);
       failed = c.gather_or_send.ensures.failed ∙ ap (λ b. send_failed c.gather_or_send.result || b) (rw c.begin_text.ensures at c.loop-piece.invariant.failed);
       bound = λ q. ((rw c.begin_text.ensures at c.loop-piece.invariant.bound) (c.gather_or_send.ensures.bound q).0, never q);
@@ -51,36 +50,44 @@ returns-in_default g c =
           let (same, few) = rw c.begin_text.ensures at c.loop-piece.invariant.calls in
           let (again, more, none) = c.gather_or_send.ensures.calls in
           (again ∙ same, omega arith);
-      front = (
+      sends = sends _ _ _ c.gather_or_send.result (λ e. absurd (c.in_default.not-All e)) (
         written ++ front,
         front_of_all (λ p. p.now) c.args.pieces.now c.loop-piece.piece-index _ written c.loop-piece.lot.items front h split is_front,
         Appends-trans _ _ _ _ _ appended added,
       );
     }
 
-pub returns-in-All-send_piece-clause-front : goal.returns-in-All-send_piece-clause-front
-returns-in-All-send_piece-clause-front g c =
-    let (written, split, appended, quiet) = rw c.begin_text.ensures at c.loop-piece.invariant.came in
-    let e = sym (all_pieces (λ p. p.now) c.args.pieces.now c.loop-piece.piece-index c.loop-piece-test.false) ∙ split in (
-      written ++ c.as_slice.result.now,
-      ([], e ∙ ap (λ l. written ++ l) (sym c.as_slice.ensures.value) ∙ sym (append-nil (written ++ c.as_slice.result.now))),
-      subst (λ l. Appends c.args.writer.now.bytes c.flush.new.writer.bytes l) (append-nil (written ++ c.as_slice.result.now))
-          (Appends-trans _ _ _ _ _ (Appends-trans _ _ _ _ _ appended (c.in-All-send_piece.ensures.all refl)) c.flush.ensures.nothing),
-    )
-
 -- a flush has turns left where no call was interrupted
-pub returns-in-All-send_piece-clause-used_up : goal.returns-in-All-send_piece-clause-used_up
-returns-in-All-send_piece-clause-used_up g c =
+pub returns-in-All-send_piece : goal.returns-in-All-send_piece
+returns-in-All-send_piece g c =
     let (written, split, appended, quiet) = rw c.begin_text.ensures at c.loop-piece.invariant.came in
+    let lot = c.as_slice.result.now in
     let e = sym (all_pieces (λ p. p.now) c.args.pieces.now c.loop-piece.piece-index c.loop-piece-test.false) ∙ split in
+    let all = e ∙ ap (λ l. written ++ l) (sym c.as_slice.ensures.value) in
     let l = ap length e ∙ length-append written c.loop-piece.lot.items in
     let k = ap length c.as_slice.ensures.value in
-    let given = c.flush.ensures.calls.2 ∙ c.in-All-send_piece.ensures.calls.2 ∙ c.loop-piece.invariant.given in
-    λ bound. used_up _ c.flush.new.writer given (λ q.
+    let added = subst (λ l. Appends c.args.writer.now.bytes c.flush.new.writer.bytes l) (append-nil (written ++ lot))
+    (Appends-trans _ _ _ _ _ (Appends-trans _ _ _ _ _ appended (c.in-All-send_piece.ensures.all refl)) c.flush.ensures.nothing) in
+    let never : c.flush.new.writer.interrupted ≡ false → c.flush.result ≡ Bound → ⊥ = λ q.
     let (before, here) = c.flush.ensures.bound q in
     let (first, took) = c.in-All-send_piece.ensures.bound before in
     let kept = quiet first in
-    here (omega arith) bound) (c.flush.ensures.used_up bound)
+    here (omega arith) in
+    record {
+      flushed = c.flush.ensures.flushed;
+      failed = c.flush.ensures.failed ∙ ap (λ b. send_failed c.flush.result || b) (c.in-All-send_piece.ensures.failed ∙ rw c.begin_text.ensures at c.loop-piece.invariant.failed);
+      bound = λ q.
+          let before = (c.flush.ensures.bound q).0 in
+          ((rw c.begin_text.ensures at c.loop-piece.invariant.bound) (c.in-All-send_piece.ensures.bound before).0, never q);
+      used_up = λ bound. used_up _ c.flush.new.writer (c.flush.ensures.calls.2 ∙ c.in-All-send_piece.ensures.calls.2 ∙ c.loop-piece.invariant.given) (λ q. never q bound) (c.flush.ensures.used_up bound);
+      calls =
+          let (same, few) = rw c.begin_text.ensures at c.loop-piece.invariant.calls in
+          let (again, more, none) = c.in-All-send_piece.ensures.calls in
+          let (last, most, never) = c.flush.ensures.calls in
+          (last ∙ again ∙ same, omega arith);
+      sends = sends _ _ _ c.flush.result (λ s. subst (λ l. Appends c.args.writer.now.bytes c.flush.new.writer.bytes l) (sym all) added)
+          (written ++ lot, ([], all ∙ sym (append-nil (written ++ lot))), added);
+    }
 
 pub returns-in_default-send_piece : goal.returns-in_default-send_piece
 returns-in_default-send_piece g c =
@@ -96,7 +103,6 @@ returns-in_default-send_piece g c =
     let most : length written + length c.as_slice.result.now ≤ length (flat_map (λ p. p.now) c.args.pieces.now) = omega arith in
     turns_left c.send_piece.result _ _ _ _ (length written) here (quiet before) most in
     record {
-      all = λ e. absurd (c.in_default-send_piece.not-All e);
       flushed = λ e. absurd (c.in_default-send_piece.not-All e);
       failed = c.send_piece.ensures.failed ∙ ap (λ b. send_failed c.send_piece.result || b) (rw c.begin_text.ensures at c.loop-piece.invariant.failed);
       bound = λ q. ((rw c.begin_text.ensures at c.loop-piece.invariant.bound) (c.send_piece.ensures.bound q).0, never q);
@@ -105,5 +111,6 @@ returns-in_default-send_piece g c =
           let (same, few) = rw c.begin_text.ensures at c.loop-piece.invariant.calls in
           let (again, more, none) = c.send_piece.ensures.calls in
           (again ∙ same, omega arith);
-      front = (written ++ front, front_at_end _ written lot front e here_front, Appends-trans _ _ _ _ _ appended added);
+      sends = sends _ _ _ c.send_piece.result (λ e. absurd (c.in_default-send_piece.not-All e))
+          (written ++ front, front_at_end _ written lot front e here_front, Appends-trans _ _ _ _ _ appended added);
     }

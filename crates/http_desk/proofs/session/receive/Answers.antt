@@ -1,58 +1,37 @@
-use Rattle.std.proofs.Common.{◌≡◌, ◌≢◌, ◌<◌, ◌+◌, ◌++◌, length, take, drop, refl, ap, ◌∙◌, sym, subst, inl, inr, arith, false}
-use Rattle.std.specs.Prelude.{unwrap_or, ◌||◌}
+use Rattle.std.proofs.Common.{◌<◌, ◌+◌, ◌++◌, length, take, drop, refl, ◌∙◌, subst, inl, inr, arith, false, true}
+use Rattle.std.specs.Prelude.{unwrap_or}
 use Rattle.std.proofs.KnownBytes.{Appends-trans}
 use Rattle.http_messages.specs.HeadVerdict.{request_in}
 use Rattle.http_messages.specs.Answers.{continue_text}
 use Rattle.http_messages.specs.Heads.{Accepted}
 use Rattle.http_desk.specs.Messages.{HasHead, Fails}
 use Rattle.http_desk.specs.Session.{continue_if}
-use Rattle.http_desk.specs.Exchanges.{Turn, Through, after_sending}
+use Rattle.http_desk.specs.Exchanges.{Turn, Through}
 use Rattle.http_messages.specs.declared.status.Status.TheVariants.{Busy}
-use Rattle.http_desk.specs.declared.session_end.Ended.TheVariants.{Closed, Cut, ReadFault, Bound}
+use Rattle.http_desk.specs.declared.session_end.Ended.TheVariants.{Closed, Cut, ReadFault}
 use Rattle.http_desk.proofs.Turns.{leave_broken, front_same, head_grown, head_more, stops_in_body, bound_here, may_fail_after, refused}
-use Rattle.http_desk.specs.declared.session_end.Next.{Next}
 use Rattle.http_desk.specs.declared.session_end.Next.TheVariants.{Ends}
-use Rattle.http_desk.specs.declared.output.Sent.{Sent}
-use Rattle.http_desk.specs.declared.output.Sent.TheVariants.{All as SendAll, Failed as SendFailed, Bound as SendBound}
-use Rattle.http_desk.proofs.Endings.{allowed, came_then, ends_on, ran_out}
-use Rattle.http_desk.proofs.Faults.{closed_no_bound, no_read_told, not_all_sent, tells_bound, used_up, writes_told}
+use Rattle.http_desk.proofs.Endings.{allowed, answered, by_writer, came_then, ends_on, ran_out}
+use Rattle.http_desk.proofs.Faults.{closed_no_bound, tells_bound, used_up}
 use Rattle.http_desk.specs.Bounds.{StopsBounded}
 use Rattle.http_desk.proofs.Bounds.{leave_to_bound, refused_to_bound}
 use Rattle.http_desk.proofs.session.receive.Goals as goal
-
-no_bound : (sent : Sent) (next : Next) → next ≡ after_sending sent (Ends Closed) → (sent ≢ SendBound)
-    → next ≢ Ends Bound
-no_bound SendAll next e n f = cc
-no_bound SendFailed next e n f = cc
-no_bound SendBound next e n f = n refl
 
 pub returns-in_default : goal.returns-in_default
 returns-in_default g c =
     let items = c.args.buffer.now.items in
     let size = c.args.size in
     let block = take size items in
-    let (turn, at_end) =
-    leave_broken g.M.Machine.represents g.M.Machine.is_intact g.M.Machine.is_open c.args.number c.args.office.now items block
-    (drop size items) (request_in block c.args.head) c.args.reader.now.bytes _ _
-    c.allow_body.result _ c.after.result c.in_default.not-All c.after.ensures c.requires.accepted
-    c.allow_body.ensures.sends in
     record {
-      turn = turn;
+      turn =
+          leave_broken g.M.Machine.represents g.M.Machine.is_intact g.M.Machine.is_open c.args.number c.args.office.now items block
+          (drop size items) (request_in block c.args.head) c.args.reader.now.bytes _ _
+          c.allow_body.result _ c.after.result c.in_default.not-All c.after.ensures c.requires.accepted
+          c.allow_body.ensures.sends;
       store = record { intact = λ i. i; was_open = λ i stays. stays };
-      streams = record {
-        at_end = at_end;
-        flushed = λ q. not_all_sent c.allow_body.new.writer c.allow_body.result _ c.after.result c.in_default.not-All c.after.ensures;
-        reads =
-            let none = no_read_told c.allow_body.result (Ends Closed) c.after.result refl c.after.ensures in
-            ap (λ b. b || c.args.reader.now.failed) (sym none);
-        writes = writes_told c.allow_body.result _ c.after.result _ _ refl c.after.ensures c.allow_body.ensures.writes;
-        turns = λ p q.
-            let (before, here) = c.allow_body.ensures.turns q in
-            (p, before, no_bound c.allow_body.result _ c.after.ensures here);
-        used_up = λ e. inr (continue_text, tells_bound continue_text c.allow_body.new.writer c.allow_body.result (Ends Closed) c.after.result closed_no_bound c.after.ensures c.allow_body.ensures.used_up e);
-        calls = (refl, omega arith, refl);
-        same = c.allow_body.ensures.same;
-      };
+      streams = by_writer _ _ _ _
+          (answered _ _ c.allow_body.result true c.after.result c.after.ensures (λ all. absurd (c.in_default.not-All all)) c.allow_body.ensures.writes c.allow_body.ensures.turns c.allow_body.ensures.same)
+          (λ e. (continue_text, tells_bound continue_text c.allow_body.new.writer c.allow_body.result (Ends Closed) c.after.result closed_no_bound c.after.ensures c.allow_body.ensures.used_up e)) (refl, omega arith, refl);
       breaks_off = λ bound.
           inr (leave_to_bound g.M.Machine.represents g.M.Machine.is_intact g.M.Machine.is_open c.args.number c.args.office.now items block
           (drop size items) (request_in block c.args.head) _ _ c.allow_body.new.writer c.allow_body.result c.after.result c.after.ensures c.requires.accepted
