@@ -150,6 +150,14 @@ abbrev pub TakesTurns : Stream → Stream → Type 0
 TakesTurns old new =
     (new.name ≡ old.name) × (new.calls + new.turns ≤ old.calls + old.turns) × (new.given ≡ old.given)
 
+-- How the calls of one step went, on a reader or a writer. `fails` says whether the step failed, `RanOut` that it ended
+-- for want of turns, and `Quiet` what holds if no call was interrupted.
+pub record StepsAsCalled (fails : Bool) (RanOut Quiet : Type 0) (old new : Stream) : Type 0 where
+  pub failed : new.failed ≡ (fails || old.failed)
+  pub bound : new.interrupted ≡ false → (old.interrupted ≡ false) × Quiet
+  pub used_up : RanOut → new.turns ≡ 0
+  pub taken : TakesTurns old new
+
 -- it is the same reader or writer, and at most this number of calls were made
 abbrev pub TakesCalls : ℕ → Stream → Stream → Type 0
 TakesCalls most old new = (new.name ≡ old.name) × (new.calls ≤ old.calls + most)

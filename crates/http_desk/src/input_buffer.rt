@@ -1,8 +1,8 @@
 //! Reads more bytes into a buffer, and takes messages from its front.
-ghost use Rattle.std.specs.Prelude.{◌≡◌, ◌≢◌, ◌+◌, ◌<◌, ◌≤◌, ◌||◌, [], length, take, drop, false, IfOk, IfErr, OnOk};
+ghost use Rattle.std.specs.Prelude.{◌≡◌, ◌≢◌, ◌+◌, ◌<◌, ◌≤◌, Err, [], length, take, drop, IfOk, IfErr, OnOk};
 ghost use Rattle.std.specs.Io.KnownBytes.{Consumes, IsAtEnd};
 ghost use Rattle.http_desk.specs.MessageInput.{Reads};
-ghost use Rattle.http_desk.specs.StreamFaults.{QuietRead, QuietFill, TakesTurns, once_failed, fill_failed};
+ghost use Rattle.http_desk.specs.StreamFaults.{QuietRead, QuietFill, StepsAsCalled, once_failed, fill_failed};
 
 use crate::streams::{Source, Undone};
 use std::alloc::AllocError;
@@ -32,11 +32,8 @@ fn read_once<R: Read>(reader: &mut Source<'_, R>, chunk: &mut [u8]) -> Result<us
     ensures within { IfOk result (λ n. n ≤ length chunk.new) }
     ensures bytes { IfOk result (λ n. Consumes reader.old.bytes reader.new.bytes (take n chunk.new)) }
     ensures at_end { IfOk result (λ n. n ≡ 0 → IsAtEnd reader.new.bytes) }
-    ensures failed { reader.new.failed ≡ (once_failed result || reader.old.failed) }
-    ensures bound { reader.new.interrupted ≡ false
-        → (reader.old.interrupted ≡ false) × QuietRead result reader.old.turns reader.new.turns }
-    ensures used_up { IfErr result (λ f. f ≡ Filled.Bound → reader.new.turns ≡ 0) }
-    ensures calls { TakesTurns reader.old reader.new }
+    ensures calls { StepsAsCalled (once_failed result) (result ≡ Err Filled.Bound)
+        (QuietRead result reader.old.turns reader.new.turns) reader.old reader.new }
     ensures err { IfErr result (λ f. Consumes reader.old.bytes reader.new.bytes []
         × (f ≢ Filled.More) × (f ≢ Filled.AtEnd)) }
 {
@@ -56,11 +53,8 @@ pub fn fill<R: Read>(reader: &mut Source<'_, R>, buffer: &mut Vec<u8>) -> Filled
     ensures same { result ≢ Filled.More → buffer.new.items ≡ buffer.old.items }
     ensures more { result ≡ Filled.More → length buffer.old.items < length buffer.new.items }
     ensures at_end { result ≡ Filled.AtEnd → IsAtEnd reader.new.bytes }
-    ensures failed { reader.new.failed ≡ (fill_failed result || reader.old.failed) }
-    ensures bound { reader.new.interrupted ≡ false
-        → (reader.old.interrupted ≡ false) × QuietFill result reader.old.turns reader.new.turns }
-    ensures used_up { result ≡ Filled.Bound → reader.new.turns ≡ 0 }
-    ensures calls { TakesTurns reader.old reader.new }
+    ensures calls { StepsAsCalled (fill_failed result) (result ≡ Filled.Bound)
+        (QuietFill result reader.old.turns reader.new.turns) reader.old reader.new }
 {
     if buffer.reserve(CHUNK).is_err() {
         return Filled::NoMemory;

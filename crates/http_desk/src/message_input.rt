@@ -1,6 +1,6 @@
 //! Gathers a head, or a body, in a buffer.
-ghost use Rattle.std.specs.Prelude.{◌≡◌, ◌+◌, ◌≤◌, ◌||◌, length, take, unwrap_or, false};
-ghost use Rattle.http_desk.specs.StreamFaults.{QuietHead, QuietBody, TakesTurns, head_failed, body_failed};
+ghost use Rattle.std.specs.Prelude.{◌≡◌, ◌+◌, ◌≤◌, length, take, unwrap_or};
+ghost use Rattle.http_desk.specs.StreamFaults.{QuietHead, QuietBody, StepsAsCalled, head_failed, body_failed};
 ghost use Rattle.http_desk.specs.MessageInput.{FindsHead, FindsBody, AtEndIfHead, AtEndIfBody, Reads};
 ghost use Rattle.http_messages.specs.HeadScan.{scan};
 
@@ -76,11 +76,9 @@ pub fn gather_head<R: Read>(reader: &mut Source<'_, R>, buffer: &mut Vec<u8>) ->
     ensures got { Reads reader.old.bytes reader.new.bytes buffer.old.items buffer.new.items }
     ensures found { FindsHead buffer.new.items result }
     ensures at_end { AtEndIfHead reader.new.bytes result }
-    ensures failed { reader.new.failed ≡ (head_failed result || reader.old.failed) }
-    ensures bound { reader.new.interrupted ≡ false → (reader.old.interrupted ≡ false) × QuietHead result
-        (reader.old.turns + length buffer.old.items) (reader.new.turns + length buffer.new.items) }
-    ensures used_up { result ≡ FoundHead.Bound → reader.new.turns ≡ 0 }
-    ensures calls { TakesTurns reader.old reader.new }
+    ensures calls { StepsAsCalled (head_failed result) (result ≡ FoundHead.Bound) (QuietHead result
+        (reader.old.turns + length buffer.old.items) (reader.new.turns + length buffer.new.items))
+        reader.old reader.new }
 {
     let mut led = HeadScanState::Lead;
     let mut seen = 0;
@@ -119,11 +117,8 @@ pub fn gather_body<R: Read>(
     ensures got { Reads reader.old.bytes reader.new.bytes buffer.old.items buffer.new.items }
     ensures found { FindsBody end buffer.new.items result }
     ensures at_end { AtEndIfBody reader.new.bytes result }
-    ensures failed { reader.new.failed ≡ (body_failed result || reader.old.failed) }
-    ensures bound { reader.new.interrupted ≡ false → (reader.old.interrupted ≡ false)
-        × QuietBody end result (reader.old.turns + length buffer.old.items) }
-    ensures used_up { result ≡ FoundBody.Bound → reader.new.turns ≡ 0 }
-    ensures calls { TakesTurns reader.old reader.new }
+    ensures calls { StepsAsCalled (body_failed result) (result ≡ FoundBody.Bound)
+        (QuietBody end result (reader.old.turns + length buffer.old.items)) reader.old reader.new }
 {
     while buffer.len() < end {
         match fill(reader, buffer) {

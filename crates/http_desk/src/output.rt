@@ -2,7 +2,7 @@
 ghost use Rattle.std.specs.Prelude.{◌≡◌, ◌≢◌, ◌+◌, ◌<◌, ◌≤◌, ◌||◌, ◌^◌, ℕ, List, [], ◌++◌, length};
 ghost use Rattle.std.specs.Prelude.{true, false};
 ghost use Rattle.http_desk.specs.AnswerOutput.{SendsAsCalled};
-ghost use Rattle.http_desk.specs.StreamFaults.{QuietSend, TakesTurns, send_failed};
+ghost use Rattle.http_desk.specs.StreamFaults.{QuietSend, StepsAsCalled, send_failed};
 ghost use Rattle.std.specs.List.{flat_map};
 ghost use Rattle.std.specs.Io.KnownBytes.{Appends};
 ghost use Rattle.http_desk.specs.Session.{IsFront};
@@ -31,11 +31,8 @@ fn send_piece<W: Write>(writer: &mut Sink<'_, W>, piece: &[u8]) -> Sent
     ensures all { result ≡ Sent.All → Appends writer.old.bytes writer.new.bytes piece.now }
     ensures front { (written : List ℕ) × IsFront written piece.now
         × Appends writer.old.bytes writer.new.bytes written }
-    ensures failed { writer.new.failed ≡ (send_failed result || writer.old.failed) }
-    ensures bound { writer.new.interrupted ≡ false → (writer.old.interrupted ≡ false)
-        × QuietSend result writer.old.turns writer.new.turns (length piece.now) }
-    ensures used_up { result ≡ Sent.Bound → writer.new.turns ≡ 0 }
-    ensures calls { TakesTurns writer.old writer.new }
+    ensures calls { StepsAsCalled (send_failed result) (result ≡ Sent.Bound)
+        (QuietSend result writer.old.turns writer.new.turns (length piece.now)) writer.old writer.new }
 {
     let mut rest = piece;
     while !rest.is_empty() {
@@ -55,11 +52,8 @@ fn send_piece<W: Write>(writer: &mut Sink<'_, W>, piece: &[u8]) -> Sent
 fn flush<W: Write>(writer: &mut Sink<'_, W>) -> Sent
     ensures nothing { Appends writer.old.bytes writer.new.bytes [] }
     ensures flushed { result ≡ Sent.All → writer.new.flushed ≡ true }
-    ensures failed { writer.new.failed ≡ (send_failed result || writer.old.failed) }
-    ensures bound { writer.new.interrupted ≡ false
-        → (writer.old.interrupted ≡ false) × (0 < writer.old.turns → result ≢ Sent.Bound) }
-    ensures used_up { result ≡ Sent.Bound → writer.new.turns ≡ 0 }
-    ensures calls { TakesTurns writer.old writer.new }
+    ensures calls { StepsAsCalled (send_failed result) (result ≡ Sent.Bound)
+        (0 < writer.old.turns → result ≢ Sent.Bound) writer.old writer.new }
 {
     while writer.has_turn() {
         match writer.flush() {
@@ -94,11 +88,8 @@ fn gather_or_send<W: Write>(
         × (writer.new.interrupted ≡ false → writer.old.turns ≤ writer.new.turns + length written) }
     ensures front { (written : List ℕ) × IsFront written (lot.old.items ++ piece.now)
         × Appends writer.old.bytes writer.new.bytes written }
-    ensures failed { writer.new.failed ≡ (send_failed result || writer.old.failed) }
-    ensures bound { writer.new.interrupted ≡ false → (writer.old.interrupted ≡ false)
-        × QuietSend result writer.old.turns writer.new.turns (length lot.old.items + length piece.now) }
-    ensures used_up { result ≡ Sent.Bound → writer.new.turns ≡ 0 }
-    ensures calls { TakesTurns writer.old writer.new }
+    ensures calls { StepsAsCalled (send_failed result) (result ≡ Sent.Bound) (QuietSend result
+        writer.old.turns writer.new.turns (length lot.old.items + length piece.now)) writer.old writer.new }
 {
     match lot.try_extend_from_slice(piece) {
         Ok(()) => Sent::All,

@@ -54,14 +54,14 @@ returns-in-Whole-clause-found g c =
 pub loop-size-preserved : goal.loop-size-preserved
 loop-size-preserved g c = record {
   came = reads_trans _ _ _ _ _ _ c.loop-size.invariant.came c.fill.ensures.got;
-  failed = fill_told c.fill.result More _ _ c.in-More.is c.fill.ensures.failed ∙ c.loop-size.invariant.failed;
+  failed = fill_told c.fill.result More _ _ c.in-More.is c.fill.ensures.calls.failed ∙ c.loop-size.invariant.failed;
   bound = λ q.
-      let (before, one) = c.fill.ensures.bound q in
+      let (before, one) = c.fill.ensures.calls.bound q in
       let (first, kept) = c.loop-size.invariant.bound before in
       let more = c.fill.ensures.more c.in-More.is in
       let took : c.fill.new.reader.turns + 1 ≡ c.loop-size.reader.turns = subst (λ f. QuietFill f c.loop-size.reader.turns c.fill.new.reader.turns) c.in-More.is one in
       (first, omega arith);
-  calls = takes_on c.args.reader.now c.loop-size.reader c.fill.new.reader c.loop-size.invariant.calls c.fill.ensures.calls;
+  calls = takes_on c.args.reader.now c.loop-size.reader c.fill.new.reader c.loop-size.invariant.calls c.fill.ensures.calls.taken;
   few =
       let all : c.len-seen.result ≡ length c.loop-size.buffer.items = omega arith in
       few_on c.len-seen.result c.loop-size.buffer.items c.fill.new.buffer.items c.fill.ensures.got.0 all
@@ -97,10 +97,12 @@ returns-in_default g c =
       got = reads_trans _ _ _ _ _ _ c.loop-size.invariant.came c.fill.ensures.got;
       found = (below, c.in-Open.place, c.in_default.not-Lead, «open»);
       at_end = c.fill.ensures.at_end c.in-AtEnd.is;
-      failed = fill_told c.fill.result AtEnd _ _ c.in-AtEnd.is c.fill.ensures.failed ∙ c.loop-size.invariant.failed;
-      bound = λ q. let (before, one) = c.fill.ensures.bound q in ((c.loop-size.invariant.bound before).0, tt);
-      used_up = λ e. absurd (cut_not_bound e);
-      calls = takes_on c.args.reader.now c.loop-size.reader c.fill.new.reader c.loop-size.invariant.calls c.fill.ensures.calls;
+      calls = record {
+        failed = fill_told c.fill.result AtEnd _ _ c.in-AtEnd.is c.fill.ensures.calls.failed ∙ c.loop-size.invariant.failed;
+        bound = λ q. let (before, one) = c.fill.ensures.calls.bound q in ((c.loop-size.invariant.bound before).0, tt);
+        used_up = λ e. absurd (cut_not_bound e);
+        taken = takes_on c.args.reader.now c.loop-size.reader c.fill.new.reader c.loop-size.invariant.calls c.fill.ensures.calls.taken;
+      };
     }
 
 pub returns-in-Failed-clause-got : goal.returns-in-Failed-clause-got

@@ -14,9 +14,9 @@ returns-in-All-clause-all g c = λ e.
       sym (append-nil (lot ++ piece)) ∙ ap (λ l. (lot ++ piece) ++ l) (sym c.clear.ensures),
       Appends-trans _ _ _ _ _ first (c.send_piece-in-All.ensures.all e),
       λ q.
-          let (before, here) = c.send_piece-in-All.ensures.bound q in
+          let (before, here) = c.send_piece-in-All.ensures.calls.bound q in
           let a = quiet_all c.send_piece-in-All.result _ _ _ e here in
-          let b = (c.in-All.ensures.bound before).1 in
+          let b = (c.in-All.ensures.calls.bound before).1 in
           let l = ap length held in
           omega (arith, length-append lot piece),
     )

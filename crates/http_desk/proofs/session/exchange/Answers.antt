@@ -72,13 +72,13 @@ pub returns-in-Bound : goal.returns-in-Bound
 returns-in-Bound g c =
     let (got, consumed, e) = rw c.begin_message.ensures at c.gather_head.ensures.got in
     -- without an interruption the turns would have been enough
-    let all_taken = used_up _ c.gather_head.new.reader ((rw c.begin_message.ensures at c.gather_head.ensures.calls).2) (λ q.
-    let (before, few) = (rw c.begin_message.ensures at c.in-Bound.ensures.bound) q in
-    omega arith) (c.in-Bound.ensures.used_up refl) in
+    let all_taken = used_up _ c.gather_head.new.reader ((rw c.begin_message.ensures at c.gather_head.ensures.calls.taken).2) (λ q.
+    let (before, few) = (rw c.begin_message.ensures at c.in-Bound.ensures.calls.bound) q in
+    omega arith) (c.in-Bound.ensures.calls.used_up refl) in
     record {
       turn = (got, [], consumed, Appends-nil _, λ i s shown. (s, shown, bound_here (g.M.Machine.is_open c.args.office.now) c.args.number s (c.args.buffer.now.items ++ got) false (may_fail (c.args.buffer.now.items ++ got))));
       store = record { intact = λ i. i; was_open = λ i stays. stays };
-      streams = begun _ _ _ _ _ _ c.begin_message.ensures (ran_out _ _ _ c.in-Bound.ensures.failed all_taken c.gather_head.ensures.calls);
+      streams = begun _ _ _ _ _ _ c.begin_message.ensures (ran_out _ _ _ c.in-Bound.ensures.calls.failed all_taken c.gather_head.ensures.calls.taken);
       breaks_off = λ e. inl all_taken;
     }
 
@@ -92,23 +92,23 @@ returns-in-NoMemory-clause-turn g c =
 pub returns-in-Refused-clause-streams : goal.returns-in-Refused-clause-streams
 returns-in-Refused-clause-streams g c =
     begun _ _ _ _ _ _ c.begin_message.ensures
-    (came_then _ _ _ _ _ c.in-Whole.ensures.failed (λ q. (c.in-Whole.ensures.bound q).0) c.gather_head.ensures.calls c.refuse.ensures.stream (λ e. (_, c.refuse.ensures.used_up e)))
+    (came_then _ _ _ _ _ c.in-Whole.ensures.calls.failed (λ q. (c.in-Whole.ensures.calls.bound q).0) c.gather_head.ensures.calls.taken c.refuse.ensures.stream (λ e. (_, c.refuse.ensures.used_up e)))
 
 pub returns-in-Accepted-clause-streams : goal.returns-in-Accepted-clause-streams
 returns-in-Accepted-clause-streams g c =
     begun _ _ _ _ _ _ c.begin_message.ensures
-    (ends_on _ _ _ _ _ _ _ (came {T = TakesTurns} _ _ _ c.in-Whole.ensures.failed (λ q. (c.in-Whole.ensures.bound q).0) c.gather_head.ensures.calls) c.receive.ensures.streams
-    (takes_on c.begin_message.new.self c.gather_head.new.reader c.receive.new.reader c.gather_head.ensures.calls c.receive.ensures.streams.calls))
+    (ends_on _ _ _ _ _ _ _ (came {T = TakesTurns} _ _ _ c.in-Whole.ensures.calls.failed (λ q. (c.in-Whole.ensures.calls.bound q).0) c.gather_head.ensures.calls.taken) c.receive.ensures.streams
+    (takes_on c.begin_message.new.self c.gather_head.new.reader c.receive.new.reader c.gather_head.ensures.calls.taken c.receive.ensures.streams.calls))
 
 pub returns-in-TooLong-clause-streams : goal.returns-in-TooLong-clause-streams
 returns-in-TooLong-clause-streams g c =
     begun _ _ _ _ _ _ c.begin_message.ensures
-    (came_then _ _ _ _ _ c.in-TooLong.ensures.failed (λ q. (c.in-TooLong.ensures.bound q).0) c.gather_head.ensures.calls c.refuse-in-TooLong.ensures.stream (λ e. (_, c.refuse-in-TooLong.ensures.used_up e)))
+    (came_then _ _ _ _ _ c.in-TooLong.ensures.calls.failed (λ q. (c.in-TooLong.ensures.calls.bound q).0) c.gather_head.ensures.calls.taken c.refuse-in-TooLong.ensures.stream (λ e. (_, c.refuse-in-TooLong.ensures.used_up e)))
 
 pub returns-in-NoMemory-clause-streams : goal.returns-in-NoMemory-clause-streams
 returns-in-NoMemory-clause-streams g c =
     begun _ _ _ _ _ _ c.begin_message.ensures
-    (came_then _ _ _ _ _ c.in-NoMemory.ensures.failed (λ q. (c.in-NoMemory.ensures.bound q).0) c.gather_head.ensures.calls c.refuse-in-NoMemory.ensures.stream (λ e. (_, c.refuse-in-NoMemory.ensures.used_up e)))
+    (came_then _ _ _ _ _ c.in-NoMemory.ensures.calls.failed (λ q. (c.in-NoMemory.ensures.calls.bound q).0) c.gather_head.ensures.calls.taken c.refuse-in-NoMemory.ensures.stream (λ e. (_, c.refuse-in-NoMemory.ensures.used_up e)))
 
 pub returns-in-Refused-clause-breaks_off : goal.returns-in-Refused-clause-breaks_off
 returns-in-Refused-clause-breaks_off g c = λ bound.

@@ -92,10 +92,10 @@ returns-in-Bound g c =
     let there = head_more items (take size items) (Accepted (request_in (take size items) c.args.head)) (drop size items) got c.requires.accepted in
     let written = allowed c.args.reader.now c.args.writer.now c.allow_body.new.writer c.in-All.ensures.writes c.in-All.ensures.turns c.in-All.ensures.same (c.in-All.ensures.flushed refl) in
     -- without an interruption the turns would have been enough
-    let all_taken = used_up _ c.gather_body.new.reader (c.gather_body.ensures.calls.2 ∙ c.requires.given) (λ q.
-    let (before, few) = c.in-Bound.ensures.bound q in
+    let all_taken = used_up _ c.gather_body.new.reader (c.gather_body.ensures.calls.taken.2 ∙ c.requires.given) (λ q.
+    let (before, few) = c.in-Bound.ensures.calls.bound q in
     let enough = c.requires.turns before in
-    omega arith) (c.in-Bound.ensures.used_up refl) in
+    omega arith) (c.in-Bound.ensures.calls.used_up refl) in
     record {
       turn = (
         got,
@@ -105,7 +105,7 @@ returns-in-Bound g c =
         λ i s shown. (s, shown, bound_here (g.M.Machine.is_open c.args.office.now) c.args.number s (items ++ got) c.args.head.waits (may_fail_after (items ++ got) (take size items) (drop size items ++ got) (request_in (take size items) c.args.head) there)),
       );
       store = record { intact = λ i. i; was_open = λ i stays. stays };
-      streams = ends_on _ _ _ _ _ _ _ written (ran_out _ _ _ c.in-Bound.ensures.failed all_taken c.gather_body.ensures.calls) c.gather_body.ensures.calls;
+      streams = ends_on _ _ _ _ _ _ _ written (ran_out _ _ _ c.in-Bound.ensures.calls.failed all_taken c.gather_body.ensures.calls.taken) c.gather_body.ensures.calls.taken;
       breaks_off = λ e. inl all_taken;
     }
 
@@ -123,13 +123,13 @@ pub returns-in-Whole-clause-streams : goal.returns-in-Whole-clause-streams
 returns-in-Whole-clause-streams g c =
     let written = allowed c.args.reader.now c.args.writer.now c.allow_body.new.writer c.in-All.ensures.writes c.in-All.ensures.turns c.in-All.ensures.same (c.in-All.ensures.flushed refl) in
     ends_on _ _ _ _ _ _ _ written
-    (came_then _ _ _ _ _ c.in-Whole.ensures.failed (λ q. (c.in-Whole.ensures.bound q).0) c.gather_body.ensures.calls c.act.ensures.stream c.act.ensures.used_up) c.gather_body.ensures.calls
+    (came_then _ _ _ _ _ c.in-Whole.ensures.calls.failed (λ q. (c.in-Whole.ensures.calls.bound q).0) c.gather_body.ensures.calls.taken c.act.ensures.stream c.act.ensures.used_up) c.gather_body.ensures.calls.taken
 
 pub returns-in-NoMemory-clause-streams : goal.returns-in-NoMemory-clause-streams
 returns-in-NoMemory-clause-streams g c =
     let written = allowed c.args.reader.now c.args.writer.now c.allow_body.new.writer c.in-All.ensures.writes c.in-All.ensures.turns c.in-All.ensures.same (c.in-All.ensures.flushed refl) in
     ends_on _ _ _ _ _ _ _ written
-    (came_then _ _ _ _ _ c.in-NoMemory.ensures.failed (λ q. (c.in-NoMemory.ensures.bound q).0) c.gather_body.ensures.calls c.refuse.ensures.stream (λ e. (_, c.refuse.ensures.used_up e))) c.gather_body.ensures.calls
+    (came_then _ _ _ _ _ c.in-NoMemory.ensures.calls.failed (λ q. (c.in-NoMemory.ensures.calls.bound q).0) c.gather_body.ensures.calls.taken c.refuse.ensures.stream (λ e. (_, c.refuse.ensures.used_up e))) c.gather_body.ensures.calls.taken
 
 pub returns-in-Whole-clause-breaks_off : goal.returns-in-Whole-clause-breaks_off
 returns-in-Whole-clause-breaks_off g c = λ bound.
