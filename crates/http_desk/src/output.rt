@@ -1,5 +1,5 @@
 //! Writes whole answers, in few writes. Nothing here takes an allocator.
-ghost use Rattle.std.specs.Prelude.{◌≡◌, ◌≢◌, ◌+◌, ◌<◌, ◌≤◌, ◌||◌, ◌^◌, ℕ, List, [], ◌++◌, length};
+ghost use Rattle.std.specs.Prelude.{◌≡◌, ◌≢◌, ◌+◌, ◌<◌, ◌≤◌, ◌^◌, ℕ, List, [], ◌++◌, length};
 ghost use Rattle.std.specs.Prelude.{true, false};
 ghost use Rattle.http_desk.specs.AnswerOutput.{SendsAsCalled};
 ghost use Rattle.http_desk.specs.StreamFaults.{QuietSend, StepsAsCalled, send_failed};
