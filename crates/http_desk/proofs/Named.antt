@@ -1,8 +1,7 @@
 -- A request's command names days of the calendar, and a text that is UTF-8.
 use Rattle.std.proofs.Common.{◌≡◌, ℕ, true, false, List, [], ◌∷◌, IsUtf8, Option, None, Some, cond, codes, arith}
-use Rattle.std.specs.Prelude.{ℤ, IfSome, option_map, ◌==◌, ◌&&◌, ◌+◌, ◌*◌, pos, neg_ℤ, int_le}
-use Rattle.std.specs.List.{AllByRecursion}
-use Rattle.std.specs.Str.{bytes_eq}
+use Rattle.std.specs.Prelude.{ℤ, IfSome, ◌==◌, ◌&&◌, ◌+◌, ◌*◌, pos, neg_ℤ, int_le}
+use Rattle.std.specs.Str.{is_utf8}
 use Rattle.std.proofs.lemmas.Bool.{and_parts}
 use Rattle.std.proofs.lemmas.Int.{ints}
 use Rattle.serde_json.specs.Data.{Data}
@@ -13,13 +12,14 @@ use Rattle.isad_core.specs.Days.{IsDayNumber, is_day_number, number_of_date, two
 use Rattle.catalogue_core.specs.GoodCatalogues.{IsSomeDay}
 use Rattle.office_core.specs.declared.command.Command.{Command}
 use Rattle.office_core.specs.declared.command.Command.TheVariants as command
-use Rattle.office_core.specs.declared.query.Query.{Query}
 use Rattle.office_core.specs.SoundOffice.{NamesTexts}
 use Rattle.office_core.specs.Soundness.{NamesDays}
 use Rattle.http_messages.specs.declared.body_form.Form.{Form}
 use Rattle.http_messages.specs.declared.body_form.Form.TheVariants as form
 use Rattle.http_messages.specs.Members.{as_day, or_null, day_at, day_or_null_at, number_at, number_or_null_at, text_at, draft_at, flag_at, command_of, command_in, value_of}
-use Rattle.http_messages.specs.Routes.{Route, Asks, Does, TakesFile, TakesForm, plain, ending, or_else, after, plain_route, ending_route, route_of, number_in}
+use Rattle.http_messages.specs.declared.table.Leads.{Leads}
+use Rattle.http_messages.specs.declared.table.Leads.TheVariants as leads
+use Rattle.http_messages.specs.Routes.{Route, Asks, Does, TakesFile, TakesForm, table, question, leads_to, or_else, parameter_in, first_route, route_of, number_in}
 use Rattle.http_desk.proofs.Options.{each_then, each_map, known_then, known_map, if_some, if_then}
 use Rattle.http_desk.proofs.Values.{HasStrings, values_have, texts_at}
 
@@ -118,20 +118,18 @@ either_named : (a b : Option Route) → IfSome a IsNamed → IfSome b IsNamed �
 either_named None b x y = y
 either_named (Some route) b x y = x
 
-plain_named : (table : List (Bytes × Route)) (path : Bytes) → AllByRecursion (λ e. IsNamed e.1) table → IfSome (plain_route table path) IsNamed
-plain_named [] path h = tt
-plain_named ((text, route) ∷ others) path (here, more) =
-    elim (bytes_eq text path) as (λ b. IfSome (cond b (Some route) (plain_route others path)) IsNamed) [ true ↦ here | false ↦ plain_named others path more ]
+led_to_named : (to : Leads) (parameter : Bytes) → IfSome (leads_to to parameter) IsNamed
+led_to_named (leads.Asks asked) parameter = tt
+led_to_named (leads.AsksOf asked) parameter = each_map IsNamed (λ n. Asks (question asked n)) (number_in parameter) (λ n. tt)
+led_to_named leads.Run parameter = (tt, tt)
+led_to_named leads.Reshelve parameter = (tt, tt)
+led_to_named leads.Import parameter = tt
+led_to_named (leads.TakesForm asked) parameter = tt
 
-ending_named : (table : List (Bytes × (Bytes → Option Route))) (path : Bytes) → AllByRecursion (λ e. (y : Bytes) → IfSome (e.1 y) IsNamed) table → IfSome (ending_route table path) IsNamed
-ending_named [] path h = tt
-ending_named ((beginning, makes) ∷ others) path (here, more) = either_named _ _ (each_then IsNamed makes (after beginning path) here) (ending_named others path more)
-
-numbers_named : (asks : ℕ → Query) (y : Bytes) → IfSome (option_map (λ n. Asks (asks n)) (number_in y)) IsNamed
-numbers_named asks y = each_map IsNamed (λ n. Asks (asks n)) (number_in y) (λ n. tt)
+first_named : (lines : List (Bytes × Leads)) (path : Bytes) → IfSome (first_route lines path) IsNamed
+first_named [] path = tt
+first_named ((pattern, to) ∷ others) path =
+    either_named _ _ (each_then IsNamed (leads_to to) (parameter_in pattern path) (led_to_named to)) (first_named others path)
 
 pub routes_named : (path : Bytes) → IfSome (route_of path) IsNamed
-routes_named path =
-    either_named (plain_route plain path) (ending_route ending path)
-    (plain_named plain path (tt, (tt, (tt, (tt, (tt, (tt, (tt, (tt, (tt, (tt, (tt, ((tt, tt), (tt, (tt, ((tt, tt), (tt, (tt, (tt, (tt, tt))))))))))))))))))))
-    (ending_named ending path ((λ y. if_some IsNamed _ (TakesFile y) (λ e. tt)), ((λ y. numbers_named _ y), ((λ y. numbers_named _ y), ((λ y. numbers_named _ y), ((λ y. numbers_named _ y), ((λ y. numbers_named _ y), ((λ y. numbers_named _ y), tt))))))))
+routes_named path = elim (is_utf8 path) as (λ b. IfSome (cond b (first_route table path) None) IsNamed) [ true ↦ first_named table path | false ↦ tt ]

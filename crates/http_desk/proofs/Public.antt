@@ -1,7 +1,7 @@
 -- What the public is answered is the same in offices whose public parts are equal.
-use Rattle.std.proofs.Common.{◌≡◌, ◌⊎◌, inl, inr, ℕ, List, [], ◌∷◌, ◌++◌, refl, sym, ap, ◌∙◌, subst, true, false, Bool, Option, None, Some, cond, codes}
-use Rattle.std.specs.Prelude.{option_map, option_and_then}
-use Rattle.std.specs.Str.{bytes_eq}
+use Rattle.std.proofs.Common.{◌≡◌, ℕ, List, [], ◌∷◌, ◌++◌, refl, sym, ap, ◌∙◌, subst, true, false, Bool, Option, None, Some, cond, codes}
+use Rattle.std.specs.Prelude.{◌==◌, option_map, option_and_then}
+use Rattle.std.specs.Str.{is_utf8}
 use Rattle.std.specs.List.{AllByRecursion}
 use Rattle.isad_core.specs.Texts.{Bytes}
 use Rattle.office_core.specs.State.{State}
@@ -11,8 +11,13 @@ use Rattle.office_core.specs.declared.query.Query.TheVariants as query
 use Rattle.http_messages.specs.declared.body_form.Form.TheVariants as form
 use Rattle.http_messages.specs.Heads.{Request, is_head}
 use Rattle.http_messages.specs.Targets.{path_of}
-use Rattle.http_messages.specs.Routes.{Route, Asks, Does, TakesFile, TakesForm, plain, ending, or_else, after, plain_route, ending_route, route_of}
+use Rattle.http_messages.specs.declared.table.Leads.{Leads}
+use Rattle.http_messages.specs.declared.table.Leads.TheVariants as leads
+use Rattle.http_messages.specs.declared.table.Numbered.{Numbered}
+use Rattle.http_messages.specs.declared.table.Numbered.TheVariants as numbered
+use Rattle.http_messages.specs.Routes.{Route, Asks, Does, TakesFile, TakesForm, table, question, leads_to, or_else, parameter_in, number_in, first_route, route_of}
 use Rattle.http_messages.specs.Answers.{Answer, answer_text, of_told, by_route, answered}
+use Rattle.http_messages.proofs.Bodies.{never_true}
 use Rattle.http_desk.specs.Messages.{Message}
 use Rattle.http_desk.specs.Session.{continue_if, message_text, text_after_all, state_after_all}
 use Rattle.http_desk.specs.Laws.{IsPublicGet}
@@ -35,37 +40,63 @@ either_open : (a b : Option Route) → IsOpen a → IsOpen b → IsOpen (or_else
 either_open None b x y = y
 either_open (Some route) b x y = x
 
--- a text of the table isn't the path, or its route is open
-plain_open : (table : List (Bytes × Route)) (path : Bytes) → AllByRecursion (λ e. (bytes_eq e.0 path ≡ false) ⊎ IsOpen (Some e.1)) table → IsOpen (plain_route table path)
-plain_open [] path h = tt
-plain_open ((text, route) ∷ others) path (inl e, h) = rw e (plain_open others path h)
-plain_open ((text, route) ∷ others) path (inr o, h) =
-    elim (bytes_eq text path) as (λ b. IsOpen (cond b (Some route) (plain_route others path))) [ true ↦ o | false ↦ plain_open others path h ]
-
 then_open : (makes : Bytes → Option Route) (o : Option Bytes) → ((y : Bytes) → IsOpen (makes y)) → IsOpen (option_and_then makes o)
 then_open makes None h = tt
 then_open makes (Some y) h = h y
-
-ending_open : (table : List (Bytes × (Bytes → Option Route))) (path : Bytes) → AllByRecursion (λ e. (after e.0 path ≡ None) ⊎ ((y : Bytes) → IsOpen (e.1 y))) table → IsOpen (ending_route table path)
-ending_open [] path h = tt
-ending_open ((beginning, makes) ∷ others) path (inl e, h) = rw e (ending_open others path h)
-ending_open ((beginning, makes) ∷ others) path (inr o, h) = either_open _ _ (then_open makes (after beginning path) o) (ending_open others path h)
 
 map_open : (asks : ℕ → Query) (o : Option ℕ) → ((n : ℕ) → IsOpen (Some (Asks (asks n)))) → IsOpen (option_map (λ n. Asks (asks n)) o)
 map_open asks None h = tt
 map_open asks (Some n) h = h n
 
-public_plain : (x : Bytes) → IsOpen (plain_route plain (codes "/public/" ++ x))
-public_plain x =
-    plain_open plain (codes "/public/" ++ x) (inl refl, (inl refl, (inl refl, (inl refl, (inl refl, (inl refl, (inl refl, (inl refl, (inl refl, (inl refl, (inl refl, (inl refl, (inl refl, (inl refl, (inl refl, (inl refl, (inl refl, (inr tt, (inr tt, tt)))))))))))))))))))
+-- the pattern and the beginning of a path differ
+abbrev differ : Bytes → Bytes → Bool
+differ [] path = false
+differ (a ∷ pattern) [] = false
+differ (a ∷ pattern) (b ∷ path) = cond (a == 123) false (cond (a == b) (differ pattern path) true)
 
-public_ending : (x : Bytes) → IsOpen (ending_route ending (codes "/public/" ++ x))
-public_ending x =
-    ending_open ending (codes "/public/" ++ x)
-    (inl refl, (inl refl, (inl refl, (inl refl, (inl refl, (inr (λ y. map_open query.Aid _ (λ n. tt)), (inr (λ y. map_open query.Page _ (λ n. tt)), tt)))))))
+none_taken : (pattern path x : Bytes) → differ pattern path ≡ true → parameter_in pattern (path ++ x) ≡ None
+none_taken [] path x d = absurd (never_true d)
+none_taken (a ∷ pattern) [] x d = absurd (never_true d)
+none_taken (a ∷ pattern) (b ∷ path) x d = by (λ e. none_taken pattern path x e) (a == 123) refl
+  where
+    by_byte : (differ pattern path ≡ true → parameter_in pattern (path ++ x) ≡ None) → (v : Bool) → (a == b) ≡ v → (a == 123) ≡ false
+        → parameter_in (a ∷ pattern) (b ∷ (path ++ x)) ≡ None
+    by_byte deep true e f = rw (f, e) (deep (rw (f, e) at d))
+    by_byte deep false e f = rw (f, e) refl
+
+    by : (differ pattern path ≡ true → parameter_in pattern (path ++ x) ≡ None) → (v : Bool) → (a == 123) ≡ v
+        → parameter_in (a ∷ pattern) (b ∷ (path ++ x)) ≡ None
+    by deep true f = absurd (never_true (rw f at d))
+    by deep false f = by_byte deep (a == b) refl f
+
+abbrev unless : Bool → Type 0 → Type 0 → Type 0
+unless true this others = others
+unless false this others = this × others
+
+-- each line leads to an open route, unless its pattern is not below /public
+abbrev AreOpen : List (Bytes × Leads) → Type 0
+AreOpen [] = Unit {0}
+AreOpen ((pattern, to) ∷ others) = unless (differ pattern (codes "/public/")) ((y : Bytes) → IsOpen (leads_to to y)) (AreOpen others)
+
+first_open : (lines : List (Bytes × Leads)) (x : Bytes) → AreOpen lines → IsOpen (first_route lines (codes "/public/" ++ x))
+first_open [] x h = tt
+first_open ((pattern, to) ∷ others) x h = by (λ more. first_open others x more) (differ pattern (codes "/public/")) refl h
+  where
+    by : (AreOpen others → IsOpen (first_route others (codes "/public/" ++ x))) → (v : Bool) → differ pattern (codes "/public/") ≡ v
+        → unless v ((y : Bytes) → IsOpen (leads_to to y)) (AreOpen others)
+        → IsOpen (first_route ((pattern, to) ∷ others) (codes "/public/" ++ x))
+    by deep true e more = let none = none_taken pattern (codes "/public/") x e in rw none (deep more)
+    by deep false e (this, more) = either_open _ _ (then_open (leads_to to) (parameter_in pattern (codes "/public/" ++ x)) this) (deep more)
+
+table_open : AreOpen table
+table_open = ((λ y. tt), (asks_of numbered.Aid (λ n. tt), (asks_of numbered.Page (λ n. tt), ((λ y. tt), tt))))
+  where
+    asks_of : (asked : Numbered) → ((n : ℕ) → IsOpen (Some (Asks (question asked n)))) → (y : Bytes) → IsOpen (leads_to (leads.AsksOf asked) y)
+    asks_of asked h y = map_open (question asked) (number_in y) h
 
 pub public_routes : (x : Bytes) → IsOpen (route_of (codes "/public/" ++ x))
-public_routes x = either_open (plain_route plain (codes "/public/" ++ x)) (ending_route ending (codes "/public/" ++ x)) (public_plain x) (public_ending x)
+public_routes x =
+    elim (is_utf8 (codes "/public/" ++ x)) as (λ b. IsOpen (cond b (first_route table (codes "/public/" ++ x)) None)) [ true ↦ first_open table x table_open | false ↦ tt ]
 
 -- ---- one message
 
