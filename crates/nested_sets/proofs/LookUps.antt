@@ -1,0 +1,72 @@
+-- How a look-up of one step or several ends, by how its steps ended.
+use Rattle.std.proofs.Common.{◌≡◌, Ok, Err, Result, IfOk, IfErr, refl, sym, subst}
+use Rattle.std.specs.Prelude.{IsErr, IsErrAnd}
+use Rattle.sqlite_trees.specs.declared.store.Store as store
+use Rattle.sqlite.specs.Held.{Held, state}
+use Rattle.sqlite.specs.State.{State, HasCleanDisk}
+use Rattle.tree_core.specs.Versions.{Spans}
+use Rattle.office_tables.specs.Faults.{IsUnlimited, HasCause, FaultsHaveCause}
+use Rattle.office_tables.specs.Query.{Reads}
+use Rattle.office_tables.specs.Step.{InTransaction, IsAborted, IsSame, LeavesUnchanged, Spares}
+use Rattle.office_tables.specs.TableStatements.{LooksUp}
+use Rattle.office_tables.specs.declared.fault.StoreFault.{StoreFault}
+use Rattle.office_tables.specs.declared.fault.StoreFault.TheVariants as fault
+use Rattle.office_tables.proofs.CallEnds.{excused_then, read_not, read_well, same_fault}
+use Rattle.office_tables.proofs.Calls.{cut_after, cut_then, early, goes_nowhere, office_of}
+use Rattle.office_tables.proofs.Causes.{still_unlimited}
+use Rattle.office_tables.proofs.LaterCauses.{next_cause}
+use Rattle.office_tables.proofs.Outcomes.{if_ok_by}
+use Rattle.office_tables.proofs.Sparing.{looked_spares, spares_full, spares_known}
+use Rattle.nested_sets.proofs.CallLasts.{reads_last}
+
+-- this fault is handed on
+abbrev pub Hands : {X : Type 0} → Result X StoreFault → StoreFault → Type 0
+Hands r e = IsErr r × IsErrAnd r (λ f. f ≡ e)
+
+module _ {S X M : Type 0} {g : store.Ghosts S} {holds : State → M → Type 0} {before after : Held S} {orderly kept : M → Type 0} {answer : M → X → Type 0} where
+  -- all its steps went well
+  pub looks_well : {x : X} → LeavesUnchanged (state g before) (state g after) → (HasCleanDisk (state g after) → (m : M) → holds (state g before) m → orderly m → answer m x) → LooksUp g holds before after (Ok x) orderly kept answer
+  looks_well looked told = record { reads = read_well (state g before) (state g after) looked; answers = told; faults = λ m held k clean free. tt }
+
+  -- it ends with a fault
+  pub looks_not : {r : Result X StoreFault} (e : StoreFault) → Hands r e → IsAborted (state g before) (state g after) → (HasCleanDisk (state g after) → Spares IsSame (state g before) (state g after) e)
+      → ((m : M) → holds (state g before) m → kept m → HasCleanDisk (state g after) → IsUnlimited (state g before) → HasCause (state g before) (state g after) e) → LooksUp g holds before after r orderly kept answer
+  looks_not {r} e handed cut spares why =
+      let is : r ≡ Err e = same_fault r e handed.0 handed.1 in
+      record {
+        reads = read_not (state g before) (state g after) r e is cut spares;
+        answers = λ clean m held up. subst (λ (q : Result X StoreFault). IfOk q (answer m)) (sym is) tt;
+        faults = λ m held k clean free. subst (λ (q : Result X StoreFault). IfErr q (HasCause (state g before) (state g after))) (sym is) (why m held k clean free);
+      }
+
+  -- a step fails after others that went well
+  pub looks_cut : {r : Result X StoreFault} {b : State} (e : StoreFault) → Hands r e → LeavesUnchanged (state g before) b → IsAborted b (state g after) → (HasCleanDisk (state g after) → Spares IsSame b (state g after) e)
+      → (HasCleanDisk b → (m : M) → holds (state g before) m → kept m → HasCleanDisk (state g after) → IsUnlimited b → HasCause b (state g after) e) → LooksUp g holds before after r orderly kept answer
+  looks_cut {r} {b} e handed looked cut spares why =
+      looks_not e handed (cut_then (state g before) b (state g after) looked.goes.on cut) (λ clean. looked_spares (state g before) b (state g after) looked (early b (state g after) _ cut.crash clean) e (spares clean))
+      (λ m held k clean free. next_cause (state g before) b (state g after) looked.goes.on cut clean e (λ clean_b. why clean_b m held k clean (still_unlimited (state g before) b looked.goes.on free)))
+
+  -- memory runs out after steps that went well
+  pub looks_full : {r : Result X StoreFault} → Hands r fault.Memory → LeavesUnchanged (state g before) (state g after) → LooksUp g holds before after r orderly kept answer
+  looks_full handed looked = looks_not fault.Memory handed (cut_after (state g before) (state g after) looked.goes.on) (spares_full (state g before) (state g after) looked) (λ m held k clean free. tt)
+
+  -- the tables are not ours, which cannot be if they hold what is kept
+  pub looks_known : {r : Result X StoreFault} (e : StoreFault) → Hands r e → e ≡ fault.Schema → LeavesUnchanged (state g before) (state g after)
+      → (HasCleanDisk (state g after) → (m : M) → holds (state g before) m → kept m → ⊥) → LooksUp g holds before after r orderly kept answer
+  looks_known e handed is looked never =
+      looks_not e handed (cut_after (state g before) (state g after) looked.goes.on) (λ clean. subst (Spares IsSame (state g before) (state g after)) (sym is) (spares_known (state g before) (state g after) looked clean))
+      (λ m held k clean free. absurd (never clean m held k))
+
+  -- the result of its last step is its own
+  pub looks_last : {r : Result X StoreFault} {b : State} → LeavesUnchanged (state g before) b → Reads b (state g after) r
+      → (HasCleanDisk b → HasCleanDisk (state g after) → (m : M) → holds (state g before) m → orderly m → IfOk r (answer m))
+      → (HasCleanDisk b → (m : M) → holds (state g before) m → kept m → FaultsHaveCause b (state g after) r) → LooksUp g holds before after r orderly kept answer
+  looks_last {r} {b} looked last told why = record {
+    reads = reads_last (state g before) b (state g after) r looked last;
+    answers = λ clean m held up. if_ok_by r (LeavesUnchanged b (state g after)) (answer m) (λ went. told (early b (state g after) _ went.goes.on.crash clean) clean m held up) last.looks;
+    faults = λ m held k. excused_then (state g before) b (state g after) looked.goes.on r last.cut (λ clean. why clean m held k);
+  }
+
+-- nothing is read
+pub looks_nowhere : (a : State) → InTransaction Spans a → LeavesUnchanged a a
+looks_nowhere a inside = record { goes = goes_nowhere a (office_of Spans a inside); same = λ clean. refl }
