@@ -16,7 +16,7 @@ use Rattle.command_line.specs.CommandLine.{program}
 use Rattle.office.specs.declared.faults.OpenFault.{OpenFault}
 use Rattle.office.specs.declared.faults.OpenFault.TheVariants as opening
 use Rattle.program.specs.Faults.{RefusesFile, fault_of_file, fault_of_opening, fault_of_reading, fault_of_words, message_of, status_of}
-use Rattle.program.specs.CommandEffects.{ComplaintFails, Fails, FailsWith, ImportFails, InitFails, IsBusy, IsDone, JudgmentFails, LineFails, MigrateFails, NotOpened, Performs, PreviewFails, Reads, ReadsPart, ReplyFails, ServerFails, TalkFails, Tells, TrialFails, complaint_of, previewed}
+use Rattle.program.specs.CommandEffects.{ComplaintFails, Fails, FailsWith, ImportFails, InitFails, IsBusy, IsDone, JudgmentFails, LineFails, MigrateFails, NotOpened, IsPerformed, PreviewFails, Reads, ReadsPart, ReplyFails, ServerFails, TalkFails, Tells, TrialFails, complaint_of, previewed}
 use Rattle.program.specs.FailedOpenings.{reason_of}
 use Rattle.program.specs.Outcomes.{IsClosedAnd, IsUnopened}
 use Rattle.program.specs.Stores.{HasNoOffice, IsNotBroughtOver, IsNotMade}
@@ -216,14 +216,14 @@ module _ {S D : Type 0} (g : Ghosts D) (image : Image) where
   -- a command whose task is done
   pub performs_done : (words : List Text) (reader reader_after out out_after err err_after : Stream) (outcome : StoreOutcome S D g) (status : ℕ) (r : Result (Unit {0}) Fault) (u : Unit {0})
       → r ≡ Ok u → OnOk r (IsDone g image words reader reader_after out out_after outcome) → status ≡ 0 → err_after ≡ err
-      → Performs g image words reader reader_after out out_after err err_after outcome status
+      → IsPerformed g image words reader reader_after out out_after err err_after outcome status
   performs_done words reader reader_after out out_after err err_after outcome status r u is done zero same =
       inl (zero, subst (λ it. OnOk it (IsDone g image words reader reader_after out out_after outcome)) is done, same)
 
   -- a command that ended with a fault, whose message was told
   pub performs_fault : (words : List Text) (reader reader_after out out_after err err_told err_after : Stream) (outcome : StoreOutcome S D g) (status code : ℕ) (r : Result (Unit {0}) Fault) (fault : Fault)
       → r ≡ Err fault → IfErr r (Fails g image words reader reader_after out out_after outcome) → status ≡ code → code ≡ status_of fault → Tells err err_told (message_of fault) → err_after ≡ err_told
-      → Performs g image words reader reader_after out out_after err err_after outcome status
+      → IsPerformed g image words reader reader_after out out_after err err_after outcome status
   performs_fault words reader reader_after out out_after err err_told err_after outcome status code r fault is why same_status is_code told same =
       inr (
         fault,

@@ -359,9 +359,9 @@ Tells err err_after text = Prints text err err_after ⊎ PrintsPart text err err
 
 -- the task was done, and nothing was written on standard error; or there was a fault, and its message was written
 -- there, as far as standard error took it; this is the exit status
-abbrev pub Performs : {S D : Type 0} → (g : Ghosts D) → Image → List Text → Stream → Stream → Stream → Stream → Stream
+abbrev pub IsPerformed : {S D : Type 0} → (g : Ghosts D) → Image → List Text → Stream → Stream → Stream → Stream → Stream
     → Stream → StoreOutcome S D g → ℕ → Type 0
-Performs g image words reader reader_after out out_after err err_after outcome status =
+IsPerformed g image words reader reader_after out out_after err err_after outcome status =
     ((status ≡ 0) × IsDone g image words reader reader_after out out_after outcome × (err_after ≡ err))
     ⊎ ((fault : Fault) × (status ≡ status_of fault) × Fails g image words reader reader_after out out_after outcome fault
     × Tells err err_after (message_of fault))

@@ -3,7 +3,7 @@ ghost use Rattle.std.specs.Prelude.{◌≡◌, ◌≤◌, map};
 ghost use Rattle.std.specs.String.{string_bytes};
 ghost use Rattle.sqlite.specs.WalFiles.{image_at};
 ghost use Rattle.program.specs.Faults.{message_of, status_of};
-ghost use Rattle.program.specs.CommandEffects.{Performs, Tells};
+ghost use Rattle.program.specs.CommandEffects.{IsPerformed, Tells};
 
 use crate::commands::run;
 use crate::faults::Fault;
@@ -26,7 +26,7 @@ pub fn perform<S: Start, R: Read, W: Write, E: Write>(
     err: &mut Sink<'_, E>,
     start: S,
 ) -> (u8, Outcome<S>)
-    ensures performs { Performs ⟦<FileFrom<S> as Disk>⟧ (image_at S.Start) (map string_bytes words.now)
+    ensures performs { IsPerformed ⟦<FileFrom<S> as Disk>⟧ (image_at S.Start) (map string_bytes words.now)
         reader.old reader.new out.old out.new
         err.old err.new result.1 result.0 }
     ensures status { result.0 ≤ 3 }
