@@ -34,10 +34,11 @@ list_told = refl
 
 -- questions change nothing
 pub list_keeps : (s : State) → state_after s list_message ≡ s
+unfolding is_utf8 chars encode
 list_keeps s = refl
 
 pub page_keeps : (s : State) → state_after s page_message ≡ s
-unfolding digits
+unfolding digits is_utf8 chars encode
 page_keeps s = refl
 
 pub draft_told : message_text false filled draft_message ≡ one_unit

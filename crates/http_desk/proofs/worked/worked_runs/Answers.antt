@@ -16,10 +16,11 @@ use Rattle.http_desk.proofs.WorkedPieces.{list_message, page_message, draft_mess
 use Rattle.http_desk.proofs.worked.worked_runs.Goals as goal
 
 list_means : Means list_message (Puts (ToTell query.Fonds))
+unfolding is_utf8 chars encode
 list_means s = refl
 
 page_means : Means page_message (Puts (ToTell (query.Page 2)))
-unfolding digits
+unfolding digits is_utf8 chars encode
 page_means s = refl
 
 draft_means : Means draft_message (Puts (ToDo (draft 2)))
