@@ -1,5 +1,7 @@
-use Rattle.std.proofs.Common.{◌≡◌, sym, ap, ◌∙◌, subst, Some}
+use Rattle.std.proofs.Common.{◌≡◌, sym, ap, ◌∙◌, subst, Some, None, Ok, refl}
 use Rattle.std.specs.Prelude.{codes, option_map}
+use Rattle.http_messages.specs.declared.answers.Answered.TheVariants.{Error}
+use Rattle.http_messages.specs.declared.status.Status.TheVariants.{NotFound}
 use Rattle.http_messages.specs.Answers.{by_route}
 use Rattle.http_messages.specs.HeadVerdict.{request_in}
 use Rattle.http_messages.specs.Routes.{route_of}
@@ -15,3 +17,16 @@ returns-in-Some g c =
     sym (ap (option_map route_in) c.in-Some.is) ∙ c.route_of.ensures ∙ ap route_of (c.path_of.ensures ∙ ap path_of c.of.ensures) in
     subst (λ o. AnswersAs g.M.Machine.represents g.M.Machine.is_intact g.M.Machine.is_open c.args.office.now c.by_route.new.office
     (λ s. by_route s request c.args.body.items o) (request.method ≡ codes "POST") c.by_route.result) found c.by_route.ensures
+
+pub returns-in-None : goal.returns-in-None
+returns-in-None g c =
+    let request = request_in c.args.block.now c.args.head in
+    let found : None ≡ route_of (path_of request.target) = sym (ap (option_map route_in) c.in-None.is) ∙ c.route_of.ensures ∙ ap route_of (c.path_of.ensures ∙ ap path_of c.of.ensures) in
+    subst (λ o. AnswersAs g.M.Machine.represents g.M.Machine.is_intact g.M.Machine.is_open c.args.office.now c.args.office.now
+    (λ s. by_route s request c.args.body.items o) (request.method ≡ codes "POST") (Ok (Error NotFound))) found
+    (record {
+      store = record { intact = λ h. h; was_open = λ h is. is };
+      kept = λ posts intact fine. absurd (cc);
+      answers = λ intact s shown. (shown, refl);
+      busy = tt;
+    })
