@@ -28,6 +28,7 @@ module _ {D : Type 0} {g : Ghosts D} (conn : Held (FileStore D g)) (files : File
   pub brought_over : (HaveCleanDisk g files → IsCopied conn files) → HasLeft conn files
   brought_over copied = record {
     clean = λ honest. (copied honest).was_clean;
+    settled = settled;
     hold = λ honest opened.
         let there : AreInTheFile g files (file_state conn).committed.trees = record { now = (copied honest).seen; later = (copied honest).left } in
         inl (subst (λ (db : Database). AreInTheFile g files db.trees) (sym (settled (copied honest).was_clean opened)) there);
@@ -42,6 +43,7 @@ module _ {D : Type 0} {g : Ghosts D} (conn : Held (FileStore D g)) (files : File
       let was : (HaveCleanDisk g files → HasCleanDisk (file_state conn)) = λ honest. let is = sure honest in omega (arith, closed.quiet.clean, is) in
       record {
         clean = was;
+        settled = settled;
         hold = λ honest opened. inr (
           last,
           sym same,

@@ -40,7 +40,7 @@ of_a_trial g clean founding visits old new shown are days =
     (t, after, run, (all.0, λ leaves. after.1 (all.1 leaves)))
 
 -- the tables that show a state are of our schema
-shows : (db : Database) (s : State) → RepresentsState RepresentsSpanRows Spans db s → RepresentsState RepresentsSpanRows Spans (record { schema = schema Spans; trees = db.trees }) s
+pub shows : (db : Database) (s : State) → RepresentsState RepresentsSpanRows Spans db s → RepresentsState RepresentsSpanRows Spans (record { schema = schema Spans; trees = db.trees }) s
 shows db s it = subst (λ k. RepresentsState RepresentsSpanRows Spans (record { schema = k; trees = db.trees }) s) it.catalogue.catalogue.schema_is it
 
 module _ {D : Type 0} (g : Ghosts D) (image : Image) where

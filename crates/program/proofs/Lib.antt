@@ -7,6 +7,7 @@ pub mod GivenSettings
 pub mod Judgments
 pub mod KeptLemmas
 pub mod Named
+pub mod NextRunLemmas
 pub mod PerformedLemmas
 pub mod RefusalLines
 pub mod StoreLemmas

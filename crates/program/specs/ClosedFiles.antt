@@ -55,6 +55,8 @@ module _ {D : Type 0} (g : Ghosts D) where
 -- failure of the disk had shut it, they hold what a crash might have left.
 pub record HasLeft {D : Type 0} {g : Ghosts D} (conn : Held (FileStore D g)) (files : Files D) : Type 0 where
   pub clean : HaveCleanDisk g files → HasCleanDisk (file_state conn)
+  pub settled : HasCleanDisk (file_state conn) → IsTrue (file_state conn).is_open
+      → (file_state conn).now ≡ (file_state conn).committed
   pub hold : HaveCleanDisk g files → IsTrue (file_state conn).is_open → Hold g files (file_state conn).now.trees
   pub shut : HaveCleanDisk g files → (file_state conn).is_open ≡ false → LeaveOnly g files (file_state conn).may_leave
 
@@ -66,6 +68,8 @@ module _ {D : Type 0} (g : Ghosts D) (image : Image) where
     pub after : Held (FileStore D g)
     pub is_store : IsStore g image found
     pub crash : Survives (file_state found) (file_state after) (λ _. ⊥)
+    pub same : HasCleanDisk (file_state after) → IsTrue (file_state after).is_open
+        → (file_state after).now ≡ (file_state found).now
     pub sound : HasCleanDisk (file_state after) → IfNone judged (IsVerdict Spans (file_state found).now verdict.Sound)
     pub cause : HasCleanDisk (file_state after)
         → IfSome judged (HasAdoptCause Spans (file_state found) (file_state after))

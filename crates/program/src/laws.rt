@@ -6,6 +6,7 @@ ghost use Rattle.sqlite.specs.WalFiles.{image_at};
 ghost use Rattle.office_core.specs.State.{State};
 ghost use Rattle.program.specs.ClosedFiles.{ACheckChangesNothing};
 ghost use Rattle.program.specs.Headline.{TheHeadlineInAFile, TheHeadlineInMemory, TheHeadlineOfATrial};
+ghost use Rattle.program.specs.NextRuns.{BeginsAsBroughtOver, BeginsAsFound, BeginsAsMade, GoesOn};
 ghost use Rattle.program.specs.OpenedFiles.{IsInTheStateThatWasLeft};
 ghost use Rattle.program.specs.Stores.{WhatWasBroughtOverIsHeld, WhatWasMadeIsHeld, WhatWasSaidIsHeld};
 ghost use Rattle.program.specs.Stores.{WhatWasServedIsHeld, WhatWasTakenInIsHeld};
@@ -50,4 +51,13 @@ pub fn what_was_done_is_in_the_file<S: Start>()
     ensures said { WhatWasSaidIsHeld ⟦<FileFrom<S> as Disk>⟧ (image_at S.Start) }
     ensures served { WhatWasServedIsHeld ⟦<FileFrom<S> as Disk>⟧ (image_at S.Start) }
     ensures brought_over { WhatWasBroughtOverIsHeld ⟦<FileFrom<S> as Disk>⟧ (image_at S.Start) }
+{}
+
+/// Runs on one store are one list of commands to one machine: each finds the office as the runs before it left it, and
+/// adds its commands to theirs. A run that could not copy its log into the file, as it closed it, is left out.
+pub fn runs_are_one_machine<S: Start>()
+    ensures found { (image : Image) (s : State) → BeginsAsFound image s }
+    ensures made { BeginsAsMade ⟦<FileFrom<S> as Disk>⟧ (image_at S.Start) }
+    ensures brought_over { BeginsAsBroughtOver ⟦<FileFrom<S> as Disk>⟧ (image_at S.Start) }
+    ensures goes_on { GoesOn ⟦<FileFrom<S> as Disk>⟧ (image_at S.Start) }
 {}

@@ -11,6 +11,7 @@ returns-clause-judged g c =
       after = c.judge-judged.result.1;
       is_store = λ clean. (held_in _ _ (c.in_ok-conn.ensures.opened clean).0 (c.in_ok-conn.ensures.found clean), c.in_ok-conn.ensures.ordered clean);
       crash = c.judge-judged.ensures.crash;
+      same = c.judge-judged.ensures.same;
       sound = c.judge-judged.ensures.sound;
       cause = c.judge-judged.ensures.cause;
       left = left;

@@ -35,6 +35,7 @@ returns-in-Err-adopt-clause-fault g c =
         after = c.in-Err-adopt.conn;
         is_store = λ clean. (held_in _ _ (c.in-Ok.ensures.opened clean).0 (c.in-Ok.ensures.found clean), c.in-Ok.ensures.ordered clean);
         crash = c.in-Err-adopt.ensures.crash_back;
+        same = λ clean. (c.in-Err-adopt.ensures.back clean).now;
         sound = λ clean. tt;
         cause = c.in-Err-adopt.ensures.cause;
         left = left;

@@ -1,0 +1,123 @@
+-- From one run of the program on a store to the next. The commands that the runs carry out, one run after the other, are
+-- one list of commands to one machine.
+use Rattle.std.specs.Prelude.{◌≡◌, ◌⊎◌, ◌++◌, ℕ, Bool, List, [], ◌∷◌, Option}
+use Rattle.sqlite.specs.Closing.{IsCopied}
+use Rattle.sqlite.specs.Files.{HoldsDatabase, file_state, image_of}
+use Rattle.sqlite.specs.Held.{Held}
+use Rattle.sqlite.specs.Recovery.{Image}
+use Rattle.sqlite.specs.Tree.{Trees}
+use Rattle.sqlite_disk.specs.declared.Disk.{Ghosts}
+use Rattle.sqlite_disk.specs.declared.Files.{Files}
+use Rattle.sqlite_store.specs.declared.store.FileStore.{FileStore}
+use Rattle.sqlite_wal.specs.Files.{outcomes}
+use Rattle.isad_core.specs.Texts.{Bytes}
+use Rattle.tree_core.specs.Versions.{Links, Spans}
+use Rattle.nested_sets.specs.Representation.{RepresentsSpanRows}
+use Rattle.office_core.specs.Rules.{Reply, state_after, step}
+use Rattle.office_core.specs.SoundOffice.{IsSoundOffice}
+use Rattle.office_core.specs.State.{State}
+use Rattle.office_core.specs.declared.command.Command.{Command}
+use Rattle.office_core.specs.declared.command.Command.TheVariants.{Import}
+use Rattle.office_tables.specs.Schema.{schema}
+use Rattle.refinement.specs.Representation.{RepresentsState}
+use Rattle.office.specs.Adoption.{state_in}
+use Rattle.office.specs.InitialSettings.{Founding, IsGood, founded}
+use Rattle.office.specs.declared.faults.OpenFault.{OpenFault}
+use Rattle.http_desk.specs.Runs.{Brings, ByHttp}
+use Rattle.http_desk.specs.Streams.{Stream}
+use Rattle.http_desk.specs.declared.session_end.Ended.{Ended}
+use Rattle.program.specs.ClosedFiles.{WasJudgedAsFound}
+use Rattle.program.specs.Connections.{Connection}
+use Rattle.program.specs.OpenedFiles.{HoldsOffice}
+use Rattle.program.specs.Stores.{HasServed, HasTakenIn, IsBroughtOver, IsMade, IsNotBroughtOver, IsTalkedWith, WasBusy}
+use Rattle.program.specs.declared.faults.Fault.{Fault}
+
+-- The bytes of a store hold an office. It is in the state that the machine reaches from `start` by these commands, one
+-- after the other, and that state is sound.
+pub record IsAfter (image : Image) (start : State) (commands : List Command) : Type 0 where
+  pub tables : Trees
+  pub holds : ∥ HoldsDatabase image tables ∥₁
+  pub represents : RepresentsState RepresentsSpanRows Spans (record { schema = schema Spans; trees = tables })
+      (state_after start commands)
+  pub sound : IsSoundOffice (state_after start commands)
+
+-- ---- one run
+
+-- What the next run finds in these files: the bytes that they hold, or those that a crash between the runs leaves.
+abbrev pub IsFoundNext : {D : Type 0} → Ghosts D → Files D → Image → Type 0
+IsFoundNext g files next = (next ≡ image_of g files) ⊎ outcomes g files.log files.db next
+
+-- no command was carried out
+abbrev pub BringsNothing : State → List Command → State → Type 0
+BringsNothing s commands new = (commands ≡ []) × (new ≡ s)
+
+-- the commands of connections, one session after the other; the last connection is the first of the list
+abbrev pub ConnectionsBring : State → List Connection → List Command → State → Type 0
+ConnectionsBring s [] commands new = BringsNothing s commands new
+ConnectionsBring s (it ∷ earlier) commands new =
+    (first others : List Command) × (mid : State) × (commands ≡ first ++ others)
+    × ConnectionsBring s earlier first mid × Brings mid (ByHttp it.input it.output it.end) others new
+
+module _ {D : Type 0} (g : Ghosts D) (image : Image) (files : Files D) where
+  -- A run that opened a store with these bytes, and left these files. It imported a file, which was accepted or refused;
+  -- or its import found the office busy; or it talked, or served connections; or it judged the tables, because it was a
+  -- check or could not open an office; or it was a migration that failed.
+  pub data Run : Type 0 where
+    TakesIn : (source : Bytes) (reply : Reply) → HasTakenIn g image source reply files → Run
+    IsBusy : (source : Bytes) (fault : Fault) → WasBusy g image source fault files → Run
+    Talks : (reader reader_after out out_after : Stream) (end : Ended)
+        → IsTalkedWith g image reader reader_after out out_after end files → Run
+    Serves : (connections : ℕ) (all : Bool) → HasServed g image connections all files → Run
+    Judges : (judged : Option OpenFault) → WasJudgedAsFound g image judged files → Run
+    FailsToMigrate : (fault : Fault) → IsNotBroughtOver g image fault files → Run
+
+module _ {D : Type 0} {g : Ghosts D} {image : Image} {files : Files D} where
+  -- its connection when it was closed
+  abbrev pub closed_by : Run g image files → Held (FileStore D g)
+  closed_by (TakesIn source reply it) = it.after
+  closed_by (IsBusy source fault it) = it.after
+  closed_by (Talks reader reader_after out out_after end it) = it.after
+  closed_by (Serves connections all it) = it.after
+  closed_by (Judges judged it) = it.after
+  closed_by (FailsToMigrate fault it) = it.after
+
+  -- the commands that were carried out in it, from one state to another: its import, or those of its sessions
+  abbrev pub RunBrings : State → Run g image files → List Command → State → Type 0
+  RunBrings s (TakesIn source reply it) commands new =
+      (commands ≡ Import source it.file ∷ []) × ((reply ≡ (step s (Import source it.file)).1)
+      × (new ≡ (step s (Import source it.file)).0))
+  RunBrings s (IsBusy source fault it) commands new = BringsNothing s commands new
+  RunBrings s (Talks reader reader_after out out_after end it) commands new =
+      Brings s (ByHttp it.input it.output end) commands new
+  RunBrings s (Serves connections all it) commands new = ConnectionsBring s it.sessions.connections commands new
+  RunBrings s (Judges judged it) commands new = BringsNothing s commands new
+  RunBrings s (FailsToMigrate fault it) commands new = BringsNothing s commands new
+
+-- ---- in one sentence each
+
+-- A list of runs begins with a store that holds an office in a sound state,
+abbrev pub BeginsAsFound : Image → State → Type 0
+BeginsAsFound image s = HoldsOffice image s → IsSoundOffice s → IsAfter image s []
+
+module _ {D : Type 0} (g : Ghosts D) (image : Image) where
+  -- or with a new office, whose settings are within their limits,
+  abbrev pub BeginsAsMade : Type 0
+  BeginsAsMade =
+      (founding : Founding) (files : Files D) (it : IsMade g image founding files) → IsGood founding
+      → IsCopied it.office files → (next : Image) → IsFoundNext g files next → IsAfter next (founded founding) []
+
+  -- or with one that was migrated.
+  abbrev pub BeginsAsBroughtOver : Type 0
+  BeginsAsBroughtOver =
+      (files : Files D) (it : IsBroughtOver g image files) → IsCopied it.after files → (next : Image)
+      → IsFoundNext g files next → IsAfter next (state_in Links (file_state it.found).now.trees) []
+
+  -- A run goes on where the runs before it ended, and its commands follow theirs. The next run finds the store in the
+  -- state after all of them. That is said where the run, when it closed the store, copied its log into the file.
+  abbrev pub GoesOn : Type 0
+  GoesOn =
+      (start : State) (commands : List Command) → IsAfter image start commands
+      → (files : Files D) (run : Run g image files) → IsCopied (closed_by run) files
+      → (next : Image) → IsFoundNext g files next
+      → (more : List Command) × RunBrings (state_after start commands) run more (state_after start (commands ++ more))
+      × IsAfter next start (commands ++ more)
