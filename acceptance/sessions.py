@@ -20,6 +20,7 @@ from pathlib import Path
 
 import client
 import plain
+import plain.desk
 
 DAYS = ["2024-02-28", "2024-02-29", "2024-03-01", "2024-03-02", "2024-03-03", "2024-03-04", "2024-03-05", "2030-01-01"]
 LATE = ["2030-01-01"] * 6 + DAYS[2:]
@@ -97,10 +98,10 @@ class Session:
         yield "/desk/move", f'{{"unit":65,"parent":{self.random.randint(63, 64)}}}'
 
     def a_hundred_permits(self):
-        rows = "".join(f"{n},Published\n" for n in range(1, 103))
+        rows = "".join(f"{n},Published\n" for n in range(1, plain.desk.MOST_PERMITS + 3))
         yield "/desk/import/b", f"legacyId,publicationStatus\n{rows}"
         yield "/desk/register", '{"name":"Ann","until":"2030-01-01"}'
-        for unit in range(1, 103):
+        for unit in range(1, plain.desk.MOST_PERMITS + 3):
             yield "/desk/permit", json.dumps({"ticket": 1, "unit": unit, "until": self.random.choice(LATE)})
 
     def no_file(self):
