@@ -30,7 +30,7 @@ import tempfile
 
 TOP = os.path.dirname(os.path.dirname(os.path.abspath(__file__)))
 FN = re.compile(r"^( *)(?:pub(?:\([a-z]+\))? )?(?:const )?(?:unsafe )?fn (\w+)", re.M)
-IMPL = re.compile(r"^impl(?:<[^{\n]*?>)? (?:[\w:<>', ]+ for )?&?(?:'\w+ )?(\w+)", re.M)
+IMPL = re.compile(r"^(?:impl(?:<[^{\n]*?>)? (?:[\w:<>', ]+ for )?&?(?:'\w+ )?|(?:pub(?:\([a-z]+\))? )?trait )(\w+)", re.M)
 TOLD = re.compile(r"^(?:fn|struct|enum|impl|trait) (\S+?): (.*)$", re.M)
 FAILED = re.compile(r"not proved|no proof")
 OF_OTHERS = re.compile(r"(?:not proved|no proof)[:;] it (?:calls|passes)")
@@ -40,7 +40,7 @@ UNREAD = re.compile(r"^(?:\./)?((?:src|specs)/\S+?):\d+:\d+: (error.*)$", re.M)
 
 
 class Function:
-    """A function of a file of src/: the path of its module, the type of its impl (or none), its name and its place."""
+    """A function of a file of src/: the path of its module, the type of its impl, its trait or none, its name and its place."""
 
     def __init__(self, crate, path, text, at):
         inside = os.path.splitext(path)[0].split("/")[1:]
