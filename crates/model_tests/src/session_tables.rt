@@ -344,7 +344,7 @@ const TEN: [Step; 10] = [
 ];
 
 /// The answer to the first `size` bytes of the ten messages, and how the session ends.
-fn expected(alloc: Global, size: usize) -> Result<(Vec<u8>, Ended), AllocError> {
+fn expected_answer(alloc: Global, size: usize) -> Result<(Vec<u8>, Ended), AllocError> {
     let mut output = Vec::new(alloc);
     let mut left = size;
     for step in &TEN {
@@ -386,7 +386,7 @@ fn ten_cut(
     };
     let mut reader = Pieces::new(front, piece, then);
     let talked = talk_over(alloc, &mut reader, &mut writer, &mut desk);
-    let (output, end) = expected(alloc, size)?;
+    let (output, end) = expected_answer(alloc, size)?;
     assert!(rt; writer.held == output, "{size}");
     match then {
         Then::Ends => assert_eq!(rt; talked.ended, end),

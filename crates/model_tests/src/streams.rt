@@ -46,7 +46,7 @@ pub fn talk_over<R: Read, W: Write, M: Machine>(
 }
 
 /// The reply to a registration that gave this ticket. Its bytes always say ticket 1.
-fn registered(alloc: Global, ticket: u64) -> Result<Reply, Busy>
+fn registration(alloc: Global, ticket: u64) -> Result<Reply, Busy>
     ensures { IfOk result (λ reply. reply.done ≡ Ok (done.Register ticket)) }
 {
     let Ok(json) = Vec::from_slice(alloc, b"{\"ticket\":1}") else {
@@ -81,7 +81,7 @@ impl Machine for Counter {
 
     fn apply(&mut self, alloc: Global, _command: Command) -> Result<Reply, Busy> {
         self.tickets = self.tickets.wrapping_add(1);
-        registered(alloc, self.tickets)
+        registration(alloc, self.tickets)
     }
 
     fn ask(&mut self, alloc: Global, _query: Query) -> Result<Answer, Busy> {
@@ -103,7 +103,7 @@ impl Machine for Noting {
     ghost is_open = { λ office. Prim.Unit {0} };
 
     fn apply(&mut self, alloc: Global, _command: Command) -> Result<Reply, Busy> {
-        let reply = registered(alloc, 1)?;
+        let reply = registration(alloc, 1)?;
         self.answers = self.answers.wrapping_add(1);
         Ok(reply)
     }
@@ -396,7 +396,7 @@ impl Machine for Long {
     ghost is_open = { λ office. Prim.Unit {0} };
 
     fn apply(&mut self, alloc: Global, _command: Command) -> Result<Reply, Busy> {
-        registered(alloc, 1)
+        registration(alloc, 1)
     }
 
     fn ask(&mut self, alloc: Global, _query: Query) -> Result<Answer, Busy> {
@@ -451,7 +451,7 @@ impl Machine for Tally {
     fn apply(&mut self, alloc: Global, command: Command) -> Result<Reply, Busy> {
         let kind = kind_of(&command);
         self.counts[kind] = self.counts[kind].wrapping_add(1);
-        registered(alloc, 1)
+        registration(alloc, 1)
     }
 
     fn ask(&mut self, alloc: Global, _query: Query) -> Result<Answer, Busy> {

@@ -162,7 +162,7 @@ fn after_a_morning<P: Places>(alloc: Global) -> Result<Connection<MemStore>, Fai
 }
 
 /// Opens an office. Want of memory changes nothing, so it is tried again.
-fn adopted<P: CheckedPlaces>(
+fn open_again<P: CheckedPlaces>(
     alloc: Global,
     conn: Connection<MemStore>,
 ) -> Result<Office<P, MemStore>, OpenFault>
@@ -184,7 +184,7 @@ fn fault_of<P: CheckedPlaces>(alloc: Global, conn: Connection<MemStore>) -> Opti
     requires outside { HasCleanDisk (state over_memory conn) → (state over_memory conn).in_transaction ≡ false }
     requires unlimited { (state over_memory conn).step_limit ≡ None }
 {
-    match adopted::<P>(alloc, conn) {
+    match open_again::<P>(alloc, conn) {
         Ok(office) => {
             let _ = office.into_connection();
             None
@@ -255,7 +255,7 @@ fn evening_in<P: Places, S: Alter>(
 /// The day goes on where it was left.
 fn goes_on<P: CheckedPlaces>(rt: &impl Abort, alloc: Global) -> Result<(), Fail> {
     let conn = after_a_morning::<P>(alloc)?;
-    let mut office = adopted::<P>(alloc, conn)?;
+    let mut office = open_again::<P>(alloc, conn)?;
     let gone = evening_in(rt, alloc, &mut office);
     let _ = office.into_connection();
     gone

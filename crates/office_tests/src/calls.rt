@@ -110,7 +110,7 @@ fn desk_command(said: Said) -> Option<Command> {
 }
 
 /// Carries out a command. If memory runs out, nothing is changed, so the command is tried once more.
-fn applied<P: Places, S: Alter>(
+fn apply<P: Places, S: Alter>(
     alloc: Global,
     office: &mut Office<P, S>,
     command: &Command,
@@ -121,7 +121,7 @@ fn applied<P: Places, S: Alter>(
     }
 }
 
-fn asked<P: Places, S: Alter>(
+fn ask<P: Places, S: Alter>(
     alloc: Global,
     office: &mut Office<P, S>,
     query: Query,
@@ -147,11 +147,11 @@ pub(crate) fn told<P: Places, S: Alter>(
     said: Said,
 ) -> Result<List<u8>, Fail> {
     if let Said::Ask(query) = said {
-        let answer = asked(alloc, office, query)?;
+        let answer = ask(alloc, office, query)?;
         return bytes_of(answer);
     }
     let command = command(alloc, said)?;
-    let reply = applied(alloc, office, &command)?;
+    let reply = apply(alloc, office, &command)?;
     Ok(reply.json)
 }
 

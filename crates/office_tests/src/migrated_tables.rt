@@ -85,7 +85,7 @@ fn shown(alloc: Global, conn: &mut Connection<MemStore>) -> Result<String, Fail>
 }
 
 /// The tables after a statement.
-fn damaged(alloc: Global, sql: &str) -> Result<Connection<MemStore>, Fail>
+fn damage(alloc: Global, sql: &str) -> Result<Connection<MemStore>, Fail>
     ensures outside { IfOk result (λ conn. HasCleanDisk (state over_memory conn)
         → (state over_memory conn).in_transaction ≡ false) }
     ensures unlimited { IfOk result (λ conn. (state over_memory conn).step_limit ≡ None) }
@@ -100,9 +100,9 @@ fn damaged(alloc: Global, sql: &str) -> Result<Connection<MemStore>, Fail>
 
 /// They are not migrated, and stay as they are after the statement.
 fn stays(rt: &impl Abort, alloc: Global, sql: &str, fault: OpenFault) -> Result<(), Fail> {
-    let mut same = damaged(alloc, sql)?;
+    let mut same = damage(alloc, sql)?;
     let before = shown(alloc, &mut same)?;
-    let mut conn = damaged(alloc, sql)?;
+    let mut conn = damage(alloc, sql)?;
     assert_eq!(rt; (sql, fault_of(alloc, &mut conn)), (sql, Some(fault)));
     let after = shown(alloc, &mut conn)?;
     assert_eq!(rt; after.as_str(), before.as_str());

@@ -224,7 +224,7 @@ fn again(
 }
 
 /// Migrates the office to version 2. If memory is refused, it is tried once more.
-fn migrated(
+fn migrate(
     rt: &impl Abort,
     alloc: Global,
     office: Office<LinkPlaces, MemStore>,
@@ -274,7 +274,7 @@ fn said_after<S: Alter>(
 
 fn comes_over(rt: &impl Abort, alloc: Global, case: &Case) -> Result<(), Fail> {
     let old = office_of_links(rt, alloc, case)?;
-    let mut office = migrated(rt, alloc, old, case.asked)?;
+    let mut office = migrate(rt, alloc, old, case.asked)?;
     let gone = said_after(rt, alloc, &mut office, case);
     let mut conn = office.into_connection();
     gone?;

@@ -13,7 +13,7 @@ fn broken<T>() -> io::Result<T>
     Err(io::Error::from(ErrorKind::Other))
 }
 
-fn interrupted<T>() -> io::Result<T>
+fn interruption<T>() -> io::Result<T>
     ensures { IsErr result }
 {
     Err(io::Error::from(ErrorKind::Interrupted))
@@ -64,7 +64,7 @@ impl Read for Pieces<'_> {
     fn read(&mut self, buf: &mut [u8]) -> io::Result<usize> {
         if self.interrupts && !self.is_ready {
             self.is_ready = true;
-            return interrupted();
+            return interruption();
         }
         self.is_ready = false;
         if self.bytes.is_empty() && self.fails {
@@ -142,7 +142,7 @@ impl Write for Page {
     fn write(&mut self, buf: &[u8]) -> io::Result<usize> {
         if self.interrupts && !self.is_ready {
             self.is_ready = true;
-            return interrupted();
+            return interruption();
         }
         self.is_ready = false;
         if self.room == 0 {
@@ -157,7 +157,7 @@ impl Write for Page {
     fn flush(&mut self) -> io::Result<()> {
         if self.interrupts && !self.is_ready {
             self.is_ready = true;
-            return interrupted();
+            return interruption();
         }
         self.is_ready = false;
         if self.holds_back { broken() } else { Ok(()) }

@@ -23,7 +23,7 @@ use std::test::Fail;
 
 /// Ann has a seat and may see unit 1. She had container 1, which the first run brought, and returned it.
 #[tactic(auto, using(crate::proofs::Going::went_on))]
-fn served<S: Alter>(alloc: Global, conn: &mut Connection<S>) -> Result<(), StoreFault>
+fn serve_reader<S: Alter>(alloc: Global, conn: &mut Connection<S>) -> Result<(), StoreFault>
     requires inside { InTransaction Links (state S.Store conn.old) }
     ensures inside { OnOk result (InTransaction Links (state S.Store conn.new)) }
 {
@@ -126,7 +126,7 @@ fn told<S: Alter>(
 ) -> Result<u8, StoreFault>
     requires inside { InTransaction Links (state S.Store conn.old) }
 {
-    served(alloc, conn)?;
+    serve_reader(alloc, conn)?;
     put_all(conn, writes)?;
     next_turn(conn)?;
     let limits = Limits {

@@ -49,7 +49,7 @@ pub(crate) fn register<S: Alter>(
 
 /// Ann's ticket 1 is renewed. Bob takes a seat and leaves it; Ann takes the second seat.
 #[tactic(auto, using(crate::proofs::Going::went_on))]
-fn seated<S: Alter>(
+fn take_seats<S: Alter>(
     alloc: Global,
     conn: &mut Connection<S>,
     text: &mut String,
@@ -71,7 +71,7 @@ fn seated<S: Alter>(
 
 /// Ann orders containers 1 and 2, and has the first.
 #[tactic(auto, using(crate::proofs::Going::went_on))]
-fn ordered<S: Alter>(
+fn place_orders<S: Alter>(
     alloc: Global,
     conn: &mut Connection<S>,
     text: &mut String,
@@ -89,14 +89,14 @@ fn ordered<S: Alter>(
 
 /// Ann's card on the second day, and that nobody has ticket 9.
 #[tactic(auto, using(crate::proofs::Going::looked_on))]
-fn carded<S: Alter>(
+fn read_card<S: Alter>(
     alloc: Global,
     conn: &mut Connection<S>,
     text: &mut String,
 ) -> Result<(), StoreFault>
     requires inside { InTransaction Links (state S.Store conn.old) }
 {
-    ordered(alloc, conn, text)?;
+    place_orders(alloc, conn, text)?;
     let day = day_after(1)?;
     if let Some(card) = &reader(alloc, conn, 1, day)? {
         let (held, placed, orders) = (card.reader.held, card.placed, card.orders);
@@ -140,7 +140,7 @@ fn held<S: Alter>(
 ) -> Result<(), StoreFault>
     requires inside { InTransaction Links (state S.Store conn.old) }
 {
-    ordered(alloc, conn, text)?;
+    place_orders(alloc, conn, text)?;
     register(alloc, conn, "Bob", text)?;
     set_seat(conn, 2, Some(2))?;
     show_holder(alloc, conn, 1, text)?;
@@ -150,14 +150,14 @@ fn held<S: Alter>(
 
 /// Ann returns container 1, and order 2 is cancelled: whether order 1 is done, and order 3 unknown.
 #[tactic(auto, using(crate::proofs::Going::went_on))]
-fn ended<S: Alter>(
+fn end_orders<S: Alter>(
     alloc: Global,
     conn: &mut Connection<S>,
     text: &mut String,
 ) -> Result<(), StoreFault>
     requires inside { InTransaction Links (state S.Store conn.old) }
 {
-    ordered(alloc, conn, text)?;
+    place_orders(alloc, conn, text)?;
     end_order(conn, 1, OrderState::Done)?;
     set_place(conn, 1, Place::Shelf)?;
     end_order(conn, 2, OrderState::Cancelled)?;
@@ -176,7 +176,7 @@ fn brought<S: Alter>(
 ) -> Result<(), StoreFault>
     requires inside { InTransaction Links (state S.Store conn.old) }
 {
-    ordered(alloc, conn, text)?;
+    place_orders(alloc, conn, text)?;
     let taken = [FirstOrder {
         container: 2,
         order: 2,
@@ -193,7 +193,7 @@ fn brought<S: Alter>(
 
 /// Ann has permits for units 1 and 2; the second is extended and the first is revoked.
 #[tactic(auto, using(crate::proofs::Going::went_on))]
-fn permitted<S: Alter>(
+fn grant_permits<S: Alter>(
     alloc: Global,
     conn: &mut Connection<S>,
     text: &mut String,
@@ -215,7 +215,7 @@ fn permitted<S: Alter>(
 /// Orders 1 to 4 wait for containers 2, 1, 2 and 3, and container 3 is at the desk: what a run may take, what is at the
 /// desk, and that container 1 and run 1 are unknown.
 #[tactic(auto, using(crate::proofs::Going::went_on, crate::proofs::Going::looked_on))]
-fn picked<S: Alter>(
+fn pick_run<S: Alter>(
     alloc: Global,
     conn: &mut Connection<S>,
     text: &mut String,
@@ -242,7 +242,7 @@ fn picked<S: Alter>(
 
 /// Bob takes a seat, and the next day begins.
 #[tactic(auto, using(crate::proofs::Going::went_on))]
-fn opened<S: Alter>(
+fn open_next_day<S: Alter>(
     alloc: Global,
     conn: &mut Connection<S>,
     text: &mut String,
@@ -277,14 +277,14 @@ fn carry_out<S: Alter>(
     requires inside { InTransaction Links (state S.Store conn.old) }
 {
     match done {
-        Act::Sit => seated(alloc, conn, text),
-        Act::Card => carded(alloc, conn, text),
+        Act::Sit => take_seats(alloc, conn, text),
+        Act::Card => read_card(alloc, conn, text),
         Act::Hold => held(alloc, conn, text),
-        Act::End => ended(alloc, conn, text),
+        Act::End => end_orders(alloc, conn, text),
         Act::Run => brought(alloc, conn, text),
-        Act::Permit => permitted(alloc, conn, text),
-        Act::Pick => picked(alloc, conn, text),
-        Act::Open => opened(alloc, conn, text),
+        Act::Permit => grant_permits(alloc, conn, text),
+        Act::Pick => pick_run(alloc, conn, text),
+        Act::Open => open_next_day(alloc, conn, text),
     }
 }
 

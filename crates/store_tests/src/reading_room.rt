@@ -23,7 +23,7 @@ use std::test::Fail;
 use std::{array, fs};
 
 /// A description with one container and nothing else.
-fn boxed(alloc: Global, name: &str, location: &str) -> Result<Values, AllocError> {
+fn one_box(alloc: Global, name: &str, location: &str) -> Result<Values, AllocError> {
     let mut boxes = List::new(alloc);
     boxes.push(BoxKey {
         name: Text::new(alloc, name)?,
@@ -50,7 +50,7 @@ fn add_boxed<S: Alter>(
     requires small { id < 2 ^ 62 }
     ensures inside { OnOk result (InTransaction Links (state S.Store conn.new)) }
 {
-    let values = boxed(alloc, name, location)?;
+    let values = one_box(alloc, name, location)?;
     let source = Text::new(alloc, "a")?;
     let legacy = Text(format!(in alloc; "{id}")?);
     let unit = NewUnit {
@@ -379,7 +379,7 @@ fn show_desk<S: Alter>(
 }
 
 /// One of two containers at the desk is issued and returned; nobody waits for it, and it goes to the shelf.
-fn reshelved<S: Alter>(
+fn reshelve<S: Alter>(
     alloc: Global,
     conn: &mut Connection<S>,
     text: &mut String,
@@ -423,7 +423,7 @@ fn spend<S: Alter>(
         Visit::Fetch => fetched_in_two_runs(alloc, conn, text)?,
         Visit::Count => counted_by_day(alloc, conn, text)?,
         Visit::Sit => seated_in_turn(alloc, conn, text)?,
-        Visit::Reshelve => reshelved(alloc, conn, text)?,
+        Visit::Reshelve => reshelve(alloc, conn, text)?,
     }
     commit(conn)
 }

@@ -4,7 +4,7 @@ ghost use Rattle.sqlite.specs.Held.{state};
 ghost use Rattle.office_tables.specs.Step.{InTransaction};
 
 use crate::tests::{
-    ELEMENTS, FOUR, HOUSING, LATER, LINKS, MAPS, Query, SPANS, add, described, four_units,
+    ELEMENTS, FOUR, HOUSING, LATER, LINKS, MAPS, Query, SPANS, add, values_of, four_units,
     new_office, show_rows,
 };
 use catalogue_store::{LinkPlaces, Places, StoreFault, move_unit, replace_values};
@@ -36,7 +36,7 @@ fn attempt<P: Places, S: Alter>(
     match done {
         Slip::AddBelowNone => add::<P, S>(alloc, conn, 5, Some(9), MAPS),
         Slip::ReplaceNone => {
-            let later = described(alloc, LATER)?;
+            let later = values_of(alloc, LATER)?;
             replace_values::<P, S>(alloc, conn, 9, &later)
         }
         Slip::MoveNone => move_unit::<P, S>(alloc, conn, 9, None),
@@ -47,7 +47,7 @@ fn attempt<P: Places, S: Alter>(
 }
 
 /// The result of the call in a new office with four units.
-fn attempted<P: Places, S: Alter>(
+fn attempt<P: Places, S: Alter>(
     alloc: Global,
     conn: &mut Connection<S>,
     done: Slip,
@@ -66,7 +66,7 @@ fn see_over<P: Places>(
     rows: &str,
 ) -> Result<(), Fail> {
     let mut conn = Connection::open_in_memory(alloc)?;
-    let blames = attempted::<P, _>(alloc, &mut conn, done) == Err(StoreFault::Schema);
+    let blames = attempt::<P, _>(alloc, &mut conn, done) == Err(StoreFault::Schema);
     assert!(rt; blames);
     let mut text = String::new(alloc);
     for query in [ELEMENTS, HOUSING, places] {

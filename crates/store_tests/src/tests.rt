@@ -117,7 +117,7 @@ fn boxes(alloc: Global, container: Option<&str>) -> Result<List<BoxKey>, AllocEr
     Ok(boxes)
 }
 
-pub(crate) fn described(alloc: Global, unit: Described) -> Result<Values, AllocError> {
+pub(crate) fn values_of(alloc: Global, unit: Described) -> Result<Values, AllocError> {
     let (level, title, creator, container) = unit;
     Ok(Values {
         level: Text::new(alloc, level)?,
@@ -140,7 +140,7 @@ pub(crate) fn add<P: Places, S: Alter>(
     requires low { IfSome parent (λ p. p < 2 ^ 63) }
     ensures inside { OnOk result (InTransaction P.version (state S.Store conn.new)) }
 {
-    let values = described(alloc, unit)?;
+    let values = values_of(alloc, unit)?;
     let source = Text::new(alloc, "a")?;
     let legacy = Text(format!(in alloc; "{id}")?);
     let unit = NewUnit {
@@ -180,7 +180,7 @@ pub(crate) fn four_units<P: Places, S: Alter>(
 
 /// Unit 2 is moved.
 #[tactic(auto, using(crate::proofs::Going::went_on))]
-fn moved<P: Places, S: Alter>(
+fn move_unit<P: Places, S: Alter>(
     alloc: Global,
     conn: &mut Connection<S>,
     parent: Option<u64>,
@@ -200,8 +200,8 @@ fn moved_back<P: Places, S: Alter>(
     requires inside { InTransaction P.version (state S.Store conn.old) }
 {
     two_units::<P, S>(alloc, conn)?;
-    moved::<P, S>(alloc, conn, None)?;
-    moved::<P, S>(alloc, conn, Some(1))
+    move_unit::<P, S>(alloc, conn, None)?;
+    move_unit::<P, S>(alloc, conn, Some(1))
 }
 
 /// Unit 2 is moved to the top.
@@ -209,7 +209,7 @@ fn moved_up<P: Places, S: Alter>(alloc: Global, conn: &mut Connection<S>) -> Res
     requires inside { InTransaction P.version (state S.Store conn.old) }
 {
     two_units::<P, S>(alloc, conn)?;
-    moved::<P, S>(alloc, conn, None)
+    move_unit::<P, S>(alloc, conn, None)
 }
 
 /// Unit 2 is moved below unit 4.
@@ -221,11 +221,11 @@ fn moved_below<P: Places, S: Alter>(
     ensures inside { OnOk result (InTransaction P.version (state S.Store conn.new)) }
 {
     four_units::<P, S>(alloc, conn)?;
-    moved::<P, S>(alloc, conn, Some(4))
+    move_unit::<P, S>(alloc, conn, Some(4))
 }
 
 /// Unit 1 is removed with all below it: how many units were removed.
-fn removed<P: Places, S: Alter>(
+fn remove_branch<P: Places, S: Alter>(
     alloc: Global,
     conn: &mut Connection<S>,
     text: &mut String,
@@ -259,7 +259,7 @@ fn is_described<P: Places, S: Alter>(
 
 /// Unit 1 gets other values: whether it has the first ones before and the others afterwards.
 #[tactic(auto, using(crate::proofs::Going::went_on))]
-fn revised<P: Places, S: Alter>(
+fn revise_unit<P: Places, S: Alter>(
     alloc: Global,
     conn: &mut Connection<S>,
     text: &mut String,
@@ -267,9 +267,9 @@ fn revised<P: Places, S: Alter>(
     requires inside { InTransaction P.version (state S.Store conn.old) }
 {
     two_units::<P, S>(alloc, conn)?;
-    let first = described(alloc, DOCKS)?;
+    let first = values_of(alloc, DOCKS)?;
     let before = is_described::<P, S>(alloc, conn, &first, 1)?;
-    let later = described(alloc, LATER)?;
+    let later = values_of(alloc, LATER)?;
     replace_values::<P, S>(alloc, conn, 1, &later)?;
     let after = is_described::<P, S>(alloc, conn, &later, 2)?;
     write!(text, "{before} {after}\n")?;
@@ -308,7 +308,7 @@ fn show_path<P: Places, S: Alter>(
 
 /// Unit 2 is moved below unit 4, it and unit 3 are closed, and the marks of Box 1, of unit 2's path and of all units are read.
 #[tactic(auto, using(crate::proofs::Going::went_on))]
-fn marked<P: Places, S: Alter>(
+fn read_marks<P: Places, S: Alter>(
     alloc: Global,
     conn: &mut Connection<S>,
     text: &mut String,
@@ -335,7 +335,7 @@ fn show_heads(text: &mut String, heads: &[Head]) -> Result<(), StoreFault> {
 
 /// Unit 2 is moved below unit 4: the tops, the units right below unit 4, and the path of unit 2, each with its title.
 #[tactic(auto, using(crate::proofs::Going::looked_on))]
-fn headed<P: Places, S: Alter>(
+fn read_heads<P: Places, S: Alter>(
     alloc: Global,
     conn: &mut Connection<S>,
     text: &mut String,
@@ -443,10 +443,10 @@ fn carry_out<P: Places, S: Alter>(
         Act::MoveUp => moved_up::<P, S>(alloc, conn),
         Act::MoveBack => moved_back::<P, S>(alloc, conn),
         Act::MoveBelow => moved_below::<P, S>(alloc, conn),
-        Act::Remove => removed::<P, S>(alloc, conn, text),
-        Act::Revise => revised::<P, S>(alloc, conn, text),
-        Act::Mark => marked::<P, S>(alloc, conn, text),
-        Act::Head => headed::<P, S>(alloc, conn, text),
+        Act::Remove => remove_branch::<P, S>(alloc, conn, text),
+        Act::Revise => revise_unit::<P, S>(alloc, conn, text),
+        Act::Mark => read_marks::<P, S>(alloc, conn, text),
+        Act::Head => read_heads::<P, S>(alloc, conn, text),
         Act::Set => set::<P, S>(alloc, conn, text),
         Act::LookUp => looked_up::<P, S>(alloc, conn, text),
         Act::MakeAgain => made_again::<P, S>(alloc, conn, text),
@@ -706,7 +706,7 @@ fn write_office<P: Places>(rt: &HostRuntime) -> Result<(), Fail> {
 }
 
 /// The rows that were written, and whether a new office is refused in that store.
-fn reopened<P: Places, S: Alter>(
+fn reopen<P: Places, S: Alter>(
     alloc: Global,
     conn: &mut Connection<S>,
     places: Query,
@@ -721,7 +721,7 @@ fn reopened<P: Places, S: Alter>(
 
 fn read_office<P: Places>(rt: &HostRuntime, places: Query) -> Result<String, Fail> {
     let mut conn = Connection::open(rt, FILE)?;
-    let text = reopened::<P, _>(rt.alloc(), &mut conn, places)?;
+    let text = reopen::<P, _>(rt.alloc(), &mut conn, places)?;
     conn.close()?;
     Ok(text)
 }
