@@ -217,8 +217,7 @@ own_command = Select (asking office [] own_terms by_one) own_names
 
 pub own_means : (v : Version) → Means v own_text 0 own_command
 unfolding understood everything
-own_means Links = record { is = refl; plain = (refl, refl); whole = (le_refl _, refl, refl); unlisted = refl }
-own_means Spans = record { is = refl; plain = (refl, refl); whole = (le_refl _, refl, refl); unlisted = refl }
+own_means v = record { is = refl; plain = (refl, refl); whole = (le_refl _, refl, refl); unlisted = refl }
 
 pub own_cause : (old new : State) (v : Version) → old.now.schema ≡ schema v → IsUnlimited old → (e : Error) → FailsToQuery own_text [] old new e → HasCause old new (fault_of e)
 own_cause old new v has free e h =

@@ -32,7 +32,7 @@ use Rattle.sqlite_trees.proofs.ListLemmas.{map-map, all_of}
 use Rattle.sqlite_value.specs.declared.keys.Key.{Key}
 use Rattle.sqlite_value.specs.Keys.{ascending, first_key, plain}
 use Rattle.sqlite_value.proofs.OrderLemmas.{then-Equal, value_cmp-Int}
-use Rattle.tree_core.specs.Versions.{Version, Links, Spans}
+use Rattle.tree_core.specs.Versions.{Version}
 use Rattle.office_tables.specs.Query.{Finds, Misses}
 use Rattle.office_tables.specs.ChangeStatement.{Ran}
 use Rattle.office_tables.specs.Faults.{IsUnlimited, HasCause}
@@ -78,8 +78,7 @@ insert_container_command = Insert 10 (Values insert_container_terms 5)
 
 pub insert_container_means : (v : Version) → Means v insert_container_text 4 insert_container_command
 unfolding understood everything
-insert_container_means Links = record { is = refl; plain = (refl, refl); whole = (le_refl _, refl, refl); unlisted = refl }
-insert_container_means Spans = record { is = refl; plain = (refl, refl); whole = (le_refl _, refl, refl); unlisted = refl }
+insert_container_means v = record { is = refl; plain = (refl, refl); whole = (le_refl _, refl, refl); unlisted = refl }
 
 same_container : (m n : ℕ) (a b : BoxKey) → agree plain (2 ∷ 3 ∷ 4 ∷ []) (container_row (m, a)) (2 ∷ 3 ∷ 4 ∷ []) (container_row (n, b)) ≡ is_same a b
 unfolding first_key
@@ -127,8 +126,7 @@ find_container_command = Select (asking container of_number find_container_colum
 
 pub find_container_means : (v : Version) → Means v find_container_text 1 find_container_command
 unfolding understood everything
-find_container_means Links = record { is = refl; plain = (refl, refl); whole = (le_refl _, refl, refl); unlisted = refl }
-find_container_means Spans = record { is = refl; plain = (refl, refl); whole = (le_refl _, refl, refl); unlisted = refl }
+find_container_means v = record { is = refl; plain = (refl, refl); whole = (le_refl _, refl, refl); unlisted = refl }
 
 abbrev pub container_number_text : List ℕ
 container_number_text = codes "SELECT id FROM container WHERE name = ?1 AND location = ?2 AND kind = ?3 ORDER BY id"
@@ -141,8 +139,7 @@ container_number_command = Select (asking container of_box (col 1 0 ∷ []) by_i
 
 pub container_number_means : (v : Version) → Means v container_number_text 3 container_number_command
 unfolding understood everything
-container_number_means Links = record { is = refl; plain = (refl, refl); whole = (le_refl _, refl, refl); unlisted = refl }
-container_number_means Spans = record { is = refl; plain = (refl, refl); whole = (le_refl _, refl, refl); unlisted = refl }
+container_number_means v = record { is = refl; plain = (refl, refl); whole = (le_refl _, refl, refl); unlisted = refl }
 
 module _ (old new : State) (v : Version) (has : old.now.schema ≡ schema v) (xs : List Numbered) (stored : Holds container container_row old xs) {X : Type 0} where
   module _ (n : ℕ) (items : X → List BoxKey) (r : Result X StoreFault) where
@@ -189,8 +186,7 @@ last_container_command = Select last_container_program (codes "id" ∷ [])
 
 pub last_container_means : (v : Version) → Means v last_container_text 0 last_container_command
 unfolding understood everything
-last_container_means Links = record { is = refl; plain = (refl, refl); whole = (le_refl _, refl, refl); unlisted = refl }
-last_container_means Spans = record { is = refl; plain = (refl, refl); whole = (le_refl _, refl, refl); unlisted = refl }
+last_container_means v = record { is = refl; plain = (refl, refl); whole = (le_refl _, refl, refl); unlisted = refl }
 
 -- the greatest number first
 abbrev pub from_the_last : Numbered → Numbered → Ordering

@@ -26,7 +26,7 @@ use Rattle.sqlite_sql.specs.declared.ops.CompareOp.TheVariants.{Eq, Le}
 use Rattle.sqlite_tied.specs.Compute.{everything}
 use Rattle.sqlite_value.specs.declared.keys.Key.{Key}
 use Rattle.sqlite_value.specs.Keys.{ascending, joined, first_key, plain}
-use Rattle.tree_core.specs.Versions.{Version, Links, Spans}
+use Rattle.tree_core.specs.Versions.{Version}
 use Rattle.catalogue_core.specs.Units.{Unit as Described, has_id}
 use Rattle.office_tables.specs.Query.{Finds, Misses}
 use Rattle.office_tables.specs.ChangeStatement.{Ran}
@@ -60,13 +60,11 @@ use Rattle.catalogue_statements.proofs.NumberTests.{at_most}
 
 pub to_unit_fits : (v : Version) → list_all (is_key_of (schema v)) (to_unit 1 ∷ []) ≡ true
 unfolding joined same_name
-to_unit_fits Links = refl
-to_unit_fits Spans = refl
+to_unit_fits v = refl
 
 held_by_unit : (v : Version) (db : Trees) (row : Row) → list_any (λ parent. agree plain (0 ∷ []) parent (1 ∷ []) row) (db unit.tree) ≡ true → list_all (has_parent (schema v).tables db row) (to_unit 1 ∷ []) ≡ true
 unfolding joined same_name
-held_by_unit Links db row h = rw (h, or_right (has_null (1 ∷ []) row) true refl) refl
-held_by_unit Spans db row h = rw (h, or_right (has_null (1 ∷ []) row) true refl) refl
+held_by_unit v db row h = rw (h, or_right (has_null (1 ∷ []) row) true refl) refl
 
 unit_agrees : (n : ℕ) (row : Row) → column row 1 ≡ Int (pos n) → (u : Described) → agree plain (0 ∷ []) (unit_row u) (1 ∷ []) row ≡ has_id n u
 unfolding first_key
@@ -98,8 +96,7 @@ insert_element_command = Insert 9 (Values insert_element_terms 4)
 
 pub insert_element_means : (v : Version) → Means v insert_element_text 3 insert_element_command
 unfolding understood everything
-insert_element_means Links = record { is = refl; plain = (refl, refl); whole = (le_refl _, refl, refl); unlisted = refl }
-insert_element_means Spans = record { is = refl; plain = (refl, refl); whole = (le_refl _, refl, refl); unlisted = refl }
+insert_element_means v = record { is = refl; plain = (refl, refl); whole = (le_refl _, refl, refl); unlisted = refl }
 
 same_element : (a b : ℤ × ElementRow) → agree plain (1 ∷ 2 ∷ []) (element_row a) (1 ∷ 2 ∷ []) (element_row b) ≡ (nat_eq b.1.unit a.1.unit && nat_eq b.1.k a.1.k)
 unfolding first_key
@@ -133,13 +130,11 @@ module _ (old new : State) (unit_id k : ℕ) (value : Bytes) (v : Version) (has 
 
 pub element_alone : (v : Version) → is_referred_to (schema v) element.tree ≡ false
 unfolding joined same_name
-element_alone Links = refl
-element_alone Spans = refl
+element_alone v = refl
 
 pub element_fits : (v : Version) → references_fit (schema v) element false true ≡ true
 unfolding joined same_name
-element_fits Links = refl
-element_fits Spans = refl
+element_fits v = refl
 
 abbrev pub clear_elements_text : List ℕ
 clear_elements_text = codes "DELETE FROM element WHERE unit = ?1"
@@ -149,8 +144,7 @@ clear_elements_command = Delete 9 (choosing element of_unit (col 1 0 ∷ []))
 
 pub clear_elements_means : (v : Version) → Means v clear_elements_text 1 clear_elements_command
 unfolding understood everything
-clear_elements_means Links = record { is = refl; plain = (refl, refl); whole = (le_refl _, refl, refl); unlisted = refl }
-clear_elements_means Spans = record { is = refl; plain = (refl, refl); whole = (le_refl _, refl, refl); unlisted = refl }
+clear_elements_means v = record { is = refl; plain = (refl, refl); whole = (le_refl _, refl, refl); unlisted = refl }
 
 module _ (old new : State) (unit_id : ℕ) (v : Version) (has : old.now.schema ≡ schema v) where
   pub clear_elements_leaves : (xs : List ElementRow) → HoldsNumbered element element_row old xs
@@ -182,8 +176,7 @@ elements_command = Select (asking element of_unit elements_columns by_unit) elem
 
 pub elements_means : (v : Version) → Means v elements_text 1 elements_command
 unfolding understood everything
-elements_means Links = record { is = refl; plain = (refl, refl); whole = (le_refl _, refl, refl); unlisted = refl }
-elements_means Spans = record { is = refl; plain = (refl, refl); whole = (le_refl _, refl, refl); unlisted = refl }
+elements_means v = record { is = refl; plain = (refl, refl); whole = (le_refl _, refl, refl); unlisted = refl }
 
 abbrev told : ElementRow → Element
 told e = record { k = e.k; value = e.value }
@@ -227,8 +220,7 @@ first_command = Select (asking element first_of_unit elements_columns by_unit) e
 
 pub first_means : (v : Version) → Means v first_text 2 first_command
 unfolding understood everything
-first_means Links = record { is = refl; plain = (refl, refl); whole = (le_refl _, refl, refl); unlisted = refl }
-first_means Spans = record { is = refl; plain = (refl, refl); whole = (le_refl _, refl, refl); unlisted = refl }
+first_means v = record { is = refl; plain = (refl, refl); whole = (le_refl _, refl, refl); unlisted = refl }
 
 module _ (old new : State) (unit_id most : ℕ) (v : Version) (has : old.now.schema ≡ schema v) (xs : List ElementRow) (at : HoldsNumbered element element_row old xs) {X : Type 0} (items : X → List Element) (r : Result X StoreFault) where
   pub first_found : IfOk r (λ found. Finds cells first_text (Int (pos unit_id) ∷ Int (pos most) ∷ []) old new (items found))

@@ -25,7 +25,7 @@ use Rattle.sqlite_tied.specs.Compute.{everything}
 use Rattle.sqlite_trees.proofs.ListLemmas.{all_of, map-map}
 use Rattle.sqlite_typing.specs.Types.{accepts_program}
 use Rattle.sqlite_value.specs.Keys.{joined, first_key, plain}
-use Rattle.tree_core.specs.Versions.{Version, Links, Spans}
+use Rattle.tree_core.specs.Versions.{Version}
 use Rattle.office_tables.specs.Query.{Finds, Misses}
 use Rattle.office_tables.specs.ChangeStatement.{Ran}
 use Rattle.office_tables.specs.Faults.{IsUnlimited, HasCause}
@@ -65,8 +65,7 @@ insert_housing_command = Insert 11 (Values insert_housing_terms 4)
 
 pub insert_housing_means : (v : Version) → Means v insert_housing_text 3 insert_housing_command
 unfolding understood everything
-insert_housing_means Links = record { is = refl; plain = (refl, refl); whole = (le_refl _, refl, refl); unlisted = refl }
-insert_housing_means Spans = record { is = refl; plain = (refl, refl); whole = (le_refl _, refl, refl); unlisted = refl }
+insert_housing_means v = record { is = refl; plain = (refl, refl); whole = (le_refl _, refl, refl); unlisted = refl }
 
 same_place : (a b : ℤ × HousingRow) → agree plain (1 ∷ 2 ∷ []) (housing_row a) (1 ∷ 2 ∷ []) (housing_row b) ≡ (nat_eq b.1.unit a.1.unit && nat_eq b.1.ord a.1.ord)
 unfolding first_key
@@ -107,13 +106,11 @@ module _ (old new : State) (unit_id ord n : ℕ) (v : Version) (has : old.now.sc
 
 pub housing_alone : (v : Version) → is_referred_to (schema v) housing.tree ≡ false
 unfolding joined same_name
-housing_alone Links = refl
-housing_alone Spans = refl
+housing_alone v = refl
 
 pub housing_fits : (v : Version) → references_fit (schema v) housing false true ≡ true
 unfolding joined same_name
-housing_fits Links = refl
-housing_fits Spans = refl
+housing_fits v = refl
 
 abbrev pub clear_housings_text : List ℕ
 clear_housings_text = codes "DELETE FROM housing WHERE unit = ?1"
@@ -123,8 +120,7 @@ clear_housings_command = Delete 11 (choosing housing of_unit (col 1 0 ∷ []))
 
 pub clear_housings_means : (v : Version) → Means v clear_housings_text 1 clear_housings_command
 unfolding understood everything
-clear_housings_means Links = record { is = refl; plain = (refl, refl); whole = (le_refl _, refl, refl); unlisted = refl }
-clear_housings_means Spans = record { is = refl; plain = (refl, refl); whole = (le_refl _, refl, refl); unlisted = refl }
+clear_housings_means v = record { is = refl; plain = (refl, refl); whole = (le_refl _, refl, refl); unlisted = refl }
 
 module _ (old new : State) (unit_id : ℕ) (v : Version) (has : old.now.schema ≡ schema v) where
   pub clear_housings_leaves : (xs : List HousingRow) → HoldsNumbered housing housing_row old xs
@@ -178,8 +174,7 @@ housings_command = Select (asking housing of_unit housings_columns by_unit) hous
 
 pub housings_means : (v : Version) → Means v housings_text 1 housings_command
 unfolding understood everything
-housings_means Links = record { is = refl; plain = (refl, refl); whole = (le_refl _, refl, refl); unlisted = refl }
-housings_means Spans = record { is = refl; plain = (refl, refl); whole = (le_refl _, refl, refl); unlisted = refl }
+housings_means v = record { is = refl; plain = (refl, refl); whole = (le_refl _, refl, refl); unlisted = refl }
 
 abbrev pub housed_text : List ℕ
 housed_text = codes "SELECT unit FROM housing WHERE container = ?1 ORDER BY unit, ord"
@@ -195,8 +190,7 @@ housed_command = Select (asking housing in_container (col 1 1 ∷ []) by_unit) h
 
 pub housed_means : (v : Version) → Means v housed_text 1 housed_command
 unfolding understood everything
-housed_means Links = record { is = refl; plain = (refl, refl); whole = (le_refl _, refl, refl); unlisted = refl }
-housed_means Spans = record { is = refl; plain = (refl, refl); whole = (le_refl _, refl, refl); unlisted = refl }
+housed_means v = record { is = refl; plain = (refl, refl); whole = (le_refl _, refl, refl); unlisted = refl }
 
 abbrev told : HousingRow → Housing
 told h = record { ord = h.ord; container = h.container }

@@ -10,7 +10,7 @@ use Rattle.sqlite.specs.State.{State, IsLive, Executes}
 use Rattle.sqlite.specs.Tree.{Trees}
 use Rattle.sqlite_tied.specs.Compute.{everything}
 use Rattle.office_tables.specs.Faults.{fault_of, IsUnlimited, HasCause}
-use Rattle.tree_core.specs.Versions.{version_number, Version, Links, Spans}
+use Rattle.tree_core.specs.Versions.{version_number, Version}
 use Rattle.catalogue_statements.specs.Rows.{office_row}
 use Rattle.office_tables.specs.Schema.{schema, office}
 use Rattle.office_tables.specs.Schema as tables
@@ -25,8 +25,7 @@ use Rattle.catalogue_statements.proofs.Inserts.{insert_office_text, insert_offic
 
 insert_office_whole : (v : Version) → IsWhole (length insert_office_text) 9 (understood (schema v) insert_office_text)
 unfolding understood everything
-insert_office_whole Links = (le_refl _, refl, refl)
-insert_office_whole Spans = (le_refl _, refl, refl)
+insert_office_whole v = (le_refl _, refl, refl)
 
 office_welcome : (version : Version) (o : OfficeRow) (v : Version) (db : Trees) → db tables.office.tree ≡ [] → IsWelcome (schema v) db office (office_row version o)
 office_welcome version o v db none = record {

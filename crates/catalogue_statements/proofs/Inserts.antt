@@ -13,7 +13,7 @@ use Rattle.sqlite.specs.Listing.{understood}
 use Rattle.sqlite.specs.State.{State, Shows, Writes, Executes, mode_of}
 use Rattle.sqlite.proofs.Callers.{IsPlain, command_of, statement_of, runs_as}
 use Rattle.sqlite_tied.specs.Compute.{everything}
-use Rattle.tree_core.specs.Versions.{Version, Links, Spans, version_number}
+use Rattle.tree_core.specs.Versions.{Version, version_number}
 use Rattle.office_tables.specs.Schema.{schema, office}
 use Rattle.office_tables.specs.Schema as tables
 use Rattle.catalogue_statements.specs.Rows.{office_row, told_cells}
@@ -38,13 +38,11 @@ insert_office_command = Insert 7 (Values insert_office_terms 11)
 
 pub insert_office_is : (v : Version) → command_of (understood (schema v) insert_office_text) ≡ insert_office_command
 unfolding understood everything
-insert_office_is Links = refl
-insert_office_is Spans = refl
+insert_office_is v = refl
 
 pub insert_office_plain : (v : Version) → IsPlain (understood (schema v) insert_office_text)
 unfolding understood everything
-insert_office_plain Links = (refl, refl)
-insert_office_plain Spans = (refl, refl)
+insert_office_plain v = (refl, refl)
 
 put_insert_office : (version : Version) (o : OfficeRow) (db : Trees) → edited db (edit_of db office [] Chosen 0 (office_row version o ∷ [])) ≡ put_row (office_row version o) (db tables.office.tree)
 put_insert_office version o db = rw (cast_int (pos 1), cast_null, cast_int (pos (version_number version)), cast_int (pos o.seats), cast_int (pos o.daily), cast_int (pos o.hands), cast_int (pos o.run_size), cast_int o.day, cast_int (pos o.next_unit)) refl

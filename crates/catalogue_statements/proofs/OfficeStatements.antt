@@ -23,7 +23,7 @@ use Rattle.sqlite_tied.specs.Compute.{everything}
 use Rattle.sqlite_typing.specs.Types.{accepts_program}
 use Rattle.sqlite_value.specs.declared.keys.Key.{Key}
 use Rattle.sqlite_value.specs.Keys.{ascending}
-use Rattle.tree_core.specs.Versions.{Version, Links, Spans, version_number}
+use Rattle.tree_core.specs.Versions.{Version, version_number}
 use Rattle.office_tables.specs.Query.{Finds, Misses}
 use Rattle.office_tables.specs.ChangeStatement.{Ran}
 use Rattle.office_tables.specs.RowCounts.{capped}
@@ -70,8 +70,7 @@ set_next_command = Update 7 (choosing office the_one set_next_columns)
 
 pub set_next_means : (v : Version) → Means v set_next_text 1 set_next_command
 unfolding understood everything
-set_next_means Links = record { is = refl; plain = (refl, refl); whole = (le_refl _, refl, refl); unlisted = refl }
-set_next_means Spans = record { is = refl; plain = (refl, refl); whole = (le_refl _, refl, refl); unlisted = refl }
+set_next_means v = record { is = refl; plain = (refl, refl); whole = (le_refl _, refl, refl); unlisted = refl }
 
 module _ (old new : State) (next : ℕ) (v : Version) (has : old.now.schema ≡ schema v) (version : Version) (o : OfficeRow) (stored : old.now.trees office.tree ≡ office_row version o ∷ [])
     (r : Result Unit StoreFault) (ran : Ran set_next_text (Int (pos next) ∷ []) old new r) where
@@ -122,8 +121,7 @@ office_is_command = Select (asking office [] office_is_columns by_one) office_is
 
 pub office_is_means : (v : Version) → Means v office_is_text 0 office_is_command
 unfolding understood everything
-office_is_means Links = record { is = refl; plain = (refl, refl); whole = (le_refl _, refl, refl); unlisted = refl }
-office_is_means Spans = record { is = refl; plain = (refl, refl); whole = (le_refl _, refl, refl); unlisted = refl }
+office_is_means v = record { is = refl; plain = (refl, refl); whole = (le_refl _, refl, refl); unlisted = refl }
 
 module _ (old new : State) (v : Version) (has : old.now.schema ≡ schema v) (version : Version) (o : OfficeRow) (stored : old.now.trees office.tree ≡ office_row version o ∷ []) {X : Type 0} (items : X → List OfficeRow) (r : Result X StoreFault) where
   abbrev the_row : Telling
@@ -173,8 +171,7 @@ count_units_command = Select (counting unit) (codes "count(*)" ∷ [])
 
 pub count_units_means : (v : Version) → Means v count_units_text 0 count_units_command
 unfolding understood everything
-count_units_means Links = record { is = refl; plain = (refl, refl); whole = (le_refl _, refl, refl); unlisted = refl }
-count_units_means Spans = record { is = refl; plain = (refl, refl); whole = (le_refl _, refl, refl); unlisted = refl }
+count_units_means v = record { is = refl; plain = (refl, refl); whole = (le_refl _, refl, refl); unlisted = refl }
 
 abbrev pub count_containers_text : List ℕ
 count_containers_text = codes "SELECT count(*) FROM container"
@@ -184,5 +181,4 @@ count_containers_command = Select (counting container) (codes "count(*)" ∷ [])
 
 pub count_containers_means : (v : Version) → Means v count_containers_text 0 count_containers_command
 unfolding understood everything
-count_containers_means Links = record { is = refl; plain = (refl, refl); whole = (le_refl _, refl, refl); unlisted = refl }
-count_containers_means Spans = record { is = refl; plain = (refl, refl); whole = (le_refl _, refl, refl); unlisted = refl }
+count_containers_means v = record { is = refl; plain = (refl, refl); whole = (le_refl _, refl, refl); unlisted = refl }

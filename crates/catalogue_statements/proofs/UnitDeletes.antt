@@ -37,7 +37,7 @@ use Rattle.office_tables.specs.Order.{Rises}
 use Rattle.office_tables.specs.Permits.{permit_cells}
 use Rattle.catalogue_statements.specs.Removals.{without, AreRemoved}
 use Rattle.catalogue_statements.specs.Rows.{unit_row, by_number, ElementRow, element_row, HousingRow, housing_row}
-use Rattle.tree_core.specs.Versions.{Version, Links, Spans}
+use Rattle.tree_core.specs.Versions.{Version}
 use Rattle.office_tables.specs.Schema.{schema, unit, element, housing, permit, to_unit}
 use Rattle.office_tables.specs.Step.{OnlyTouches}
 use Rattle.catalogue_core.specs.Units.{Unit}
@@ -66,13 +66,11 @@ remove_unit_command = command.Delete 8 remove_unit_program
 
 pub remove_unit_is : (v : Version) → command_of (understood (schema v) remove_unit_text) ≡ remove_unit_command
 unfolding understood everything
-remove_unit_is Links = refl
-remove_unit_is Spans = refl
+remove_unit_is v = refl
 
 pub remove_unit_plain : (v : Version) → IsPlain (understood (schema v) remove_unit_text)
 unfolding understood everything
-remove_unit_plain Links = (refl, refl)
-remove_unit_plain Spans = (refl, refl)
+remove_unit_plain v = (refl, refl)
 
 -- ---- the work on the children of a unit, which tell it at a place
 
@@ -89,8 +87,7 @@ lost u = ap₂ (λ a b. (a && true) && not (b && true)) (same_number u.id u.id �
 
 works_are : (v : Version) (u : Unit) → works (schema v) Enforced 0 tables.unit.tree (unit_row u ∷ []) [] ≡ work_on permit 2 u ∷ work_on element 1 u ∷ work_on housing 1 u ∷ []
 unfolding joined same_name
-works_are Links u = rw (lost u) refl
-works_are Spans u = rw (lost u) refl
+works_are v u = rw (lost u) refl
 
 -- the same where any rows are gone
 
@@ -100,13 +97,11 @@ work_with child place moves = record { depth = 0; child = child; ref = to_unit p
 works_any : (v : Version) (olds : List Row) → list_any (loses plain (0 ∷ [])) (pairs olds []) ≡ true
     → works (schema v) Enforced 0 tables.unit.tree olds [] ≡ work_with permit 2 (pairs olds []) ∷ work_with element 1 (pairs olds []) ∷ work_with housing 1 (pairs olds []) ∷ []
 unfolding joined same_name
-works_any Links olds some = rw some refl
-works_any Spans olds some = rw some refl
+works_any v olds some = rw some refl
 
 works_none : (v : Version) (olds : List Row) → list_any (loses plain (0 ∷ [])) (pairs olds []) ≡ false → works (schema v) Enforced 0 tables.unit.tree olds [] ≡ []
 unfolding joined same_name
-works_none Links olds none = rw none refl
-works_none Spans olds none = rw none refl
+works_none v olds none = rw none refl
 
 child_is : (child : Table) (place : ℕ) (u : Unit) (n : ℕ) (r : Row) → column r place ≡ Int (pos n) → list_any (is_child_of (work_on child place u) r) (work_on child place u).moves ≡ nat_eq u.id n
 unfolding first_key

@@ -155,20 +155,17 @@ parents_left v old new gone told keeps removed =
     free tree = all_of (λ _. true ≡ true) (λ _. refl) (new.trees tree)
 
     last : (w : Version) → AllByRecursion (λ row. list_all (has_parent (schema v).tables new.trees row) (place_table w).references ≡ true) (new.trees (place_table w).tree)
-    last Links = free 24
-    last Spans = free 24
+    last v = free 24
 
 -- ---- the statement
 
 pub remove_unit_means : (v : Version) → Means v remove_unit_text 1 remove_unit_command
 unfolding understood everything
-remove_unit_means Links = record { is = refl; plain = (refl, refl); whole = (le_refl _, refl, refl); unlisted = refl }
-remove_unit_means Spans = record { is = refl; plain = (refl, refl); whole = (le_refl _, refl, refl); unlisted = refl }
+remove_unit_means v = record { is = refl; plain = (refl, refl); whole = (le_refl _, refl, refl); unlisted = refl }
 
 unit_fits : (v : Version) → references_fit (schema v) unit false true ≡ true
 unfolding joined same_name
-unit_fits Links = refl
-unit_fits Spans = refl
+unit_fits v = refl
 
 leaf : (v : Version) (child : Table) (place : ℕ) (moves : List (Row × Row)) → is_referred_to (schema v) child.tree ≡ false → references_fit (schema v) child false true ≡ true
     → IsLeaf (schema v) (record { depth = 0; child = child; ref = to_unit place; places = 0 ∷ []; order = plain; deed = Delete; moves = moves })
@@ -221,5 +218,4 @@ remove_unit_cause old new id v has told =
     (accepted v) (unit_fits v) (unit_leaves v) (λ rows answer obeys after writes. parents v old.now.trees id told rows answer obeys after writes)
   where
     accepted : (v : Version) (db : Trees) (e : Error) → RefusesQuery None (record { schema = schema v; trees = db }) remove_unit_program (Int (pos id) ∷ []) e → ⊥
-    accepted Links db e r = none_refuse r (λ t. let clash : true ≡ false = t in cc) (sums_nothing _)
-    accepted Spans db e r = none_refuse r (λ t. let clash : true ≡ false = t in cc) (sums_nothing _)
+    accepted v db e r = none_refuse r (λ t. let clash : true ≡ false = t in cc) (sums_nothing _)

@@ -24,7 +24,7 @@ use Rattle.sqlite_tied.specs.Compute.{everything}
 use Rattle.sqlite_typing.specs.Types.{accepts_program}
 use Rattle.sqlite_value.specs.declared.keys.Key.{Key}
 use Rattle.sqlite_value.specs.Keys.{ascending}
-use Rattle.tree_core.specs.Versions.{Version, Links, Spans}
+use Rattle.tree_core.specs.Versions.{Version}
 use Rattle.catalogue_core.specs.Bounds.{IsLegibleUnit}
 use Rattle.catalogue_core.specs.Units.{Unit, is_from}
 use Rattle.office_tables.specs.Query.{Finds, Misses}
@@ -60,8 +60,7 @@ from_command = Select (asking unit from_there (col 1 0 ∷ []) in_order) (codes 
 
 pub from_means : (v : Version) → Means v from_text 2 from_command
 unfolding understood everything
-from_means Links = record { is = refl; plain = (refl, refl); whole = (le_refl _, refl, refl); unlisted = refl }
-from_means Spans = record { is = refl; plain = (refl, refl); whole = (le_refl _, refl, refl); unlisted = refl }
+from_means v = record { is = refl; plain = (refl, refl); whole = (le_refl _, refl, refl); unlisted = refl }
 
 module _ (old new : State) (source legacy : Bytes) (v : Version) (has : old.now.schema ≡ schema v) (xs : List Unit) (stored : Holds unit unit_row old xs) {X : Type 0} (items : X → List ℕ) (r : Result X StoreFault) where
   pub from_finds : IfOk r (λ found. Finds (λ n. Int (pos n) ∷ []) from_text (Text source ∷ Text legacy ∷ []) old new (items found))
@@ -109,8 +108,7 @@ status_command = Select (asking unit with_its_number status_columns in_order) st
 
 pub status_means : (v : Version) → Means v status_text 1 status_command
 unfolding understood everything
-status_means Links = record { is = refl; plain = (refl, refl); whole = (le_refl _, refl, refl); unlisted = refl }
-status_means Spans = record { is = refl; plain = (refl, refl); whole = (le_refl _, refl, refl); unlisted = refl }
+status_means v = record { is = refl; plain = (refl, refl); whole = (le_refl _, refl, refl); unlisted = refl }
 
 abbrev pub level_text : List ℕ
 level_text = codes "SELECT level FROM unit WHERE id = ?1 ORDER BY id"
@@ -126,8 +124,7 @@ level_command = Select (asking unit with_its_number level_columns in_order) leve
 
 pub level_means : (v : Version) → Means v level_text 1 level_command
 unfolding understood everything
-level_means Links = record { is = refl; plain = (refl, refl); whole = (le_refl _, refl, refl); unlisted = refl }
-level_means Spans = record { is = refl; plain = (refl, refl); whole = (le_refl _, refl, refl); unlisted = refl }
+level_means v = record { is = refl; plain = (refl, refl); whole = (le_refl _, refl, refl); unlisted = refl }
 
 abbrev pub standing_text : List ℕ
 standing_text = codes "SELECT level, draft, until FROM unit WHERE id = ?1 ORDER BY id"
@@ -143,8 +140,7 @@ standing_command = Select (asking unit with_its_number standing_columns in_order
 
 pub standing_means : (v : Version) → Means v standing_text 1 standing_command
 unfolding understood everything
-standing_means Links = record { is = refl; plain = (refl, refl); whole = (le_refl _, refl, refl); unlisted = refl }
-standing_means Spans = record { is = refl; plain = (refl, refl); whole = (le_refl _, refl, refl); unlisted = refl }
+standing_means v = record { is = refl; plain = (refl, refl); whole = (le_refl _, refl, refl); unlisted = refl }
 
 -- a day fits the type of a day's number
 day_fits : (day : ℤ) → is_day_number day ≡ true → SFits w32 day

@@ -65,8 +65,7 @@ insert_unit_command = Insert 8 (Values insert_unit_terms 7)
 
 pub insert_unit_means : (v : Version) → Means v insert_unit_text 5 insert_unit_command
 unfolding understood everything
-insert_unit_means Links = record { is = refl; plain = (refl, refl); whole = (le_refl _, refl, refl); unlisted = refl }
-insert_unit_means Spans = record { is = refl; plain = (refl, refl); whole = (le_refl _, refl, refl); unlisted = refl }
+insert_unit_means v = record { is = refl; plain = (refl, refl); whole = (le_refl _, refl, refl); unlisted = refl }
 
 same_origin : (a b : Described) → agree plain (2 ∷ 3 ∷ []) (unit_row a) (2 ∷ 3 ∷ []) (unit_row b) ≡ is_from b.source b.legacy a
 unfolding first_key
@@ -153,8 +152,7 @@ set_level_command = Update 8 (choosing unit with_its_number set_level_columns)
 
 pub set_level_means : (v : Version) → Means v set_level_text 2 set_level_command
 unfolding understood everything
-set_level_means Links = record { is = refl; plain = (refl, refl); whole = (le_refl _, refl, refl); unlisted = refl }
-set_level_means Spans = record { is = refl; plain = (refl, refl); whole = (le_refl _, refl, refl); unlisted = refl }
+set_level_means v = record { is = refl; plain = (refl, refl); whole = (le_refl _, refl, refl); unlisted = refl }
 
 module _ (old new : State) (id : ℕ) (values : Description) (v : Version) (has : old.now.schema ≡ schema v) (xs : List Described) (stored : Holds unit unit_row old xs) (up : Rises by_number xs)
     (r : Result Unit StoreFault) (ran : Ran set_level_text (Int (pos id) ∷ Text values.level ∷ []) old new r) where
@@ -184,8 +182,7 @@ set_draft_command = Update 8 (choosing unit with_its_number set_draft_columns)
 
 pub set_draft_means : (v : Version) → Means v set_draft_text 2 set_draft_command
 unfolding understood everything
-set_draft_means Links = record { is = refl; plain = (refl, refl); whole = (le_refl _, refl, refl); unlisted = refl }
-set_draft_means Spans = record { is = refl; plain = (refl, refl); whole = (le_refl _, refl, refl); unlisted = refl }
+set_draft_means v = record { is = refl; plain = (refl, refl); whole = (le_refl _, refl, refl); unlisted = refl }
 
 module _ (old new : State) (id : ℕ) (draft : Bool) (v : Version) (has : old.now.schema ≡ schema v) (xs : List Described) (stored : Holds unit unit_row old xs) (up : Rises by_number xs)
     (r : Result Unit StoreFault) (ran : Ran set_draft_text (Int (pos id) ∷ Int (flag draft) ∷ []) old new r) where
@@ -215,8 +212,7 @@ set_until_command = Update 8 (choosing unit with_its_number set_until_columns)
 
 pub set_until_means : (v : Version) → Means v set_until_text 2 set_until_command
 unfolding understood everything
-set_until_means Links = record { is = refl; plain = (refl, refl); whole = (le_refl _, refl, refl); unlisted = refl }
-set_until_means Spans = record { is = refl; plain = (refl, refl); whole = (le_refl _, refl, refl); unlisted = refl }
+set_until_means v = record { is = refl; plain = (refl, refl); whole = (le_refl _, refl, refl); unlisted = refl }
 
 until_accepted : (v : Version) (id : ℕ) (until : Option ℤ) → accepts_program (schema v) [] (plain_query (inner tables.unit.tree end) with_its_number set_until_columns []) (Int (pos id) ∷ or_null Int until ∷ []) ≡ true
 until_accepted Links id None = refl

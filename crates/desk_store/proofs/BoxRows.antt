@@ -19,7 +19,7 @@ use Rattle.sqlite_sql.specs.declared.ops.BinaryOp.TheVariants.{Compare}
 use Rattle.sqlite_sql.specs.declared.ops.CompareOp.TheVariants.{Eq}
 use Rattle.sqlite_tied.specs.Compute.{everything}
 use Rattle.sqlite_trees.proofs.ListLemmas.{all_of}
-use Rattle.tree_core.specs.Versions.{Version, Links, Spans}
+use Rattle.tree_core.specs.Versions.{Version}
 use Rattle.office_tables.specs.Query.{Finds, Misses}
 use Rattle.office_tables.specs.Faults.{IsUnlimited, HasCause}
 use Rattle.office_tables.specs.StatementMeaning.{Means}
@@ -64,8 +64,7 @@ box_command = Select (asking container with_its_number box_columns in_order) box
 
 pub box_means : (v : Version) → Means v box_text 1 box_command
 unfolding understood everything
-box_means Links = record { is = refl; plain = (refl, refl); whole = (le_refl _, refl, refl); unlisted = refl }
-box_means Spans = record { is = refl; plain = (refl, refl); whole = (le_refl _, refl, refl); unlisted = refl }
+box_means v = record { is = refl; plain = (refl, refl); whole = (le_refl _, refl, refl); unlisted = refl }
 
 module _ (old new : State) (n : ℕ) (v : Version) (has : old.now.schema ≡ schema v) (bs : List Numbered) (stored : Holds container container_row old bs) {X : Type 0} (items : X → List BoxKey) (r : Result X StoreFault) where
   pub box_finds : IfOk r (λ found. Finds written_cells box_text (Int (pos n) ∷ []) old new (items found))
@@ -94,8 +93,7 @@ number_command = Select (asking container with_its_number (col 1 0 ∷ []) in_or
 
 pub number_means : (v : Version) → Means v number_text 1 number_command
 unfolding understood everything
-number_means Links = record { is = refl; plain = (refl, refl); whole = (le_refl _, refl, refl); unlisted = refl }
-number_means Spans = record { is = refl; plain = (refl, refl); whole = (le_refl _, refl, refl); unlisted = refl }
+number_means v = record { is = refl; plain = (refl, refl); whole = (le_refl _, refl, refl); unlisted = refl }
 
 module _ (old new : State) (n : ℕ) (v : Version) (has : old.now.schema ≡ schema v) (bs : List Numbered) (stored : Holds container container_row old bs) {X : Type 0} (items : X → List ℕ) (r : Result X StoreFault) where
   pub number_finds : IfOk r (λ found. Finds number_cells number_text (Int (pos n) ∷ []) old new (items found))

@@ -18,7 +18,7 @@ use Rattle.sqlite_tied.specs.Compute.{everything}
 use Rattle.std.specs.Cmp.{IsTotalOrder, on_total, int_cmp_total}
 use Rattle.std.specs.Ordering.{int_cmp}
 use Rattle.std.specs.declared.cmp.Ordering.{Ordering}
-use Rattle.tree_core.specs.Versions.{Version, Links, Spans}
+use Rattle.tree_core.specs.Versions.{Version}
 use Rattle.isad_core.specs.Days.{is_day_number}
 use Rattle.isad_core.specs.declared.values.BoxKey.{BoxKey}
 use Rattle.desk_core.specs.DeskRows.{RunRow}
@@ -66,8 +66,7 @@ day_command = Select (asking run with_its_number (col 1 2 ∷ []) in_order) (cod
 
 pub day_means : (v : Version) → Means v day_text 1 day_command
 unfolding understood everything
-day_means Links = record { is = refl; plain = (refl, refl); whole = (le_refl _, refl, refl); unlisted = refl }
-day_means Spans = record { is = refl; plain = (refl, refl); whole = (le_refl _, refl, refl); unlisted = refl }
+day_means v = record { is = refl; plain = (refl, refl); whole = (le_refl _, refl, refl); unlisted = refl }
 
 module _ (old new : State) (n : ℕ) (v : Version) (has : old.now.schema ≡ schema v) (xs : List RunRow) (stored : Holds run run_cells old xs) {X : Type 0} (items : X → List RunDay) (r : Result X StoreFault) where
   pub day_finds : IfOk r (λ found. Finds day_cells day_text (Int (pos n) ∷ []) old new (items found)) → IfOk r (λ found. (ys : List RunRow) × IsOrdered by_run (filter (λ (x : RunRow). nat_eq n x.id) xs) ys × (items found ≡ map day_of ys))

@@ -32,7 +32,7 @@ use Rattle.sqlite.specs.State.{State}
 use Rattle.sqlite_sql.specs.declared.ops.BinaryOp.TheVariants.{Compare}
 use Rattle.sqlite_sql.specs.declared.ops.CompareOp.TheVariants.{Eq}
 use Rattle.sqlite_tied.specs.Compute.{everything}
-use Rattle.tree_core.specs.Versions.{Version, Links, Spans}
+use Rattle.tree_core.specs.Versions.{Version}
 use Rattle.isad_core.specs.Limits.{most_orders}
 use Rattle.desk_core.specs.DeskRows.{OrderRow}
 use Rattle.office_tables.specs.Query.{FindsFirst, Misses}
@@ -57,8 +57,7 @@ last_order_command = Select (last_of orders) (codes "id" ∷ [])
 
 pub last_order_means : (v : Version) → Means v last_order_text 0 last_order_command
 unfolding understood everything
-last_order_means Links = record { is = refl; plain = (refl, refl); whole = (le_refl _, refl, refl); unlisted = refl }
-last_order_means Spans = record { is = refl; plain = (refl, refl); whole = (le_refl _, refl, refl); unlisted = refl }
+last_order_means v = record { is = refl; plain = (refl, refl); whole = (le_refl _, refl, refl); unlisted = refl }
 
 -- ---- the orders of a ticket that have not ended
 
@@ -106,8 +105,7 @@ live_command = Select (asking orders live_there live_columns in_order) live_name
 
 pub live_means : (v : Version) → Means v live_text 1 live_command
 unfolding understood everything
-live_means Links = record { is = refl; plain = (refl, refl); whole = (le_refl _, refl, refl); unlisted = refl }
-live_means Spans = record { is = refl; plain = (refl, refl); whole = (le_refl _, refl, refl); unlisted = refl }
+live_means v = record { is = refl; plain = (refl, refl); whole = (le_refl _, refl, refl); unlisted = refl }
 
 each_read : (xs : List OrderRow) → AllByRecursion (λ _. ⊤) xs
 each_read [] = tt
@@ -139,8 +137,7 @@ placed_command = Select (counting orders placed_there) (codes "count(*)" ∷ [])
 
 pub placed_means : (v : Version) → Means v placed_text 2 placed_command
 unfolding understood everything
-placed_means Links = record { is = refl; plain = (refl, refl); whole = (le_refl _, refl, refl); unlisted = refl }
-placed_means Spans = record { is = refl; plain = (refl, refl); whole = (le_refl _, refl, refl); unlisted = refl }
+placed_means v = record { is = refl; plain = (refl, refl); whole = (le_refl _, refl, refl); unlisted = refl }
 
 module _ (old new : State) (v : Version) (has : old.now.schema ≡ schema v) (xs : List OrderRow) (stored : Holds orders order_cells old xs) (few : length xs ≤ most_orders) (r : Result ℕ StoreFault) where
   pub last_order_finds : AreCounted (λ (o : OrderRow). o.id) xs → IfOk r (FindsFirst last_order_text [] old new) → IfOk r (λ n. n ≡ length xs)

@@ -29,7 +29,7 @@ use Rattle.sqlite_trees.specs.declared.store.Store as store
 use Rattle.sqlite_typing.specs.Types.{accepts_terms}
 use Rattle.sqlite_rules.specs.Steps.{is_typed}
 use Rattle.sqlite_value.specs.Keys.{joined}
-use Rattle.tree_core.specs.Versions.{Version, Links, Spans}
+use Rattle.tree_core.specs.Versions.{Version}
 use Rattle.desk_core.specs.DeskRows.{Desk, HoldingRow}
 use Rattle.desk_core.specs.declared.reader.Place.TheVariants.{Shelf}
 use Rattle.office_tables.specs.Calls.{StoreUpdates}
@@ -75,18 +75,15 @@ clear_holding_command = Delete 3 (choosing holding with_its_number (col 1 0 ∷ 
 
 pub clear_holding_means : (v : Version) → Means v clear_holding_text 1 clear_holding_command
 unfolding understood everything
-clear_holding_means Links = record { is = refl; plain = (refl, refl); whole = (le_refl _, refl, refl); unlisted = refl }
-clear_holding_means Spans = record { is = refl; plain = (refl, refl); whole = (le_refl _, refl, refl); unlisted = refl }
+clear_holding_means v = record { is = refl; plain = (refl, refl); whole = (le_refl _, refl, refl); unlisted = refl }
 
 holding_unreferred : (v : Version) → is_referred_to (schema v) tables.holding.tree ≡ false
 unfolding joined same_name
-holding_unreferred Links = refl
-holding_unreferred Spans = refl
+holding_unreferred v = refl
 
 holding_fits : (v : Version) → references_fit (schema v) holding false true ≡ true
 unfolding joined same_name
-holding_fits Links = refl
-holding_fits Spans = refl
+holding_fits v = refl
 
 module _ (old new : State) (n : ℕ) (v : Version) (has : old.now.schema ≡ schema v) (r : Result Unit StoreFault) (ran : Ran clear_holding_text (Int (pos n) ∷ []) old new r) where
   pub clear_holding_leaves : (xs : List HoldingRow) → Holds holding holding_cells old xs → AreByNumber (λ (h : HoldingRow). h.container) xs
@@ -115,8 +112,7 @@ insert_holding_command = Insert 3 (Values insert_holding_terms 4)
 
 pub insert_holding_means : (v : Version) → Means v insert_holding_text 3 insert_holding_command
 unfolding understood everything
-insert_holding_means Links = record { is = refl; plain = (refl, refl); whole = (le_refl _, refl, refl); unlisted = refl }
-insert_holding_means Spans = record { is = refl; plain = (refl, refl); whole = (le_refl _, refl, refl); unlisted = refl }
+insert_holding_means v = record { is = refl; plain = (refl, refl); whole = (le_refl _, refl, refl); unlisted = refl }
 
 holding_typed : (c p : ℕ) (o : Option ℕ) → is_typed holding (holding_cells (record { container = c; place = p; held_by = o })) ≡ true
 holding_typed c p None = refl

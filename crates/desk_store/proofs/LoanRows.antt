@@ -20,7 +20,7 @@ use Rattle.sqlite_tied.specs.Compute.{everything}
 use Rattle.sqlite_value.specs.declared.keys.Key.{Key}
 use Rattle.sqlite_value.specs.Keys.{ascending}
 use Rattle.sqlite_trees.proofs.ListLemmas.{all_of}
-use Rattle.tree_core.specs.Versions.{Version, Links, Spans}
+use Rattle.tree_core.specs.Versions.{Version}
 use Rattle.desk_core.specs.DeskRows.{HoldingRow, OrderRow}
 use Rattle.office_tables.specs.Query.{Finds, Misses}
 use Rattle.office_tables.specs.Faults.{IsUnlimited, HasCause}
@@ -67,8 +67,7 @@ lines_command = Select (asking holding [] line_columns in_order) line_names
 
 pub lines_means : (v : Version) → Means v lines_text 0 lines_command
 unfolding understood everything
-lines_means Links = record { is = refl; plain = (refl, refl); whole = (le_refl _, refl, refl); unlisted = refl }
-lines_means Spans = record { is = refl; plain = (refl, refl); whole = (le_refl _, refl, refl); unlisted = refl }
+lines_means v = record { is = refl; plain = (refl, refl); whole = (le_refl _, refl, refl); unlisted = refl }
 
 module _ (old new : State) (v : Version) (has : old.now.schema ≡ schema v) (xs : List HoldingRow) (stored : Holds holding holding_cells old xs) {X : Type 0} (items : X → List HoldingLine) (r : Result X StoreFault) where
   pub lines_finds : IfOk r (λ found. Finds line_cells lines_text [] old new (items found)) → IfOk r (λ found. (ys : List HoldingRow) × IsOrdered by_container (filter (λ _. true) xs) ys × (items found ≡ map line_of ys))
@@ -99,8 +98,7 @@ tickets_command = Select (asking orders with_its_number (col 1 2 ∷ []) in_orde
 
 pub tickets_means : (v : Version) → Means v tickets_text 1 tickets_command
 unfolding understood everything
-tickets_means Links = record { is = refl; plain = (refl, refl); whole = (le_refl _, refl, refl); unlisted = refl }
-tickets_means Spans = record { is = refl; plain = (refl, refl); whole = (le_refl _, refl, refl); unlisted = refl }
+tickets_means v = record { is = refl; plain = (refl, refl); whole = (le_refl _, refl, refl); unlisted = refl }
 
 module _ (old new : State) (n : ℕ) (v : Version) (has : old.now.schema ≡ schema v) (xs : List OrderRow) (stored : Holds orders order_cells old xs) {X : Type 0} (items : X → List ℕ) (r : Result X StoreFault) where
   pub tickets_finds : IfOk r (λ found. Finds ticket_cells tickets_text (Int (pos n) ∷ []) old new (items found))

@@ -13,7 +13,7 @@ use Rattle.sqlite.specs.State.{State, IsLive}
 use Rattle.sqlite_sql.specs.declared.ops.BinaryOp.TheVariants.{Compare}
 use Rattle.sqlite_sql.specs.declared.ops.CompareOp.TheVariants.{Eq}
 use Rattle.sqlite_tied.specs.Compute.{everything}
-use Rattle.tree_core.specs.Versions.{Version, Links, Spans}
+use Rattle.tree_core.specs.Versions.{Version}
 use Rattle.desk_core.specs.DeskRows.{SeatRow}
 use Rattle.office_tables.specs.ChangeStatement.{Ran}
 use Rattle.office_tables.specs.Faults.{IsUnlimited, HasCause}
@@ -43,8 +43,7 @@ free_command = Delete 1 (choosing seat [] (col 1 0 ∷ []))
 
 pub free_means : (v : Version) → Means v free_text 0 free_command
 unfolding understood everything
-free_means Links = record { is = refl; plain = (refl, refl); whole = (le_refl _, refl, refl); unlisted = refl }
-free_means Spans = record { is = refl; plain = (refl, refl); whole = (le_refl _, refl, refl); unlisted = refl }
+free_means v = record { is = refl; plain = (refl, refl); whole = (le_refl _, refl, refl); unlisted = refl }
 
 none_kept : (xs : List SeatRow) → filter (λ _. false) xs ≡ []
 none_kept [] = refl
@@ -79,8 +78,7 @@ set_day_command = Update 7 (choosing office the_one set_day_columns)
 
 pub set_day_means : (v : Version) → Means v set_day_text 1 set_day_command
 unfolding understood everything
-set_day_means Links = record { is = refl; plain = (refl, refl); whole = (le_refl _, refl, refl); unlisted = refl }
-set_day_means Spans = record { is = refl; plain = (refl, refl); whole = (le_refl _, refl, refl); unlisted = refl }
+set_day_means v = record { is = refl; plain = (refl, refl); whole = (le_refl _, refl, refl); unlisted = refl }
 
 module _ (old new : State) (day : ℤ) (v : Version) (has : old.now.schema ≡ schema v) (r : Result Unit StoreFault) (ran : Ran set_day_text (Int day ∷ []) old new r) where
   pub set_day_only : OnOk r (OnlyTouches (tables.office.tree ∷ []) old.now new.now)

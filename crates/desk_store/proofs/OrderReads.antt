@@ -15,7 +15,7 @@ use Rattle.sqlite_sql.specs.declared.ops.BinaryOp.TheVariants.{Compare}
 use Rattle.sqlite_sql.specs.declared.ops.CompareOp.TheVariants.{Eq}
 use Rattle.sqlite_tied.specs.Compute.{everything}
 use Rattle.sqlite_trees.proofs.ListLemmas.{all_weaker}
-use Rattle.tree_core.specs.Versions.{Version, Links, Spans}
+use Rattle.tree_core.specs.Versions.{Version}
 use Rattle.isad_core.specs.Days.{is_day_number}
 use Rattle.desk_core.specs.DeskRows.{OrderRow}
 use Rattle.office_tables.specs.Query.{Finds, Misses}
@@ -62,8 +62,7 @@ orders_with_command = Select (asking orders with_its_number entry_columns in_ord
 
 pub orders_with_means : (v : Version) → Means v orders_with_text 1 orders_with_command
 unfolding understood everything
-orders_with_means Links = record { is = refl; plain = (refl, refl); whole = (le_refl _, refl, refl); unlisted = refl }
-orders_with_means Spans = record { is = refl; plain = (refl, refl); whole = (le_refl _, refl, refl); unlisted = refl }
+orders_with_means v = record { is = refl; plain = (refl, refl); whole = (le_refl _, refl, refl); unlisted = refl }
 
 module _ (old new : State) (n : ℕ) (v : Version) (has : old.now.schema ≡ schema v) (xs : List OrderRow) (stored : Holds orders order_cells old xs) {X : Type 0} (items : X → List OrderEntry) (r : Result X StoreFault) where
   pub orders_with_finds : IfOk r (λ found. Finds entry_cells orders_with_text (Int (pos n) ∷ []) old new (items found)) → IfOk r (λ found. (ys : List OrderRow) × IsOrdered by_order (filter (λ (o : OrderRow). nat_eq n o.id) xs) ys × (items found ≡ map entry_of ys))

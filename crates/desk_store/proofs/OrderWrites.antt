@@ -71,8 +71,7 @@ insert_order_command = Insert 2 (Values insert_order_terms 6)
 
 pub insert_order_means : (v : Version) → Means v insert_order_text 4 insert_order_command
 unfolding understood everything
-insert_order_means Links = record { is = refl; plain = (refl, refl); whole = (le_refl _, refl, refl); unlisted = refl }
-insert_order_means Spans = record { is = refl; plain = (refl, refl); whole = (le_refl _, refl, refl); unlisted = refl }
+insert_order_means v = record { is = refl; plain = (refl, refl); whole = (le_refl _, refl, refl); unlisted = refl }
 
 order_welcome : (o : OrderRow) (xs : List OrderRow) (v : Version) (db : Trees) → db tables.orders.tree ≡ map order_cells xs → list_any (λ (x : OrderRow). nat_eq o.id x.id) xs ≡ false → IsWelcome (schema v) db orders (order_cells o)
 order_welcome o xs v db stored none = number_welcome v orders order_cells (λ x. x.id) (λ _. refl) o xs db stored none refl
@@ -112,8 +111,7 @@ set_state_command = Update 2 (choosing orders with_its_number set_state_columns)
 
 pub set_state_means : (v : Version) → Means v set_state_text 2 set_state_command
 unfolding understood everything
-set_state_means Links = record { is = refl; plain = (refl, refl); whole = (le_refl _, refl, refl); unlisted = refl }
-set_state_means Spans = record { is = refl; plain = (refl, refl); whole = (le_refl _, refl, refl); unlisted = refl }
+set_state_means v = record { is = refl; plain = (refl, refl); whole = (le_refl _, refl, refl); unlisted = refl }
 
 -- the number stays
 abbrev kept_of_orders : ℕ → Bool

@@ -26,7 +26,7 @@ use Rattle.sqlite_sql.specs.declared.ops.CompareOp.TheVariants.{Eq}
 use Rattle.sqlite_tied.specs.Compute.{everything}
 use Rattle.sqlite_value.specs.declared.keys.Key.{Key}
 use Rattle.sqlite_value.specs.Keys.{ascending, joined, first_key, plain}
-use Rattle.tree_core.specs.Versions.{Version, Links, Spans}
+use Rattle.tree_core.specs.Versions.{Version}
 use Rattle.isad_core.specs.Days.{is_day_number}
 use Rattle.desk_core.specs.DeskRows.{PermitRow}
 use Rattle.office_tables.specs.Query.{Finds, Misses}
@@ -59,13 +59,11 @@ use Rattle.office_tables.proofs.statements.LeafOf.{permit_alone, permit_fits}
 
 unit_fits : (v : Version) → list_all (is_key_of (schema v)) (to_unit 2 ∷ []) ≡ true
 unfolding joined same_name
-unit_fits Links = refl
-unit_fits Spans = refl
+unit_fits v = refl
 
 held_by_unit : (v : Version) (db : Trees) (row : Row) → list_any (λ parent. agree plain (0 ∷ []) parent (2 ∷ []) row) (db unit.tree) ≡ true → list_all (has_parent (schema v).tables db row) (to_unit 2 ∷ []) ≡ true
 unfolding joined same_name
-held_by_unit Links db row h = rw (h, or_right (has_null (2 ∷ []) row) true refl) refl
-held_by_unit Spans db row h = rw (h, or_right (has_null (2 ∷ []) row) true refl) refl
+held_by_unit v db row h = rw (h, or_right (has_null (2 ∷ []) row) true refl) refl
 
 unit_agrees : (u : ℕ) (parent row : Row) → column parent 0 ≡ Int (pos u) → column row 2 ≡ Int (pos u) → agree plain (0 ∷ []) parent (2 ∷ []) row ≡ true
 unfolding first_key
@@ -87,8 +85,7 @@ insert_permit_command = Insert 6 (Values insert_permit_terms 4)
 
 pub insert_permit_means : (v : Version) → Means v insert_permit_text 3 insert_permit_command
 unfolding understood everything
-insert_permit_means Links = record { is = refl; plain = (refl, refl); whole = (le_refl _, refl, refl); unlisted = refl }
-insert_permit_means Spans = record { is = refl; plain = (refl, refl); whole = (le_refl _, refl, refl); unlisted = refl }
+insert_permit_means v = record { is = refl; plain = (refl, refl); whole = (le_refl _, refl, refl); unlisted = refl }
 
 same_permit : (a b : ℤ × PermitRow) → agree plain (1 ∷ 2 ∷ []) (permit_cells a) (1 ∷ 2 ∷ []) (permit_cells b) ≡ is_permit b.1.ticket b.1.unit a.1
 unfolding first_key
@@ -138,8 +135,7 @@ clear_permit_command = Delete 6 (choosing permit of_both (col 1 0 ∷ []))
 
 pub clear_permit_means : (v : Version) → Means v clear_permit_text 2 clear_permit_command
 unfolding understood everything
-clear_permit_means Links = record { is = refl; plain = (refl, refl); whole = (le_refl _, refl, refl); unlisted = refl }
-clear_permit_means Spans = record { is = refl; plain = (refl, refl); whole = (le_refl _, refl, refl); unlisted = refl }
+clear_permit_means v = record { is = refl; plain = (refl, refl); whole = (le_refl _, refl, refl); unlisted = refl }
 
 module _ (old new : State) (t u : ℕ) (v : Version) (has : old.now.schema ≡ schema v) (r : Result Unit StoreFault) (ran : Ran clear_permit_text (Int (pos t) ∷ Int (pos u) ∷ []) old new r) where
   pub clear_permit_leaves : (ps : List PermitRow) → HasNumbered permit_cells (old.now.trees tables.permit.tree) ps → OnOk r (HasNumbered permit_cells (new.now.trees tables.permit.tree) (without_permit t u ps))
@@ -177,8 +173,7 @@ permits_command = Select (asking permit of_ticket permit_columns in_order) permi
 
 pub permits_means : (v : Version) → Means v permits_text 1 permits_command
 unfolding understood everything
-permits_means Links = record { is = refl; plain = (refl, refl); whole = (le_refl _, refl, refl); unlisted = refl }
-permits_means Spans = record { is = refl; plain = (refl, refl); whole = (le_refl _, refl, refl); unlisted = refl }
+permits_means v = record { is = refl; plain = (refl, refl); whole = (le_refl _, refl, refl); unlisted = refl }
 
 abbrev pub permit_of : PermitRow → Permit
 permit_of p = record { unit = p.unit; until = p.until }

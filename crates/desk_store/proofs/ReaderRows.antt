@@ -73,8 +73,7 @@ insert_reader_command = Insert 0 (Values insert_reader_terms 4)
 
 pub insert_reader_means : (v : Version) → Means v insert_reader_text 3 insert_reader_command
 unfolding understood everything
-insert_reader_means Links = record { is = refl; plain = (refl, refl); whole = (le_refl _, refl, refl); unlisted = refl }
-insert_reader_means Spans = record { is = refl; plain = (refl, refl); whole = (le_refl _, refl, refl); unlisted = refl }
+insert_reader_means v = record { is = refl; plain = (refl, refl); whole = (le_refl _, refl, refl); unlisted = refl }
 
 reader_welcome : (r : ReaderRow) (xs : List ReaderRow) (v : Version) (db : Trees) → db tables.reader.tree ≡ map reader_cells xs → list_any (λ (x : ReaderRow). nat_eq r.ticket x.ticket) xs ≡ false → IsWelcome (schema v) db reader (reader_cells r)
 reader_welcome r xs v db stored none = number_welcome v reader reader_cells (λ x. x.ticket) (λ _. refl) r xs db stored none refl
@@ -111,8 +110,7 @@ set_last_day_command = Update 0 (choosing reader with_its_number set_last_day_co
 
 pub set_last_day_means : (v : Version) → Means v set_last_day_text 2 set_last_day_command
 unfolding understood everything
-set_last_day_means Links = record { is = refl; plain = (refl, refl); whole = (le_refl _, refl, refl); unlisted = refl }
-set_last_day_means Spans = record { is = refl; plain = (refl, refl); whole = (le_refl _, refl, refl); unlisted = refl }
+set_last_day_means v = record { is = refl; plain = (refl, refl); whole = (le_refl _, refl, refl); unlisted = refl }
 
 -- the ticket stays
 abbrev kept_of_reader : ℕ → Bool
@@ -187,8 +185,7 @@ readers_with_command = Select (asking reader with_its_number named_columns in_or
 
 pub readers_with_means : (v : Version) → Means v readers_with_text 1 readers_with_command
 unfolding understood everything
-readers_with_means Links = record { is = refl; plain = (refl, refl); whole = (le_refl _, refl, refl); unlisted = refl }
-readers_with_means Spans = record { is = refl; plain = (refl, refl); whole = (le_refl _, refl, refl); unlisted = refl }
+readers_with_means v = record { is = refl; plain = (refl, refl); whole = (le_refl _, refl, refl); unlisted = refl }
 
 module _ (old new : State) (t : ℕ) (v : Version) (has : old.now.schema ≡ schema v) (xs : List ReaderRow) (stored : Holds reader reader_cells old xs) {X : Type 0} (items : X → List NamedReader) (r : Result X StoreFault) where
   pub readers_with_finds : IfOk r (λ found. Finds named_cells readers_with_text (Int (pos t) ∷ []) old new (items found)) → IfOk r (λ found. (ys : List ReaderRow) × IsOrdered by_ticket (filter (λ (x : ReaderRow). nat_eq t x.ticket) xs) ys × (items found ≡ map named ys))
@@ -213,8 +210,7 @@ last_ticket_command = Select (last_of reader) (codes "ticket" ∷ [])
 
 pub last_ticket_means : (v : Version) → Means v last_ticket_text 0 last_ticket_command
 unfolding understood everything
-last_ticket_means Links = record { is = refl; plain = (refl, refl); whole = (le_refl _, refl, refl); unlisted = refl }
-last_ticket_means Spans = record { is = refl; plain = (refl, refl); whole = (le_refl _, refl, refl); unlisted = refl }
+last_ticket_means v = record { is = refl; plain = (refl, refl); whole = (le_refl _, refl, refl); unlisted = refl }
 
 module _ (old new : State) (v : Version) (has : old.now.schema ≡ schema v) (xs : List ReaderRow) (stored : Holds reader reader_cells old xs) (counted : AreCounted (λ (x : ReaderRow). x.ticket) xs) (r : Result ℕ StoreFault) where
   pub last_ticket_finds : IfOk r (FindsFirst last_ticket_text [] old new) → IfOk r (λ n. n ≡ length xs)

@@ -14,7 +14,7 @@ use Rattle.sqlite_sql.specs.declared.ops.BinaryOp.TheVariants.{Compare}
 use Rattle.sqlite_sql.specs.declared.ops.CompareOp.TheVariants.{Eq}
 use Rattle.sqlite_tied.specs.Compute.{everything}
 use Rattle.sqlite_trees.proofs.ListLemmas.{all_of}
-use Rattle.tree_core.specs.Versions.{Version, Links, Spans}
+use Rattle.tree_core.specs.Versions.{Version}
 use Rattle.desk_core.specs.DeskRows.{HoldingRow}
 use Rattle.office_tables.specs.Query.{Finds, Misses}
 use Rattle.office_tables.specs.Faults.{IsUnlimited, HasCause}
@@ -44,8 +44,7 @@ desk_command = Select (asking holding is_there (col 1 0 ∷ []) in_order) (codes
 
 pub desk_means : (v : Version) → Means v desk_text 0 desk_command
 unfolding understood everything
-desk_means Links = record { is = refl; plain = (refl, refl); whole = (le_refl _, refl, refl); unlisted = refl }
-desk_means Spans = record { is = refl; plain = (refl, refl); whole = (le_refl _, refl, refl); unlisted = refl }
+desk_means v = record { is = refl; plain = (refl, refl); whole = (le_refl _, refl, refl); unlisted = refl }
 
 module _ (old new : State) (v : Version) (has : old.now.schema ≡ schema v) (xs : List HoldingRow) (stored : Holds holding holding_cells old xs) {X : Type 0} (items : X → List ℕ) (r : Result X StoreFault) where
   pub desk_finds : IfOk r (λ found. Finds number_cells desk_text [] old new (items found))

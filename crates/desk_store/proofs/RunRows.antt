@@ -27,7 +27,7 @@ use Rattle.sqlite_schema.specs.Rules.{agree}
 use Rattle.sqlite_tied.specs.Compute.{everything}
 use Rattle.sqlite_value.specs.Keys.{ascending, first_key, plain}
 use Rattle.sqlite_trees.proofs.ListLemmas.{all_of}
-use Rattle.tree_core.specs.Versions.{Version, Links, Spans}
+use Rattle.tree_core.specs.Versions.{Version}
 use Rattle.isad_core.specs.Limits.{most_runs}
 use Rattle.desk_core.specs.DeskRows.{RunRow, RunLineRow}
 use Rattle.office_tables.specs.Query.{Finds, FindsFirst, Misses}
@@ -62,8 +62,7 @@ last_run_command = Select (last_of run) (codes "id" ∷ [])
 
 pub last_run_means : (v : Version) → Means v last_run_text 0 last_run_command
 unfolding understood everything
-last_run_means Links = record { is = refl; plain = (refl, refl); whole = (le_refl _, refl, refl); unlisted = refl }
-last_run_means Spans = record { is = refl; plain = (refl, refl); whole = (le_refl _, refl, refl); unlisted = refl }
+last_run_means v = record { is = refl; plain = (refl, refl); whole = (le_refl _, refl, refl); unlisted = refl }
 
 module _ (old new : State) (v : Version) (has : old.now.schema ≡ schema v) (xs : List RunRow) (stored : Holds run run_cells old xs) (counted : AreCounted (λ (x : RunRow). x.id) xs) (r : Result ℕ StoreFault) where
   pub last_run_finds : IfOk r (FindsFirst last_run_text [] old new) → IfOk r (λ n. n ≡ length xs)
@@ -85,8 +84,7 @@ insert_run_command = Insert 4 (Values insert_run_terms 3)
 
 pub insert_run_means : (v : Version) → Means v insert_run_text 2 insert_run_command
 unfolding understood everything
-insert_run_means Links = record { is = refl; plain = (refl, refl); whole = (le_refl _, refl, refl); unlisted = refl }
-insert_run_means Spans = record { is = refl; plain = (refl, refl); whole = (le_refl _, refl, refl); unlisted = refl }
+insert_run_means v = record { is = refl; plain = (refl, refl); whole = (le_refl _, refl, refl); unlisted = refl }
 
 run_welcome : (x : RunRow) (xs : List RunRow) (v : Version) (db : Trees) → db tables.run.tree ≡ map run_cells xs → list_any (λ (y : RunRow). nat_eq x.id y.id) xs ≡ false → IsWelcome (schema v) db run (run_cells x)
 run_welcome x xs v db stored none = number_welcome v run run_cells (λ y. y.id) (λ _. refl) x xs db stored none refl
@@ -120,8 +118,7 @@ insert_line_command = Insert 5 (Values insert_line_terms 5)
 
 pub insert_line_means : (v : Version) → Means v insert_line_text 4 insert_line_command
 unfolding understood everything
-insert_line_means Links = record { is = refl; plain = (refl, refl); whole = (le_refl _, refl, refl); unlisted = refl }
-insert_line_means Spans = record { is = refl; plain = (refl, refl); whole = (le_refl _, refl, refl); unlisted = refl }
+insert_line_means v = record { is = refl; plain = (refl, refl); whole = (le_refl _, refl, refl); unlisted = refl }
 
 same_line : (a b : ℤ × RunLineRow) → agree plain (1 ∷ 2 ∷ []) (run_line_cells a) (1 ∷ 2 ∷ []) (run_line_cells b) ≡ (nat_eq b.1.run a.1.run && nat_eq b.1.container a.1.container)
 unfolding first_key
@@ -181,8 +178,7 @@ lines_with_command = Select (asking run_line of_run line_columns in_order) line_
 
 pub lines_with_means : (v : Version) → Means v lines_with_text 1 lines_with_command
 unfolding understood everything
-lines_with_means Links = record { is = refl; plain = (refl, refl); whole = (le_refl _, refl, refl); unlisted = refl }
-lines_with_means Spans = record { is = refl; plain = (refl, refl); whole = (le_refl _, refl, refl); unlisted = refl }
+lines_with_means v = record { is = refl; plain = (refl, refl); whole = (le_refl _, refl, refl); unlisted = refl }
 
 abbrev pub taken_line : RunLineRow → TakenLine
 taken_line l = record { container = l.container; order = l.order_no; ticket = l.ticket }

@@ -24,7 +24,7 @@ use Rattle.sqlite_sql.specs.declared.ops.CompareOp.TheVariants.{Eq}
 use Rattle.sqlite_tied.specs.Compute.{everything}
 use Rattle.sqlite_value.specs.declared.keys.Key.{Key}
 use Rattle.sqlite_value.specs.Keys.{ascending, first_key, plain}
-use Rattle.tree_core.specs.Versions.{Version, Links, Spans}
+use Rattle.tree_core.specs.Versions.{Version}
 use Rattle.desk_core.specs.DeskRows.{SeatRow}
 use Rattle.office_tables.specs.Query.{Finds, Misses}
 use Rattle.office_tables.specs.ChangeStatement.{Ran}
@@ -63,8 +63,7 @@ insert_seat_command = Insert 1 (Values insert_seat_terms 3)
 
 pub insert_seat_means : (v : Version) → Means v insert_seat_text 2 insert_seat_command
 unfolding understood everything
-insert_seat_means Links = record { is = refl; plain = (refl, refl); whole = (le_refl _, refl, refl); unlisted = refl }
-insert_seat_means Spans = record { is = refl; plain = (refl, refl); whole = (le_refl _, refl, refl); unlisted = refl }
+insert_seat_means v = record { is = refl; plain = (refl, refl); whole = (le_refl _, refl, refl); unlisted = refl }
 
 same_ticket : (a b : SeatRow) → agree plain (2 ∷ []) (seat_cells a) (2 ∷ []) (seat_cells b) ≡ nat_eq b.ticket a.ticket
 unfolding first_key
@@ -105,8 +104,7 @@ clear_seat_command = Delete 1 (choosing seat with_its_number (col 1 0 ∷ []))
 
 pub clear_seat_means : (v : Version) → Means v clear_seat_text 1 clear_seat_command
 unfolding understood everything
-clear_seat_means Links = record { is = refl; plain = (refl, refl); whole = (le_refl _, refl, refl); unlisted = refl }
-clear_seat_means Spans = record { is = refl; plain = (refl, refl); whole = (le_refl _, refl, refl); unlisted = refl }
+clear_seat_means v = record { is = refl; plain = (refl, refl); whole = (le_refl _, refl, refl); unlisted = refl }
 
 module _ (old new : State) (n : ℕ) (v : Version) (has : old.now.schema ≡ schema v) (r : Result Unit StoreFault) (ran : Ran clear_seat_text (Int (pos n) ∷ []) old new r) where
   pub clear_seat_leaves : (xs : List SeatRow) → Holds seat seat_cells old xs → AreByNumber (λ (s : SeatRow). s.seat) xs → OnOk r (HasRows tables.seat.tree (map seat_cells (filter (λ (s : SeatRow). not (nat_eq n s.seat)) xs)) old.now new.now)
@@ -152,8 +150,7 @@ seats_command = Select (asking seat [] taken_columns in_order) taken_names
 
 pub seats_means : (v : Version) → Means v seats_text 0 seats_command
 unfolding understood everything
-seats_means Links = record { is = refl; plain = (refl, refl); whole = (le_refl _, refl, refl); unlisted = refl }
-seats_means Spans = record { is = refl; plain = (refl, refl); whole = (le_refl _, refl, refl); unlisted = refl }
+seats_means v = record { is = refl; plain = (refl, refl); whole = (le_refl _, refl, refl); unlisted = refl }
 
 abbrev pub seats_with_text : List ℕ
 seats_with_text = codes "SELECT seat, ticket FROM seat WHERE ticket = ?1 ORDER BY seat"
@@ -166,8 +163,7 @@ seats_with_command = Select (asking seat with_the_ticket taken_columns in_order)
 
 pub seats_with_means : (v : Version) → Means v seats_with_text 1 seats_with_command
 unfolding understood everything
-seats_with_means Links = record { is = refl; plain = (refl, refl); whole = (le_refl _, refl, refl); unlisted = refl }
-seats_with_means Spans = record { is = refl; plain = (refl, refl); whole = (le_refl _, refl, refl); unlisted = refl }
+seats_with_means v = record { is = refl; plain = (refl, refl); whole = (le_refl _, refl, refl); unlisted = refl }
 
 module _ (old new : State) (v : Version) (has : old.now.schema ≡ schema v) (xs : List SeatRow) (stored : Holds seat seat_cells old xs) {X : Type 0} (items : X → List TakenSeat) (r : Result X StoreFault) where
   pub seats_finds : IfOk r (λ found. Finds taken_cells seats_text [] old new (items found)) → IfOk r (λ found. (ys : List SeatRow) × IsOrdered by_seat (filter (λ _. true) xs) ys × (items found ≡ map taken ys))

@@ -21,7 +21,7 @@ use Rattle.sqlite_sql.specs.declared.ops.BinaryOp.TheVariants.{Compare}
 use Rattle.sqlite_sql.specs.declared.ops.CompareOp.TheVariants.{Eq}
 use Rattle.sqlite_tied.specs.Compute.{everything}
 use Rattle.sqlite_trees.proofs.ListLemmas.{all_of, map-map}
-use Rattle.tree_core.specs.Versions.{Version, Links, Spans}
+use Rattle.tree_core.specs.Versions.{Version}
 use Rattle.isad_core.specs.Limits.{most_orders}
 use Rattle.desk_core.specs.DeskRows.{OrderRow}
 use Rattle.office_tables.specs.Query.{Finds, FindsFirst, Misses}
@@ -69,8 +69,7 @@ waiting_command = Select (asking orders for_the_container waiting_columns in_ord
 
 pub waiting_means : (v : Version) → Means v waiting_text 1 waiting_command
 unfolding understood everything
-waiting_means Links = record { is = refl; plain = (refl, refl); whole = (le_refl _, refl, refl); unlisted = refl }
-waiting_means Spans = record { is = refl; plain = (refl, refl); whole = (le_refl _, refl, refl); unlisted = refl }
+waiting_means v = record { is = refl; plain = (refl, refl); whole = (le_refl _, refl, refl); unlisted = refl }
 
 module _ (old new : State) (c : ℕ) (v : Version) (has : old.now.schema ≡ schema v) (xs : List OrderRow) (stored : Holds orders order_cells old xs) {X : Type 0} (items : X → List WaitingOrder) (r : Result X StoreFault) where
   pub waiting_finds : IfOk r (λ found. Finds waiting_cells waiting_text (Int (pos c) ∷ []) old new (items found)) → IfOk r (λ found. (ys : List OrderRow) × IsOrdered by_order (filter (waits_for c) xs) ys × (items found ≡ map waiting_of ys))
@@ -98,8 +97,7 @@ first_command = Select first_program waiting_names
 
 pub first_means : (v : Version) → Means v first_text 1 first_command
 unfolding understood everything
-first_means Links = record { is = refl; plain = (refl, refl); whole = (le_refl _, refl, refl); unlisted = refl }
-first_means Spans = record { is = refl; plain = (refl, refl); whole = (le_refl _, refl, refl); unlisted = refl }
+first_means v = record { is = refl; plain = (refl, refl); whole = (le_refl _, refl, refl); unlisted = refl }
 
 module _ (old new : State) (c : ℕ) (v : Version) (has : old.now.schema ≡ schema v) (xs : List OrderRow) (stored : Holds orders order_cells old xs) {X : Type 0} (items : X → List WaitingOrder) (r : Result X StoreFault) where
   first_rows : (rows : List Row) → Shown first_text (Int (pos c) ∷ []) old new rows
@@ -138,8 +136,7 @@ count_command = Select (counting orders for_the_container) (codes "count(*)" ∷
 
 pub count_means : (v : Version) → Means v count_text 1 count_command
 unfolding understood everything
-count_means Links = record { is = refl; plain = (refl, refl); whole = (le_refl _, refl, refl); unlisted = refl }
-count_means Spans = record { is = refl; plain = (refl, refl); whole = (le_refl _, refl, refl); unlisted = refl }
+count_means v = record { is = refl; plain = (refl, refl); whole = (le_refl _, refl, refl); unlisted = refl }
 
 module _ (old new : State) (v : Version) (has : old.now.schema ≡ schema v) (c : ℕ) (xs : List OrderRow) (stored : Holds orders order_cells old xs) (few : length xs ≤ most_orders) (r : Result ℕ StoreFault) where
   pub waiting_count_finds : IfOk r (FindsFirst count_text (Int (pos c) ∷ []) old new) → IfOk r (λ n. n ≡ count_by (waits_for c) xs)

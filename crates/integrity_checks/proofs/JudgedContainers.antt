@@ -20,7 +20,7 @@ use Rattle.sqlite_value.specs.Keys.{ascending}
 use Rattle.sqlite_value.specs.declared.keys.Key.{Key}
 use Rattle.isad_core.specs.Texts.{is_blank_text}
 use Rattle.isad_core.specs.Words.{are_numbered_from}
-use Rattle.tree_core.specs.Versions.{Version, Links, Spans}
+use Rattle.tree_core.specs.Versions.{Version}
 use Rattle.catalogue_core.specs.CatalogueCauses.{are_good_container_rows}
 use Rattle.catalogue_core.specs.CatalogueRows.{ContainerRow}
 use Rattle.office_tables.specs.Cells.{has_unread, number_in, text_in}
@@ -77,8 +77,7 @@ containers_names = codes "id" ∷ codes "name" ∷ codes "location" ∷ codes "k
 
 pub containers_mean : (v : Version) → Means v containers_text 0 (Select (asking tables.container [] containers_terms by_id) containers_names)
 unfolding understood everything
-containers_mean Links = record { is = refl; plain = (refl, refl); whole = (le_refl _, refl, refl); unlisted = refl }
-containers_mean Spans = record { is = refl; plain = (refl, refl); whole = (le_refl _, refl, refl); unlisted = refl }
+containers_mean v = record { is = refl; plain = (refl, refl); whole = (le_refl _, refl, refl); unlisted = refl }
 
 abbrev pub show_container : Row → Row
 show_container = show tables.container containers_terms by_id containers_names containers_text containers_mean

@@ -14,7 +14,7 @@ use Rattle.sqlite.specs.Tree.{Trees}
 use Rattle.sqlite_tied.specs.Compute.{everything}
 use Rattle.isad_core.specs.Texts.{is_blank_text}
 use Rattle.isad_core.specs.Words.{is_between}
-use Rattle.tree_core.specs.Versions.{Version, Links, Spans}
+use Rattle.tree_core.specs.Versions.{Version}
 use Rattle.desk_core.specs.Orders.{in_order}
 use Rattle.catalogue_core.specs.CatalogueCauses.{unit_numbers, is_good_element}
 use Rattle.catalogue_core.specs.CatalogueRows.{ElementRow}
@@ -44,8 +44,7 @@ elements_names = codes "unit" ∷ codes "k" ∷ codes "value" ∷ []
 
 pub elements_mean : (v : Version) → Means v elements_text 0 (Select (asking tables.element [] elements_terms []) elements_names)
 unfolding understood everything
-elements_mean Links = record { is = refl; plain = (refl, refl); whole = (le_refl _, refl, refl); unlisted = refl }
-elements_mean Spans = record { is = refl; plain = (refl, refl); whole = (le_refl _, refl, refl); unlisted = refl }
+elements_mean v = record { is = refl; plain = (refl, refl); whole = (le_refl _, refl, refl); unlisted = refl }
 
 -- ---- what the rows tell
 

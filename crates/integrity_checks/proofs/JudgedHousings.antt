@@ -23,7 +23,7 @@ use Rattle.sqlite_value.specs.Order.{value_cmp}
 use Rattle.sqlite_value.specs.declared.keys.Key.{Key}
 use Rattle.sqlite_value.proofs.OrderLemmas.{then-Equal}
 use Rattle.isad_core.specs.Words.{is_between, stands}
-use Rattle.tree_core.specs.Versions.{Version, Links, Spans}
+use Rattle.tree_core.specs.Versions.{Version}
 use Rattle.catalogue_core.specs.CatalogueCauses.{unit_numbers, is_good_housing}
 use Rattle.catalogue_core.specs.CatalogueRows.{HousingRow}
 use Rattle.office_tables.specs.Cells.{has_unread}
@@ -142,8 +142,7 @@ housings_names = codes "unit" ∷ codes "ord" ∷ codes "container" ∷ []
 
 pub housings_mean : (v : Version) → Means v housings_text 0 (Select (asking tables.housing [] housings_terms by_unit_and_ord) housings_names)
 unfolding understood everything
-housings_mean Links = record { is = refl; plain = (refl, refl); whole = (le_refl _, refl, refl); unlisted = refl }
-housings_mean Spans = record { is = refl; plain = (refl, refl); whole = (le_refl _, refl, refl); unlisted = refl }
+housings_mean v = record { is = refl; plain = (refl, refl); whole = (le_refl _, refl, refl); unlisted = refl }
 
 abbrev pub show_housing : Row → Row
 show_housing = show tables.housing housings_terms by_unit_and_ord housings_names housings_text housings_mean

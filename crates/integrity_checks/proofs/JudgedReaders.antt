@@ -22,7 +22,7 @@ use Rattle.sqlite.specs.Command.TheVariants.{Select}
 use Rattle.sqlite.specs.Listing.{understood}
 use Rattle.sqlite.specs.State.{State, Shown, FailsToQuery}
 use Rattle.sqlite_tied.specs.Compute.{everything}
-use Rattle.tree_core.specs.Versions.{Version, Links, Spans}
+use Rattle.tree_core.specs.Versions.{Version}
 use Rattle.isad_core.specs.Words.{are_numbered_from}
 use Rattle.desk_core.specs.DeskCauses.{is_good_reader}
 use Rattle.desk_core.specs.DeskRows.{ReaderRow}
@@ -87,8 +87,7 @@ all_readers_command = Select (asking reader [] all_readers_terms by_ticket) all_
 
 pub all_readers_means : (v : Version) → Means v all_readers_text 0 all_readers_command
 unfolding understood everything
-all_readers_means Links = record { is = refl; plain = (refl, refl); whole = (le_refl _, refl, refl); unlisted = refl }
-all_readers_means Spans = record { is = refl; plain = (refl, refl); whole = (le_refl _, refl, refl); unlisted = refl }
+all_readers_means v = record { is = refl; plain = (refl, refl); whole = (le_refl _, refl, refl); unlisted = refl }
 
 pub all_readers_cause : (old new : State) (v : Version) → old.now.schema ≡ schema v → IsUnlimited old → (e : Error) → FailsToQuery all_readers_text [] old new e → HasCause old new (fault_of e)
 all_readers_cause old new v has free e h =

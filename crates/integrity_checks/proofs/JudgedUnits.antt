@@ -14,7 +14,7 @@ use Rattle.sqlite.specs.Tree.{Trees}
 use Rattle.sqlite_tied.specs.Compute.{everything}
 use Rattle.isad_core.specs.Limits.{most_units, most_deep}
 use Rattle.isad_core.specs.Words.{stands}
-use Rattle.tree_core.specs.Versions.{Version, Links, Spans}
+use Rattle.tree_core.specs.Versions.{Version}
 use Rattle.tree_core.proofs.Lists.{list_any-map}
 use Rattle.catalogue_core.specs.CatalogueCauses.{unit_numbers, place_numbers, all_stand_in}
 use Rattle.catalogue_core.specs.CatalogueRows.{UnitRow, places_said}
@@ -48,8 +48,7 @@ units_names = codes "id" ∷ codes "source" ∷ codes "legacy" ∷ codes "level"
 
 pub units_mean : (v : Version) → Means v units_text 0 (Select (asking tables.unit [] units_terms []) units_names)
 unfolding understood everything
-units_mean Links = record { is = refl; plain = (refl, refl); whole = (le_refl _, refl, refl); unlisted = refl }
-units_mean Spans = record { is = refl; plain = (refl, refl); whole = (le_refl _, refl, refl); unlisted = refl }
+units_mean v = record { is = refl; plain = (refl, refl); whole = (le_refl _, refl, refl); unlisted = refl }
 
 abbrev pub show_unit : Row → Row
 show_unit = show tables.unit units_terms [] units_names units_text units_mean

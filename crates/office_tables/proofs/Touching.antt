@@ -6,7 +6,7 @@ use Rattle.std.proofs.lemmas.Bool.Decides.{nat_tests}
 use Rattle.sqlite.specs.Table.{Table}
 use Rattle.sqlite.specs.Tree.{Trees}
 use Rattle.sqlite.specs.Effect.{Database}
-use Rattle.tree_core.specs.Versions.{Version, Links, Spans}
+use Rattle.tree_core.specs.Versions.{Version}
 use Rattle.office_tables.specs.Schema.{schema}
 use Rattle.office_tables.specs.Step.{table_trees, OnlyTouches}
 
@@ -19,8 +19,7 @@ of_trees old new t [] h = tt
 of_trees old new t (table ∷ tables) h = (λ e. h.0 (apart table.tree t e), of_trees old new t tables h.1)
 
 trees_are : (v : Version) → map (λ (table : Table). table.tree) (schema v).tables ≡ table_trees
-trees_are Links = refl
-trees_are Spans = refl
+trees_are v = refl
 
 -- what holds of each number of a list holds of one that is among them
 among : (P : ℕ → Type 0) (ns : List ℕ) → AllByRecursion P ns → (n : ℕ) → list_any (nat_eq n) ns ≡ true → P n

@@ -137,15 +137,23 @@ housing = table (codes "housing") 21 None (number (codes "unit") ∷ number (cod
 
 -- ---- the places
 
-abbrev pub link : Table
-link = keyed (codes "link") 24 (nullable (codes "id") ∷ nullable (codes "parent") ∷ number (codes "ord") ∷ []) []
+-- the table of places stands last in every version, keyed by the unit's number
+abbrev pub place_name : Version → List ℕ
+place_name Links = codes "link"
+place_name Spans = codes "span"
 
-abbrev pub span : Table
-span = keyed (codes "span") 24 (nullable (codes "id") ∷ number (codes "lft") ∷ number (codes "rgt") ∷ []) []
+abbrev pub place_columns : Version → List Column
+place_columns Links = nullable (codes "id") ∷ nullable (codes "parent") ∷ number (codes "ord") ∷ []
+place_columns Spans = nullable (codes "id") ∷ number (codes "lft") ∷ number (codes "rgt") ∷ []
 
 abbrev pub place_table : Version → Table
-place_table Links = link
-place_table Spans = span
+place_table version = keyed (place_name version) 24 (place_columns version) []
+
+abbrev pub link : Table
+link = place_table Links
+
+abbrev pub span : Table
+span = place_table Spans
 
 abbrev pub place_indexes : Version → List Index
 place_indexes Links = index (codes "link_by_parent") 25 link (2 ∷ 3 ∷ []) ∷ []

@@ -8,7 +8,7 @@ use Rattle.sqlite.specs.Term.{Term, col}
 use Rattle.sqlite_tied.specs.Compute.{everything}
 use Rattle.sqlite_value.specs.Keys.{ascending}
 use Rattle.sqlite_value.specs.declared.keys.Key.{Key}
-use Rattle.tree_core.specs.Versions.{Version, Links, Spans}
+use Rattle.tree_core.specs.Versions.{Version}
 use Rattle.office_tables.specs.StatementMeaning.{Means}
 use Rattle.office_tables.specs.Schema as tables
 use Rattle.office_tables.proofs.Queries.{asking}
@@ -29,8 +29,7 @@ seats_names = codes "seat" ∷ codes "ticket" ∷ []
 
 pub seats_mean : (v : Version) → Means v seats_text 0 (Select (asking tables.seat [] seats_terms []) seats_names)
 unfolding understood everything
-seats_mean Links = record { is = refl; plain = (refl, refl); whole = (le_refl _, refl, refl); unlisted = refl }
-seats_mean Spans = record { is = refl; plain = (refl, refl); whole = (le_refl _, refl, refl); unlisted = refl }
+seats_mean v = record { is = refl; plain = (refl, refl); whole = (le_refl _, refl, refl); unlisted = refl }
 
 -- ---- permits
 
@@ -45,8 +44,7 @@ permits_names = codes "ticket" ∷ codes "unit" ∷ codes "until" ∷ []
 
 pub permits_mean : (v : Version) → Means v permits_text 0 (Select (asking tables.permit [] permits_terms []) permits_names)
 unfolding understood everything
-permits_mean Links = record { is = refl; plain = (refl, refl); whole = (le_refl _, refl, refl); unlisted = refl }
-permits_mean Spans = record { is = refl; plain = (refl, refl); whole = (le_refl _, refl, refl); unlisted = refl }
+permits_mean v = record { is = refl; plain = (refl, refl); whole = (le_refl _, refl, refl); unlisted = refl }
 
 -- ---- orders
 
@@ -61,8 +59,7 @@ orders_names = codes "id" ∷ codes "ticket" ∷ codes "container" ∷ codes "da
 
 pub orders_mean : (v : Version) → Means v orders_text 0 (Select (asking tables.orders [] orders_terms by_first) orders_names)
 unfolding understood everything
-orders_mean Links = record { is = refl; plain = (refl, refl); whole = (le_refl _, refl, refl); unlisted = refl }
-orders_mean Spans = record { is = refl; plain = (refl, refl); whole = (le_refl _, refl, refl); unlisted = refl }
+orders_mean v = record { is = refl; plain = (refl, refl); whole = (le_refl _, refl, refl); unlisted = refl }
 
 -- ---- holdings
 
@@ -77,8 +74,7 @@ holdings_names = codes "container" ∷ codes "place" ∷ codes "held_by" ∷ []
 
 pub holdings_mean : (v : Version) → Means v holdings_text 0 (Select (asking tables.holding [] holdings_terms []) holdings_names)
 unfolding understood everything
-holdings_mean Links = record { is = refl; plain = (refl, refl); whole = (le_refl _, refl, refl); unlisted = refl }
-holdings_mean Spans = record { is = refl; plain = (refl, refl); whole = (le_refl _, refl, refl); unlisted = refl }
+holdings_mean v = record { is = refl; plain = (refl, refl); whole = (le_refl _, refl, refl); unlisted = refl }
 
 -- ---- runs
 
@@ -93,8 +89,7 @@ runs_names = codes "id" ∷ codes "day" ∷ []
 
 pub runs_mean : (v : Version) → Means v runs_text 0 (Select (asking tables.run [] runs_terms by_first) runs_names)
 unfolding understood everything
-runs_mean Links = record { is = refl; plain = (refl, refl); whole = (le_refl _, refl, refl); unlisted = refl }
-runs_mean Spans = record { is = refl; plain = (refl, refl); whole = (le_refl _, refl, refl); unlisted = refl }
+runs_mean v = record { is = refl; plain = (refl, refl); whole = (le_refl _, refl, refl); unlisted = refl }
 
 -- ---- run_lines
 
@@ -109,8 +104,7 @@ run_lines_names = codes "run" ∷ codes "container" ∷ codes "order_no" ∷ cod
 
 pub run_lines_mean : (v : Version) → Means v run_lines_text 0 (Select (asking tables.run_line [] run_lines_terms []) run_lines_names)
 unfolding understood everything
-run_lines_mean Links = record { is = refl; plain = (refl, refl); whole = (le_refl _, refl, refl); unlisted = refl }
-run_lines_mean Spans = record { is = refl; plain = (refl, refl); whole = (le_refl _, refl, refl); unlisted = refl }
+run_lines_mean v = record { is = refl; plain = (refl, refl); whole = (le_refl _, refl, refl); unlisted = refl }
 
 -- ---- unit_numbers
 
@@ -125,8 +119,7 @@ unit_numbers_names = codes "id" ∷ []
 
 pub unit_numbers_mean : (v : Version) → Means v unit_numbers_text 0 (Select (asking tables.unit [] unit_numbers_terms []) unit_numbers_names)
 unfolding understood everything
-unit_numbers_mean Links = record { is = refl; plain = (refl, refl); whole = (le_refl _, refl, refl); unlisted = refl }
-unit_numbers_mean Spans = record { is = refl; plain = (refl, refl); whole = (le_refl _, refl, refl); unlisted = refl }
+unit_numbers_mean v = record { is = refl; plain = (refl, refl); whole = (le_refl _, refl, refl); unlisted = refl }
 
 -- ---- container_numbers
 
@@ -141,5 +134,4 @@ container_numbers_names = codes "id" ∷ []
 
 pub container_numbers_mean : (v : Version) → Means v container_numbers_text 0 (Select (asking tables.container [] container_numbers_terms []) container_numbers_names)
 unfolding understood everything
-container_numbers_mean Links = record { is = refl; plain = (refl, refl); whole = (le_refl _, refl, refl); unlisted = refl }
-container_numbers_mean Spans = record { is = refl; plain = (refl, refl); whole = (le_refl _, refl, refl); unlisted = refl }
+container_numbers_mean v = record { is = refl; plain = (refl, refl); whole = (le_refl _, refl, refl); unlisted = refl }

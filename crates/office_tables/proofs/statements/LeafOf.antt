@@ -9,23 +9,19 @@ use Rattle.office_tables.proofs.UpdateCauses.{KeepsTable}
 
 pub seat_alone : (v : Version) → is_referred_to (schema v) seat.tree ≡ false
 unfolding joined same_name
-seat_alone Links = refl
-seat_alone Spans = refl
+seat_alone v = refl
 
 pub seat_fits : (v : Version) → references_fit (schema v) seat false true ≡ true
 unfolding joined same_name
-seat_fits Links = refl
-seat_fits Spans = refl
+seat_fits v = refl
 
 pub permit_alone : (v : Version) → is_referred_to (schema v) permit.tree ≡ false
 unfolding joined same_name
-permit_alone Links = refl
-permit_alone Spans = refl
+permit_alone v = refl
 
 pub permit_fits : (v : Version) → references_fit (schema v) permit false true ≡ true
 unfolding joined same_name
-permit_fits Links = refl
-permit_fits Spans = refl
+permit_fits v = refl
 
 -- an UPDATE of the office's row breaks no key
 pub office_kept : (v : Version) → KeepsTable (λ _. false) (schema v) 7 office

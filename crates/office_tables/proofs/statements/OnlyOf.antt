@@ -9,7 +9,7 @@ use Rattle.sqlite.proofs.Callers.{statement_of, runs_as}
 use Rattle.sqlite_schema.specs.declared.program.Program.{Program}
 use Rattle.office_tables.specs.ChangeStatement.{Ran}
 use Rattle.office_tables.specs.StatementMeaning.{Means}
-use Rattle.office_tables.specs.Schema.{Version, Links, Spans, schema}
+use Rattle.office_tables.specs.Schema.{Version, schema}
 use Rattle.office_tables.specs.Step.{OnlyTouches}
 use Rattle.office_tables.specs.declared.fault.StoreFault.{StoreFault}
 use Rattle.office_tables.proofs.RowWrites.{ran_well}
@@ -19,8 +19,7 @@ use Rattle.office_tables.proofs.ParentUpdates.{no_works_on_update, as_many, upda
 use Rattle.office_tables.proofs.UpdateCauses.{IsIdle}
 
 all_free : (v : Version) → updates_freely (schema v) ≡ true
-all_free Links = refl
-all_free Spans = refl
+all_free v = refl
 
 -- no action of a foreign key is set off
 pub idle : (v : Version) (s : State) (table : Table) → IsIdle (schema v) (mode_of s) table s.now.trees
