@@ -4,8 +4,8 @@ ghost use Rattle.sqlite.specs.Held.{state};
 ghost use Rattle.office_tables.specs.Step.{InTransaction};
 
 use crate::tests::{
-    ELEMENTS, FOUR, HOUSING, LATER, LINKS, MAPS, Query, SPANS, add, values_of, four_units,
-    new_office, show_rows,
+    ELEMENTS, FOUR, HOUSING, LATER, LINKS, MAPS, Query, SPANS, add, four_units, new_office,
+    show_rows, values_of,
 };
 use catalogue_store::{LinkPlaces, Places, StoreFault, move_unit, replace_values};
 use nested_sets::SpanPlaces;
@@ -47,7 +47,7 @@ fn attempt<P: Places, S: Alter>(
 }
 
 /// The result of the call in a new office with four units.
-fn attempt<P: Places, S: Alter>(
+fn attempt_in_new_office<P: Places, S: Alter>(
     alloc: Global,
     conn: &mut Connection<S>,
     done: Slip,
@@ -66,7 +66,7 @@ fn see_over<P: Places>(
     rows: &str,
 ) -> Result<(), Fail> {
     let mut conn = Connection::open_in_memory(alloc)?;
-    let blames = attempt::<P, _>(alloc, &mut conn, done) == Err(StoreFault::Schema);
+    let blames = attempt_in_new_office::<P, _>(alloc, &mut conn, done) == Err(StoreFault::Schema);
     assert!(rt; blames);
     let mut text = String::new(alloc);
     for query in [ELEMENTS, HOUSING, places] {

@@ -180,7 +180,7 @@ pub(crate) fn four_units<P: Places, S: Alter>(
 
 /// Unit 2 is moved.
 #[tactic(auto, using(crate::proofs::Going::went_on))]
-fn move_unit<P: Places, S: Alter>(
+fn move_second<P: Places, S: Alter>(
     alloc: Global,
     conn: &mut Connection<S>,
     parent: Option<u64>,
@@ -200,8 +200,8 @@ fn moved_back<P: Places, S: Alter>(
     requires inside { InTransaction P.version (state S.Store conn.old) }
 {
     two_units::<P, S>(alloc, conn)?;
-    move_unit::<P, S>(alloc, conn, None)?;
-    move_unit::<P, S>(alloc, conn, Some(1))
+    move_second::<P, S>(alloc, conn, None)?;
+    move_second::<P, S>(alloc, conn, Some(1))
 }
 
 /// Unit 2 is moved to the top.
@@ -209,7 +209,7 @@ fn moved_up<P: Places, S: Alter>(alloc: Global, conn: &mut Connection<S>) -> Res
     requires inside { InTransaction P.version (state S.Store conn.old) }
 {
     two_units::<P, S>(alloc, conn)?;
-    move_unit::<P, S>(alloc, conn, None)
+    move_second::<P, S>(alloc, conn, None)
 }
 
 /// Unit 2 is moved below unit 4.
@@ -221,11 +221,11 @@ fn moved_below<P: Places, S: Alter>(
     ensures inside { OnOk result (InTransaction P.version (state S.Store conn.new)) }
 {
     four_units::<P, S>(alloc, conn)?;
-    move_unit::<P, S>(alloc, conn, Some(4))
+    move_second::<P, S>(alloc, conn, Some(4))
 }
 
 /// Unit 1 is removed with all below it: how many units were removed.
-fn remove_branch<P: Places, S: Alter>(
+fn remove_first<P: Places, S: Alter>(
     alloc: Global,
     conn: &mut Connection<S>,
     text: &mut String,
@@ -443,7 +443,7 @@ fn carry_out<P: Places, S: Alter>(
         Act::MoveUp => moved_up::<P, S>(alloc, conn),
         Act::MoveBack => moved_back::<P, S>(alloc, conn),
         Act::MoveBelow => moved_below::<P, S>(alloc, conn),
-        Act::Remove => remove_branch::<P, S>(alloc, conn, text),
+        Act::Remove => remove_first::<P, S>(alloc, conn, text),
         Act::Revise => revise_unit::<P, S>(alloc, conn, text),
         Act::Mark => read_marks::<P, S>(alloc, conn, text),
         Act::Head => read_heads::<P, S>(alloc, conn, text),
