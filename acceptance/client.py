@@ -19,11 +19,13 @@ import tempfile
 from pathlib import Path
 from typing import NamedTuple
 
+from plain.limits import HIGHEST
+
 TOP = Path(__file__).resolve().parents[1]
 BUILT = TOP / "crates" / "record_office" / "out" / "record_office"
 MEMORY = Path("/dev/shm")
 SETTINGS = {"country": "GB", "repo": "0999", "seats": "2", "daily": "3", "hands": "1", "run": "2", "day": "2024-03-01"}
-LARGE = SETTINGS | {"seats": "200", "daily": "50", "hands": "10", "run": "100"}
+LARGE = SETTINGS | {name: str(most) for name, most in HIGHEST.items()}
 HOST = "127.0.0.1"
 PATIENCE = 60
 # ports that the system does not give to those who connect

@@ -19,6 +19,7 @@ from pathlib import Path
 import client
 import days
 from client import HOST, Office
+from plain.limits import HIGHEST
 
 HERE = Path(__file__).resolve().parent
 FONDS = (
@@ -32,7 +33,7 @@ FILE_FAULT, STORE_FAULT, NET_FAULT = (3, "", "file fault\n"), (3, "", "store fau
 # the bytes of an empty store, and of a log that has nothing
 EMPTY = 4096, 41
 DONE, SOUND, OLD = (0, "", ""), (0, "sound\n", ""), (1, "old version\n", "")
-BEYOND = {"seats": (0, 201), "daily": (0, 51), "hands": (0, 11), "run": (0, 101)}
+BEYOND = {name: (0, most + 1) for name, most in HIGHEST.items()}
 needs_curl = unittest.skipUnless(shutil.which("curl"), "curl is not installed")
 needs_sqlite3 = unittest.skipUnless(shutil.which("sqlite3"), "sqlite3 is not installed")
 

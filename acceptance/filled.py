@@ -17,7 +17,9 @@ import time
 
 import client
 import days
+from plain.limits import HIGHEST, LAST_UNIT, MOST_CONTAINERS, MOST_ORDERS, MOST_RUNS, MOST_TICKETS, MOST_UNITS
 
+AT_MOST = " ".join(f"{name} {most}" for name, most in HIGHEST.items())
 UNTIL = 'until":"2024-12-31"}'
 ANN = f'POST /desk/register {{"name":"Ann","{UNTIL}\n200 {{"ticket":1}}\n'
 FULL = '409 {"code":23,"refused":"Full"}\n'
@@ -41,15 +43,15 @@ POST /desk/issue {{"container":1,"ticket":1}}
 """
 BAD = 'POST /desk/register {"name":" ","' + UNTIL + '\n409 {"code":27,"refused":"BadName"}\n'
 DAYS = {
-    "tickets": f"""with seats 200 daily 50 hands 10 run 100
+    "tickets": f"""with {AT_MOST}
 {BAD}POST /desk/register {{"name":"Ben","{UNTIL}
-200 {{"ticket":1000000}}
+200 {{"ticket":{MOST_TICKETS}}}
 {BAD}POST /desk/register {{"name":"Cay","{UNTIL}
-{FULL}POST /desk/seat {{"ticket":1000000}}
+{FULL}POST /desk/seat {{"ticket":{MOST_TICKETS}}}
 200 {{"seat":1}}
-GET /desk/readers/1000000
-200 {{"name":"Ben","orders":[],"seat":1,"ticket":1000000,"until":"2024-12-31"}}
-GET /desk/readers/1000001
+GET /desk/readers/{MOST_TICKETS}
+200 {{"name":"Ben","orders":[],"seat":1,"ticket":{MOST_TICKETS},"until":"2024-12-31"}}
+GET /desk/readers/{MOST_TICKETS + 1}
 404 {{"error":"not found"}}
 """,
     "runs": f"""with seats 1 daily 50 hands 1 run 1
@@ -58,7 +60,7 @@ GET /desk/readers/1000001
 POST /public/orders {{"ticket":1,"container":1}}
 200 {{"order":2}}
 POST /desk/run
-200 {{"run":1000000,"taken":1}}
+200 {{"run":{MOST_RUNS},"taken":1}}
 POST /desk/cancel {{"order":2}}
 200 {{"order":2}}
 POST /desk/reshelve
@@ -70,9 +72,9 @@ POST /public/orders {{"ticket":1,"container":1}}
 POST /desk/run
 {FULL}GET /desk/queue/1
 200 {{"container":1,"name":"Box 1","out":null,"place":"shelf","waiting":[{{"order":3,"ticket":1}}]}}
-GET /desk/runs/1000000
+GET /desk/runs/{MOST_RUNS}
 200
-| Run 1000000  2024-03-01
+| Run {MOST_RUNS}  2024-03-01
 |                      Box 1                 1        2       1
 """,
     "containers": f"""with seats 1 daily 1 hands 1 run 1
@@ -81,18 +83,19 @@ GET /desk/runs/1000000
 {one("2,Maps,Published,Last")}{NEW}GET /public/aid/2
 200
 | GB 0999 [-] Maps
-|   Container 100000: Last
+|   Container {MOST_CONTAINERS}: Last
 """,
     "units": f"""with seats 200 daily 1 hands 1 run 100
-{ANN}{one("200000,Plans,Published,Box 1")}{NEW}{LENT}{one("200001,Maps,Published,")}{FULL}POST /desk/import/a
+{ANN}{one(f"{MOST_UNITS},Plans,Published,Box 1")}{NEW}{LENT}{one(f"{MOST_UNITS + 1},Maps,Published,")}{FULL}\
+POST /desk/import/a
 | legacyId,title,publicationStatus,physicalObjectName
-| 200000,Plans,Published,Box 2
-| 200001,Maps,Published,
-{FULL}{one("200000,Plans,Published,Box 1")}{SAME}POST /desk/return {{"container":1}}
+| {MOST_UNITS},Plans,Published,Box 2
+| {MOST_UNITS + 1},Maps,Published,
+{FULL}{one(f"{MOST_UNITS},Plans,Published,Box 1")}{SAME}POST /desk/return {{"container":1}}
 200 {{"order":1}}
-POST /desk/remove {{"unit":200000}}
+POST /desk/remove {{"unit":{MOST_UNITS}}}
 200 {{"units":1}}
-{one("200001,Maps,Published,")}{NEW}GET /public/units/200001
+{one(f"{MOST_UNITS + 1},Maps,Published,")}{NEW}GET /public/units/{MOST_UNITS + 1}
 200
 | GB 0999 [-] Maps
 """,
@@ -102,11 +105,11 @@ POST /desk/import/a
 | legacyId,title,publicationStatus,physicalObjectName
 | 1,Plans,Published,Box 2
 | 3,Deeds,Published,
-{FULL}POST /desk/remove {{"unit":100000000}}
+{FULL}POST /desk/remove {{"unit":{LAST_UNIT}}}
 200 {{"units":1}}
 {one("3,Deeds,Published,")}{FULL}GET /public/fonds
 200
-| 99999999 GB 0999 [-] Plans
+| {LAST_UNIT - 1} GB 0999 [-] Plans
 POST /desk/import/a,b
 409 {{"code":27,"refused":"BadName"}}
 POST /desk/import/a
@@ -117,7 +120,7 @@ POST /desk/import/a
 """,
     "orders": f"""with seats 1 daily 1 hands 1 run 1
 POST /public/orders {{"ticket":1,"container":1}}
-200 {{"order":10000000}}
+200 {{"order":{MOST_ORDERS}}}
 POST /public/orders {{"ticket":2,"container":1}}
 {FULL}POST /public/orders {{"ticket":1,"container":1}}
 409 {{"code":6,"refused":"AlreadyOrdered"}}
@@ -131,8 +134,8 @@ POST /public/orders {{"ticket":2,"container":1}}
 409 {{"code":4,"refused":"TicketExpired"}}
 POST /public/orders {{"ticket":1001,"container":1}}
 409 {{"code":2,"refused":"UnknownTicket"}}
-POST /desk/cancel {{"order":10000000}}
-200 {{"order":10000000}}
+POST /desk/cancel {{"order":{MOST_ORDERS}}}
+200 {{"order":{MOST_ORDERS}}}
 """,
 }
 BY_HAND = {"orders"}
@@ -151,27 +154,27 @@ TWO_BOXES = [
     "UPDATE office SET next_unit = 2",
 ]
 SQL = {
-    "tickets": [counted(999_999) + "INSERT INTO reader SELECT i, 'Ann', 20088 FROM n"],
+    "tickets": [counted(MOST_TICKETS - 1) + "INSERT INTO reader SELECT i, 'Ann', 20088 FROM n"],
     "runs": [
         *TWO_BOXES,
         "INSERT INTO reader VALUES (1, 'Ann', 20088)",
         "INSERT INTO orders VALUES (1, 1, 1, 19783, 3)",
-        counted(999_999) + "INSERT INTO run SELECT i, 19783 FROM n",
-        counted(999_999) + "INSERT INTO run_line SELECT i, 1, 1, 1 FROM n",
+        counted(MOST_RUNS - 1) + "INSERT INTO run SELECT i, 19783 FROM n",
+        counted(MOST_RUNS - 1) + "INSERT INTO run_line SELECT i, 1, 1, 1 FROM n",
     ],
-    "containers": [counted(99_999) + "INSERT INTO container SELECT i, 'Box ' || i, '', '' FROM n"],
+    "containers": [counted(MOST_CONTAINERS - 1) + "INSERT INTO container SELECT i, 'Box ' || i, '', '' FROM n"],
     "units": [
-        counted(199_999) + "INSERT INTO unit (id, source, legacy, level, draft) SELECT i, 'a', i, '', 1 FROM n",
-        counted(199_999) + "INSERT INTO span SELECT i, 2 * i - 1, 2 * i FROM n",
-        "UPDATE office SET next_unit = 200000",
+        counted(MOST_UNITS - 1) + "INSERT INTO unit (id, source, legacy, level, draft) SELECT i, 'a', i, '', 1 FROM n",
+        counted(MOST_UNITS - 1) + "INSERT INTO span SELECT i, 2 * i - 1, 2 * i FROM n",
+        f"UPDATE office SET next_unit = {MOST_UNITS}",
     ],
-    "numbers": ["UPDATE office SET next_unit = 99999999"],
+    "numbers": [f"UPDATE office SET next_unit = {LAST_UNIT - 1}"],
     "orders": [
         *TWO_BOXES,
         "INSERT INTO container VALUES (2, 'Box 2', '', '')",
         "INSERT INTO housing VALUES (1, 2, 2)",
         counted(1000) + "INSERT INTO reader SELECT i, 'Ann', 20088 FROM n",
-        counted(9_999_999) + "INSERT INTO orders SELECT i, 1 + i % 1000, 1, 19782 - i / 1000, 3 FROM n",
+        counted(MOST_ORDERS - 1) + "INSERT INTO orders SELECT i, 1 + i % 1000, 1, 19782 - i / 1000, 3 FROM n",
     ],
 }
 
@@ -224,18 +227,18 @@ def fill(office, day):
     if name == "runs":
         office.post("/public/orders", b'{"ticket":1,"container":1}')
         office.post("/desk/cancel", b'{"order":1}')
-        office.runs = Counted(999_999)
+        office.runs = Counted(MOST_RUNS - 1)
     elif name == "orders":
         office.post("/desk/register", b'{"name":"Ann","until":"2024-12-31"}')
-        office.orders = Counted(9_999_999)
+        office.orders = Counted(MOST_ORDERS - 1)
     elif name == "tickets":
-        office.readers = Counted(999_999)
+        office.readers = Counted(MOST_TICKETS - 1)
     elif name == "containers":
-        office.containers = CountedList(99_998, [("Box 1", "", "")])
+        office.containers = CountedList(MOST_CONTAINERS - 2, [("Box 1", "", "")])
     elif name == "units":
-        office.units, office.next = Counted(199_999), 200_000
+        office.units, office.next = Counted(MOST_UNITS - 1), MOST_UNITS
     elif name == "numbers":
-        office.next = 99_999_999
+        office.next = LAST_UNIT - 1
 
 
 # ---- the program

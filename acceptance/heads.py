@@ -8,8 +8,9 @@ how many days it played, and ends with 1 if a result is wrong."""
 import sys
 
 import days
+from plain.limits import LONGEST_BODY as LARGEST
+from plain.limits import LONGEST_HEAD as HEAD
 
-HEAD, LARGEST = 16_384, 8_388_608
 ASKED = "GET /desk/issued HTTP/1.1"
 HOST = "Host: x"
 

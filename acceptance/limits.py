@@ -10,9 +10,15 @@ played, and ends with 1 if a result is wrong."""
 import sys
 
 import days
+from plain.limits import HIGHEST
+from plain.limits import LAST_ROW as ROWS
+from plain.limits import LONGEST_HEAD as HEAD
+from plain.limits import MOST_ANSWERS as MESSAGES
+from plain.limits import MOST_BYTES as BYTES
+from plain.limits import MOST_FIELDS as FIELDS
+from plain.limits import MOST_PERMITS as PERMITS
 
-FIELDS, HEAD, MESSAGES, PERMITS = 64, 16_384, 10_000, 100
-ROWS, BYTES = 20_001, 65_535
+SEATS, DAILY, RUN = HIGHEST["seats"], HIGHEST["daily"], HIGHEST["run"]
 LIMIT = '409 {"code":7,"refused":"DailyLimit"}'
 EVER = "9999-12-31"
 FULL = '409 {"code":23,"refused":"Full"}'
@@ -44,7 +50,7 @@ def answered(question):
 
 
 def permits():
-    """Permits for a hundred units, and one more; a later day for one of them; a permit that is revoked makes room."""
+    """Permits for as many units as a ticket may have them for, and one more; a later day for one of them; a permit that is revoked makes room."""
     lines = ["POST /desk/import/a", "| legacyId,identifier,title,publicationStatus"]
     lines += [f"| {n},A{n},Plans,Published" for n in range(1, PERMITS + 2)]
     remarks = ",".join(f'{{"kind":2,"row":{n + 1}}}' for n in range(1, PERMITS + 2))
@@ -81,15 +87,15 @@ def order(ticket, container, answer):
 
 
 def seats():
-    """Two hundred readers take seats, from the first on; one more gets none until one leaves."""
-    lines = ["with seats 200 daily 1 hands 1 run 1"]
-    for ticket in range(1, 202):
+    """Readers take all seats, from the first on; one more gets none until one leaves."""
+    lines = [f"with seats {SEATS} daily 1 hands 1 run 1"]
+    for ticket in range(1, SEATS + 2):
         lines += [f'POST /desk/register {{"name":"Ann","until":"{EVER}"}}', f'200 {{"ticket":{ticket}}}']
-    for ticket in range(1, 201):
+    for ticket in range(1, SEATS + 1):
         lines += [f'POST /desk/seat {{"ticket":{ticket}}}', f'200 {{"seat":{ticket}}}']
-    last = 'POST /desk/seat {"ticket":201}'
+    last = f'POST /desk/seat {{"ticket":{SEATS + 1}}}'
     lines += [last, '409 {"code":8,"refused":"NoSeatFree"}', 'POST /desk/leave {"ticket":77}', '200 {"seat":77}']
-    return [*lines, last, '200 {"seat":77}', "GET /desk/readers/200", reader_in(200)]
+    return [*lines, last, '200 {"seat":77}', f"GET /desk/readers/{SEATS}", reader_in(SEATS)]
 
 
 def reader_in(seat):
@@ -97,23 +103,27 @@ def reader_in(seat):
 
 
 def orders():
-    """Fifty orders of a ticket in a day; cancelled ones count; another ticket and another day have their own fifty."""
-    lines = ["with seats 1 daily 50 hands 1 run 1", *boxes(51)]
-    for container in range(1, 51):
+    """All orders of a ticket in a day; cancelled ones count; another ticket and another day have as many of their own."""
+    lines = [f"with seats 1 daily {DAILY} hands 1 run 1", *boxes(DAILY + 1)]
+    for container in range(1, DAILY + 1):
         lines += order(1, container, f'200 {{"order":{container}}}')
-    lines += [*order(1, 51, LIMIT), 'POST /desk/cancel {"order":7}', '200 {"order":7}', *order(1, 7, LIMIT)]
-    lines += [*order(2, 51, '200 {"order":51}'), 'POST /desk/day {"day":"2024-03-02"}', '200 {"day":"2024-03-02"}']
-    return [*lines, *order(1, 51, '200 {"order":52}')]
+    lines += [*order(1, DAILY + 1, LIMIT), 'POST /desk/cancel {"order":7}', '200 {"order":7}', *order(1, 7, LIMIT)]
+    lines += [*order(2, DAILY + 1, f'200 {{"order":{DAILY + 1}}}'), 'POST /desk/day {"day":"2024-03-02"}', '200 {"day":"2024-03-02"}']
+    return [*lines, *order(1, DAILY + 1, f'200 {{"order":{DAILY + 2}}}')]
 
 
 def a_run():
-    """A run takes a hundred boxes, those of the earliest orders, and the next run takes the rest."""
-    lines = ["with seats 1 daily 50 hands 1 run 100", *boxes(101)]
-    for number in range(1, 102):
-        lines += order((number + 49) // 50, 102 - number, f'200 {{"order":{number}}}')
-    lines += ["POST /desk/run", '200 {"run":1,"taken":100}', "GET /desk/runs/1", "200", "| Run 1  2024-03-01"]
-    names = sorted((f"B{container}", container) for container in range(2, 102))
-    lines += [f"| {'':<20} {name:<16} {it:>6} {102 - it:>8} {(151 - it) // 50:>7}" for name, it in names]
+    """A run takes all boxes but one, those of the earliest orders, and the next run takes the rest."""
+    lines, past = [f"with seats 1 daily {DAILY} hands 1 run {RUN}", *boxes(RUN + 1)], RUN + 2
+
+    def ticket(number):
+        return (number + DAILY - 1) // DAILY
+
+    for number in range(1, RUN + 2):
+        lines += order(ticket(number), past - number, f'200 {{"order":{number}}}')
+    lines += ["POST /desk/run", f'200 {{"run":1,"taken":{RUN}}}', "GET /desk/runs/1", "200", "| Run 1  2024-03-01"]
+    names = sorted((f"B{container}", container) for container in range(2, RUN + 2))
+    lines += [f"| {'':<20} {name:<16} {it:>6} {past - it:>8} {ticket(past - it):>7}" for name, it in names]
     return [*lines, "POST /desk/run", '200 {"run":2,"taken":1}', "POST /desk/run", '409 {"code":24,"refused":"NothingToMove"}']
 
 

@@ -20,7 +20,7 @@ from pathlib import Path
 
 import client
 import plain
-import plain.desk
+from plain.limits import DEEPEST, HIGHEST, MOST_PERMITS
 
 DAYS = ["2024-02-28", "2024-02-29", "2024-03-01", "2024-03-02", "2024-03-03", "2024-03-04", "2024-03-05", "2030-01-01"]
 LATE = ["2030-01-01"] * 6 + DAYS[2:]
@@ -49,7 +49,8 @@ COLUMNS = {
     "accessionNumber": ["", "x"],
 }
 COMMANDS = 70
-SEATS, DAILY, HANDS, RUN = [1, 1, 2, 3, 200], [1, 2, 3, 3, 50], [1, 1, 2, 3, 10], [1, 2, 2, 3, 100]
+FEW = {"seats": [1, 1, 2, 3], "daily": [1, 2, 3, 3], "hands": [1, 1, 2, 3], "run": [1, 2, 2, 3]}
+SEATS, DAILY, HANDS, RUN = ([*few, HIGHEST[name]] for name, few in FEW.items())
 KEPT = Path(__file__).parent / "seeds.txt"
 STATES = ["shelf", "desk", "out"]
 PERMITS = ["new", "longer", "as it was", "expired", "revoked", "gone with its unit", "opens a closure", "below a closure"]
@@ -90,18 +91,18 @@ class Session:
         return self.BEGINNINGS.get(self.seed % 10, lambda _: ())(self)
 
     def a_chain(self):
-        rows = "".join(f"{n},{n - 1 if n > 1 else ''},Published\n" for n in range(1, 65))
+        rows = "".join(f"{n},{n - 1 if n > 1 else ''},Published\n" for n in range(1, DEEPEST + 1))
         yield "/desk/import/chain", f"legacyId,parentId,publicationStatus\n{rows}"
-        yield "/desk/import/chain", "legacyId,parentId\n65,64\n"
+        yield "/desk/import/chain", f"legacyId,parentId\n{DEEPEST + 1},{DEEPEST}\n"
         yield "/desk/import/a", "legacyId,publicationStatus,physicalObjectName\n1,Published,Box 1\n2,Published,Box 2\n"
-        yield "/desk/move", '{"unit":1,"parent":65}'
-        yield "/desk/move", f'{{"unit":65,"parent":{self.random.randint(63, 64)}}}'
+        yield "/desk/move", f'{{"unit":1,"parent":{DEEPEST + 1}}}'
+        yield "/desk/move", f'{{"unit":{DEEPEST + 1},"parent":{self.random.randint(DEEPEST - 1, DEEPEST)}}}'
 
-    def a_hundred_permits(self):
-        rows = "".join(f"{n},Published\n" for n in range(1, plain.desk.MOST_PERMITS + 3))
+    def all_permits(self):
+        rows = "".join(f"{n},Published\n" for n in range(1, MOST_PERMITS + 3))
         yield "/desk/import/b", f"legacyId,publicationStatus\n{rows}"
         yield "/desk/register", '{"name":"Ann","until":"2030-01-01"}'
-        for unit in range(1, plain.desk.MOST_PERMITS + 3):
+        for unit in range(1, MOST_PERMITS + 3):
             yield "/desk/permit", json.dumps({"ticket": 1, "unit": unit, "until": self.random.choice(LATE)})
 
     def no_file(self):
@@ -109,7 +110,7 @@ class Session:
         yield "/desk/import/a", ""
         yield "/desk/import/a", "legacyId,title,title\n1,,\n"
 
-    BEGINNINGS = {3: a_chain, 5: a_hundred_permits, 7: no_file}
+    BEGINNINGS = {3: a_chain, 5: all_permits, 7: no_file}
 
     def happens(self, chance):
         return self.random.random() < chance

@@ -33,7 +33,7 @@ import rules_same  # noqa: E402
 import turning  # noqa: E402
 
 PLAIN = ROOT / "acceptance" / "plain"
-TURNED = ["answers", "catalogue", "desk", "elements", "files", "heads", "refusals", "requests", "session", "shown"]
+TURNED = ["answers", "catalogue", "desk", "elements", "files", "heads", "limits", "refusals", "requests", "session", "shown"]
 OTHERS = ["tables", "__init__"]
 TEXTS = {name: (PLAIN / f"{name}.py").read_text() for name in TURNED + OTHERS}
 COMPILED = {name: compile(text, f"<plain {name}>", "exec") for name, text in TEXTS.items()}

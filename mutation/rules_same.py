@@ -1,5 +1,7 @@
 """Turns of rules that mean the same, by their names, with the reason."""
 
+from plain.limits import HIGHEST
+
 ALL_FULL = "all three are told as 23"
 SEATED = "who has a box has a seat: nobody leaves with one, and no day ends"
 HEAD = "the head line has it, and no line prints its name"
@@ -20,6 +22,8 @@ ROW_REMARKS = "[{'kind': kind, 'row': row.number} for row, it in zip(rows, units
 OF_REMARKS = f"catalogue.Catalogue.import_file: {ROW_REMARKS}self.remark.."
 TOO_MUCH = "catalogue.Catalogue.too_much"
 IN_HEADS = "Reference code(s)", "Title", "Level of description"
+SETTINGS = ", ".join(f"{name}={most}" for name, most in HIGHEST.items())
+NO_SETTINGS = "`init` checks the settings, and the plain office takes any"
 MARKS = "!#$%&'*+-.^_`|~"
 IN_TOKEN = f"""in TOKEN = {{*string.ascii_letters, *string.digits, *"{MARKS}"}}"""
 SAME = {
@@ -32,6 +36,7 @@ SAME = {
         "they are the same number",
     f"{OF_REMARKS} -> {ROW_REMARKS}first_only(.. in remarks = [{{'kind'": ONE_REMARK,
     f"{OF_REMARKS} -> {ROW_REMARKS}last_only(s.. in remarks = [{{'kind'": ONE_REMARK,
+    **{f"limits: {it} -> {it + by} in HIGHEST = dict({SETTINGS})": NO_SETTINGS for it in HIGHEST.values() for by in (1, -1)},
     **{f"{TOO_MUCH}: refuse(23, {later}) before refuse(23, {first})": ALL_FULL for later, first in ROW_FULL},
     **{f"elements: '{it}' -> '{it}x' {IN_ELEMENTS}": HEAD for it in IN_HEADS},
     "catalogue.Catalogue.remarks: '' -> 'x' in own, higher = (rank(self.units[n].texts.get(LEVEL, '')) for n in "

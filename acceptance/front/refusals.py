@@ -3,17 +3,23 @@
 The office of this part has 2 seats, 3 orders a ticket and day, one container in hand, and runs of two."""
 
 import re
+import sys
 
 import catalogue
 from looks import RULES
 from office import TOP
 
+sys.path.append(str(TOP / "acceptance"))
+from plain import limits as most  # noqa: E402
+
 SETTINGS = ("--country", "GB", "--repo", "0999", "--seats", "2", "--daily", "3", "--hands", "1", "--run", "2", "--day", "2024-03-01")
 # What the text of each refusal must say, so that no text stands at another's number.
 TELLING = {1: "no unit", 2: "no ticket", 3: "no container", 4: "expired", 5: "not open", 6: "already", 7: "all the orders", 8: "Every seat", 9: "has a seat already",
            10: "has no seat", 11: "still has containers", 12: "no order", 13: "no longer waiting", 14: "not at the desk", 15: "not the first", 16: "as many containers",
-           17: "not out", 18: "not later", 19: "still out", 20: "below itself", 21: "would close", 22: "not imported", 23: "limits", 24: "nothing to move", 25: "64 levels",
+           17: "not out", 18: "not later", 19: "still out", 20: "below itself", 21: "would close", 22: "not imported", 23: "limits", 24: "nothing to move", 25: f"{most.DEEPEST} levels",
            26: "no run", 27: "name cannot be used", 28: "no permit"}
+# Units with permits, one more and some others; then the deepest branch that there may be.
+BOXES = most.MOST_PERMITS + 5
 UNREACHED = {26}  # the program answers an unknown run with 404, which has words of its own
 
 
@@ -50,7 +56,15 @@ class Refusals:
             self.checks.check(f"{number} {self.names[int(number)]} says what it means and what to do", whole, (means, todo))
         self.checks.same("each text stands at its number", [number for number, words in TELLING.items() if words not in table[str(number)][0]], [])
         self.checks.same("no two say the same", len({means for means, _ in table.values()}), 28)
+        self.limits(self.page.js("import('/shared/limits.js').then((told) => ({...told}))"))
         self.checks.same("each cause of a bad file has its words", [int(one) for one in RULES["causes"]], list(range(1, 13)))
+
+    def limits(self, shown):
+        """The numbers of the pages are those of the rules."""
+        beside = {"LARGEST_FILE": most.LONGEST_BODY}
+        self.checks.same("the limits of the pages", shown, {name: beside.get(name) or getattr(most, name) for name in shown})
+        read = {name: RULES["limits"][name] for name in ("rows", "field", "depth")}
+        self.checks.same("the limits of a file", read, {"rows": most.LAST_ROW - 1, "field": most.MOST_BYTES, "depth": most.DEEPEST})
 
     def readers_words(self):
         """A reader never sees the number of a refusal."""
@@ -82,7 +96,7 @@ class Refusals:
             self.met.add(code)
 
     def settle(self):
-        for name, rows in (("boxes", catalogue.many(105)), ("deep", catalogue.deep(64))):
+        for name, rows in (("boxes", catalogue.many(BOXES)), ("deep", catalogue.deep(most.DEEPEST))):
             (self.folder / f"{name}.csv").write_text("".join(rows))
             status, body = self.asks.call("POST", f"/desk/import/{name}", (self.folder / f"{name}.csv").read_bytes(), True)
             self.checks.check(f"{name} are taken in", status == 200, body)
@@ -130,8 +144,8 @@ class Refusals:
 
     def catalogue(self):
         self.meets(1, "/units/9999", "Status", {"Published": True}, "Set the status")
-        self.meets(20, "/units/106", "Move", {"Below which unit": "107"}, "Move")
-        self.meets(25, "/units/1", "Move", {"Below which unit": "169"}, "Move")
+        self.meets(20, f"/units/{BOXES + 1}", "Move", {"Below which unit": str(BOXES + 2)}, "Move")
+        self.meets(25, "/units/1", "Move", {"Below which unit": str(BOXES + most.DEEPEST)}, "Move")
         self.page.open(self.site, "/import")
         (self.folder / "bad.csv").write_text(catalogue.BAD_FILE)
         self.page.file(self.folder / "bad.csv")
@@ -144,13 +158,13 @@ class Refusals:
     def rest(self):
         self.meets(18, "/", "Open a new day", {"The new day": "2024-03-01"}, "Open the day")
         self.asks.done("/desk/return", container=1)
-        for unit in range(1, 101):
+        for unit in range(1, most.MOST_PERMITS + 1):
             self.asks.done("/desk/permit", ticket=3, unit=unit, until="2030-01-01")
-        self.meets(23, "/readers/3", "Give a permit", {"Unit": "101", "Last day of the permit": "2030-01-01"}, "Give a permit",
-                   ("The reader has 100 permits", "Take a permit away on the reader’s card first."))
+        self.meets(23, "/readers/3", "Give a permit", {"Unit": str(most.MOST_PERMITS + 1), "Last day of the permit": "2030-01-01"}, "Give a permit",
+                   (f"The reader has {most.MOST_PERMITS} permits", "Take a permit away on the reader’s card first."))
         self.page.open(self.site, "/readers/3")
-        self.asks.done("/desk/revoke", ticket=3, unit=100)
-        self.page.press("Take away the permit for unit 100")
+        self.asks.done("/desk/revoke", ticket=3, unit=most.MOST_PERMITS)
+        self.page.press(f"Take away the permit for unit {most.MOST_PERMITS}")
         self.sees(28)
         self.page.open(self.site, "/runs")
         self.page.press("Begin a run")

@@ -3,10 +3,9 @@ import dataclasses
 import re
 
 from .elements import BLANK
+from .limits import LONGEST_NAME, MOST_ORDERS, MOST_PERMITS, MOST_RUNS, MOST_TICKETS
 from .refusals import refuse
 
-LONGEST_NAME = 100
-MOST_TICKETS, MOST_ORDERS, MOST_RUNS, MOST_PERMITS = 1_000_000, 10_000_000, 1_000_000, 100
 
 
 @dataclasses.dataclass

@@ -4,13 +4,13 @@ import dataclasses
 import io
 
 from .elements import BLANK, ELEMENTS
+from .limits import LAST_ROW, MOST_BYTES
 from .refusals import refuse
 
 BOX = ["physicalObjectName", "physicalObjectLocation", "physicalObjectType"]
 SPLIT = {"eventDates", "eventActors", "eventActorHistories", "language", "script"}
 OTHERS = ["legacyId", "parentId", "qubitParentSlug", "publicationStatus", "culture", *BOX]
 READ = {*OTHERS, *(column for _, _, columns in ELEMENTS for column in columns)}
-LAST_ROW, MOST_BYTES = 20_001, 65_535
 MARK = "\ufeff"
 
 

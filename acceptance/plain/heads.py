@@ -5,7 +5,8 @@ import dataclasses
 import io
 import string
 
-LONGEST_HEAD, MOST_FIELDS, LONGEST_BODY = 16_384, 64, 8_388_608
+from .limits import LONGEST_BODY, MOST_FIELDS
+
 TOKEN = {*string.ascii_letters, *string.digits, *"!#$%&'*+-.^_`|~"}
 WHITE = " \t"
 EMPTY = (b"\n", b"\r\n")

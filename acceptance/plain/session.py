@@ -2,9 +2,9 @@
 
 Streams do not fail here and memory does not run out, so no answer is 503."""
 from .answers import CONTINUE, answer, error, path_of, written
-from .heads import LONGEST_HEAD, Refused, accept, head_block, is_blank
+from .heads import Refused, accept, head_block, is_blank
+from .limits import LONGEST_HEAD, MOST_ANSWERS
 
-MOST_ANSWERS = 10_000
 END, CLOSED, CUT = "end", "closed", "cut"
 
 

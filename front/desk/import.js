@@ -3,8 +3,9 @@
 import { el, table } from '../shared/dom.js';
 import { fileField, textField } from '../shared/fields.js';
 import { commandForm } from '../shared/form.js';
+import { LARGEST_FILE } from '../shared/limits.js';
 import { deskWords, remarkWords } from '../shared/refusals.js';
-import { importFile, LARGEST_FILE } from '../shared/routes.js';
+import { importFile } from '../shared/routes.js';
 import { newDrafts } from './drafts.js';
 import { onceMore } from './looks.js';
 import { newestUnit } from './newest_unit.js';

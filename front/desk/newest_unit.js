@@ -1,10 +1,9 @@
 // The number of the newest unit. No question shows drafts, so units are asked for by a command that is always refused and
 // changes nothing: to put a unit below itself. Refusal 20 means that there is such a unit, refusal 1 that there is none.
 
+import { LAST_UNIT } from '../shared/limits.js';
 import { fonds, move } from '../shared/routes.js';
 import { readFonds } from '../shared/texts.js';
-
-const MOST = 100_000_000;
 
 /** true, false, or null if the office does not answer. */
 async function isUnit(number) {
@@ -52,7 +51,7 @@ async function endOfRow(number) {
 
 /** A unit after a gap (removed units leave gaps), 0 if there is none at a distance of 1, 2, 4, 8 and so on. */
 async function nextAfter(number) {
-  for (let step = 1; number + step <= MOST; step *= 2) {
+  for (let step = 1; number + step <= LAST_UNIT; step *= 2) {
     const there = await isUnit(number + step);
     if (there !== false) return there === null ? null : number + step;
   }

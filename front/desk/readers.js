@@ -4,6 +4,7 @@ import { count, el, table, words, link } from '../shared/dom.js';
 import { dayField, textField } from '../shared/fields.js';
 import { folded } from '../shared/folding.js';
 import { commandForm } from '../shared/form.js';
+import { LONGEST_NAME } from '../shared/limits.js';
 import { numberOf } from '../shared/numbers.js';
 import { go } from '../shared/router.js';
 import { register } from '../shared/routes.js';
@@ -18,7 +19,7 @@ const LOOKED_AT = 400; // the most cards that are read before a reader is regist
 const MOST = 20000; // the most cards that are asked for before somebody must say to go on
 
 export function readersPage() {
-  const field = textField('who', 'Name or ticket number', { maxlength: 100, hint: 'Any part of the name will do.' });
+  const field = textField('who', 'Name or ticket number', { maxlength: LONGEST_NAME, hint: 'Any part of the name will do.' });
   return { title: 'Readers', focus: field.querySelector('input'), content: [
     el('h1', {}, 'Readers'),
     el('div', { class: 'cards' }, card('Find a reader', findForm(field)), card('Register a reader', registerForm())),
@@ -81,7 +82,7 @@ function registerForm() {
   return commandForm({
     key: 'register',
     fields: [
-      textField('name', 'Name', { maxlength: 100 }),
+      textField('name', 'Name', { maxlength: LONGEST_NAME }),
       dayField('until', 'Last day of the ticket', { hint: 'The ticket is good on that day too.' }),
     ],
     button: 'Register',

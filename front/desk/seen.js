@@ -3,7 +3,7 @@
 
 import { el, table } from '../shared/dom.js';
 import { note } from '../shared/form.js';
-import { LARGEST_FILE } from '../shared/routes.js';
+import { LARGEST_FILE } from '../shared/limits.js';
 import { DESK, deskWords } from '../shared/refusals.js';
 import { aboutRow, adviceWords, longColumn, look, readRules } from './look/look.js';
 import { sameBoxes } from './same_boxes.js';

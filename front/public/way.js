@@ -4,11 +4,11 @@
 
 import { el, link } from '../shared/dom.js';
 import { headLine } from '../shared/heads.js';
+import { DEEPEST } from '../shared/limits.js';
 import { fonds, unit } from '../shared/routes.js';
 import { isCodeAbove, readFonds, readHead, readPage } from '../shared/texts.js';
 
 const QUESTIONS = 40; // the most pages that are asked for
-const DEEPEST = 64;
 
 const above = new Map(); // by number: the unit above, with the units right below that
 let tops = null; // the list of fonds, once it is known

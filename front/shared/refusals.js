@@ -1,6 +1,8 @@
 // The one module that knows what a refusal means: for the desk, and for a reader. Each text is two sentences or more:
 // what the answer means, and what to do. The numbers and names are those of docs/RULES.md.
 
+import { DEEPEST, LONGEST_NAME, MOST_CONTAINERS, MOST_PERMITS, MOST_UNITS } from './limits.js';
+
 const AGAIN = 'Check the number and type it again.';
 
 export const DESK = {
@@ -36,14 +38,16 @@ export const DESK = {
   22: ['The file was not imported, and nothing of it was used.', 'Correct the file at this place and import it again.'],
   23: ['The office has reached one of its limits.', 'Tell whoever runs the office: the limits stand in its manual.'],
   24: ['There is nothing to move.', 'There is nothing to do now.'],
-  25: ['A unit would then lie deeper than 64 levels.', 'Choose a unit higher up.'],
+  25: [`A unit would then lie deeper than ${DEEPEST} levels.`, 'Choose a unit higher up.'],
   26: ['There is no run with this number.', AGAIN],
   27: ['This name cannot be used.',
-    'A reader’s name must not be blank, and may have up to 100 letters (fewer if they have accents or are not Latin). '
+    `A reader’s name must not be blank, and may have up to ${LONGEST_NAME} letters (fewer if they have accents or are not Latin). `
       + 'A source’s name has 1 to 64 plain letters, digits, dots, hyphens or low lines.'],
   28: ['The reader has no permit for this very unit.',
     'Look at the reader’s card: the permit may be for a unit above or below it.'],
 };
+
+const written = (number) => number.toLocaleString('en-GB');
 
 /** What a number means more exactly after one command. */
 const AFTER = {
@@ -51,9 +55,9 @@ const AFTER = {
     'There is nothing to do now. “What waits” lists every order that waits.'] },
   reshelve: { 24: ['There is nothing to take back: each container at the desk has a reader waiting for it, or none is there.',
     'There is nothing to do now.'] },
-  permit: { 23: ['The reader has 100 permits, which is the most that a ticket may have. Expired ones count too.',
+  permit: { 23: [`The reader has ${MOST_PERMITS} permits, which is the most that a ticket may have. Expired ones count too.`,
     'Take a permit away on the reader’s card first.'] },
-  import: { 23: ['The office would have more than 200,000 units or 100,000 containers.',
+  import: { 23: [`The office would have more than ${written(MOST_UNITS)} units or ${written(MOST_CONTAINERS)} containers.`,
     'Nothing was imported. Remove units that are no longer needed, or tell whoever runs the office.'] },
 };
 

@@ -9,8 +9,6 @@
 //   { ok: false, kind: 'silent' }                a question that was not answered
 //   { ok: false, kind: 'uncertain' }             a command, and nobody here knows whether it was done
 
-export const LARGEST_FILE = 8 * 1024 * 1024;
-
 const plain = (body) => body;
 
 // Questions
