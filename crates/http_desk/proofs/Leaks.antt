@@ -52,7 +52,7 @@ front_of_other s t ms ns more out tail alike p e f = (
 )
 
 alike_back : (s t : State) → AnswersAlike s t → AnswersAlike t s
-alike_back s t h = record { fonds = sym h.fonds; aid = λ u. sym (h.aid u); page = λ u. sym (h.page u) }
+alike_back s t h asked p = sym (h asked p)
 
 module _ (s t : State) (input out out2 : Bytes) (end fin : Ended) (new new2 : State)
     (a : Session s input out end new) (b : Session t input out2 fin new2)

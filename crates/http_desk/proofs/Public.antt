@@ -5,9 +5,9 @@ use Rattle.std.specs.Str.{is_utf8}
 use Rattle.std.specs.List.{AllByRecursion}
 use Rattle.isad_core.specs.Texts.{Bytes}
 use Rattle.office_core.specs.State.{State}
+use Rattle.office_core.specs.Queries.{is_public}
 use Rattle.office_core.specs.Secrecy.{AnswersAlike}
 use Rattle.office_core.specs.declared.query.Query.{Query}
-use Rattle.office_core.specs.declared.query.Query.TheVariants as query
 use Rattle.http_messages.specs.declared.body_form.Form.TheVariants as form
 use Rattle.http_messages.specs.Heads.{Request, is_head}
 use Rattle.http_messages.specs.Targets.{path_of}
@@ -27,10 +27,7 @@ use Rattle.http_desk.specs.Laws.{IsPublicGet}
 -- the route is the public's: one of its questions, or an order
 abbrev pub IsOpen : Option Route → Type 0
 IsOpen None = Unit {0}
-IsOpen (Some (Asks query.Fonds)) = Unit {0}
-IsOpen (Some (Asks (query.Aid u))) = Unit {0}
-IsOpen (Some (Asks (query.Page u))) = Unit {0}
-IsOpen (Some (Asks _)) = ⊥
+IsOpen (Some (Asks asked)) = is_public asked ≡ true
 IsOpen (Some (Does asked)) = ⊥
 IsOpen (Some (TakesFile source)) = ⊥
 IsOpen (Some (TakesForm form.Order)) = Unit {0}
@@ -89,7 +86,7 @@ first_open ((pattern, to) ∷ others) x h = by (λ more. first_open others x mor
     by deep false e (this, more) = either_open _ _ (then_open (leads_to to) (parameter_in pattern (codes "/public/" ++ x)) this) (deep more)
 
 table_open : AreOpen table
-table_open = ((λ y. tt), (asks_of numbered.Aid (λ n. tt), (asks_of numbered.Page (λ n. tt), ((λ y. tt), tt))))
+table_open = ((λ y. refl), (asks_of numbered.Aid (λ n. refl), (asks_of numbered.Page (λ n. refl), ((λ y. tt), tt))))
   where
     asks_of : (asked : Numbered) → ((n : ℕ) → IsOpen (Some (Asks (question asked n)))) → (y : Bytes) → IsOpen (leads_to (leads.AsksOf asked) y)
     asks_of asked h y = map_open (question asked) (number_in y) h
@@ -109,14 +106,7 @@ pub record IsAlike (s t : State) (a b : Answer × State) : Type 0 where
 get_alike : (s t : State) (request : Request) (body : Bytes) (route : Option Route) → AnswersAlike s t → request.method ≡ codes "GET" → IsOpen route
     → IsAlike s t (by_route s request body route) (by_route t request body route)
 get_alike s t request body None same e o = record { answers = refl; kept = refl; kept_too = refl }
-get_alike s t request body (Some (Asks query.Fonds)) same e o = rw e (record { answers = ap of_told same.fonds; kept = refl; kept_too = refl })
-get_alike s t request body (Some (Asks (query.Aid u))) same e o = rw e (record { answers = ap of_told (same.aid u); kept = refl; kept_too = refl })
-get_alike s t request body (Some (Asks (query.Page u))) same e o = rw e (record { answers = ap of_told (same.page u); kept = refl; kept_too = refl })
-get_alike s t request body (Some (Asks (query.ReaderOrders u))) same e o = absurd o
-get_alike s t request body (Some (Asks (query.Queue u))) same e o = absurd o
-get_alike s t request body (Some (Asks (query.RunSlip u))) same e o = absurd o
-get_alike s t request body (Some (Asks query.IssuedNow)) same e o = absurd o
-get_alike s t request body (Some (Asks (query.ReaderPermits u))) same e o = absurd o
+get_alike s t request body (Some (Asks asked)) same e o = rw e (record { answers = ap of_told (same asked o); kept = refl; kept_too = refl })
 get_alike s t request body (Some (Does asked)) same e o = absurd o
 get_alike s t request body (Some (TakesFile source)) same e o = absurd o
 get_alike s t request body (Some (TakesForm asked)) same e o = rw e (record { answers = refl; kept = refl; kept_too = refl })

@@ -8,9 +8,9 @@ use Rattle.office_core.specs.declared.command.Command.TheVariants as command
 use Rattle.office_core.specs.declared.query.Answer.{Answer as Told}
 use Rattle.office_core.specs.declared.query.Answer.TheVariants as told
 use Rattle.office_core.specs.declared.query.Query.{Query}
-use Rattle.office_core.specs.declared.query.Query.TheVariants as query
 use Rattle.office_core.specs.MixedRuns.{ToDo, ToTell}
 use Rattle.office_core.specs.Queries.{answer}
+use Rattle.office_core.specs.Secrecy.{PrintsPublished}
 use Rattle.office_core.specs.State.{State}
 use Rattle.office_core.proofs.Published.{only_published}
 use Rattle.http_messages.specs.declared.body_form.Form.TheVariants as form
@@ -23,7 +23,7 @@ use Rattle.http_messages.specs.Answers as answers
 use Rattle.http_messages.specs.Targets.{path_of}
 use Rattle.http_desk.specs.declared.session_end.Ended.{Ended}
 use Rattle.http_desk.specs.Messages.{Message}
-use Rattle.http_desk.specs.PublicSessions.{IsBelowPublic, IsForThePublic, PrintsPublished, Fonds, Aid, OnePage, IsAnsweredInPublic, AreAnsweredInPublic}
+use Rattle.http_desk.specs.PublicSessions.{IsBelowPublic, IsForThePublic, IsAnsweredInPublic, AreAnsweredInPublic}
 use Rattle.http_desk.specs.Runs.{Meaning, Puts, Fixed, carried_out, all_messages}
 use Rattle.http_desk.specs.Session.{Session, state_after}
 use Rattle.http_desk.proofs.Options.{each_then, each_map}
@@ -56,14 +56,7 @@ read_meant None h = fixed (error BadRequest) refl
 read_meant (Some asked) h = record { meaning = Puts (ToDo asked); is = λ s. refl; asks = h }
 
 route_meant : (body : Bytes) (route : Route) → IsOpen (Some route) → IsOpenlyMeant (λ s. answers.carried_out s body route)
-route_meant body (Asks query.Fonds) h = record { meaning = Puts (ToTell query.Fonds); is = λ s. refl; asks = tt }
-route_meant body (Asks (query.Aid u)) h = record { meaning = Puts (ToTell (query.Aid u)); is = λ s. refl; asks = tt }
-route_meant body (Asks (query.Page u)) h = record { meaning = Puts (ToTell (query.Page u)); is = λ s. refl; asks = tt }
-route_meant body (Asks (query.ReaderOrders u)) h = absurd h
-route_meant body (Asks (query.Queue u)) h = absurd h
-route_meant body (Asks (query.RunSlip u)) h = absurd h
-route_meant body (Asks query.IssuedNow) h = absurd h
-route_meant body (Asks (query.ReaderPermits u)) h = absurd h
+route_meant body (Asks asked) h = record { meaning = Puts (ToTell asked); is = λ s. refl; asks = h }
 route_meant body (Does asked) h = absurd h
 route_meant body (TakesFile source) h = absurd h
 route_meant body (TakesForm form.Order) h = read_meant (command_in form.Order body) (orders body)
@@ -91,22 +84,15 @@ request_meant request body (Some route) h =
 -- ---- what is shown
 
 told_prints : (s : State) (asked : Query) (a : Told) → IsForThePublic (Puts (ToTell asked)) → answer s asked ≡ a
-    → (of_told a).is_text ≡ true → PrintsPublished s (of_told a).body
-told_prints s query.Fonds (told.Text text) h e t = let (tops, is, are) = (only_published s).fonds text e in Fonds tops is are
-told_prints s (query.Aid u) (told.Text text) h e t = let (units, is, are) = (only_published s).aid u text e in Aid u units is are
-told_prints s (query.Page u) (told.Text text) h e t = let (shown, is, are) = (only_published s).page u text e in OnePage u shown is are
-told_prints s (query.ReaderOrders u) (told.Text text) h e t = absurd h
-told_prints s (query.Queue u) (told.Text text) h e t = absurd h
-told_prints s (query.RunSlip u) (told.Text text) h e t = absurd h
-told_prints s query.IssuedNow (told.Text text) h e t = absurd h
-told_prints s (query.ReaderPermits u) (told.Text text) h e t = absurd h
+    → (of_told a).is_text ≡ true → PrintsPublished s asked (of_told a).body
+told_prints s asked (told.Text text) h e t = only_published s asked text h e
 told_prints s asked (told.Json text) h e t = cc
 told_prints s asked (told.Unknown why) h e t = cc
 
 prints : (s : State) (meaning : Meaning) → IsForThePublic meaning → (carried_out s meaning).0.is_text ≡ true
-    → PrintsPublished s (carried_out s meaning).0.body
+    → (asked : Query) × (meaning ≡ Puts (ToTell asked)) × PrintsPublished s asked (carried_out s meaning).0.body
 prints s (Puts (ToDo command)) h t = cc
-prints s (Puts (ToTell query)) h t = told_prints s query (answer s query) h refl t
+prints s (Puts (ToTell asked)) h t = (asked, refl, told_prints s asked (answer s asked) h refl t)
 prints s (Fixed a) h t = let never : false ≡ true = sym h ∙ t in cc
 
 answered_in_public : (s : State) (m : Message) → IsBelowPublic m → IsAnsweredInPublic s m
@@ -116,7 +102,8 @@ answered_in_public s m (below, path) =
       meaning = it.meaning;
       means = it.is;
       asks = it.asks;
-      prints = subst (λ a. a.is_text ≡ true → PrintsPublished s a.body) (sym (ap (λ p. p.0) (it.is s))) (prints s it.meaning it.asks);
+      prints = subst (λ a. a.is_text ≡ true → (asked : Query) × (it.meaning ≡ Puts (ToTell asked)) × PrintsPublished s asked a.body)
+          (sym (ap (λ p. p.0) (it.is s))) (prints s it.meaning it.asks);
     }
 
 all_answered : (s : State) (ms : List Message) → AreAnsweredInPublic s ms

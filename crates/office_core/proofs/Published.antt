@@ -118,16 +118,14 @@ page_answered s u (Some shown) h text e = (shown, sym (same_text _ text e), page
 -- ---- the answers
 
 pub only_published : (s : State) → ShowsOnlyPublished s
-only_published s =
-    record {
-      fonds = λ text e. (
-        side_by_side (press s) [] (public_forest s),
-        sym (same_text _ text e),
-        all_so (One s) (ShowsNumbered s) (shows_one s) (side_by_side (press s) [] (public_forest s)) (all_beside (press s) s.day [] s.catalogue.forest refl refl),
-      );
-      aid = λ u text e. aid_at s u (has (is_numbered u) (public_forest s)) refl text e;
-      page = λ u text e. page_answered s u (page_of (press s) u (public_forest s)) refl text e;
-    }
+only_published s query.Fonds text p e = (
+  side_by_side (press s) [] (public_forest s),
+  sym (same_text _ text e),
+  all_so (One s) (ShowsNumbered s) (shows_one s) (side_by_side (press s) [] (public_forest s)) (all_beside (press s) s.day [] s.catalogue.forest refl refl),
+)
+only_published s (query.Aid u) text p e = aid_at s u (has (is_numbered u) (public_forest s)) refl text e
+only_published s (query.Page u) text p e = page_answered s u (page_of (press s) u (public_forest s)) refl text e
+only_published s _ text p e = cc
 
 -- ---- and each that is published is shown
 

@@ -1,5 +1,5 @@
 -- The answers of the office. A question changes nothing.
-use Rattle.std.specs.Prelude.{ℕ, Bool, ◌&&◌, ◌||◌, cond, List, [], ◌∷◌, length, filter, filter_map, map, Option, Some, None, option_map, nat_eq, codes}
+use Rattle.std.specs.Prelude.{ℕ, Bool, true, false, ◌&&◌, ◌||◌, cond, List, [], ◌∷◌, length, filter, filter_map, map, Option, Some, None, option_map, nat_eq, codes}
 use Rattle.serde_json.specs.Data.{Data, string}
 use Rattle.serde_json.specs.Written.{compact_text}
 use Rattle.isad_core.specs.Texts.{Bytes}
@@ -22,6 +22,13 @@ use Rattle.office_core.specs.Words.{numbered, numbers_to, some_and}
 use Rattle.office_core.specs.State.{Reader, Line, Run, Permit, State, is_by, waits, container_of, order_out, seat_of, containers}
 use Rattle.office_core.specs.Json.{count, date, list, or_null, fields}
 use Rattle.catalogue_core.specs.Pages.{Press, is_numbered, fonds_text, aid_of, page_of}
+
+-- the public may ask for the list of fonds, a finding aid and a page; all other questions are the desk's
+abbrev pub is_public : Query → Bool
+is_public query.Fonds = true
+is_public (query.Aid u) = true
+is_public (query.Page u) = true
+is_public _ = false
 
 -- ---- public questions, answered from what the public may know of the forest
 
@@ -132,15 +139,16 @@ abbrev pub run_answer : State → ℕ → Option Run → Answer
 run_answer s n None = Unknown UnknownRun
 run_answer s n (Some run) = Text (slip n run.day (filter_map (candidate_of s) run.lines))
 
+abbrev pub desk_answer : State → Query → Answer
+desk_answer s (query.ReaderOrders t) = known_json UnknownTicket (option_map (reader_json s t) (numbered s.readers t))
+desk_answer s (query.Queue c) = known_json UnknownContainer (option_map (queue_json s c) (numbered s.catalogue.containers c))
+desk_answer s (query.RunSlip n) = run_answer s n (numbered s.runs n)
+desk_answer s query.IssuedNow = Json (compact_text (list (filter_map (issued_json s) (containers s))))
+desk_answer s (query.ReaderPermits t) =
+    known_json UnknownTicket (option_map (λ reader. list (map permit_json (s.permits t))) (numbered s.readers t))
+desk_answer s _ = Unknown UnknownUnit
+
 -- ---- all of them
 
 abbrev pub answer : State → Query → Answer
-answer s query.Fonds = public_answer (press s) (public_forest s) query.Fonds
-answer s (query.Aid u) = public_answer (press s) (public_forest s) (query.Aid u)
-answer s (query.Page u) = public_answer (press s) (public_forest s) (query.Page u)
-answer s (query.ReaderOrders t) = known_json UnknownTicket (option_map (reader_json s t) (numbered s.readers t))
-answer s (query.Queue c) = known_json UnknownContainer (option_map (queue_json s c) (numbered s.catalogue.containers c))
-answer s (query.RunSlip n) = run_answer s n (numbered s.runs n)
-answer s query.IssuedNow = Json (compact_text (list (filter_map (issued_json s) (containers s))))
-answer s (query.ReaderPermits t) =
-    known_json UnknownTicket (option_map (λ reader. list (map permit_json (s.permits t))) (numbered s.readers t))
+answer s asked = cond (is_public asked) (public_answer (press s) (public_forest s) asked) (desk_answer s asked)

@@ -17,11 +17,12 @@ use Rattle.catalogue_core.specs.PublicForest.{PublicUnit}
 use Rattle.catalogue_core.specs.Aids.{shown_unit}
 use Rattle.catalogue_core.specs.Pages.{number_of, is_numbered, tops_text}
 use Rattle.catalogue_core.specs.PublishedUnits.{boxes_told, identifiers, IsPublished, LineIsTold, BoxIsTold}
+use Rattle.office_core.specs.declared.query.Query.{Query}
 use Rattle.office_core.specs.declared.query.Query.TheVariants as query
 use Rattle.office_core.specs.declared.query.Answer.{Answer}
 use Rattle.office_core.specs.declared.query.Answer.TheVariants.{Text}
 use Rattle.office_core.specs.State.{State, Settings, start}
-use Rattle.office_core.specs.Queries.{answer, press, public_forest}
+use Rattle.office_core.specs.Queries.{answer, is_public, press, public_forest}
 
 -- the public parts of two offices are the same: the country and repository codes, the day, what the public may know of
 -- the forest, and the numbers of the containers in it
@@ -36,10 +37,8 @@ pub record SamePublic (s t : State) : Type 0 where
 
 -- Equal public parts give equal answers to the public's questions: nothing else that an office stores is visible in
 -- them.
-pub record AnswersAlike (s t : State) : Type 0 where
-  pub fonds : answer s query.Fonds ≡ answer t query.Fonds
-  pub aid : (u : ℕ) → answer s (query.Aid u) ≡ answer t (query.Aid u)
-  pub page : (u : ℕ) → answer s (query.Page u) ≡ answer t (query.Page u)
+abbrev pub AnswersAlike : State → State → Type 0
+AnswersAlike s t = (asked : Query) → is_public asked ≡ true → answer s asked ≡ answer t asked
 
 -- ---- what the public is shown
 
@@ -73,14 +72,17 @@ pub record PageShowsPublished (s : State) (u : ℕ) (shown : Page) : Type 0 wher
   pub boxes : AllByRecursion (BoxIsTold (press s) (public_path s u)) shown.boxes
   pub below : AllByRecursion (ShowsNumbered s) shown.below
 
--- An answer to one of the public's questions is printed from published units only.
-pub record ShowsOnlyPublished (s : State) : Type 0 where
-  pub fonds : (text : Bytes) → answer s query.Fonds ≡ Text text →
-      (tops : List (ℕ × Shown)) × (text ≡ tops_text tops) × AllByRecursion (ShowsNumbered s) tops
-  pub aid : (u : ℕ) (text : Bytes) → answer s (query.Aid u) ≡ Text text →
-      (units : List Shown) × (text ≡ aid_text units) × ShowsBranch s u units
-  pub page : (u : ℕ) (text : Bytes) → answer s (query.Page u) ≡ Text text →
-      (shown : Page) × (text ≡ page_text shown) × PageShowsPublished s u shown
+-- the text answers one of the public's questions, and is printed from published units only
+abbrev pub PrintsPublished : State → Query → Bytes → Type 0
+PrintsPublished s query.Fonds text =
+    (tops : List (ℕ × Shown)) × (text ≡ tops_text tops) × AllByRecursion (ShowsNumbered s) tops
+PrintsPublished s (query.Aid u) text = (units : List Shown) × (text ≡ aid_text units) × ShowsBranch s u units
+PrintsPublished s (query.Page u) text = (shown : Page) × (text ≡ page_text shown) × PageShowsPublished s u shown
+PrintsPublished s _ text = ⊥
+
+abbrev pub ShowsOnlyPublished : State → Type 0
+ShowsOnlyPublished s = (asked : Query) (text : Bytes) → is_public asked ≡ true → answer s asked ≡ Text text
+    → PrintsPublished s asked text
 
 abbrev pub is_text : Answer → Bool
 is_text (Text text) = true
