@@ -8,8 +8,8 @@ from records import Record
 
 TOP = Path(__file__).resolve().parents[1]
 LIMITS = [
-    "most_units", "most_unit_numbers", "most_deep", "most_bytes", "most_containers", "most_tickets", "most_permits",
-    "most_orders", "most_runs",
+    "most_units", "most_unit_numbers", "most_deep", "most_bytes", "most_containers", "most_seats", "most_daily", "most_hands",
+    "most_run_size", "most_tickets", "most_permits", "most_orders", "most_runs",
 ]  # fmt: skip
 # the members of each form, and the day that tells it by another name
 MEMBERS = {
@@ -36,13 +36,13 @@ def text_of(crate, file):
 
 
 def of_limits():
-    """The limits of an office; the settings have rules of their own."""
+    """The limits of an office. The code has their numbers, and the definitions name them."""
     crate, file = "isad_core", "specs/Limits.antt"
-    text, made = text_of(crate, file), []
+    code, made = text_of(crate, "src/limits.rt"), []
     for name in LIMITS:
-        number = int(re.search(rf"^{name} = (\d+)\n", text, re.M)[1])
+        number = int(re.search(rf"^pub const {name.upper()}: \w+ = ([\d_]+);\n", code, re.M)[1])
         for what, wrong in (("more", number + 1), ("fewer", number - 1)):
-            texts = f"{name} = {number}\n", f"{name} = {wrong}\n"
+            texts = f"{name} = {name.upper()}\n", f"{name} = {wrong}\n"
             law = "office_core::laws_of_rules::limits_are_these"
             made.append(Record(f"{name}: one {what}", crate, file, *texts, refused_by=law, seen_in=""))
     return made

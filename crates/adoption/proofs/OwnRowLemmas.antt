@@ -29,7 +29,7 @@ use Rattle.sqlite_tied.specs.Compute.{everything}
 use Rattle.sqlite_value.specs.Order.{value_cmp}
 use Rattle.std.specs.declared.cmp.Ordering.TheVariants.{Less, Equal}
 use Rattle.isad_core.specs.Days.{is_day_number}
-use Rattle.isad_core.specs.Limits.{most_unit_numbers}
+use Rattle.isad_core.specs.Limits.{most_unit_numbers, most_seats, most_daily, most_hands, most_run_size}
 use Rattle.isad_core.specs.Words.{is_between}
 use Rattle.isad_core.specs.Texts.{Bytes}
 use Rattle.tree_core.specs.Versions.{Version, Links, Spans, version_number}
@@ -90,7 +90,7 @@ module _ (v : Version) where
   told_with (Some country) None n = elim (is_country country) as (λ b. None ≡ from (cond (b && false) (Some n) None) judge) [ true ↦ refl | false ↦ refl ]
   told_with (Some country) (Some repo) n =
       mixed (nat_eq n.version (version_number v)) (is_country country) (is_repository repo)
-      (is_between 1 200 n.seats && (is_between 1 50 n.daily && (is_between 1 10 n.hands && (is_between 1 100 n.run_size && (is_day_number n.day && is_between 1 (most_unit_numbers + 1) n.next_unit)))))
+      (is_between 1 most_seats n.seats && (is_between 1 most_daily n.daily && (is_between 1 most_hands n.hands && (is_between 1 most_run_size n.run_size && (is_day_number n.day && is_between 1 (most_unit_numbers + 1) n.next_unit)))))
       n (own_from n) judge refl
 
   -- the numbers behind the row's own, one by one

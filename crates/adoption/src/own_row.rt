@@ -6,7 +6,6 @@ ghost use Rattle.std.specs.Option.{option_map_or};
 ghost use Rattle.sqlite.specs.Held.{state};
 ghost use Rattle.sqlite.specs.Value.{owned};
 ghost use Rattle.sqlite.specs.State.{HasCleanDisk};
-ghost use Rattle.isad_core.specs.Days.{is_day_number};
 ghost use Rattle.isad_core.specs.Words.{is_between};
 ghost use Rattle.office_core.specs.Soundness.{is_country as is_country_code, is_repository as is_repository_code};
 ghost use Rattle.office_tables.specs.Cells.{text_in};
@@ -19,7 +18,7 @@ ghost use Rattle.adoption.specs.OrderedTables.{StandInOrder};
 
 use catalogue_store::Places;
 use desk_core::Limits;
-use isad_core::{Day, limits};
+use isad_core::{Day, is_day, limits};
 use office_tables::{Gathering, StoreFault, gather};
 use row_decoding::{cell, number_in, whole_in};
 use sqlite::types::ValueRef;
@@ -69,13 +68,6 @@ fn is_up_to(most: u64, number: u64) -> bool
     ensures { result ≡ is_between 1 most number }
 {
     1 <= number && number <= most
-}
-
-/// Whether the number is a day of the calendar.
-fn is_day(number: i64) -> bool
-    ensures { result ≡ is_day_number number }
-{
-    -25_567 <= number && number <= 2_932_896
 }
 
 /// Whether an office of this version may have these numbers.

@@ -7,8 +7,8 @@ use Rattle.jiff_core.proofs.CalendarLemmas.{days_in_month_bounds}
 use Rattle.jiff_core.proofs.SignedLemmas.{signed_arith}
 use Rattle.std.proofs.lemmas.Bool.{and_parts}
 use Rattle.jiff_core.specs.Calendar.{days_from_civil}
-use Rattle.state_encoding.proofs.DeskLookups.{is_day_so}
 use Rattle.isad_core.specs.Days.{is_civil, YearMonthDay, date_of, date_text, day_of, day_text, in_two_digits, is_day_number, number_of_date, two_digits}
+use Rattle.isad_core.proofs.DayLemmas.{is_day_number-so}
 use Rattle.isad_core.proofs.DateLemmas.{HasNumber, date_of-HasNumber}
 
 next : (b : ℕ) (bs : List ℕ) → b < 128 → IsAscii bs → IsAscii (b ∷ bs)
@@ -66,7 +66,7 @@ read_date d number e =
 pub day_is_utf8 : (number : ℤ) → day_of (day_text number) ≡ Some number → IsUtf8 (day_text number)
 unfolding day_text
 day_is_utf8 number reads =
-    IsUtf8-from_ascii (date_text (date_of number)) (ascii_date (date_of number) number (date_of-HasNumber number (is_day_so number (read_date (date_of number) number reads))))
+    IsUtf8-from_ascii (date_text (date_of number)) (ascii_date (date_of number) number (date_of-HasNumber number (is_day_number-so number (read_date (date_of number) number reads))))
 
 -- a test that only what is no text fails
 pub is_ok : {X E : Type 0} (P : X → Type 0) (Q : Type 0) (R : E → Type 0) (r : Result X E) → MatchResult r P (λ e. ¬ Q × R e) → Q → IsOk r

@@ -15,7 +15,7 @@ use Rattle.http_messages.specs.declared.status.Status.TheVariants.{Busy}
 use Rattle.http_messages.specs.Heads.{Request, Accepted, is_head, body_length}
 use Rattle.http_messages.specs.Answers.{Answer, error, answer_text, answered, continue_text}
 use Rattle.http_desk.specs.Messages.{HasHead, Message, Last, Answers, Fails, Stands}
-use Rattle.http_desk.specs.Session.{IsFront, closes, continue_if, message_answer, refusal, state_after, state_after_all, last_text, state_after_last}
+use Rattle.http_desk.specs.Session.{most_answers, IsFront, closes, continue_if, message_answer, refusal, state_after, state_after_all, last_text, state_after_last}
 use Rattle.http_desk.specs.AnswerOutput.{Sends}
 use Rattle.http_desk.specs.Exchanges.{Through, Refused, Replies, after_answer, after_sending}
 use Rattle.http_desk.specs.Streams.{Stream}
@@ -84,7 +84,7 @@ module _ {M : Type 0} (represents : M → State → Type 0) (is_intact is_open :
   -- what the office answered broke off, or that it is busy
   pub answered_to_bound : {A E : Type 0} (answer : A → Answer) (number : ℕ) (old new : M) (items : Bytes) (size n : ℕ) (request : Request) (made : Result A E) (bare : Bool) (a b : Option Bytes) (closing : Bool) (next : Next) (writer : Stream)
       → HasHead items (take size items) (Accepted request) (drop size items) → size + n ≤ length items → n ≡ body_length request
-      → bare ≡ is_head request.method → (request.closes || nat_eq number 10000) ≡ closing
+      → bare ≡ is_head request.method → (request.closes || nat_eq number most_answers) ≡ closing
       → MatchResult made (λ x. Replies a b closing (answer_text bare closing (answer x)) next) (λ e. Refused a b false Busy next)
       → MatchResult made (λ x. TellsWriteBound (answer_text bare closing (answer x)) writer next) (λ e. TellsWriteBound (refusal false (error Busy)) writer next)
       → IfOk made (λ x. is_intact new → (s : State) → represents old s → represents new (answered s request (take n (drop size items))).1 × (answer x ≡ (answered s request (take n (drop size items))).0))

@@ -1,14 +1,14 @@
 -- A request's command names days of the calendar, and a text that is UTF-8.
-use Rattle.std.proofs.Common.{◌≡◌, ℕ, true, false, List, [], ◌∷◌, IsUtf8, Option, None, Some, cond, codes, arith}
-use Rattle.std.specs.Prelude.{ℤ, IfSome, ◌==◌, ◌&&◌, ◌+◌, ◌*◌, pos, neg_ℤ, int_le}
+use Rattle.std.proofs.Common.{ℕ, true, false, List, [], ◌∷◌, IsUtf8, Option, None, Some, cond, codes}
+use Rattle.std.specs.Prelude.{IfSome, ◌==◌, ◌&&◌, ◌+◌, ◌*◌}
 use Rattle.std.specs.Str.{is_utf8}
 use Rattle.std.proofs.lemmas.Bool.{and_parts}
-use Rattle.std.proofs.lemmas.Int.{ints}
 use Rattle.serde_json.specs.Data.{Data}
 use Rattle.serde_json.specs.Data as values
 use Rattle.serde_json.specs.Find.{get, as_str}
 use Rattle.isad_core.specs.Texts.{Bytes}
-use Rattle.isad_core.specs.Days.{IsDayNumber, is_day_number, number_of_date, two_digits, day_of}
+use Rattle.isad_core.proofs.DayLemmas.{is_day_number-so}
+use Rattle.isad_core.specs.Days.{IsDayNumber, number_of_date, two_digits, day_of}
 use Rattle.catalogue_core.specs.GoodCatalogues.{IsSomeDay}
 use Rattle.office_core.specs.declared.command.Command.{Command}
 use Rattle.office_core.specs.declared.command.Command.TheVariants as command
@@ -29,15 +29,8 @@ Names command = NamesDays command × NamesTexts command
 
 -- ---- days
 
-day_number : (n : ℤ) → is_day_number n ≡ true → IsDayNumber n
-day_number n h =
-    let parts = and_parts (int_le (neg_ℤ (pos 25567)) n) (int_le n (pos 2932896)) h in
-    let low : int_le (neg_ℤ (pos 25567)) n ≡ true = parts.0 in
-    let high : int_le n (pos 2932896) ≡ true = parts.1 in
-    grind (arith, ints, low, high)
-
 days_of_dates : (year month day : ℕ) → IfSome (number_of_date year month day) IsDayNumber
-days_of_dates year month day = if_some IsDayNumber _ _ (λ h. day_number _ (and_parts _ _ h).1)
+days_of_dates year month day = if_some IsDayNumber _ _ (λ h. is_day_number-so _ (and_parts _ _ h).1)
 
 days_of_texts : (text : Bytes) → IfSome (day_of text) IsDayNumber
 days_of_texts [] = tt

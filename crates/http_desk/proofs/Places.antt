@@ -5,10 +5,10 @@ use Rattle.http_messages.specs.declared.head_scan.HeadScanState.{HeadScanState}
 use Rattle.http_messages.specs.declared.head_scan.HeadScanState.TheVariants.{Lead, LeadReturn, Start, StartReturn, Middle}
 use Rattle.http_messages.specs.declared.head_scan.Scan.TheVariants.{Open}
 use Rattle.http_messages.specs.HeadScan.{scan}
-use Rattle.http_desk.specs.Messages.{IsBlank, IsHeadCut}
+use Rattle.http_desk.specs.Messages.{longest_head, IsBlank, IsHeadCut}
 
 -- an open head is nothing but empty lines, or it has begun
-pub blank_or_cut : (input : List ℕ) (p : HeadScanState) → length input < 16384 → scan input ≡ Open p → IsBlank input ⊎ IsHeadCut input
+pub blank_or_cut : (input : List ℕ) (p : HeadScanState) → length input < longest_head → scan input ≡ Open p → IsBlank input ⊎ IsHeadCut input
 blank_or_cut input Lead h e = inl (h, e)
 blank_or_cut input LeadReturn h e = inr (h, LeadReturn, (λ q. absurd (cc)), e)
 blank_or_cut input Start h e = inr (h, Start, (λ q. absurd (cc)), e)
@@ -17,7 +17,7 @@ blank_or_cut input Middle h e = inr (h, Middle, (λ q. absurd (cc)), e)
 
 -- what was seen of a buffer stays seen when more comes
 pub led_on : (n : ℕ) (items new got : List ℕ) (p : HeadScanState) → n ≡ length items → new ≡ items ++ got
-    → length items < 16384 → scan (take 16384 items) ≡ Open p → scan (take n new) ≡ Open p
+    → length items < longest_head → scan (take longest_head items) ≡ Open p → scan (take n new) ≡ Open p
 led_on n items new got p e f short seen =
-    let few : length items ≤ 16384 = omega arith in
-    (λ i. scan (take (e i) (f i))) ∙ ap scan (take-append_seam items got) ∙ ap scan (sym (take_all 16384 items few)) ∙ seen
+    let few : length items ≤ longest_head = omega arith in
+    (λ i. scan (take (e i) (f i))) ∙ ap scan (take-append_seam items got) ∙ ap scan (sym (take_all longest_head items few)) ∙ seen

@@ -95,7 +95,7 @@ begun_ends was between now number s t u read written buffer more out end b stays
       λ h. kept (last_open (AllLeaveOpen was s b.messages) between stays (state_after_all s b.messages) stops.last h),
     )
 
-pub not_over : (s t : State) (read written buffer : Bytes) → Begun 10001 s read written t buffer → ⊥
+pub not_over : (s t : State) (read written buffer : Bytes) → Begun (most_answers + 1) s read written t buffer → ⊥
 not_over s t read written buffer b = omega (arith, b.few, b.count)
 
 module _ {M : Type 0} (represents : M → State → Type 0) (is_intact is_open : M → Type 0) where
@@ -140,7 +140,7 @@ module _ {M : Type 0} (represents : M → State → Type 0) (is_intact is_open :
         (u, shown2, begun_ends (is_open start) (is_open now) (is_open new) number s t u read written buffer read2 written2 end begun.0 begun.1 stops),
   )
 
-  -- no more than 10,000 messages are answered
-  pub carried_over : (a b c d : Option Bytes) (start now : M) (buffer : Bytes) (end : Ended) → Carried a b c d start now 10001 buffer → Talks represents is_intact is_open a b c d start end now
+  -- no more messages are answered than may be
+  pub carried_over : (a b c d : Option Bytes) (start now : M) (buffer : Bytes) (end : Ended) → Carried a b c d start now (most_answers + 1) buffer → Talks represents is_intact is_open a b c d start end now
   carried_over a b c d start now buffer end (read, written, consumed, appended, intact, through) =
       (read, written, consumed, appended, λ i s h. let (t, shown, begun) = through i s h in absurd (not_over s t read written buffer begun.0))

@@ -20,7 +20,7 @@ use Rattle.http_messages.specs.Heads.{Request, Verdict, Accepted, Judges, is_hea
 use Rattle.http_messages.specs.Answers.{Answer, error, answer_text, answered}
 use Rattle.http_desk.specs.Messages.{longest_head, HasHead, Message, Begins, Last, Nothing, HeadCut, BodyCut, Answers, Fails, Stands, MayFail, IsBlank, IsHeadCut}
 use Rattle.http_desk.specs.AcceptedMessages.{IsAccepted, LastLeavesOpen}
-use Rattle.http_desk.specs.Session.{IsFront, Stops, IsClosing, closes, continue_if, refusal, message_text, state_after, last_text, state_after_last}
+use Rattle.http_desk.specs.Session.{most_answers, IsFront, Stops, IsClosing, closes, continue_if, refusal, message_text, state_after, last_text, state_after_last}
 use Rattle.http_desk.specs.AnswerOutput.{Sends}
 use Rattle.http_desk.specs.Exchanges.{Turn, Through, Exchange, Refused, Replies, after_sending}
 use Rattle.http_messages.proofs.Scans.{scan_take_more}
@@ -149,7 +149,7 @@ module _ {M : Type 0} (represents : M → State → Type 0) (is_intact is_open :
   -- the same, where the answer closes
   acted_closing : (number : ℕ) (old new : M) (items : Bytes) (size n : ℕ) (request : Request) (told : Answer) (bare : Bool) (rest : Bytes) (a b : Option Bytes) (sent : Sent) (next : Next)
       → HasHead items (take size items) (Accepted request) (drop size items) → size + n ≤ length items → n ≡ body_length request → rest ≡ drop (size + n) items
-      → bare ≡ is_head request.method → (request.closes || nat_eq number 10000) ≡ true → next ≡ after_sending sent (Ends Closed)
+      → bare ≡ is_head request.method → (request.closes || nat_eq number most_answers) ≡ true → next ≡ after_sending sent (Ends Closed)
       → Sends a b (answer_text bare true told) sent
       → (is_intact new → (s : State) → represents old s → represents new (answered s request (body_at items size n)).1 × (told ≡ (answered s request (body_at items size n)).0))
       → (request.method ≡ codes "POST" → is_intact new → told.status ≡ Fine → is_open new)
@@ -174,7 +174,7 @@ module _ {M : Type 0} (represents : M → State → Type 0) (is_intact is_open :
 
   acted_open : (number : ℕ) (old new : M) (items : Bytes) (size n : ℕ) (request : Request) (told : Answer) (bare : Bool) (rest : Bytes) (a b : Option Bytes) (sent : Sent) (next : Next)
       → HasHead items (take size items) (Accepted request) (drop size items) → size + n ≤ length items → n ≡ body_length request → rest ≡ drop (size + n) items
-      → bare ≡ is_head request.method → (request.closes || nat_eq number 10000) ≡ false → next ≡ after_sending sent Goes
+      → bare ≡ is_head request.method → (request.closes || nat_eq number most_answers) ≡ false → next ≡ after_sending sent Goes
       → Sends a b (answer_text bare false told) sent
       → (is_intact new → (s : State) → represents old s → represents new (answered s request (body_at items size n)).1 × (told ≡ (answered s request (body_at items size n)).0))
       → (request.method ≡ codes "POST" → is_intact new → told.status ≡ Fine → is_open new)
@@ -200,7 +200,7 @@ module _ {M : Type 0} (represents : M → State → Type 0) (is_intact is_open :
   -- the office answered, and its answer was sent
   pub acted : (number : ℕ) (old new : M) (items : Bytes) (size n : ℕ) (request : Request) (told : Answer) (bare : Bool) (rest : Bytes) (a b : Option Bytes) (closing : Bool) (next : Next)
       → HasHead items (take size items) (Accepted request) (drop size items) → size + n ≤ length items → n ≡ body_length request → rest ≡ drop (size + n) items
-      → bare ≡ is_head request.method → (request.closes || nat_eq number 10000) ≡ closing → Replies a b closing (answer_text bare closing told) next
+      → bare ≡ is_head request.method → (request.closes || nat_eq number most_answers) ≡ closing → Replies a b closing (answer_text bare closing told) next
       → (is_intact new → (s : State) → represents old s → represents new (answered s request (body_at items size n)).1 × (told ≡ (answered s request (body_at items size n)).0))
       → (request.method ≡ codes "POST" → is_intact new → told.status ≡ Fine → is_open new)
       → (written : Bytes) × Appends a b written × Through represents is_intact old new (λ s t. Turn (is_open old) (is_open new) number s items next (continue_if request.waits ++ written) t rest)
@@ -212,7 +212,7 @@ module _ {M : Type 0} (represents : M → State → Type 0) (is_intact is_open :
   -- what the office answered was sent, or that it is busy
   pub answered_at : {A E : Type 0} (answer : A → Answer) (number : ℕ) (old new : M) (items : Bytes) (size n : ℕ) (request : Request) (made : Result A E) (bare : Bool) (rest : Bytes) (a b : Option Bytes) (closing : Bool) (next : Next)
       → HasHead items (take size items) (Accepted request) (drop size items) → size + n ≤ length items → n ≡ body_length request → OnOk made (rest ≡ drop (size + n) items)
-      → bare ≡ is_head request.method → (request.closes || nat_eq number 10000) ≡ closing
+      → bare ≡ is_head request.method → (request.closes || nat_eq number most_answers) ≡ closing
       → MatchResult made (λ x. Replies a b closing (answer_text bare closing (answer x)) next) (λ e. Refused a b false Busy next)
       → IfOk made (λ x. is_intact new → (s : State) → represents old s → represents new (answered s request (body_at items size n)).1 × (answer x ≡ (answered s request (body_at items size n)).0))
       → OnErr made (is_intact new → (s : State) → represents old s → represents new s)

@@ -7,7 +7,7 @@ use Rattle.http_desk.specs.declared.message_input.FoundHead.TheVariants.{Whole, 
 use Rattle.http_desk.specs.declared.message_input.FoundBody.{FoundBody}
 use Rattle.http_desk.specs.declared.message_input.FoundBody.TheVariants.{Whole as BodyWhole, Cut as BodyCut, Failed as BodyFailed, Bound as BodyBound, NoMemory as BodyNoMemory}
 use Rattle.http_messages.specs.HeadScan.{scan}
-use Rattle.http_desk.specs.Messages.{IsBlank, IsHeadCut, IsTooLong}
+use Rattle.http_desk.specs.Messages.{IsBlank, IsHeadCut, IsTooLong, longest_head}
 
 -- what a reader gave was added at the end of a buffer
 abbrev pub Reads : Option (List ℕ) → Option (List ℕ) → List ℕ → List ℕ → Type 0
@@ -16,7 +16,7 @@ Reads left left_after buffer buffer_after = (got : List ℕ) × Consumes left le
 
 -- what was found at the front of the input
 abbrev pub FindsHead : List ℕ → FoundHead → Type 0
-FindsHead input (Whole size) = (scan (take 16384 input) ≡ Ends size) × (size ≤ length input) × (size ≤ 16384)
+FindsHead input (Whole size) = (scan (take longest_head input) ≡ Ends size) × (size ≤ length input) × (size ≤ longest_head)
 FindsHead input TooLong = IsTooLong input
 FindsHead input Blank = IsBlank input
 FindsHead input Cut = IsHeadCut input

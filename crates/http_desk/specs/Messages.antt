@@ -6,12 +6,13 @@ use Rattle.http_messages.specs.declared.head_scan.HeadScanState.TheVariants.{Lea
 use Rattle.http_messages.specs.declared.head_scan.Scan.TheVariants.{Whole, Open}
 use Rattle.http_messages.specs.declared.status.Status.{Status}
 use Rattle.http_messages.specs.HeadScan.{scan}
+use Rattle.http_desk.specs.declared.message_input.TheConstants.{HEAD_LIMIT}
 use Rattle.http_messages.specs.Heads.{Request, Verdict, Refused, Accepted, Judges, is_head, body_length}
 
 -- ---- heads
 
 abbrev pub longest_head : ℕ
-longest_head = 16384
+longest_head = HEAD_LIMIT
 
 -- the input has only empty lines, and fewer bytes than a head may have
 abbrev pub IsBlank : Bytes → Type 0

@@ -8,12 +8,13 @@ use Rattle.http_desk.specs.declared.session_end.Ended.TheVariants.{End, Closed, 
 use Rattle.http_messages.specs.declared.status.Status.TheVariants.{BadRequest, Busy}
 use Rattle.http_messages.specs.Heads.{is_head}
 use Rattle.http_messages.specs.Answers.{Answer, error, answer_text, continue_text, answered}
+use Rattle.http_desk.specs.declared.session.TheConstants.{ANSWERS}
 use Rattle.http_desk.specs.Messages.{Message, Cuts, Last, Nothing, HeadCut, BodyCut, NoHead, Refuses, Answers, Fails, Stands}
 
 -- ---- what is written for a message
 
 abbrev pub most_answers : ℕ
-most_answers = 10000
+most_answers = ANSWERS
 
 -- the connection is closed after the answer with this number, counted from 1
 abbrev pub closes : ℕ → Message → Bool

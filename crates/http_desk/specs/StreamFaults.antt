@@ -12,6 +12,7 @@ use Rattle.http_desk.specs.declared.output.Sent.TheVariants as sents
 use Rattle.http_desk.specs.declared.session_end.Ended.TheVariants as ends
 use Rattle.http_desk.specs.declared.session_end.Next.{Next}
 use Rattle.http_desk.specs.declared.session_end.Next.TheVariants.{Goes, Ends}
+use Rattle.http_desk.specs.Messages.{longest_head}
 use Rattle.http_desk.specs.Streams.{Stream, more_writes, most_reads}
 
 -- a read took one turn; the result is a bound only if no turn was left
@@ -26,11 +27,11 @@ abbrev pub QuietRead : Result ℕ Filled → ℕ → ℕ → Type 0
 QuietRead (Ok n) old new = new + 1 ≡ old
 QuietRead (Err f) old new = QuietFill f old new
 
--- the sum of turns and bytes does not fall; the result is a bound only if the sum was below 16384
+-- the sum of turns and bytes does not fall; the result is a bound only if the sum was below the longest head
 abbrev pub QuietHead : FoundHead → ℕ → ℕ → Type 0
 QuietHead (heads.Whole size) old new = old ≤ new
 QuietHead heads.Failed old new = Unit {0}
-QuietHead heads.Bound old new = old < 16384
+QuietHead heads.Bound old new = old < longest_head
 QuietHead heads.TooLong old new = Unit {0}
 QuietHead heads.Blank old new = Unit {0}
 QuietHead heads.Cut old new = Unit {0}

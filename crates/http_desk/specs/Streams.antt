@@ -1,6 +1,8 @@
 -- What is known of a session's reader or writer, and of the result of each of its calls.
 use Rattle.std.specs.Prelude.{◌≡◌, ℕ, ◌+◌, min, Bool, true, false, Option, Result, Ok, Err}
 use Rattle.isad_core.specs.Texts.{Bytes}
+use Rattle.http_messages.specs.Heads.{longest_body}
+use Rattle.http_desk.specs.Messages.{longest_head}
 use Rattle.http_desk.specs.declared.streams.Undone.{Undone}
 use Rattle.http_desk.specs.declared.streams.Undone.TheVariants.{Failed, Interrupted}
 
@@ -28,7 +30,7 @@ counted calls = min (calls + 1) 18446744073709551615
 
 -- the reads of one message: one for each byte of the longest head and of the longest body, and one more
 abbrev pub most_reads : ℕ
-most_reads = 8404993
+most_reads = longest_head + longest_body + 1
 
 -- the writes and flushes of a text, in addition to one for each byte
 abbrev pub more_writes : ℕ

@@ -1,8 +1,9 @@
 -- Whole sessions in a small office, to the byte. Inputs and outputs were written by hand.
-use Rattle.std.specs.Prelude.{◌++◌, [], codes}
+use Rattle.std.specs.Prelude.{◌≡◌, ◌++◌, [], codes}
 use Rattle.isad_core.specs.Texts.{Bytes}
 use Rattle.http_desk.specs.declared.session_end.Ended.TheVariants.{End, Cut}
-use Rattle.http_desk.specs.Session.{Session}
+use Rattle.http_desk.specs.Messages.{longest_head}
+use Rattle.http_desk.specs.Session.{Session, most_answers}
 use Rattle.http_desk.specs.WorkedExamples.{filled, with_draft, fonds_list, not_found, json_text}
 
 abbrev pub list_request : Bytes
@@ -32,3 +33,6 @@ pub record Talked : Type 0 where
   pub cut : Session filled (list_request ++ half_a_request) fonds_list Cut filled
   -- the draft is unknown from the next message on
   pub drafted : Session filled (draft_request ++ page_request) (one_unit ++ not_found) End with_draft
+  -- the bytes of a head, and the answers of a session
+  pub head : longest_head ≡ 16384
+  pub answers : most_answers ≡ 10000

@@ -2,6 +2,7 @@
 ghost use Rattle.std.specs.Prelude.{◌≡◌, ◌+◌, ◌≤◌, length, take, unwrap_or};
 ghost use Rattle.http_desk.specs.StreamFaults.{QuietHead, QuietBody, StepsAsCalled, head_failed, body_failed};
 ghost use Rattle.http_desk.specs.MessageInput.{FindsHead, FindsBody, AtEndIfHead, AtEndIfBody, Reads};
+ghost use Rattle.http_desk.specs.Messages.{longest_head};
 ghost use Rattle.http_messages.specs.HeadScan.{scan};
 
 use crate::input_buffer::{Filled, fill};
@@ -11,7 +12,7 @@ use http_messages::head_verdict::Head;
 use std::io::Read;
 
 /// How many bytes a head may have, with the empty lines before it.
-pub const HEAD_LIMIT: usize = 16384;
+pub const HEAD_LIMIT: usize = 16_384;
 
 /// What was found at the front of the input.
 #[derive(Clone, Copy, Debug, PartialEq, Eq, Drop)]
@@ -60,9 +61,9 @@ pub fn body_len(head: Head) -> usize
 /// Scans the bytes that were not seen yet, from the place to which those before them led. No byte is scanned twice.
 fn look(buffer: &[u8], seen: usize, place: HeadScanState) -> Scan
     requires bytes { seen ≤ length buffer.now }
-    requires limit { seen ≤ 16384 }
+    requires limit { seen ≤ longest_head }
     requires led { scan (take seen buffer.now) ≡ Scan.Open place }
-    ensures { result ≡ scan (take 16384 buffer.now) }
+    ensures { result ≡ scan (take longest_head buffer.now) }
 {
     let end = buffer.len().min(HEAD_LIMIT);
     match scan_on(place, &buffer[seen..end]) {

@@ -33,7 +33,7 @@ use std::alloc::Global;
 use std::io::{Read, Write};
 
 /// How many messages of a session are answered at most.
-const ANSWERS: u32 = 10_000;
+pub(crate) const ANSWERS: u32 = 10_000;
 
 /// What comes next: `next` if all of the answer was sent, and otherwise the end of the session.
 fn after(sent: Sent, next: Next) -> Next
@@ -258,7 +258,7 @@ fn talk_with<R: Read, W: Write, M: Machine>(
         writer.old.bytes writer.new office.old office.new }
 {
     let mut buffer = means.empty_buffer();
-    for number in 1..10_001u32 {
+    for number in 1..ANSWERS + 1 {
         match exchange(means, reader, writer, office, &mut buffer, number) {
             Next::Goes => {}
             Next::Ends(ended) => return ended,

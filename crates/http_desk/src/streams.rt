@@ -5,6 +5,8 @@ ghost use Rattle.std.specs.Io.{ReadsAtMost};
 ghost use Rattle.http_desk.specs.Streams.{IsNew, after_flush, after_write, has_failed, most_calls, most_reads, more_writes};
 ghost use Rattle.http_desk.specs.Streams.{counted, was_interrupted};
 
+use crate::message_input::HEAD_LIMIT;
+use http_messages::head_verdict::LONGEST;
 use std::io::{ErrorKind, Read, Write};
 use std::marker::Model;
 
@@ -18,7 +20,7 @@ pub enum Undone {
 }
 
 /// How many reads a message may take: one for each byte of the longest message, and one more.
-const READS: u32 = 8_404_993;
+const READS: u32 = HEAD_LIMIT as u32 + LONGEST as u32 + 1;
 
 /// How many writes and flushes a text may take in addition to one for each byte.
 const MORE_WRITES: u64 = 16;

@@ -129,10 +129,10 @@ scan_take_within limit bytes n e =
     omega (arith, length-take limit bytes)
 
 -- an open head that isn't longer than the limit
-pub scan_take_open : (items new : List ℕ) (p : HeadScanState) → new ≡ items → length items < 16384 → scan (take 16384 items) ≡ Open p → (length new < 16384) × (scan new ≡ Open p)
-scan_take_open items new p e h f =
-    let short : length items ≤ 16384 = omega arith in
-    (rw e h, ap scan (e ∙ sym (take_all 16384 items short)) ∙ f)
+pub scan_take_open : (limit : ℕ) (items new : List ℕ) (p : HeadScanState) → new ≡ items → length items < limit → scan (take limit items) ≡ Open p → (length new < limit) × (scan new ≡ Open p)
+scan_take_open limit items new p e h f =
+    let short : length items ≤ limit = omega arith in
+    (rw e h, ap scan (e ∙ sym (take_all limit items short)) ∙ f)
 
 pub scan_take_limit : (limit : ℕ) (bytes : List ℕ) (n : ℕ) → scan (take limit bytes) ≡ Whole n → n ≤ limit
 scan_take_limit limit bytes n e =

@@ -7,6 +7,7 @@ use Rattle.std.specs.Char.{is_ascii_digit}
 use Rattle.httparse.specs.Grammar.{RequestHead, ReadsRequest, skip_ows, is_ows}
 use Rattle.httparse.specs.Spans.{name_and_value}
 use Rattle.isad_core.specs.Texts.{Bytes}
+use Rattle.http_messages.specs.declared.head_verdict.TheConstants.{FIELDS, LONGEST}
 use Rattle.http_messages.specs.declared.status.Status.{Status}
 use Rattle.http_messages.specs.declared.status.Status.TheVariants.{BadRequest, NotImplemented, TooLarge}
 
@@ -84,7 +85,7 @@ abbrev pub agrees : Bytes → Field → Bool
 agrees said field = not (is_named (codes "content-length") field) || (is_digits field.1 && same_number field.1 said)
 
 abbrev pub longest_body : ℕ
-longest_body = 8388608
+longest_body = LONGEST
 
 -- ---- the checks, in order; the first that holds refuses the head
 
@@ -128,9 +129,12 @@ weigh method target minor fields =
 
 -- ---- over the grammar of RFC 9112, as httparse's default configuration takes it
 
--- the block is one whole request head of at most 64 fields
+abbrev pub most_fields : ℕ
+most_fields = FIELDS
+
+-- the block is one whole request head that has no more fields than it may
 abbrev pub IsHeadOf : Bytes → RequestHead → Type 0
-IsHeadOf block head = ReadsRequest block head [] × (length head.fields ≤ 64)
+IsHeadOf block head = ReadsRequest block head [] × (length head.fields ≤ most_fields)
 
 abbrev pub verdict_on : RequestHead → Verdict
 verdict_on head = weigh head.method head.target head.minor (map name_and_value head.fields)

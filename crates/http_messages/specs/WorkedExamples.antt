@@ -4,7 +4,7 @@ use Rattle.isad_core.specs.Texts.{Bytes}
 use Rattle.office_core.specs.declared.command.Command.TheVariants.{Order, Move, SetStatus}
 use Rattle.http_messages.specs.declared.status.Status.TheVariants.{BadRequest, TooLarge, NotImplemented}
 use Rattle.http_messages.specs.declared.body_form.Form.TheVariants as form
-use Rattle.http_messages.specs.Heads.{Verdict, Refused, Accepted, Field, weigh}
+use Rattle.http_messages.specs.Heads.{Verdict, Refused, Accepted, Field, most_fields, weigh}
 use Rattle.http_messages.specs.Targets.{path_of}
 use Rattle.http_messages.specs.Members.{command_in}
 
@@ -59,6 +59,8 @@ pub record Weighed : Type 0 where
       With (says_length (codes "0") ∷ expects (codes "100-continue") ∷ []) (takes (Some 0) false false)
   pub option_close : With (options (codes "keep-alive, Close") ∷ []) (takes None false true)
   pub another_option : With (options (codes "keep-alive") ∷ options (codes "closed") ∷ []) (takes None false false)
+  -- a head has at most 64 fields
+  pub fields : most_fields ≡ 64
 
 pub record Read : Type 0 where
   pub order : command_in form.Order (codes "{\"ticket\":1,\"x\":null,\"container\":2}") ≡ Some (Order 1 2)

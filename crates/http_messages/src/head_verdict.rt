@@ -145,7 +145,7 @@ fn are_agreed(block: &[u8], fields: &[HeaderSpan], said: &[u8]) -> bool
 /// The number that the digits stand for, but at most one more than the longest body.
 fn capped_number(digits: &[u8]) -> u64
     requires { list_all is_ascii_digit digits.now ≡ true }
-    ensures { result ≡ min (digits_value 10 digits.now) 8388609 }
+    ensures { result ≡ min (digits_value 10 digits.now) (longest_body + 1) }
 {
     let mut value: u64 = 0;
     for digit in digits {

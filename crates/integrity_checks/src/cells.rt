@@ -10,8 +10,8 @@ ghost use Rattle.catalogue_core.specs.Sources.{is_source as is_source_name};
 ghost use Rattle.office_tables.specs.Cells.{text_in as text_said, whole_in as whole_said, flag_in, or_null_in};
 
 use catalogue_core::is_source;
-use isad_core::is_blank;
 use isad_core::limits::MOST_BYTES;
+use isad_core::{is_blank, is_day};
 use sqlite::types::ValueRef;
 
 /// The text in the cell, if it is one in UTF-8.
@@ -80,7 +80,7 @@ pub(crate) fn is_day_or_null(value: ValueRef<'_>) -> bool
 {
     match value {
         ValueRef::Null => true,
-        ValueRef::Int(n) => -25_567 <= n && n <= 2_932_896,
+        ValueRef::Int(n) => is_day(n),
         _ => false,
     }
 }

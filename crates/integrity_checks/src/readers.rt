@@ -25,7 +25,7 @@ fn is_day(value: ValueRef<'_>) -> bool
     ensures { result ≡ option_map_or is_day_number (whole_in (owned value.entry)) false }
 {
     match value {
-        ValueRef::Int(n) => -25_567 <= n && n <= 2_932_896,
+        ValueRef::Int(n) => isad_core::is_day(n),
         _ => false,
     }
 }

@@ -47,3 +47,6 @@ number_of_date-none year month day late absent =
 
 pub is_day_number-true : (number : ℤ) → IsDayNumber number → is_day_number number ≡ true
 is_day_number-true number h = grind (arith, ints, h.0, h.1)
+
+pub is_day_number-so : (number : ℤ) → is_day_number number ≡ true → IsDayNumber number
+is_day_number-so number h = grind (arith, ints, h)

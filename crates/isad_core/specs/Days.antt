@@ -1,15 +1,16 @@
 -- Days: their numbers, counted from 1 January 1970, and their dates in the ISO 8601 form.
-use Rattle.std.specs.Prelude.{ℕ, Bool, ◌+◌, ◌-◌, ◌*◌, ◌/◌, ◌%◌, ◌==◌, ◌&&◌, ◌||◌, ◌++◌, nat_lt, nat_le, if◌then◌else◌, [], ◌∷◌, Option, Some, None, option_map, option_and_then, ℤ, pos, neg_ℤ, ◌+ℤ◌, ◌≤ℤ◌, unsigned_abs}
+use Rattle.std.specs.Prelude.{ℕ, Bool, ◌+◌, ◌-◌, ◌*◌, ◌/◌, ◌%◌, ◌==◌, ◌&&◌, ◌||◌, ◌++◌, nat_lt, nat_le, if◌then◌else◌, [], ◌∷◌, Option, Some, None, option_map, option_and_then, ℤ, pos, ◌+ℤ◌, ◌≤ℤ◌, unsigned_abs}
 use Rattle.std.specs.Int.RustNames.{int_le}
 use Rattle.jiff_core.specs.Calendar.{days_in_month, days_from_civil}
+use Rattle.isad_core.specs.Limits.{first_day, last_day}
 use Rattle.isad_core.specs.Texts.{Bytes}
 
 -- the number of a day from 1900-01-01 to 9999-12-31
 abbrev pub IsDayNumber : ℤ → Type 0
-IsDayNumber n = (neg_ℤ (pos 25567) ≤ℤ n) × (n ≤ℤ pos 2932896)
+IsDayNumber n = (first_day ≤ℤ n) × (n ≤ℤ last_day)
 
 abbrev pub is_day_number : ℤ → Bool
-is_day_number n = int_le (neg_ℤ (pos 25567)) n && int_le n (pos 2932896)
+is_day_number n = int_le first_day n && int_le n last_day
 
 -- ---- reading a date
 

@@ -6,6 +6,7 @@ ghost use Rattle.isad_core.specs.Days.{day_text, in_two_digits};
 ghost use Rattle.isad_core.specs.Days as spec;
 ghost use Rattle.jiff_core.specs.Calendar.{IsCivilDate};
 
+use crate::limits::{FIRST_DAY, LAST_DAY};
 use jiff_core::civil::Date;
 use std::marker::Model;
 
@@ -48,10 +49,10 @@ impl Day {
     pub fn from_number(number: i32) -> Option<Day>
         ensures { result ≡ (if is_day_number number then Some number else None) }
     {
-        if number < -25_567 || number > 2_932_896 {
-            None
-        } else {
+        if is_day(i64::from(number)) {
             Some(Day { number })
+        } else {
+            None
         }
     }
 
@@ -76,6 +77,13 @@ impl Day {
         let (g, h) = digits(day);
         [a, b, c, d, b'-', e, f, b'-', g, h]
     }
+}
+
+/// Whether it is the number of a day of the calendar, from 1900-01-01 to 9999-12-31.
+pub fn is_day(number: i64) -> bool
+    ensures { result ≡ is_day_number number }
+{
+    FIRST_DAY <= number && number <= LAST_DAY
 }
 
 /// The value of an ASCII digit, or `None` if the byte is no digit.

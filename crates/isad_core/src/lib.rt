@@ -17,7 +17,7 @@ mod values;
 
 pub use aid::aid_text;
 pub use code::join_code;
-pub use day::Day;
+pub use day::{Day, is_day};
 pub use display::{Body, Page, Shown};
 pub use element::Element;
 pub use level::rank;

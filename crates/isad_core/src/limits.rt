@@ -1,4 +1,4 @@
-//! The limits of an office. `specs/Limits.antt` has the same numbers for contracts.
+//! The limits of an office: a number stands here, and nowhere else. `specs/Limits.antt` names them for contracts.
 
 /// The most units at a time.
 pub const MOST_UNITS: u64 = 200_000;
@@ -38,3 +38,9 @@ pub const MOST_ORDERS: u64 = 10_000_000;
 
 /// The most runs that are ever made.
 pub const MOST_RUNS: u64 = 1_000_000;
+
+/// The first day that an office knows, 1900-01-01, counted from 1970-01-01.
+pub const FIRST_DAY: i64 = -25_567;
+
+/// The last day that an office knows, 9999-12-31.
+pub const LAST_DAY: i64 = 2_932_896;

@@ -6,6 +6,7 @@ use desk_core::{
     Ask, AtDesk, Candidate, Limits, Place, Reader, Refusal, may_issue, may_leave, may_order,
     may_sit, pick_reshelve, pick_run, slip_text,
 };
+use isad_core::limits::MOST_ORDERS;
 use isad_core::{Day, Text};
 use std::alloc::{AllocError, Global};
 use std::process::Abort;
@@ -151,8 +152,8 @@ fn orders_are_placed_within_the_limits(rt: HostRuntime) {
         (NEW_YEARS_EVE, TODAY, CLOSED, Err(Refusal::NotAvailable)),
         (NEW_YEARS_EVE, TODAY, AGAIN, Err(Refusal::AlreadyOrdered)),
         // the last order of all
-        (NEW_YEARS_EVE, TODAY, after(9_999_999), Ok(())),
-        (NEW_YEARS_EVE, TODAY, after(10_000_000), Err(Refusal::Full)),
+        (NEW_YEARS_EVE, TODAY, after(MOST_ORDERS - 1), Ok(())),
+        (NEW_YEARS_EVE, TODAY, after(MOST_ORDERS), Err(Refusal::Full)),
     ];
     for (until, date, ask, wanted) in cases {
         let reader = reader(&rt, Some((1, until, None, 0)));

@@ -4,8 +4,12 @@ use desk_core::consistency::{
     Around, HoldingRow, Numbers, OrderRow, PermitRow, RunLineRow, RunRow, SeatRow,
     are_good_holdings, are_good_orders, are_good_permits, are_good_runs, are_good_seats,
 };
+use isad_core::limits::{FIRST_DAY, LAST_DAY, MOST_PERMITS};
 use std::alloc::{AllocError, Global};
 use std::test::Fail;
+
+/// The most permits of one ticket.
+const PERMITS: usize = MOST_PERMITS as usize;
 
 /// The first of March 2024.
 const TODAY: i64 = 19_783;
@@ -66,13 +70,13 @@ fn judge_permits(alloc: Global, row: PermitRow, times: usize) -> Result<bool, Al
 fn permits_are_judged(rt: HostRuntime) -> Result<(), Fail> {
     let cases = [
         (permit(1, 5, TODAY), 1, true),
-        (permit(2, 7, -25_567), 1, true),
+        (permit(2, 7, FIRST_DAY), 1, true),
         (permit(3, 5, TODAY), 1, false),
         (permit(1, 6, TODAY), 1, false),
-        (permit(1, 5, -25_568), 1, false),
-        (permit(1, 5, 2_932_897), 1, false),
-        (permit(1, 5, TODAY), 100, true),
-        (permit(1, 5, TODAY), 101, false),
+        (permit(1, 5, FIRST_DAY - 1), 1, false),
+        (permit(1, 5, LAST_DAY + 1), 1, false),
+        (permit(1, 5, TODAY), PERMITS, true),
+        (permit(1, 5, TODAY), PERMITS + 1, false),
     ];
     for (row, times, wanted) in cases {
         assert_eq!(rt; judge_permits(rt.alloc(), row, times)?, wanted);

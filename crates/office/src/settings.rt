@@ -63,13 +63,13 @@ pub enum SettingsFault {
     Country,
     /// The repository's code is not 1 to 32 visible ASCII bytes.
     Repo,
-    /// The number of seats is not between 1 and 200.
+    /// The number of seats is not between 1 and `MOST_SEATS`.
     Seats,
-    /// The number of orders that a ticket may place on a day is not between 1 and 50.
+    /// The number of orders that a ticket may place on a day is not between 1 and `MOST_DAILY`.
     Daily,
-    /// The number of containers that a ticket may have out is not between 1 and 10.
+    /// The number of containers that a ticket may have out is not between 1 and `MOST_HANDS`.
     Hands,
-    /// The number of containers that a run takes is not between 1 and 100.
+    /// The number of containers that a run takes is not between 1 and `MOST_RUN_SIZE`.
     Run,
 }
 

@@ -1,7 +1,9 @@
 -- The limits are those of the rules, and what is full is refused.
-use Rattle.std.proofs.Common.{◌≡◌, ℕ, ◌≤◌, Bool, true, false, not, ◌&&◌, [], ◌∷◌, length, Some, None, refl, ◌∙◌}
+use Rattle.std.proofs.Common.{◌≡◌, ℕ, ◌+◌, ◌≤◌, Bool, true, false, not, ◌&&◌, [], ◌∷◌, length, Some, None, refl, ◌∙◌}
 use Rattle.std.specs.Prelude.{nat_lt, nat_le}
 use Rattle.std.proofs.lemmas.Bool.{and_parts, leb-true, le-leb, lt-ltb, le-ltb, lt-leb, or_right}
+use Rattle.isad_core.specs.Days.{day_text}
+use Rattle.isad_core.specs.Limits.{most_units, most_unit_numbers, most_containers, most_seats, most_daily, most_hands, most_run_size, most_tickets, most_permits, most_orders, most_runs}
 use Rattle.tree_core.specs.Forest.{size}
 use Rattle.catalogue_core.specs.UnitLookup.{has_unit}
 use Rattle.catalogue_core.specs.Sources.{is_between}
@@ -13,7 +15,8 @@ use Rattle.office_core.specs.State.{State, is_ticket, is_expired, opens, has_ord
 use Rattle.office_core.specs.Fullness.{HasItsLimits, HasItsSettings, IsFullExactly, RefusesTickets, RefusesRuns, RefusesOrders, RefusesPermits, MayOrder, RefusesWhereFull}
 
 pub its_limits : HasItsLimits
-its_limits = record { units = refl; unit_numbers = refl; containers = refl; tickets = refl; orders = refl; runs = refl; permits = refl; deep = refl; bytes = refl; last_row = refl; late_row = refl }
+unfolding day_text
+its_limits = record { units = refl; unit_numbers = refl; containers = refl; seats = refl; daily = refl; hands = refl; run_size = refl; tickets = refl; orders = refl; runs = refl; permits = refl; deep = refl; bytes = refl; last_row = refl; late_row = refl; first_day = refl; last_day = refl }
 
 -- ---- settings
 
@@ -27,18 +30,18 @@ pub its_settings : HasItsSettings
 its_settings =
     record {
       only = λ it good. record {
-        seats = between 1 200 it.seats good.seats;
-        daily = between 1 50 it.daily good.daily;
-        hands = between 1 10 it.hands good.hands;
-        run_size = between 1 100 it.run_size good.run_size;
+        seats = between 1 most_seats it.seats good.seats;
+        daily = between 1 most_daily it.daily good.daily;
+        hands = between 1 most_hands it.hands good.hands;
+        run_size = between 1 most_run_size it.run_size good.run_size;
       };
       all = λ it h. record {
         country = refl;
         repo = refl;
-        seats = is_within 1 200 it.seats h.seats.0 h.seats.1;
-        daily = is_within 1 50 it.daily h.daily.0 h.daily.1;
-        hands = is_within 1 10 it.hands h.hands.0 h.hands.1;
-        run_size = is_within 1 100 it.run_size h.run_size.0 h.run_size.1;
+        seats = is_within 1 most_seats it.seats h.seats.0 h.seats.1;
+        daily = is_within 1 most_daily it.daily h.daily.0 h.daily.1;
+        hands = is_within 1 most_hands it.hands h.hands.0 h.hands.1;
+        run_size = is_within 1 most_run_size it.run_size h.run_size.0 h.run_size.1;
       };
     }
 
@@ -47,10 +50,10 @@ its_settings =
 pub is_full_exactly : IsFullExactly
 is_full_exactly =
     record {
-      room = λ c u n k. rw (le-ltb 200000 (size c.forest) u, le-ltb 100000001 c.next n, le-ltb 100000 (length c.containers) k) refl;
-      units = λ c u. rw (lt-ltb 200000 (size c.forest) u) refl;
-      numbers = λ c n. or_right (nat_lt 200000 (size c.forest)) _ (rw (lt-ltb 100000001 c.next n) refl);
-      containers = λ c k. or_right (nat_lt 200000 (size c.forest)) _ (or_right (nat_lt 100000001 c.next) _ (lt-ltb 100000 (length c.containers) k));
+      room = λ c u n k. rw (le-ltb most_units (size c.forest) u, le-ltb (most_unit_numbers + 1) c.next n, le-ltb most_containers (length c.containers) k) refl;
+      units = λ c u. rw (lt-ltb most_units (size c.forest) u) refl;
+      numbers = λ c n. or_right (nat_lt most_units (size c.forest)) _ (rw (lt-ltb (most_unit_numbers + 1) c.next n) refl);
+      containers = λ c k. or_right (nat_lt most_units (size c.forest)) _ (or_right (nat_lt (most_unit_numbers + 1) c.next) _ (lt-ltb most_containers (length c.containers) k));
     }
 
 -- ---- the desk
@@ -68,8 +71,8 @@ unnamed n f h = rw h refl
 tickets : (s : State) → RefusesTickets s
 tickets s =
     record {
-      full = λ name until h. named (is_name name) (nat_le 1000000 (length s.readers)) h;
-      bad_name = λ name until h. unnamed (is_name name) (nat_le 1000000 (length s.readers)) h;
+      full = λ name until h. named (is_name name) (nat_le most_tickets (length s.readers)) h;
+      bad_name = λ name until h. unnamed (is_name name) (nat_le most_tickets (length s.readers)) h;
     }
 
 fetching : (n f : Bool) → n ≡ false → first_that_holds (when n NothingToMove ∷ when f Full ∷ []) ≡ when f Full
@@ -81,8 +84,8 @@ idle n f h = rw h refl
 runs : (s : State) → RefusesRuns s
 runs s =
     record {
-      full = λ h. fetching (is_empty (picked s)) (nat_le 1000000 (length s.runs)) h;
-      nothing = λ h. idle (is_empty (picked s)) (nat_le 1000000 (length s.runs)) h;
+      full = λ h. fetching (is_empty (picked s)) (nat_le most_runs (length s.runs)) h;
+      nothing = λ h. idle (is_empty (picked s)) (nat_le most_runs (length s.runs)) h;
     }
 
 ordering : (k e a o d f : Bool) → k ≡ true → e ≡ false → a ≡ true → o ≡ false → first_that_holds (unless k UnknownTicket ∷ when e TicketExpired ∷ unless a NotAvailable ∷ when o AlreadyOrdered ∷ when d DailyLimit ∷ when f Full ∷ []) ≡ first_that_holds (when d DailyLimit ∷ when f Full ∷ [])
@@ -97,7 +100,7 @@ in_time d f h = rw h (last_told f)
 orders : (s : State) (t c : ℕ) → MayOrder s t c → RefusesOrders s t c
 orders s t c m =
     let daily : Bool = nat_le s.settings.daily (placed s t s.day) in
-    let all : Bool = nat_le 10000000 (length s.orders) in
+    let all : Bool = nat_le most_orders (length s.orders) in
     let at = ordering (is_ticket s t) (is_expired s t) (opens s t c) (has_ordered s t c) daily all m.ticket m.valid m.available m.not_yet in
     record {
       full = λ l. at ∙ in_time daily all (lt-leb s.settings.daily (placed s t s.day) l);
@@ -115,7 +118,7 @@ unknown_unit k u h f ek eu = rw (ek, eu) refl
 
 permits : (s : State) (t : ℕ) → is_ticket s t ≡ true → RefusesPermits s t
 permits s t k =
-    let all : Bool = nat_le 100 (length (s.permits t)) in
+    let all : Bool = nat_le most_permits (length (s.permits t)) in
     record {
       full = λ u until h p. permitting (is_ticket s t) (has_unit s.catalogue.forest u) (has_permit s t u) all k h p;
       later = λ u until h p. prolonging (is_ticket s t) (has_unit s.catalogue.forest u) (has_permit s t u) all k h p;

@@ -2,6 +2,7 @@
 use Rattle.std.proofs.Common.{◌≡◌, ℕ, ◌<◌, ◌^◌, true, arith}
 use Rattle.std.specs.Prelude.{nat_le}
 use Rattle.std.proofs.lemmas.Bool.{and_parts, leb-true}
+use Rattle.isad_core.specs.Limits.{most_seats, most_daily, most_hands, most_run_size}
 use Rattle.isad_core.proofs.DayLemmas.{is_day_number-true}
 use Rattle.catalogue_core.specs.Bounds.{IsKept}
 use Rattle.catalogue_core.specs.Descriptions.{KnowsItsContainers, HasAllPlaces}
@@ -29,9 +30,9 @@ pub office_settings : (s : State) → IsSoundOffice s → HasLegibleSettings s
 office_settings s g = record {
   country = g.texts.country;
   repo = g.texts.repo;
-  seats = fits 1 200 s.settings.seats (omega arith) g.sound.settings.seats;
-  daily = fits 1 50 s.settings.daily (omega arith) g.sound.settings.daily;
-  hands = fits 1 10 s.settings.hands (omega arith) g.sound.settings.hands;
-  run_size = fits 1 100 s.settings.run_size (omega arith) g.sound.settings.run_size;
+  seats = fits 1 most_seats s.settings.seats (omega arith) g.sound.settings.seats;
+  daily = fits 1 most_daily s.settings.daily (omega arith) g.sound.settings.daily;
+  hands = fits 1 most_hands s.settings.hands (omega arith) g.sound.settings.hands;
+  run_size = fits 1 most_run_size s.settings.run_size (omega arith) g.sound.settings.run_size;
   day = is_day_number-true s.day g.sound.days.today;
 }

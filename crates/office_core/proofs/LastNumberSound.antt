@@ -91,4 +91,4 @@ with_more s n l h g =
 
 pub one_left_sound : IsSound one_number_left
 unfolding before
-one_left_sound = with_more before 100000000 (let five = next_now in omega (arith, five)) (omega arith) before_sound
+one_left_sound = with_more before most_unit_numbers (let five = next_now in omega (arith, five)) (omega arith) before_sound

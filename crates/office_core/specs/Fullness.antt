@@ -1,6 +1,7 @@
 -- The limits of an office in numbers, and that a command is refused (23) exactly if there is no more room.
-use Rattle.std.specs.Prelude.{◌≡◌, ℕ, ℤ, ◌<◌, ◌≤◌, true, false, nat_le, length, None, Some, codes}
-use Rattle.isad_core.specs.Limits.{most_units, most_unit_numbers, most_deep, most_bytes, most_containers, most_tickets, most_permits, most_orders, most_runs}
+use Rattle.std.specs.Prelude.{◌≡◌, ℕ, ℤ, ◌+◌, ◌<◌, ◌≤◌, true, false, nat_le, length, None, Some, codes}
+use Rattle.isad_core.specs.Days.{day_text}
+use Rattle.isad_core.specs.Limits.{first_day, last_day, most_units, most_unit_numbers, most_deep, most_bytes, most_containers, most_seats, most_daily, most_hands, most_run_size, most_tickets, most_permits, most_orders, most_runs}
 use Rattle.isad_core.specs.Texts.{Bytes}
 use Rattle.atom_csv.specs.FileContents.{is_late}
 use Rattle.tree_core.specs.Forest.{size}
@@ -21,6 +22,10 @@ pub record HasItsLimits : Type 0 where
   pub units : most_units ≡ 200000
   pub unit_numbers : most_unit_numbers ≡ 100000000
   pub containers : most_containers ≡ 100000
+  pub seats : most_seats ≡ 200
+  pub daily : most_daily ≡ 50
+  pub hands : most_hands ≡ 10
+  pub run_size : most_run_size ≡ 100
   pub tickets : most_tickets ≡ 1000000
   pub orders : most_orders ≡ 10000000
   pub runs : most_runs ≡ 1000000
@@ -30,13 +35,15 @@ pub record HasItsLimits : Type 0 where
   -- 20,000 rows after the header, which is row 1
   pub last_row : is_late 20001 ≡ false
   pub late_row : is_late 20002 ≡ true
+  pub first_day : day_text first_day ≡ codes "1900-01-01"
+  pub last_day : day_text last_day ≡ codes "9999-12-31"
 
--- 1 to 200 seats, 1 to 50 orders a day, 1 to 10 containers in hand, and 1 to 100 in a run
+-- a seat, an order a day, a container in hand and one in a run at least, and as many as the limits allow
 pub record AreItsSettings (settings : Settings) : Type 0 where
-  pub seats : (1 ≤ settings.seats) × (settings.seats ≤ 200)
-  pub daily : (1 ≤ settings.daily) × (settings.daily ≤ 50)
-  pub hands : (1 ≤ settings.hands) × (settings.hands ≤ 10)
-  pub run_size : (1 ≤ settings.run_size) × (settings.run_size ≤ 100)
+  pub seats : (1 ≤ settings.seats) × (settings.seats ≤ most_seats)
+  pub daily : (1 ≤ settings.daily) × (settings.daily ≤ most_daily)
+  pub hands : (1 ≤ settings.hands) × (settings.hands ≤ most_hands)
+  pub run_size : (1 ≤ settings.run_size) × (settings.run_size ≤ most_run_size)
 
 pub record HasItsSettings : Type 0 where
   pub only : (settings : Settings) → AreGoodSettings settings → AreItsSettings settings
@@ -45,35 +52,35 @@ pub record HasItsSettings : Type 0 where
 
 -- ---- when there is no more room
 
--- a catalogue is too large if it has more than 200,000 units, a unit number above 100,000,000 was given in it, or it
--- has more than 100,000 containers
+-- a catalogue is too large if it has too many units, a unit number above the limit was given in it, or it has too many
+-- containers
 pub record IsFullExactly : Type 0 where
-  pub room : (c : Catalogue) → size c.forest ≤ 200000 → c.next ≤ 100000001 → length c.containers ≤ 100000 → is_full c ≡ false
-  pub units : (c : Catalogue) → 200000 < size c.forest → is_full c ≡ true
-  pub numbers : (c : Catalogue) → 100000001 < c.next → is_full c ≡ true
-  pub containers : (c : Catalogue) → 100000 < length c.containers → is_full c ≡ true
+  pub room : (c : Catalogue) → size c.forest ≤ most_units → c.next ≤ most_unit_numbers + 1 → length c.containers ≤ most_containers → is_full c ≡ false
+  pub units : (c : Catalogue) → most_units < size c.forest → is_full c ≡ true
+  pub numbers : (c : Catalogue) → most_unit_numbers + 1 < c.next → is_full c ≡ true
+  pub containers : (c : Catalogue) → most_containers < length c.containers → is_full c ≡ true
 
--- A reader with a good name is refused a ticket exactly if 1,000,000 were given. A bad name is refused first.
+-- A reader with a good name is refused a ticket exactly if all were given. A bad name is refused first.
 pub record RefusesTickets (s : State) : Type 0 where
-  pub full : (name : Bytes) (until : ℤ) → is_name name ≡ true → refusal s (Register name until) ≡ when (nat_le 1000000 (length s.readers)) Full
+  pub full : (name : Bytes) (until : ℤ) → is_name name ≡ true → refusal s (Register name until) ≡ when (nat_le most_tickets (length s.readers)) Full
   pub bad_name : (name : Bytes) (until : ℤ) → is_name name ≡ false → refusal s (Register name until) ≡ Some BadName
 
--- If there is something to fetch, a run is refused exactly if 1,000,000 were made. That there is nothing to fetch is
--- checked first.
+-- If there is something to fetch, a run is refused exactly if all were made. That there is nothing to fetch is checked
+-- first.
 pub record RefusesRuns (s : State) : Type 0 where
-  pub full : is_empty (picked s) ≡ false → refusal s Run ≡ when (nat_le 1000000 (length s.runs)) Full
+  pub full : is_empty (picked s) ≡ false → refusal s Run ≡ when (nat_le most_runs (length s.runs)) Full
   pub nothing : is_empty (picked s) ≡ true → refusal s Run ≡ Some NothingToMove
 
--- A ticket that may order a container is refused exactly if 10,000,000 orders were placed. Its daily limit is checked
--- first.
+-- A ticket that may order a container is refused exactly if all orders were placed that there may be. Its daily limit is
+-- checked first.
 pub record RefusesOrders (s : State) (t c : ℕ) : Type 0 where
-  pub full : placed s t s.day < s.settings.daily → refusal s (Order t c) ≡ when (nat_le 10000000 (length s.orders)) Full
+  pub full : placed s t s.day < s.settings.daily → refusal s (Order t c) ≡ when (nat_le most_orders (length s.orders)) Full
   pub day : s.settings.daily ≤ placed s t s.day → refusal s (Order t c) ≡ Some DailyLimit
 
--- A ticket is refused a new permit exactly if it has 100. A permit for a unit that it has one for is never refused.
--- That the unit is unknown is checked first.
+-- A ticket is refused a new permit exactly if it has as many as it may. A permit for a unit that it has one for is never
+-- refused. That the unit is unknown is checked first.
 pub record RefusesPermits (s : State) (t : ℕ) : Type 0 where
-  pub full : (u : ℕ) (until : ℤ) → has_unit s.catalogue.forest u ≡ true → has_permit s t u ≡ false → refusal s (Permit t u until) ≡ when (nat_le 100 (length (s.permits t))) Full
+  pub full : (u : ℕ) (until : ℤ) → has_unit s.catalogue.forest u ≡ true → has_permit s t u ≡ false → refusal s (Permit t u until) ≡ when (nat_le most_permits (length (s.permits t))) Full
   pub later : (u : ℕ) (until : ℤ) → has_unit s.catalogue.forest u ≡ true → has_permit s t u ≡ true → refusal s (Permit t u until) ≡ None
   pub unknown : (u : ℕ) (until : ℤ) → has_unit s.catalogue.forest u ≡ false → refusal s (Permit t u until) ≡ Some UnknownUnit
 

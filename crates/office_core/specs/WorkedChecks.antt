@@ -1,13 +1,14 @@
 -- If several refusals apply at once, the reply is the first in the command's list. In each row the expected refusal and
 -- all after it apply.
-use Rattle.std.specs.Prelude.{◌≡◌, true, false, [], ◌∷◌, Option, Some, None, codes}
+use Rattle.std.specs.Prelude.{◌≡◌, ◌+◌, ◌-◌, true, false, [], ◌∷◌, Option, Some, None, codes}
+use Rattle.isad_core.specs.Limits.{most_orders, most_permits}
 use Rattle.desk_core.specs.Checks.{OrderFacts, order_checks, IssueFacts, issue_checks, TakeSeatFacts, take_seat_checks, LeaveSeatFacts, leave_seat_checks}
 use Rattle.desk_core.specs.Refusals.{first_that_holds}
 use Rattle.desk_core.specs.declared.refusal.Refusal.{Refusal}
 use Rattle.desk_core.specs.declared.refusal.Refusal.TheVariants.{UnknownUnit, UnknownTicket, UnknownContainer, TicketExpired, NotAvailable, AlreadyOrdered, DailyLimit, NoSeatFree, AlreadySeated, NotSeated, HoldsContainers, NotAtDesk, NotFirst, HandsFull, BadName, Full}
 use Rattle.office_core.specs.declared.command.Command.TheVariants.{Import, Permit}
 use Rattle.office_core.specs.Rules.{replies}
-use Rattle.office_core.specs.WorkedExamples.{Answers, refused, hundred_permits, april_1}
+use Rattle.office_core.specs.WorkedExamples.{Answers, refused, with_most_permits, april_1}
 
 -- ---- an order
 
@@ -15,13 +16,13 @@ abbrev pub order_refused : OrderFacts → Option Refusal
 order_refused facts = first_that_holds (order_checks facts)
 
 pub record OrderInTurn : Type 0 where
-  pub ticket : order_refused (record { known = false; expired = true; available = false; ordered = true; placed = 3; daily = 3; orders = 10000000 }) ≡ Some UnknownTicket
-  pub expired : order_refused (record { known = true; expired = true; available = false; ordered = true; placed = 3; daily = 3; orders = 10000000 }) ≡ Some TicketExpired
-  pub withheld : order_refused (record { known = true; expired = false; available = false; ordered = true; placed = 3; daily = 3; orders = 10000000 }) ≡ Some NotAvailable
-  pub ordered : order_refused (record { known = true; expired = false; available = true; ordered = true; placed = 3; daily = 3; orders = 10000000 }) ≡ Some AlreadyOrdered
-  pub day : order_refused (record { known = true; expired = false; available = true; ordered = false; placed = 3; daily = 3; orders = 10000000 }) ≡ Some DailyLimit
-  pub full : order_refused (record { known = true; expired = false; available = true; ordered = false; placed = 2; daily = 3; orders = 10000000 }) ≡ Some Full
-  pub last : order_refused (record { known = true; expired = false; available = true; ordered = false; placed = 2; daily = 3; orders = 9999999 }) ≡ None
+  pub ticket : order_refused (record { known = false; expired = true; available = false; ordered = true; placed = 3; daily = 3; orders = most_orders }) ≡ Some UnknownTicket
+  pub expired : order_refused (record { known = true; expired = true; available = false; ordered = true; placed = 3; daily = 3; orders = most_orders }) ≡ Some TicketExpired
+  pub withheld : order_refused (record { known = true; expired = false; available = false; ordered = true; placed = 3; daily = 3; orders = most_orders }) ≡ Some NotAvailable
+  pub ordered : order_refused (record { known = true; expired = false; available = true; ordered = true; placed = 3; daily = 3; orders = most_orders }) ≡ Some AlreadyOrdered
+  pub day : order_refused (record { known = true; expired = false; available = true; ordered = false; placed = 3; daily = 3; orders = most_orders }) ≡ Some DailyLimit
+  pub full : order_refused (record { known = true; expired = false; available = true; ordered = false; placed = 2; daily = 3; orders = most_orders }) ≡ Some Full
+  pub last : order_refused (record { known = true; expired = false; available = true; ordered = false; placed = 2; daily = 3; orders = most_orders - 1 }) ≡ None
 
 -- ---- an issue
 
@@ -60,11 +61,11 @@ pub record SeatsInTurn : Type 0 where
 
 -- ---- permits and imports
 
--- a permit of an unknown ticket for an unknown unit; a hundred and first permit for an unknown unit, and one for a
--- known unit
+-- a permit of an unknown ticket for an unknown unit; one permit too many for an unknown unit, and one for a known unit
 abbrev pub PermitInTurn : Type 0
 PermitInTurn =
-    replies hundred_permits (Permit 9 999 april_1 ∷ Permit 1 999 april_1 ∷ Permit 1 101 april_1 ∷ [])
+    replies with_most_permits
+    (Permit 9 (most_permits + 2) april_1 ∷ Permit 1 (most_permits + 2) april_1 ∷ Permit 1 (most_permits + 1) april_1 ∷ [])
     ≡ refused UnknownTicket ∷ refused UnknownUnit ∷ refused Full ∷ []
 
 -- a file that cannot be read, from a source with a bad name

@@ -1,5 +1,6 @@
 -- A small office, worked out by hand: two seats, three orders a day, one container in hand, runs of two.
-use Rattle.std.specs.Prelude.{◌≡◌, ◌++◌, ℕ, zero, suc, ℤ, pos, true, false, List, [], ◌∷◌, Some, None, Ok, Err, codes, decimal, replicate}
+use Rattle.std.specs.Prelude.{◌≡◌, ◌+◌, ◌++◌, ℕ, zero, suc, ℤ, pos, true, false, List, [], ◌∷◌, Some, None, Ok, Err, codes, decimal, replicate}
+use Rattle.isad_core.specs.Limits.{most_permits, most_unit_numbers}
 use Rattle.isad_core.specs.Texts.{Bytes}
 use Rattle.tree_core.specs.Forest.{Forest, Empty, Node}
 use Rattle.desk_core.specs.declared.refusal.Refusal.{Refusal}
@@ -205,10 +206,10 @@ with_next n s = record s { catalogue = record s.catalogue { next = n } }
 
 abbrev pub one_number_left : State
 one_number_left =
-    with_next 100000000
+    with_next most_unit_numbers
     (state_after office (import boxes ∷ ann ∷ command.Order 1 2 ∷ command.Run ∷ command.TakeSeat 1 ∷ command.Issue 2 1 ∷ []))
 
--- ---- an office with 101 units, where Ann has permits for the first hundred
+-- ---- an office with one unit more than a ticket may have permits for, where Ann has permits for all but the last
 
 -- a published unit with a title
 abbrev pub titled : ℕ → Unit
@@ -232,10 +233,10 @@ abbrev pub permits_from : (first n : ℕ) → List Permit
 permits_from first zero = []
 permits_from first (suc n) = record { unit = first; until = march_31 } ∷ permits_from (suc first) n
 
-abbrev pub hundred_permits : State
-hundred_permits =
+abbrev pub with_most_permits : State
+with_most_permits =
     record office {
-      catalogue = record { forest = units_from 1 101; containers = []; next = 102 };
+      catalogue = record { forest = units_from 1 (suc most_permits); containers = []; next = most_permits + 2 };
       readers = record { name = codes "Ann"; until = year_end } ∷ [];
-      permits = put office.permits 1 (permits_from 1 100);
+      permits = put office.permits 1 (permits_from 1 most_permits);
     }

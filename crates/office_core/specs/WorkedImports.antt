@@ -1,6 +1,7 @@
 -- The replies and the effects of imports and moves, in cases where a small catalogue is enough to show a wrong rule.
 -- Each expected reply and text was worked out by hand from the written rules.
-use Rattle.std.specs.Prelude.{◌≡◌, ℤ, List, [], ◌∷◌, None, Option, Some, Ok, codes, map}
+use Rattle.std.specs.Prelude.{◌≡◌, ◌-◌, ℤ, List, [], ◌∷◌, None, Option, Some, Ok, codes, map}
+use Rattle.isad_core.specs.Limits.{most_deep}
 use Rattle.isad_core.specs.Texts.{Bytes}
 use Rattle.tree_core.specs.Forest.{nodes}
 use Rattle.desk_core.specs.declared.refusal.Refusal.TheVariants.{WithReader, TooDeep}
@@ -88,5 +89,5 @@ pub record ClosuresKept : Type 0 where
 abbrev pub TooDeepBeforeTheGate : Type 0
 TooDeepBeforeTheGate =
     Answers
-    (import (chain 63) ∷ Import (codes "b") lock_gates ∷ ann ∷ Order 1 1 ∷ Run ∷ TakeSeat 1 ∷ Issue 1 1 ∷ Move 64 (Some 63) ∷ Move 64 (Some 62) ∷ Return 1 ∷ Move 64 (Some 63) ∷ Move 64 (Some 62) ∷ [])
-    (rows 0 63 0 0 (LacksEssential 2 ∷ []) ∷ rows 0 2 0 0 (LacksEssential 2 ∷ []) ∷ Ok (done.Register 1) ∷ order 1 ∷ Ok (done.Run 1 1) ∷ Ok (done.TakeSeat 1) ∷ issued 1 ∷ refused TooDeep ∷ refused (WithReader 1) ∷ Ok (done.Return 1) ∷ refused TooDeep ∷ Ok (done.Move 64) ∷ [])
+    (import (chain (most_deep - 1)) ∷ Import (codes "b") lock_gates ∷ ann ∷ Order 1 1 ∷ Run ∷ TakeSeat 1 ∷ Issue 1 1 ∷ Move most_deep (Some (most_deep - 1)) ∷ Move most_deep (Some (most_deep - 2)) ∷ Return 1 ∷ Move most_deep (Some (most_deep - 1)) ∷ Move most_deep (Some (most_deep - 2)) ∷ [])
+    (rows 0 (most_deep - 1) 0 0 (LacksEssential 2 ∷ []) ∷ rows 0 2 0 0 (LacksEssential 2 ∷ []) ∷ Ok (done.Register 1) ∷ order 1 ∷ Ok (done.Run 1 1) ∷ Ok (done.TakeSeat 1) ∷ issued 1 ∷ refused TooDeep ∷ refused (WithReader 1) ∷ Ok (done.Return 1) ∷ refused TooDeep ∷ Ok (done.Move most_deep) ∷ [])

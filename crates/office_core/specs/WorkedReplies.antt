@@ -1,5 +1,6 @@
 -- What the rules make of small offices. Each expected reply was worked out by hand from the written rules.
-use Rattle.std.specs.Prelude.{◌≡◌, ℕ, List, true, false, [], ◌∷◌, Some, None, Ok, codes, replicate}
+use Rattle.std.specs.Prelude.{◌≡◌, ◌+◌, ◌-◌, ℕ, List, true, false, [], ◌∷◌, Some, None, Ok, codes, replicate}
+use Rattle.isad_core.specs.Limits.{most_deep, most_permits}
 use Rattle.tree_core.specs.Forest.{Forest, each}
 use Rattle.tree_core.specs.Spans.{number}
 use Rattle.tree_core.specs.Links.{siblings}
@@ -12,7 +13,7 @@ use Rattle.office_core.specs.declared.done.Remark.TheVariants.{LevelTooHigh, Lac
 use Rattle.catalogue_core.specs.Units.{Unit}
 use Rattle.office_core.specs.Rules.{Reply, replies, state_after}
 use Rattle.office_core.specs.Soundness.{IsSound}
-use Rattle.office_core.specs.WorkedExamples.{Answers, office, import, draft, close, ann, bob, order, issued, refused, rows, february_1, march_1, march_2, march_31, april_1, year_end, year_2030, docks, boxes, boxes_with_9, boxes_with_draft, lock_gates, lock_gates_apart, parent_later, translated, told_twice, upside_down, chain, harbour, hundred_permits}
+use Rattle.office_core.specs.WorkedExamples.{Answers, office, import, draft, close, ann, bob, order, issued, refused, rows, february_1, march_1, march_2, march_31, april_1, year_end, year_2030, docks, boxes, boxes_with_9, boxes_with_draft, lock_gates, lock_gates_apart, parent_later, translated, told_twice, upside_down, chain, harbour, with_most_permits}
 
 -- the reply to the import of four boxes: none has all six essential elements
 abbrev pub four_new : Reply
@@ -200,18 +201,18 @@ AtTheCounter =
     (import boxes ∷ ann ∷ Order 1 1 ∷ Order 1 2 ∷ Run ∷ Issue 1 1 ∷ TakeSeat 1 ∷ close 1 april_1 ∷ Issue 1 1 ∷ Issue 2 1 ∷ close 3 april_1 ∷ Move 2 (Some 3) ∷ Return 2 ∷ Move 2 (Some 3) ∷ Issue 1 1 ∷ [])
     (four_new ∷ Ok (done.Register 1) ∷ order 1 ∷ order 2 ∷ Ok (done.Run 1 2) ∷ refused NotSeated ∷ Ok (done.TakeSeat 1) ∷ Ok (done.SetClosure 1) ∷ refused NotAvailable ∷ issued 2 ∷ Ok (done.SetClosure 3) ∷ refused (WithReader 2) ∷ Ok (done.Return 2) ∷ Ok (done.Move 2) ∷ refused NotAvailable ∷ [])
 
--- no import and no move puts a unit deeper than 64
+-- no import and no move puts a unit deeper than the limit
 abbrev pub Depths : Type 0
 Depths =
     Answers
-    (import (chain 65) ∷ import (chain 64) ∷ Import (codes "b") docks ∷ Move 1 (Some 65) ∷ Move 2 (Some 65) ∷ Move 65 (Some 1) ∷ Move 3 (Some 66) ∷ Move 65 (Some 62) ∷ Move 65 (Some 61) ∷ [])
-    (refused (BadFile 66 12) ∷ rows 0 64 0 0 (LacksEssential 2 ∷ []) ∷ rows 0 2 0 0 (LacksEssential 2 ∷ []) ∷ refused TooDeep ∷ Ok (done.Move 2) ∷ refused TooDeep ∷ Ok (done.Move 3) ∷ refused IntoItself ∷ refused IntoItself ∷ [])
+    (import (chain (most_deep + 1)) ∷ import (chain most_deep) ∷ Import (codes "b") docks ∷ Move 1 (Some (most_deep + 1)) ∷ Move 2 (Some (most_deep + 1)) ∷ Move (most_deep + 1) (Some 1) ∷ Move 3 (Some (most_deep + 2)) ∷ Move (most_deep + 1) (Some (most_deep - 2)) ∷ Move (most_deep + 1) (Some (most_deep - 3)) ∷ [])
+    (refused (BadFile (most_deep + 2) 12) ∷ rows 0 most_deep 0 0 (LacksEssential 2 ∷ []) ∷ rows 0 2 0 0 (LacksEssential 2 ∷ []) ∷ refused TooDeep ∷ Ok (done.Move 2) ∷ refused TooDeep ∷ Ok (done.Move 3) ∷ refused IntoItself ∷ refused IntoItself ∷ [])
 
--- a ticket may have permits for a hundred units and no more; a later day for one of them is still granted
+-- a ticket may have permits for so many units and no more; a later day for one of them is still granted
 pub record MostPermits : Type 0 where
-  pub office_sound : IsSound hundred_permits
-  pub told : replies hundred_permits (Permit 1 101 april_1 ∷ Permit 1 100 april_1 ∷ Permit 1 1 april_1 ∷ Permit 1 1 march_31 ∷ Revoke 1 50 ∷ Permit 1 101 april_1 ∷ Permit 1 50 april_1 ∷ [])
-      ≡ refused Full ∷ Ok (done.Permit 1 100 april_1) ∷ Ok (done.Permit 1 1 april_1) ∷ Ok (done.Permit 1 1 april_1) ∷ Ok (done.Revoke 50) ∷ Ok (done.Permit 1 101 april_1) ∷ refused Full ∷ []
+  pub office_sound : IsSound with_most_permits
+  pub told : replies with_most_permits (Permit 1 (most_permits + 1) april_1 ∷ Permit 1 most_permits april_1 ∷ Permit 1 1 april_1 ∷ Permit 1 1 march_31 ∷ Revoke 1 50 ∷ Permit 1 (most_permits + 1) april_1 ∷ Permit 1 50 april_1 ∷ [])
+      ≡ refused Full ∷ Ok (done.Permit 1 most_permits april_1) ∷ Ok (done.Permit 1 1 april_1) ∷ Ok (done.Permit 1 1 april_1) ∷ Ok (done.Revoke 50) ∷ Ok (done.Permit 1 (most_permits + 1) april_1) ∷ refused Full ∷ []
 
 -- the unit numbers in their places
 abbrev pub numbers_after : List Command → Forest ℕ

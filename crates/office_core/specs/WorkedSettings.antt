@@ -1,6 +1,7 @@
 -- What the rules make of offices with other settings: the lowest that may be set, some in between, and the highest.
 -- Each expected reply was worked out by hand from the written rules.
-use Rattle.std.specs.Prelude.{◌≡◌, ◌++◌, ℕ, zero, suc, List, [], ◌∷◌, Ok, codes, decimal, replicate}
+use Rattle.std.specs.Prelude.{◌≡◌, ◌+◌, ◌++◌, ℕ, zero, suc, List, [], ◌∷◌, Ok, codes, decimal, replicate}
+use Rattle.isad_core.specs.Limits.{most_seats, most_daily, most_hands, most_run_size}
 use Rattle.isad_core.specs.Texts.{Bytes}
 use Rattle.desk_core.specs.declared.refusal.Refusal.TheVariants.{DailyLimit, NoSeatFree, HandsFull, NothingToMove}
 use Rattle.office_core.specs.declared.command.Command.TheVariants.{OpenDay, TakeSeat, Order, Cancel, Run, Issue, Return}
@@ -29,7 +30,7 @@ SomeOfEach =
     (import boxes ∷ ann ∷ bob ∷ ann ∷ ann ∷ TakeSeat 1 ∷ TakeSeat 2 ∷ TakeSeat 3 ∷ TakeSeat 4 ∷ Order 1 1 ∷ Order 1 2 ∷ Order 1 3 ∷ Order 1 4 ∷ Cancel 4 ∷ Order 1 4 ∷ Order 2 4 ∷ Run ∷ Run ∷ Issue 1 1 ∷ Issue 2 1 ∷ Issue 3 1 ∷ Return 2 ∷ Issue 3 1 ∷ [])
     ≡ four_new ∷ Ok (done.Register 1) ∷ Ok (done.Register 2) ∷ Ok (done.Register 3) ∷ Ok (done.Register 4) ∷ Ok (done.TakeSeat 1) ∷ Ok (done.TakeSeat 2) ∷ Ok (done.TakeSeat 3) ∷ refused NoSeatFree ∷ order 1 ∷ order 2 ∷ order 3 ∷ order 4 ∷ Ok (done.Cancel 4) ∷ refused DailyLimit ∷ order 5 ∷ Ok (done.Run 1 3) ∷ Ok (done.Run 2 1) ∷ issued 1 ∷ issued 2 ∷ refused HandsFull ∷ Ok (done.Return 2) ∷ issued 3 ∷ []
 
--- ---- 200 seats, 50 orders a day, 10 containers in hand, runs of 100
+-- ---- as many seats, orders a day, containers in hand and in a run as there may be
 
 -- n units side by side, each in a container of its own
 abbrev pub crates : ℕ → Bytes
@@ -47,13 +48,13 @@ each_from ask first (suc n) = ask first ∷ each_from ask (suc first) n
 abbrev pub seat : ℕ → Reply
 seat n = Ok (done.TakeSeat n)
 
--- an office with the highest settings, 101 containers and 201 readers
+-- an office with the highest settings, one container more than a run takes, and one reader more than it has seats
 abbrev pub most : State
-most = state_after (office_of 200 50 10 100) (import (crates 101) ∷ replicate 201 ann)
+most = state_after (office_of most_seats most_daily most_hands most_run_size) (import (crates (most_run_size + 1)) ∷ replicate (most_seats + 1) ann)
 
 pub record MostOfEach : Type 0 where
-  -- a two hundred and first reader finds no seat
-  pub seats : replies most (each_from TakeSeat 1 201) ≡ each_from seat 1 200 ++ refused NoSeatFree ∷ []
-  -- a ticket's fifty-first order is refused; a run takes 100 of 101; a ticket holds ten and not eleven
-  pub desk : replies most (each_from (Order 1) 1 51 ++ (each_from (Order 2) 51 50 ++ (Order 3 101 ∷ Run ∷ Run ∷ Run ∷ TakeSeat 1 ∷ each_from (λ c. Issue c 1) 1 11)))
-      ≡ each_from order 1 50 ++ (refused DailyLimit ∷ each_from order 51 50 ++ (order 101 ∷ Ok (done.Run 1 100) ∷ Ok (done.Run 2 1) ∷ refused NothingToMove ∷ Ok (done.TakeSeat 1) ∷ each_from issued 1 10 ++ refused HandsFull ∷ []))
+  -- a reader finds no seat when all are taken
+  pub seats : replies most (each_from TakeSeat 1 (most_seats + 1)) ≡ each_from seat 1 most_seats ++ refused NoSeatFree ∷ []
+  -- a ticket's order past the limit of the day is refused; a run takes all but one; a ticket holds so many and no more
+  pub desk : replies most (each_from (Order 1) 1 (most_daily + 1) ++ (each_from (Order 2) (most_daily + 1) most_daily ++ (Order 3 (most_run_size + 1) ∷ Run ∷ Run ∷ Run ∷ TakeSeat 1 ∷ each_from (λ c. Issue c 1) 1 (most_hands + 1))))
+      ≡ each_from order 1 most_daily ++ (refused DailyLimit ∷ each_from order (most_daily + 1) most_daily ++ (order (most_run_size + 1) ∷ Ok (done.Run 1 most_run_size) ∷ Ok (done.Run 2 1) ∷ refused NothingToMove ∷ Ok (done.TakeSeat 1) ∷ each_from issued 1 most_hands ++ refused HandsFull ∷ []))

@@ -1,10 +1,9 @@
 -- What the tables of a state know: tickets, containers, units and orders.
 use Rattle.std.proofs.Common.{◌≡◌, ℕ, ◌≤◌, Bool, true, ◌&&◌, Option, Some, None, refl, sym, ap, ◌∙◌, inl, inr, arith}
 use Rattle.std.proofs.lemmas.Int.{ints}
-use Rattle.std.specs.Prelude.{ℤ, pos, neg_ℤ, nat_eq, nat_le, int_le, ◌≤ℤ◌, is_some, option_map}
+use Rattle.std.specs.Prelude.{ℤ, nat_eq, nat_le, int_le, ◌≤ℤ◌, is_some, option_map}
 use Rattle.std.specs.List.{list_any}
 use Rattle.std.proofs.lemmas.Bool.{eq-eqb, cases_eq, le-leb, and_from, and_parts, leb-true}
-use Rattle.isad_core.specs.Days.{IsDayNumber, is_day_number}
 use Rattle.tree_core.specs.Forest.{nodes}
 use Rattle.tree_core.proofs.Lists.{list_any-map}
 use Rattle.catalogue_core.specs.Units.{Unit}
@@ -51,11 +50,6 @@ not_later a b h = grind (arith, ints, h)
 
 pub is_not_later : (a b : ℤ) → int_le a b ≡ true → a ≤ℤ b
 is_not_later a b h = grind (arith, ints, h)
-
-pub is_day_so : (n : ℤ) → is_day_number n ≡ true → IsDayNumber n
-is_day_so n h =
-    let b = and_parts (int_le (neg_ℤ (pos 25567)) n) (int_le n (pos 2932896)) h in
-    (is_not_later (neg_ℤ (pos 25567)) n b.0, is_not_later n (pos 2932896) b.1)
 
 -- ---- the tables of a state
 

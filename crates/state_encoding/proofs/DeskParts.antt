@@ -4,6 +4,7 @@ use Rattle.std.specs.Prelude.{map, nat_eq, nat_le, int_le, ◌≤ℤ◌, is_some
 use Rattle.std.specs.List.{list_all, list_any}
 use Rattle.std.proofs.lemmas.Bool.{and_parts, leb-true, false≢true, not-true}
 use Rattle.isad_core.specs.Days.{IsDayNumber, is_day_number}
+use Rattle.isad_core.proofs.DayLemmas.{is_day_number-so}
 use Rattle.isad_core.specs.Limits.{most_orders, most_tickets, most_permits}
 use Rattle.office_core.specs.Words.{numbered}
 use Rattle.office_core.specs.State.{is_ticket, is_container}
@@ -19,7 +20,7 @@ use Rattle.desk_core.specs.DeskCauses.{is_registered, is_good_reader, is_good_se
 use Rattle.state_encoding.specs.Causes.{around, is_unit_there, is_container_there}
 use Rattle.state_encoding.proofs.Members.{test_in}
 use Rattle.state_encoding.proofs.NumberedRows.{known_numbered, numbered-map}
-use Rattle.state_encoding.proofs.DeskLookups.{is_some-map, is_between_so, is_not_later, is_day_so}
+use Rattle.state_encoding.proofs.DeskLookups.{is_some-map, is_between_so, is_not_later}
 
 pub not_bad : (b : Bool) → not b ≡ false → b ≡ true
 not_bad true e = refl
@@ -48,7 +49,7 @@ permit_parts t row h =
     record {
       ticket = a.0;
       unit = b.0;
-      day = is_day_so row.until c.0;
+      day = is_day_number-so row.until c.0;
       few = leb-true (count_by (λ (other : PermitRow). nat_eq other.ticket row.ticket) t.desk.permits) most_permits c.1;
     }
 
@@ -61,7 +62,7 @@ reader_parts t h =
     record {
       numbered = a.0;
       few = leb-true (length t.desk.readers) most_tickets b.0;
-      readers = λ row k. (let e = and_parts (is_name row.name) (is_day_number row.until) (test_in is_good_reader t.desk.readers row c.0 k) in (e.0, is_day_so row.until e.1));
+      readers = λ row k. (let e = and_parts (is_name row.name) (is_day_number row.until) (test_in is_good_reader t.desk.readers row c.0 k) in (e.0, is_day_number-so row.until e.1));
       seats = λ row k. (
           let e = and_parts (is_between 1 t.office.seats row.seat) (is_registered t.desk row.ticket) (test_in (is_good_seat (around t) t.desk) t.desk.seats row d.0 k) in
           let w = is_between_so 1 t.office.seats row.seat e.0 in
@@ -98,7 +99,7 @@ order_parts t row h =
       ticket = a.0;
       container = b.0;
       state = is_between_so 1 4 row.state c.0;
-      is_day = is_day_so row.day d.0;
+      is_day = is_day_number-so row.day d.0;
       day = is_not_later row.day t.office.day e.0;
       daily = leb-true (count_by (is_of_the_day row) t.desk.orders) t.office.daily f.0;
       once = not-true (list_any (are_twice row) t.desk.orders) f.1;

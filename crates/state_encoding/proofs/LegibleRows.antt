@@ -4,6 +4,7 @@ use Rattle.std.specs.Prelude.{is_none, nat_eq, IsUtf8}
 use Rattle.std.specs.List.{AllByRecursion, list_all, list_any}
 use Rattle.std.proofs.lemmas.Bool.{and_parts, eqb-true, false≢true, or_cases}
 use Rattle.isad_core.specs.Days.{IsDayNumber, is_day_number}
+use Rattle.isad_core.specs.Limits.{most_seats}
 use Rattle.isad_core.proofs.DayLemmas.{is_day_number-true}
 use Rattle.desk_core.specs.DeskCauses.{Around, are_good_readers, are_good_orders, are_good_holdings, are_good_runs, is_good_holding, is_good_order, is_good_permit, is_good_reader, is_good_run, is_good_seat, is_out_order}
 use Rattle.desk_core.specs.DeskRows.{Desk, PermitRow, RunRow, SeatRow}
@@ -68,7 +69,7 @@ module _ (version : Version) (s : State) (g : IsSoundOffice s) where
       let seats = (and_parts _ _ (and_parts (list_all is_good_reader d.readers) (list_all (is_good_seat a d) d.seats && list_all (is_good_permit a d) d.permits) one).1).0 in
       all_of_in (λ (r : SeatRow). r.seat < 2 ^ 32) d.seats (λ r k.
       let it = (is_between_so 1 s.settings.seats r.seat (and_parts _ _ (test_in (is_good_seat a d) d.seats r seats k)).0).1 in
-      let most = (is_between_so 1 200 s.settings.seats g.sound.settings.seats).1 in
+      let most = (is_between_so 1 most_seats s.settings.seats g.sound.settings.seats).1 in
       omega (arith, it, most))
 
   permits_legible : AllByRecursion (λ (r : PermitRow). is_day_number r.until ≡ true) d.permits

@@ -13,6 +13,7 @@ use Rattle.catalogue_core.specs.Members.{StandsIn}
 use Rattle.office_core.specs.Laws.{numbers_from}
 use Rattle.office_core.specs.SoundDesk.{IsGoodLine, ByContainer, IsGoodRun, AreGoodRuns}
 use Rattle.catalogue_core.specs.Sources.{is_between}
+use Rattle.isad_core.proofs.DayLemmas.{is_day_number-so}
 use Rattle.isad_core.specs.Limits.{most_runs}
 use Rattle.desk_core.specs.DeskRows.{OrderRow, RunRow, RunLineRow}
 use Rattle.state_encoding.specs.DeskEncoding.{order_from, run_row, run_rows, run_line_row, lines_from, run_line_rows}
@@ -24,7 +25,7 @@ use Rattle.state_encoding.proofs.NumberedRows.{known_numbered, any_numbered, num
 use Rattle.office_core.proofs.Words.{numbered_within}
 use Rattle.office_core.proofs.Counts.{numbered_from_one}
 use Rattle.state_encoding.proofs.DeskKeys.{LineBefore}
-use Rattle.state_encoding.proofs.DeskLookups.{is_between_so, is_not_later, is_day_so, some_and-map}
+use Rattle.state_encoding.proofs.DeskLookups.{is_between_so, is_not_later, some_and-map}
 use Rattle.state_encoding.proofs.Grouped.{order_weaker, order-filter, order-map, grouped_all}
 use Rattle.state_encoding.proofs.DeskParts.{OrdersParts, said_by}
 use Rattle.state_encoding.specs.Causes.{around}
@@ -48,7 +49,7 @@ run_parts t h =
     record {
       numbered = a.0;
       few = leb-true (length t.desk.runs) most_runs b.0;
-      days = λ row l. (is_day_so row.day (run row l).0, is_not_later row.day t.office.day (rest row l).0);
+      days = λ row l. (is_day_number-so row.day (run row l).0, is_not_later row.day t.office.day (rest row l).0);
       counts = λ row l. is_between_so 1 t.office.run_size (count_by (λ (line : RunLineRow). nat_eq line.run row.id) t.desk.run_lines) (rest row l).1;
       known = λ row l. (line row l).0;
       orders = λ row l. (line row l).1;

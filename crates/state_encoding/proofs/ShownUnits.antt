@@ -22,7 +22,7 @@ use Rattle.tree_core.proofs.EachLemmas.{nodes-each}
 use Rattle.tree_core.specs.Versions.{Version, Links, Spans, version_number}
 use Rattle.catalogue_core.specs.Units.{Unit}
 use Rattle.catalogue_core.proofs.NodeLemmas.{length-nodes}
-use Rattle.isad_core.specs.Limits.{most_units, most_unit_numbers, most_deep, most_bytes}
+use Rattle.isad_core.specs.Limits.{most_units, most_unit_numbers, most_deep, most_bytes, most_seats, most_daily, most_hands, most_run_size}
 use Rattle.office_core.specs.State.{State}
 use Rattle.office_core.specs.Words.{stands}
 use Rattle.catalogue_core.specs.Sources.{is_source, is_between}
@@ -51,10 +51,10 @@ office_shown version s g =
     and_from (nat_eq row.version (version_number version)) _ (same_number (version_number version))
     (and_from (is_country row.country) _ g.settings.country
     (and_from (is_repository row.repo) _ g.settings.repo
-    (and_from (is_between 1 200 row.seats) _ g.settings.seats
-    (and_from (is_between 1 50 row.daily) _ g.settings.daily
-    (and_from (is_between 1 10 row.hands) _ g.settings.hands
-    (and_from (is_between 1 100 row.run_size) _ g.settings.run_size
+    (and_from (is_between 1 most_seats row.seats) _ g.settings.seats
+    (and_from (is_between 1 most_daily row.daily) _ g.settings.daily
+    (and_from (is_between 1 most_hands row.hands) _ g.settings.hands
+    (and_from (is_between 1 most_run_size row.run_size) _ g.settings.run_size
     (and_from (is_day_number row.day) (is_between 1 (most_unit_numbers + 1) row.next_unit) (is_day_number-true row.day g.today)
     (between 1 (most_unit_numbers + 1) row.next_unit g.units.next.0 g.units.next.1))))))))
 

@@ -1,12 +1,13 @@
 -- Which of the causes 1 to 5 is found after a few rows of a small sound office are changed.
-use Rattle.std.specs.Prelude.{◌≡◌, ℕ, ◌+◌, ◌^◌, zero, suc, pos, List, [], ◌∷◌, Option, Some, None, codes, replicate}
+use Rattle.std.specs.Prelude.{◌≡◌, ℕ, ◌+◌, ◌^◌, zero, suc, List, [], ◌∷◌, Option, Some, None, codes, replicate}
+use Rattle.isad_core.specs.Limits.{most_bytes, most_deep, most_seats, most_unit_numbers}
 use Rattle.tree_core.specs.declared.rows.Link.{Link}
 use Rattle.tree_core.specs.WorkedExamples.{link, span}
 use Rattle.tree_core.specs.Versions.{Links, Spans}
 use Rattle.catalogue_core.specs.CatalogueRows.{CatalogueRows, LinkRows, SpanRows, ElementRow, ContainerRow, HousingRow}
 use Rattle.state_encoding.specs.OfficeRows.{OfficeRows}
 use Rattle.state_encoding.specs.Causes.{cause}
-use Rattle.state_encoding.specs.WorkedDeskCauses.{sound as office_rows, catalogue as plans_housed, plans, many_units}
+use Rattle.state_encoding.specs.WorkedDeskCauses.{year_10000, sound as office_rows, catalogue as plans_housed, plans, many_units}
 
 -- its unit has a title
 abbrev pub title : ElementRow
@@ -67,9 +68,9 @@ pub record Told : Type 0 where
   -- the office
   pub other_version : cause Spans sound ≡ Some 1
   pub no_seats : told (record sound { office = record sound.office { seats = 0 } }) ≡ Some 1
-  pub a_seat_too_many : told (record sound { office = record sound.office { seats = 201 } }) ≡ Some 1
+  pub a_seat_too_many : told (record sound { office = record sound.office { seats = suc most_seats } }) ≡ Some 1
   pub small_letters : told (record sound { office = record sound.office { country = codes "gb" } }) ≡ Some 1
-  pub day_after_the_last : told (record sound { office = record sound.office { day = pos 2932897 } }) ≡ Some 1
+  pub day_after_the_last : told (record sound { office = record sound.office { day = year_10000 } }) ≡ Some 1
   pub next_past_the_last : told (record sound { office = record sound.office { next_unit = 100000002 } }) ≡ Some 1
   -- the places
   pub not_from_one : told_with (record catalogue { places = LinkRows (link 1 None 2 ∷ []) }) ≡ Some 2
@@ -77,11 +78,11 @@ pub record Told : Type 0 where
   pub gap : told_of_spans (record catalogue { places = SpanRows (span 1 1 3 ∷ []) }) ≡ Some 2
   pub places_of_the_other_version : told_of_spans (record catalogue { places = LinkRows (link 1 None 1 ∷ []) }) ≡ Some 2
   pub place_number_0 : told_with (record catalogue { units = record plans { id = 0 } ∷ []; places = LinkRows (link 0 None 1 ∷ []); elements = []; housings = [] }) ≡ Some 2
-  pub place_past_the_last_number : told_with (record catalogue { places = LinkRows (link 100000001 None 1 ∷ []) }) ≡ Some 2
+  pub place_past_the_last_number : told_with (record catalogue { places = LinkRows (link (suc most_unit_numbers) None 1 ∷ []) }) ≡ Some 2
   pub below_number_0 : told_with (record catalogue { places = LinkRows (link 1 (Some 0) 1 ∷ []) }) ≡ Some 2
   pub ord_past_32_bits : told_with (record catalogue { places = LinkRows (link 1 None (2 ^ 32) ∷ []) }) ≡ Some 2
   pub span_number_0 : told_of_spans (record catalogue { units = record plans { id = 0 } ∷ []; places = SpanRows (span 0 1 2 ∷ []); elements = []; housings = [] }) ≡ Some 2
-  pub span_past_the_last_number : told_of_spans (record catalogue { places = SpanRows (span 100000001 1 2 ∷ []) }) ≡ Some 2
+  pub span_past_the_last_number : told_of_spans (record catalogue { places = SpanRows (span (suc most_unit_numbers) 1 2 ∷ []) }) ≡ Some 2
   pub lft_past_32_bits : told_of_spans (record catalogue { places = SpanRows (span 1 (2 ^ 32) (2 ^ 32 + 1) ∷ []) }) ≡ Some 2
   pub rgt_past_32_bits : told_of_spans (record catalogue { places = SpanRows (span 1 1 (2 ^ 32) ∷ []) }) ≡ Some 2
   -- the units
@@ -90,11 +91,11 @@ pub record Told : Type 0 where
   pub next_is_there : told (record sound { office = record sound.office { next_unit = 1 } }) ≡ Some 3
   pub no_source : told_with (record catalogue { units = record plans { source = codes "a b" } ∷ [] }) ≡ Some 3
   pub blank_number : told_with (record catalogue { units = record plans { legacy = codes " " } ∷ [] }) ≡ Some 3
-  pub number_too_long : told_with (record catalogue { units = record plans { legacy = replicate 65536 49 } ∷ [] }) ≡ Some 3
-  pub level_too_long : told_with (record catalogue { units = record plans { level = replicate 65536 49 } ∷ [] }) ≡ Some 3
-  pub closed_until_no_day : told_with (record catalogue { units = record plans { until = Some (pos 2932897) } ∷ [] }) ≡ Some 3
-  pub as_deep_as_may_be : told (deep 64) ≡ None
-  pub too_deep : told (deep 65) ≡ Some 3
+  pub number_too_long : told_with (record catalogue { units = record plans { legacy = replicate (suc most_bytes) 49 } ∷ [] }) ≡ Some 3
+  pub level_too_long : told_with (record catalogue { units = record plans { level = replicate (suc most_bytes) 49 } ∷ [] }) ≡ Some 3
+  pub closed_until_no_day : told_with (record catalogue { units = record plans { until = Some year_10000 } ∷ [] }) ≡ Some 3
+  pub as_deep_as_may_be : told (deep most_deep) ≡ None
+  pub too_deep : told (deep (suc most_deep)) ≡ Some 3
   -- the elements
   pub level_as_an_element : told_with (record catalogue { elements = record title { k = 4 } ∷ [] }) ≡ Some 4
   pub after_the_last : told_with (record catalogue { elements = record title { k = 27 } ∷ [] }) ≡ Some 4

@@ -1,5 +1,6 @@
 -- The rows of a small sound office, and which of the causes 6 to 10 hold after a few of them are changed.
-use Rattle.std.specs.Prelude.{◌≡◌, ℕ, ℤ, pos, neg_ℤ, true, false, Bool, List, [], ◌∷◌, map, Some, None, codes}
+use Rattle.std.specs.Prelude.{◌≡◌, ℕ, suc, ℤ, pos, ◌+ℤ◌, ◌-ℤ◌, true, false, Bool, List, [], ◌∷◌, map, Some, None, codes}
+use Rattle.isad_core.specs.Limits.{first_day, last_day, most_permits}
 use Rattle.tree_core.specs.WorkedExamples.{link}
 use Rattle.desk_core.specs.DeskRows.{Desk, ReaderRow, SeatRow, OrderRow, HoldingRow, RunLineRow, PermitRow}
 use Rattle.catalogue_core.specs.CatalogueRows.{CatalogueRows, LinkRows, UnitRow}
@@ -104,7 +105,11 @@ sound =
 
 -- a day that is past the calendar
 abbrev pub year_10000 : ℤ
-year_10000 = pos 2932897
+year_10000 = last_day +ℤ pos 1
+
+-- and one that is before it
+abbrev pub day_of_1899 : ℤ
+day_of_1899 = first_day -ℤ pos 1
 
 -- n units, and a permit for each
 abbrev pub many_units : ℕ → List UnitRow
@@ -137,14 +142,14 @@ pub record Told : Type 0 where
   pub permit_for_no_unit : tests_with (record desk { permits = record permit_of_bob { unit = 2 } ∷ [] }) ≡ just_6
   pub permit_of_a_stranger : tests_with (record desk { permits = record permit_of_bob { ticket = 3 } ∷ [] }) ≡ just_6
   pub permit_for_ever : tests_with (record desk { permits = record permit_of_bob { until = year_10000 } ∷ [] }) ≡ just_6
-  pub permits_to_the_limit : tests_among (many_units 100) (record desk { permits = many_permits 100 }) ≡ none_of_them
-  pub permit_past_the_limit : tests_among (many_units 101) (record desk { permits = many_permits 101 }) ≡ just_6
+  pub permits_to_the_limit : tests_among (many_units most_permits) (record desk { permits = many_permits most_permits }) ≡ none_of_them
+  pub permit_past_the_limit : tests_among (many_units (suc most_permits)) (record desk { permits = many_permits (suc most_permits) }) ≡ just_6
   -- orders
   pub order_left_out : tests_with (record desk { orders = first_order ∷ second_order ∷ third_order ∷ record third_order { id = 5; day = february_1 } ∷ [] }) ≡ just_7
   pub order_of_a_stranger : tests_with (record desk { orders = first_order ∷ record second_order { ticket = 3 } ∷ third_order ∷ [] }) ≡ just_7
   pub order_for_no_container : tests_with (record desk { orders = first_order ∷ record second_order { container = 3 } ∷ third_order ∷ [] }) ≡ just_7
   pub order_in_no_state : tests_with (record desk { orders = first_order ∷ record second_order { state = 5 } ∷ third_order ∷ [] }) ≡ just_7
-  pub order_before_1900 : tests_with (record desk { orders = first_order ∷ record second_order { day = neg_ℤ (pos 25568) } ∷ third_order ∷ [] }) ≡ just_7
+  pub order_before_1900 : tests_with (record desk { orders = first_order ∷ record second_order { day = day_of_1899 } ∷ third_order ∷ [] }) ≡ just_7
   pub order_of_tomorrow : tests_with (record desk { orders = first_order ∷ record second_order { day = march_2 } ∷ third_order ∷ [] }) ≡ just_7
   pub one_too_many_that_day : tests_with (record desk { orders = first_order ∷ second_order ∷ third_order ∷ record third_order { id = 4 } ∷ [] }) ≡ just_7
   pub two_tickets_that_day : tests_with (record desk { orders = first_order ∷ second_order ∷ third_order ∷ record third_order { id = 4; ticket = 1 } ∷ [] }) ≡ none_of_them
@@ -161,7 +166,7 @@ pub record Told : Type 0 where
   pub out_and_not_held : tests_with (record desk { holdings = at_the_desk ∷ [] }) ≡ just_8
   -- runs
   pub run_left_out : tests_with (record desk { runs = record { id = 1; day = march_1 } ∷ record { id = 3; day = march_1 } ∷ []; run_lines = first_line ∷ record second_line { run = 3 } ∷ [] }) ≡ just_9
-  pub run_before_1900 : tests_with (record desk { runs = record { id = 1; day = neg_ℤ (pos 25568) } ∷ [] }) ≡ just_9
+  pub run_before_1900 : tests_with (record desk { runs = record { id = 1; day = day_of_1899 } ∷ [] }) ≡ just_9
   pub run_of_tomorrow : tests_with (record desk { runs = record { id = 1; day = march_2 } ∷ [] }) ≡ just_9
   pub run_of_nothing : tests_with (record desk { run_lines = [] }) ≡ just_9
   pub run_of_too_many : desk_tests (record sound { office = record sound.office { run_size = 1 } }) ≡ just_9

@@ -1,6 +1,5 @@
 //! What the desk's rows are checked against.
 ghost use Rattle.std.specs.Prelude.{◌≡◌};
-ghost use Rattle.isad_core.specs.Days.{is_day_number};
 ghost use Rattle.isad_core.specs.Words.{is_between};
 
 use crate::consistency::number_set::Numbers;
@@ -16,13 +15,6 @@ pub struct Around {
     pub readers: u64,
     pub units: Numbers,
     pub containers: Numbers,
-}
-
-/// Whether it is the number of a day of the calendar.
-pub(crate) fn is_day(number: i64) -> bool
-    ensures { result ≡ is_day_number number }
-{
-    -25_567 <= number && number <= 2_932_896
 }
 
 /// Whether it is a number from 1 to the last.

@@ -11,11 +11,11 @@ ghost use Rattle.desk_core.specs.Consistency.{asking, asking_cmp};
 ghost use Rattle.desk_core.specs.KeyCounts.{occurs_more_than as occurs_more_than_of};
 ghost use Rattle.desk_core.specs.Consistency.{waits_or_is_out as waits_or_is_out_of};
 
-use crate::consistency::context::{Around, is_day, is_given};
+use crate::consistency::context::{Around, is_given};
 use crate::consistency::key_counts::occurs_more_than;
 use crate::consistency::numbers::are_numbered;
 use crate::consistency::rows::OrderRow;
-use isad_core::limits;
+use isad_core::{is_day, limits};
 use std::alloc::{AllocError, Global};
 
 /// The most orders that may ever be placed.

@@ -6,9 +6,10 @@ ghost use Rattle.desk_core.specs.DeskRows.{Desk};
 ghost use Rattle.desk_core.specs.RowRecords.{Surrounds, seat_row, permit_row};
 ghost use Rattle.desk_core.specs.Consistency.{is_fit_seat, is_fit_permit};
 
-use crate::consistency::context::{Around, is_day, is_given};
+use crate::consistency::context::{Around, is_given};
 use crate::consistency::rows::{PermitRow, SeatRow};
 use crate::consistency::tally::Tally;
+use isad_core::is_day;
 use isad_core::limits::MOST_PERMITS;
 use std::alloc::{AllocError, Global};
 

@@ -9,11 +9,11 @@ ghost use Rattle.desk_core.specs.RowRecords.{Surrounds, order_row, run_row, run_
 ghost use Rattle.desk_core.specs.Consistency.{is_fit_line as is_fit_line_of};
 ghost use Rattle.desk_core.specs.Consistency.{is_fit_run as is_fit_run_of};
 
-use crate::consistency::context::{Around, is_day, is_given};
+use crate::consistency::context::{Around, is_given};
 use crate::consistency::numbers::{are_numbered, nth_order};
 use crate::consistency::rows::{OrderRow, RunLineRow, RunRow};
 use crate::consistency::tally::Tally;
-use isad_core::limits;
+use isad_core::{is_day, limits};
 use std::alloc::{AllocError, Global};
 
 /// The most runs that may ever be made.

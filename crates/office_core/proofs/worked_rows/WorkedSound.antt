@@ -1,10 +1,10 @@
 -- The row on permits, and that its office is sound.
 use Rattle.std.proofs.Common.{◌≡◌, ℕ, zero, suc, ◌+◌, ◌<◌, ◌≤◌, Bool, true, false, not, ◌&&◌, List, [], ◌∷◌, length, map, Some, refl, sym, ap, subst, inl, inr, arith}
-use Rattle.std.specs.Prelude.{nat_eq, nat_lt, codes, decimal}
+use Rattle.std.specs.Prelude.{nat_eq, nat_le, codes, decimal}
 use Rattle.std.specs.Fmt.{digits}
 use Rattle.std.specs.List.{list_all, AllByRecursion, IsDistinct}
 use Rattle.std.specs.Str.{bytes_eq}
-use Rattle.std.proofs.lemmas.Bool.{cases_Bool, cases_eq, eq-eqb, ne_eqb, ltb-true, not-true, or_left, or_right, and_parts, false≢true}
+use Rattle.std.proofs.lemmas.Bool.{cases_Bool, cases_eq, eq-eqb, ne_eqb, leb-true, not-true, or_left, or_right, and_parts, false≢true}
 use Rattle.std.proofs.lemmas.Fmt.{decimal_injective}
 use Rattle.std.proofs.lemmas.Int.{ints}
 use Rattle.std.proofs.lemmas.Slice.Eq.{bytes_eq-Decides}
@@ -18,12 +18,12 @@ use Rattle.catalogue_core.specs.UnitLookup.{has_unit}
 use Rattle.catalogue_core.specs.ContainerContents.{is_open}
 use Rattle.catalogue_core.specs.Moves.{height}
 use Rattle.office_core.specs.Rules.{is_name}
-use Rattle.isad_core.specs.Limits.{most_permits}
+use Rattle.isad_core.specs.Limits.{most_bytes, most_permits}
 use Rattle.office_core.specs.SoundDesk.{ByUnit, IsSoundDesk}
 use Rattle.catalogue_core.specs.GoodCatalogues.{IsSomeDay, IsGoodUnit, is_same_unit, AreGoodUnits}
 use Rattle.office_core.specs.Soundness.{IsSound}
 use Rattle.office_core.specs.WorkedReplies.{MostPermits}
-use Rattle.office_core.specs.WorkedExamples.{office, march_1, march_31, year_end, titled, units_from, permits_from, hundred_permits}
+use Rattle.office_core.specs.WorkedExamples.{office, march_1, march_31, year_end, titled, units_from, permits_from, with_most_permits}
 use Rattle.office_core.proofs.Words.{put_each}
 use Rattle.office_core.proofs.SoundDesk.{desk_start, no_value}
 
@@ -73,17 +73,17 @@ each_passes p [] h = tt
 each_passes p (x ∷ xs) h = (let r = and_parts (p x) (list_all p xs) h in (r.0, each_passes p xs r.1))
 
 has_text : Unit → Bool
-has_text unit = not (is_blank_text unit.legacy) && nat_lt (length unit.legacy) 65536
+has_text unit = not (is_blank_text unit.legacy) && nat_le (length unit.legacy) most_bytes
 
-texts_there : list_all has_text (nodes (units_from 1 101)) ≡ true
+texts_there : list_all has_text (nodes (units_from 1 (suc most_permits))) ≡ true
 unfolding has_text digits
 texts_there = refl
 
 good_unit : (k : ℕ) → has_text (titled k) ≡ true → IsGoodUnit [] (titled k)
 unfolding has_text
 good_unit k h =
-    let r = and_parts (not (is_blank_text (decimal k))) (nat_lt (length (decimal k)) 65536) h in
-    let l = ltb-true (length (decimal k)) 65536 r.1 in
+    let r = and_parts (not (is_blank_text (decimal k))) (nat_le (length (decimal k)) most_bytes) h in
+    let l = leb-true (length (decimal k)) most_bytes r.1 in
     record {
       source = refl;
       legacy = not-true (is_blank_text (decimal k)) r.0;
@@ -99,15 +99,15 @@ good_units : (first n : ℕ) → AllByRecursion (λ unit. has_text unit ≡ true
 good_units first zero h = tt
 good_units first (suc n) h = (good_unit first h.0, good_units (suc first) n h.1)
 
-hundred_units : AreGoodUnits hundred_permits.catalogue
-hundred_units =
-    let size = size-units 1 101 in
-    let high = height_units 1 101 in
+units_good : AreGoodUnits with_most_permits.catalogue
+units_good =
+    let size = size-units 1 (suc most_permits) in
+    let high = height_units 1 (suc most_permits) in
     record {
-      each = good_units 1 101 (each_passes has_text (nodes (units_from 1 101)) texts_there);
-      ids = numbers_apart 1 101;
-      pairs = texts_apart 1 101 (omega arith);
-      given = all_units (λ unit. (1 ≤ unit.id) × (unit.id < 102)) 1 101 (λ k l h. (l, omega arith));
+      each = good_units 1 (suc most_permits) (each_passes has_text (nodes (units_from 1 (suc most_permits))) texts_there);
+      ids = numbers_apart 1 (suc most_permits);
+      pairs = texts_apart 1 (suc most_permits) (omega arith);
+      given = all_units (λ unit. (1 ≤ unit.id) × (unit.id < most_permits + 2)) 1 (suc most_permits) (λ k l h. (l, omega arith));
       next = (omega arith, omega arith);
       few = omega arith;
       depth = omega arith;
@@ -135,18 +135,18 @@ is_there first (suc n) k l h = elim (cases_eq k first) [
 ]
 
 -- Ann's permits are as these, and no other ticket has one
-each_ticket : (P : ℕ → List Permit → Type 0) → P 1 (permits_from 1 100) → ((t : ℕ) → P t []) → (t : ℕ) → P t (hundred_permits.permits t)
-each_ticket P here there = put_each P (λ t. []) 1 (permits_from 1 100) here (λ t ne. there t)
+each_ticket : (P : ℕ → List Permit → Type 0) → P 1 (permits_from 1 most_permits) → ((t : ℕ) → P t []) → (t : ℕ) → P t (with_most_permits.permits t)
+each_ticket P here there = put_each P (λ t. []) 1 (permits_from 1 most_permits) here (λ t ne. there t)
 
 -- ---- all of it
 
-ann_alone : (t : ℕ) (reader : Reader) → numbered hundred_permits.readers t ≡ Some reader → is_name reader.name ≡ true
+ann_alone : (t : ℕ) (reader : Reader) → numbered with_most_permits.readers t ≡ Some reader → is_name reader.name ≡ true
 ann_alone zero reader e = cc
 ann_alone (suc zero) reader e = (let ann : Reader = record { name = codes "Ann"; until = year_end } in let same : ann ≡ reader = cc in subst (λ r. is_name r.name ≡ true) same refl)
 ann_alone (suc (suc t)) reader e = cc
 
-hundred_desk : IsSoundDesk hundred_permits
-hundred_desk =
+desk_sound : IsSoundDesk with_most_permits
+desk_sound =
     let old = desk_start office.settings march_1 in
     record {
       boxes = refl;
@@ -162,14 +162,14 @@ hundred_desk =
       runs = record { each = λ n run e. absurd (no_value n run e); few = old.runs.few };
       readers = record { names = ann_alone; few = omega arith };
       permits = record {
-        known = each_ticket (λ t ps. is_ticket hundred_permits t ≡ false → ps ≡ []) (λ h. absurd (false≢true (sym h))) (λ t h. refl);
-        by_unit = each_ticket (λ t ps. ByUnit ps) (by_unit 1 100) (λ t. tt);
-        few = each_ticket (λ t ps. length ps ≤ most_permits) (let e = length-permits 1 100 in omega (arith, e)) (λ t. omega arith);
+        known = each_ticket (λ t ps. is_ticket with_most_permits t ≡ false → ps ≡ []) (λ h. absurd (false≢true (sym h))) (λ t h. refl);
+        by_unit = each_ticket (λ t ps. ByUnit ps) (by_unit 1 most_permits) (λ t. tt);
+        few = each_ticket (λ t ps. length ps ≤ most_permits) (let e = length-permits 1 most_permits in omega (arith, e)) (λ t. omega arith);
       };
     }
 
-pub hundred_sound : IsSound hundred_permits
-hundred_sound =
+pub office_sound : IsSound with_most_permits
+office_sound =
     record {
       settings = record { country = refl; repo = refl; seats = refl; daily = refl; hands = refl; run_size = refl };
       days = record {
@@ -177,15 +177,15 @@ hundred_sound =
         readers = ((omega (arith, ints), omega (arith, ints)), tt);
         orders = tt;
         runs = tt;
-        permits = each_ticket (λ t ps. AllByRecursion (λ permit. IsDayNumber permit.until) ps) (all_permits (λ permit. IsDayNumber permit.until) 1 100 (λ k l h. (omega (arith, ints), omega (arith, ints)))) (λ t. tt);
-        closures = all_units (λ unit. IsSomeDay unit.until) 1 101 (λ k l h. tt);
+        permits = each_ticket (λ t ps. AllByRecursion (λ permit. IsDayNumber permit.until) ps) (all_permits (λ permit. IsDayNumber permit.until) 1 most_permits (λ k l h. (omega (arith, ints), omega (arith, ints)))) (λ t. tt);
+        closures = all_units (λ unit. IsSomeDay unit.until) 1 (suc most_permits) (λ k l h. tt);
       };
-      units = hundred_units;
+      units = units_good;
       containers = record { named = refl; few = omega arith };
-      permits = each_ticket (λ t ps. AllByRecursion (λ permit. has_unit hundred_permits.catalogue.forest permit.unit ≡ true) ps) (all_permits (λ permit. has_unit hundred_permits.catalogue.forest permit.unit ≡ true) 1 100 (λ k l h. is_there 1 101 k l (omega arith))) (λ t. tt);
-      desk = hundred_desk;
+      permits = each_ticket (λ t ps. AllByRecursion (λ permit. has_unit with_most_permits.catalogue.forest permit.unit ≡ true) ps) (all_permits (λ permit. has_unit with_most_permits.catalogue.forest permit.unit ≡ true) 1 most_permits (λ k l h. is_there 1 (suc most_permits) k l (omega arith))) (λ t. tt);
+      desk = desk_sound;
     }
 
 pub permits_to_the_limit : MostPermits
 unfolding is_open
-permits_to_the_limit = record { office_sound = hundred_sound; told = refl }
+permits_to_the_limit = record { office_sound = office_sound; told = refl }

@@ -5,13 +5,13 @@ use Rattle.std.specs.List.{IsDistinct, AllByRecursion, list_all}
 use Rattle.std.specs.List.Sorted.{IsPermutation}
 use Rattle.std.proofs.lemmas.Bool.{and_parts, eqb-true, leb-true, ltb-true, not-true, not-false}
 use Rattle.std.proofs.lemmas.Slice.Eq.{bytes_eq-Decides}
-use Rattle.std.proofs.lemmas.Int.{ints}
 use Rattle.std.proofs.lemmas.List.{length-map}
 use Rattle.std.proofs.lemmas.List.Folds.{list_all-map}
 use Rattle.std.proofs.lemmas.List.Sorted.{IsPermutation-refl, IsPermutation-sym, length_permutation}
 use Rattle.std.proofs.lemmas.Map.Keys.{IsDistinct-IsPermutation}
 use Rattle.isad_core.specs.Texts.{is_blank_text}
 use Rattle.isad_core.specs.Days.{IsDayNumber, is_day_number}
+use Rattle.isad_core.proofs.DayLemmas.{is_day_number-so}
 use Rattle.isad_core.specs.declared.values.BoxKey.{BoxKey}
 use Rattle.isad_core.specs.Boxes.{distinct, is_same as is_same_box}
 use Rattle.tree_core.specs.Forest.{Forest, Empty, Node, nodes, each, size}
@@ -20,7 +20,7 @@ use Rattle.tree_core.proofs.EachLemmas.{nodes-each}
 use Rattle.tree_core.specs.Versions.{Version, version_number}
 use Rattle.catalogue_core.specs.Units.{Unit}
 use Rattle.catalogue_core.proofs.NodeLemmas.{length-nodes}
-use Rattle.isad_core.specs.Limits.{most_units, most_unit_numbers, most_containers, most_deep, most_bytes}
+use Rattle.isad_core.specs.Limits.{most_units, most_unit_numbers, most_containers, most_deep, most_bytes, most_seats, most_daily, most_hands, most_run_size}
 use Rattle.office_core.specs.Words.{stands}
 use Rattle.catalogue_core.specs.Sources.{is_source, is_between}
 use Rattle.catalogue_core.specs.Moves.{height}
@@ -71,9 +71,6 @@ no_cause version t h =
 
 -- ---- the office
 
-pub day_number : (day : ℤ) → is_day_number day ≡ true → IsDayNumber day
-day_number day h = grind (arith, ints, h)
-
 within : (low high n : ℕ) → is_between low high n ≡ true → (low ≤ n) × (n ≤ high)
 within low high n h = let p = and_parts (nat_le low n) (nat_le n high) h in (leb-true low n p.0, leb-true n high p.1)
 
@@ -88,15 +85,15 @@ good_office version row h =
     let a = and_parts (nat_eq row.version (version_number version)) _ h in
     let b = and_parts (is_country row.country) _ a.1 in
     let c = and_parts (is_repository row.repo) _ b.1 in
-    let d = and_parts (is_between 1 200 row.seats) _ c.1 in
-    let e = and_parts (is_between 1 50 row.daily) _ d.1 in
-    let f = and_parts (is_between 1 10 row.hands) _ e.1 in
-    let g = and_parts (is_between 1 100 row.run_size) _ f.1 in
+    let d = and_parts (is_between 1 most_seats row.seats) _ c.1 in
+    let e = and_parts (is_between 1 most_daily row.daily) _ d.1 in
+    let f = and_parts (is_between 1 most_hands row.hands) _ e.1 in
+    let g = and_parts (is_between 1 most_run_size row.run_size) _ f.1 in
     let i = and_parts (is_day_number row.day) (is_between 1 (most_unit_numbers + 1) row.next_unit) g.1 in
     record {
       of_version = sym (eqb-true row.version (version_number version) a.0);
       settings = record { country = b.0; repo = c.0; seats = d.0; daily = e.0; hands = f.0; run_size = g.0 };
-      day = day_number row.day i.0;
+      day = is_day_number-so row.day i.0;
       next = within 1 (most_unit_numbers + 1) row.next_unit i.1;
     }
 
@@ -104,7 +101,7 @@ good_office version row h =
 
 some_day : (until : Option ℤ) → is_some_day until ≡ true → IsSomeDay until
 some_day None h = tt
-some_day (Some day) h = day_number day h
+some_day (Some day) h = is_day_number-so day h
 
 -- what a good row of a unit is
 record IsGoodRow (next : ℕ) (row : UnitRow) : Type 0 where

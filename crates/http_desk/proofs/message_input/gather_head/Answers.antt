@@ -10,6 +10,7 @@ use Rattle.http_desk.proofs.Faults.{takes_on}
 use Rattle.http_messages.specs.declared.head_scan.HeadScanState.TheVariants.{Lead}
 use Rattle.http_desk.specs.declared.input_buffer.Filled.TheVariants.{More, AtEnd, Failed}
 use Rattle.http_desk.specs.declared.message_input.FoundHead.TheVariants.{Cut, Bound}
+use Rattle.http_desk.specs.Messages.{longest_head}
 use Rattle.http_messages.proofs.Scans.{scan_take_within, scan_take_limit, scan_take_open}
 use Rattle.http_desk.proofs.Places.{blank_or_cut, led_on}
 use Rattle.http_desk.proofs.message_input.gather_head.Goals as goal
@@ -48,8 +49,8 @@ loop-size-init g c = record {
 
 pub returns-in-Whole-clause-found : goal.returns-in-Whole-clause-found
 returns-in-Whole-clause-found g c =
-    let e = ap (λ b. scan (take 16384 b)) (sym c.deref.ensures.value) ∙ sym c.look.ensures ∙ c.in-Whole.is in
-    (e, scan_take_within 16384 c.loop-size.buffer.items c.in-Whole.size e, scan_take_limit 16384 c.loop-size.buffer.items c.in-Whole.size e)
+    let e = ap (λ b. scan (take longest_head b)) (sym c.deref.ensures.value) ∙ sym c.look.ensures ∙ c.in-Whole.is in
+    (e, scan_take_within longest_head c.loop-size.buffer.items c.in-Whole.size e, scan_take_limit longest_head c.loop-size.buffer.items c.in-Whole.size e)
 
 pub loop-size-preserved : goal.loop-size-preserved
 loop-size-preserved g c = record {
@@ -67,11 +68,11 @@ loop-size-preserved g c = record {
       few_on c.len-seen.result c.loop-size.buffer.items c.fill.new.buffer.items c.fill.ensures.got.0 all
       c.fill.ensures.got.2;
   short =
-      let below : length c.loop-size.buffer.items < 16384 = omega arith in
+      let below : length c.loop-size.buffer.items < longest_head = omega arith in
       omega arith;
   led =
-      let seen = ap (λ b. scan (take 16384 b)) (sym c.deref.ensures.value) ∙ sym c.look.ensures ∙ c.in-Open.is in
-      let below : length c.loop-size.buffer.items < 16384 = omega arith in
+      let seen = ap (λ b. scan (take longest_head b)) (sym c.deref.ensures.value) ∙ sym c.look.ensures ∙ c.in-Open.is in
+      let below : length c.loop-size.buffer.items < longest_head = omega arith in
       let all : c.len-seen.result ≡ length c.loop-size.buffer.items = omega arith in
       led_on c.len-seen.result c.loop-size.buffer.items c.fill.new.buffer.items c.fill.ensures.got.0 c.in-Open.place
       all c.fill.ensures.got.2 below seen;
@@ -83,16 +84,16 @@ returns-in-Lead-clause-got g c = reads_trans _ _ _ _ _ _ c.loop-size.invariant.c
 pub returns-in-Lead-clause-found : goal.returns-in-Lead-clause-found
 returns-in-Lead-clause-found g c =
     let same = c.fill.ensures.same (λ e. more_not_end (sym c.in-AtEnd.is ∙ e)) in
-    let seen = ap (λ b. scan (take 16384 b)) (sym c.deref.ensures.value) ∙ sym c.look.ensures ∙ c.in-Open.is ∙ ap Open c.in-Lead.is in
-    let short : length c.loop-size.buffer.items < 16384 = omega arith in
-    scan_take_open c.loop-size.buffer.items c.fill.new.buffer.items Lead same short seen
+    let seen = ap (λ b. scan (take longest_head b)) (sym c.deref.ensures.value) ∙ sym c.look.ensures ∙ c.in-Open.is ∙ ap Open c.in-Lead.is in
+    let short : length c.loop-size.buffer.items < longest_head = omega arith in
+    scan_take_open longest_head c.loop-size.buffer.items c.fill.new.buffer.items Lead same short seen
 
 pub returns-in_default : goal.returns-in_default
 returns-in_default g c =
     let same = c.fill.ensures.same (λ e. more_not_end (sym c.in-AtEnd.is ∙ e)) in
-    let seen = ap (λ b. scan (take 16384 b)) (sym c.deref.ensures.value) ∙ sym c.look.ensures ∙ c.in-Open.is in
-    let short : length c.loop-size.buffer.items < 16384 = omega arith in
-    let (below, «open») = scan_take_open c.loop-size.buffer.items c.fill.new.buffer.items c.in-Open.place same short seen in
+    let seen = ap (λ b. scan (take longest_head b)) (sym c.deref.ensures.value) ∙ sym c.look.ensures ∙ c.in-Open.is in
+    let short : length c.loop-size.buffer.items < longest_head = omega arith in
+    let (below, «open») = scan_take_open longest_head c.loop-size.buffer.items c.fill.new.buffer.items c.in-Open.place same short seen in
     record {
       got = reads_trans _ _ _ _ _ _ c.loop-size.invariant.came c.fill.ensures.got;
       found = (below, c.in-Open.place, c.in_default.not-Lead, «open»);
@@ -117,7 +118,7 @@ returns-in-NoMemory-clause-got g c = reads_trans _ _ _ _ _ _ c.loop-size.invaria
 pub returns-in-Failed-clause-found : goal.returns-in-Failed-clause-found
 returns-in-Failed-clause-found g c =
     let same = c.fill.ensures.same (λ e. more_not_failed (sym c.in-Failed.is ∙ e)) in
-    let seen = ap (λ b. scan (take 16384 b)) (sym c.deref.ensures.value) ∙ sym c.look.ensures ∙ c.in-Open.is in
-    let short : length c.loop-size.buffer.items < 16384 = omega arith in
-    let (below, «open») = scan_take_open c.loop-size.buffer.items c.fill.new.buffer.items c.in-Open.place same short seen in
+    let seen = ap (λ b. scan (take longest_head b)) (sym c.deref.ensures.value) ∙ sym c.look.ensures ∙ c.in-Open.is in
+    let short : length c.loop-size.buffer.items < longest_head = omega arith in
+    let (below, «open») = scan_take_open longest_head c.loop-size.buffer.items c.fill.new.buffer.items c.in-Open.place same short seen in
     blank_or_cut c.fill.new.buffer.items c.in-Open.place below «open»

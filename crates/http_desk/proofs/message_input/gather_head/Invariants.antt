@@ -1,5 +1,6 @@
 -- what came stands in the buffer; what was seen of it ends no head; and where no call was interrupted, each turn brought a byte
 use Rattle.std.proofs.Common.{◌≡◌, ◌+◌, ◌-◌, ◌≤◌, false, length, take}
+use Rattle.http_desk.specs.Messages.{longest_head}
 use Rattle.http_messages.specs.HeadScan.{scan}
 use Rattle.http_messages.specs.declared.head_scan.Scan.TheVariants.{Open}
 use Rattle.http_desk.specs.MessageInput.{Reads}
@@ -10,7 +11,7 @@ abbrev pub invariant-loop-size : goal.invariant-loop-size
 invariant-loop-size g l = record {
   came : Reads l.initial.reader.bytes l.reader.bytes l.initial.buffer.items l.buffer.items;
   few : l.seen ≤ length l.buffer.items;
-  short : l.seen ≤ 16384;
+  short : l.seen ≤ longest_head;
   led : scan (take l.seen l.buffer.items) ≡ Open l.led;
   failed : l.reader.failed ≡ l.initial.reader.failed;
   bound : l.reader.interrupted ≡ false → (l.initial.reader.interrupted ≡ false) × (l.initial.reader.turns + length l.initial.buffer.items ≤ l.reader.turns + length l.buffer.items);
@@ -18,4 +19,4 @@ invariant-loop-size g l = record {
 }
 
 abbrev pub decreases-loop-size : goal.decreases-loop-size
-decreases-loop-size g l = 16384 - length l.buffer.items
+decreases-loop-size g l = longest_head - length l.buffer.items

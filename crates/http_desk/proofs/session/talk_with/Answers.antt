@@ -1,6 +1,7 @@
-use Rattle.std.proofs.Common.{◌≡◌, arith, subst, refl, ap, ◌∙◌, inl, inr}
+use Rattle.std.proofs.Common.{◌≡◌, ◌+◌, arith, subst, refl, ap, ◌∙◌, inl, inr}
 use Rattle.http_desk.specs.Exchanges.{EndsAsCalled}
 use Rattle.http_desk.specs.StreamFaults.{TakesCalls}
+use Rattle.http_desk.specs.Session.{most_answers}
 use Rattle.http_desk.specs.Streams.{most_reads}
 use Rattle.http_desk.proofs.Endings.{came, ends_on}
 use Rattle.http_desk.specs.declared.session_end.Ended.TheVariants.{Closed}
@@ -44,7 +45,7 @@ returns-in-Ends-clause-session g c =
 
 pub returns-clause-session : goal.returns-clause-session
 returns-clause-session g c =
-    let last : c.loop-number.number ≡ 10001 = omega arith in
+    let last : c.loop-number.number ≡ most_answers + 1 = omega arith in
     carried_over g.M.Machine.represents g.M.Machine.is_intact g.M.Machine.is_open _ _ _ _ c.args.office.now c.loop-number.office c.loop-number.buffer.items Closed
     (subst (λ n. Carried g.M.Machine.represents g.M.Machine.is_intact g.M.Machine.is_open c.args.reader.now.bytes c.loop-number.reader.bytes c.args.writer.now.bytes c.loop-number.writer.bytes c.args.office.now c.loop-number.office n c.loop-number.buffer.items) last c.loop-number.invariant.carried)
 

@@ -19,4 +19,6 @@ returns c = record {
       (record { block = draft_head; head = draft_has (draft_message.body ++ page_request); complete = refl })
       (record { block = page_request; head = page_has []; complete = refl })
       refl refl draft_told draft_leaves page_told (page_keeps with_draft);
+  head = refl;
+  answers = refl;
 }

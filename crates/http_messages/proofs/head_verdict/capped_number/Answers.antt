@@ -3,6 +3,7 @@ use Rattle.std.specs.Char.{is_ascii_digit, digit_value}
 use Rattle.std.specs.Str.Parse.{digits_value}
 use Rattle.std.proofs.lemmas.List.Sums.{AllPass-from_list_all}
 use Rattle.std.proofs.lemmas.Int.Digits.{digits_value_more}
+use Rattle.http_messages.specs.Heads.{longest_body}
 use Rattle.http_messages.proofs.Numbers.{digit_is, digit_from, capped_more}
 use Rattle.http_messages.proofs.head_verdict.capped_number.Goals as goal
 
@@ -18,5 +19,5 @@ loop-digit-preserved c =
     let ds = c.args.digits.now in
     let h : i < length ds = omega arith in
     let e = digits_value_more 10 ds i h in
-    let v : c.loop-digit.value ≡ min (digits_value 10 (take i ds)) 8388609 = c.loop-digit.invariant in
+    let v : c.loop-digit.value ≡ min (digits_value 10 (take i ds)) (longest_body + 1) = c.loop-digit.invariant in
     c.min-value.ensures ∙ capped_more _ _ (digits_value 10 (take (i + 1) ds)) (digit_value (get_or ds i 0)) (get_or ds i 0) v e (digit_is (get_or ds i 0) (AllPass-from_list_all is_ascii_digit ds c.requires i 0 h))

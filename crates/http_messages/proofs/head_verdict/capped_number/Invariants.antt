@@ -1,6 +1,7 @@
-use Rattle.std.proofs.Common.{◌≡◌, min, take}
+use Rattle.std.proofs.Common.{◌≡◌, ◌+◌, min, take}
 use Rattle.std.specs.Str.Parse.{digits_value}
+use Rattle.http_messages.specs.Heads.{longest_body}
 use Rattle.http_messages.proofs.head_verdict.capped_number.Given as goal
 
 abbrev pub invariant-loop-digit : goal.invariant-loop-digit
-invariant-loop-digit l = l.value ≡ min (digits_value 10 (take l.digit-index l.digits)) 8388609
+invariant-loop-digit l = l.value ≡ min (digits_value 10 (take l.digit-index l.digits)) (longest_body + 1)

@@ -18,4 +18,5 @@ returns c = record {
   no_body_to_wait_for = refl;
   option_close = refl;
   another_option = refl;
+  fields = refl;
 }
