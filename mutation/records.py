@@ -10,9 +10,10 @@ refuses it:
        >  StillIssued
     refused by: office_core::worked::worked_rows
 
-`file` holds for the records that follow. In a text, a line that begins with `   | ` is its next line, and one that
-begins with `   > ` goes on with the line before. `$` ends a line that would end with a space, or with `$`. An empty
-`new:` takes the old text away. A line that begins with `#` is a comment."""
+or `refused by: http_messages::worked::worked_paths query` for one row, or `seen in: day most_fields` for a day of
+acceptance. `file` holds for the records that follow. In a text, a line that begins with `   | ` is its next line, and
+one that begins with `   > ` goes on with the line before. `$` ends a line that would end with a space, or with `$`.
+An empty `new:` takes the old text away. A line that begins with `#` is a comment."""
 
 from pathlib import Path
 from typing import NamedTuple

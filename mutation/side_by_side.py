@@ -12,9 +12,11 @@ import subprocess
 
 KIT = "/opt/rattle"
 CRATE = "turned_rules"
+DECLARED = ".specs.declared."
 NAME = re.compile(r"Rattle\.(\w+)\.(?:specs|proofs)(?:\.\w+)+")
 NODE = re.compile(r"^(?:pub )?mod \w+\n", re.M)
-ERROR = re.compile(r"^(?:\./)?(specs|proofs)/(\w+)/(\w+)\.antt:(\d+:\d+): error: (.*)$", re.M)
+ERROR = re.compile(r"^(?:\./)?(specs|proofs)/(\w+)/(\w+)\.antt:(\d+:\d+): error(?:\[[\w-]+\])?: (.*)$", re.M)
+ANY_ERROR = re.compile(r"^\S.*: error(?:\[[\w-]+\])?: |^error(?:\[[\w-]+\])?: ", re.M)
 OF_PROOFS = ("Answers.antt", "Invariants.antt", "Proof.antt")
 
 
@@ -29,7 +31,7 @@ class Modules:
                 for folder, _, files in os.walk(root):
                     for file in files:
                         path = f"{folder}/{file}"
-                        if file.endswith(".antt") and file not in OF_PROOFS:
+                        if file.endswith(".antt") and (kind == "specs" or file not in OF_PROOFS):
                             inner = os.path.relpath(path, root)[: -len(".antt")].replace("/", ".")
                             self.add(f"Rattle.{crate}.{kind}.{inner}", path)
         self.names = {name: self.named(text) for name, text in self.text.items()}
@@ -41,6 +43,15 @@ class Modules:
     def add(self, name, path):
         self.path[name] = path
         self.text[name] = NODE.sub("", open(path, encoding="utf-8").read())
+
+    def make(self, name, text):
+        """Adds a module that no file has."""
+        if name not in self.path:
+            self.path[name], self.text[name] = "", text
+            self.names[name], self.users[name] = self.named(text), set()
+            for it in self.names[name]:
+                self.users[it].add(name)
+        return name
 
     def longest(self, word):
         """The module with which a whole name begins, or none."""
@@ -68,8 +79,17 @@ class Modules:
         return {turned} | above & self.reach([it for it in asked if it in above], self.names)
 
     def of_path(self, path):
-        crate, kind, inner = re.fullmatch(r"crates/(\w+)/(specs|proofs)/(.*)\.antt", path).groups()
-        return f"Rattle.{crate}.{kind}.{inner.replace('/', '.')}"
+        """The module of a file; of a file of code, the module that declares its types and constants."""
+        crate, kind, inner = re.fullmatch(r"crates/(\w+)/(specs|proofs|src)/(.*)\.(?:antt|rt)", path).groups()
+        if kind != "src":
+            return f"Rattle.{crate}.{kind}.{inner.replace('/', '.')}"
+        name = f"Rattle.{crate}{DECLARED}{inner}"
+        self.make(name, open(f"{self.top}/{path}", encoding="utf-8").read())
+        for user, text in self.text.items():
+            if f"{name}." in text:
+                self.names[user].add(name)
+                self.users[name].add(user)
+        return name
 
 
 def flat(name):
@@ -100,6 +120,9 @@ class Bench:
         for name in sorted(copies):
             kind = name.split(".")[2]
             own = text if name == turned else self.modules.text[name]
+            if DECLARED in name:
+                self.declare(case, name, own)
+                continue
             self.write(f"{kind}/{case}/{flat(name)}.antt", self.renamed(own, case, copies))
             inside[kind].append(flat(name))
         for kind, names in inside.items():
@@ -107,11 +130,19 @@ class Bench:
         self.cases.append(case)
         return len(copies)
 
+    def declare(self, case, name, code):
+        """Puts code into the crate of the check, as a module named after the case."""
+        self.write(f"src/code_{case}.rt", code.replace("use crate::", f"use {name.split('.')[1]}::"))
+        with open(f"{self.folder}/src/lib.rt", "a", encoding="utf-8") as lib:
+            lib.write(f"pub mod code_{case};\n")
+
     def renamed(self, text, case, copies):
         def new(at):
             module = self.modules.longest(at[0])
             if module not in copies:
                 return at[0]
+            if DECLARED in module:
+                return f"Rattle.{CRATE}{DECLARED}code_{case}{at[0][len(module):]}"
             kind = module.split(".")[2]
             return f"Rattle.{CRATE}.{kind}.{case}.{flat(module)}{at[0][len(module):]}"
 
@@ -125,16 +156,16 @@ class Bench:
         folder = {it: f"{self.over}/crates/{it}/out/rlib" for it in needs}
         words = ["--extern", f"std={KIT}/rlibs/std.rlib", "-L", f"dependency={KIT}/rlibs"]
         below = [self.top_crate]
-        for it in [self.top_crate, *needs[self.top_crate]]:
-            words += ["--extern", f"{it}={folder[it]}/{it}.rlib" if it in needs else f"{it}={KIT}/rlibs/{it}.rlib"]
         for it in below:
-            below += [more for more in needs[it] if more in needs and more not in below]
+            below += [more for more in needs.get(it, []) if more not in below]
+        for it in below if os.path.exists(f"{folder[self.top_crate]}/{self.top_crate}.rlib") else below[1:]:
+            words += ["--extern", f"{it}={folder.get(it, f'{KIT}/rlibs')}/{it}.rlib"]
         for it in below:
-            words += ["-L", f"dependency={folder[it]}"]
+            words += ["-L", f"dependency={folder[it]}"] if it in needs else []
         return words
 
     def check(self):
-        """The errors of each case, as (kind, module, place, text); or none if the check did not end."""
+        """The errors of each case, as (kind, module, place, text); none if the check did not end, or has other errors."""
         for kind in ("specs", "proofs"):
             self.write(f"{kind}/Lib.antt", "".join(f"pub mod {it}\n" for it in self.cases))
         project = f"{KIT}/rattle/logic/antt-project.json"
@@ -143,9 +174,10 @@ class Bench:
         ran = subprocess.run(words, cwd=self.folder, stdin=subprocess.DEVNULL, capture_output=True, text=True)
         self.said = said = ran.stdout + ran.stderr
         self.write("said", said)
-        if not re.search(r"^logic=", said, re.M):
+        errors = list(ERROR.finditer(said))
+        if not re.search(r"^logic=", said, re.M) or len(errors) != len(ANY_ERROR.findall(said)):
             return None
         told = {case: [] for case in self.cases}
-        for at in ERROR.finditer(said):
+        for at in errors:
             told[at[2]].append((at[1], at[3], at[4], at[5]))
         return told

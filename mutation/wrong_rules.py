@@ -7,9 +7,10 @@
 
 The changes are the records of wrong_rules/CRATE/SUBJECT.rules (records.py says how they are written), and those that
 wrong_rules_made.py makes; with WORD, those whose name has one of the words. Each with `refused by` is made in copies of
-the modules between the definition and the worked rows or the law that it names (side_by_side.py). What these let
-through is tried by all worked rows, and then by all laws. Only what the same copies prove without the change counts.
-The libraries are those in crates/*/out/rlib of --over, or of this checkout, as `rt check` and `rt ci` leave them.
+the modules between the definition and the worked rows or the law that it names (side_by_side.py). Where it names one
+row of a function, each row of the function is a lemma (row_lemmas.py), and that row must fail. What these let through
+is tried by all worked rows, and then by all laws. Only what the same copies prove without the change counts. The
+libraries are those in crates/*/out/rlib of --over, or of this checkout, as `rt check` and `rt ci` leave them.
 
 A line says for each rule that it is `refused`, with the rows or lemmas that fail; `LET THROUGH`; `unreadable`, if the
 wrong text does not parse; `not applied`, if the old text does not occur once in its file; or `no verdict`. With --log
@@ -17,8 +18,8 @@ these lines are added to FILE, and rules that are refused in FILE are skipped. -
 --cases rules. The last line has the counts; the script ends with 1 if a rule was not refused.
 
 With --dry it only looks for the old texts, also of the records with `seen in`, which the prover does not try, and for
-the row, the day or the law that is named there. With --covered it counts for each crate how many definitions some rule
-changes; with CRATE it lists those of the crate that none changes."""
+the row, the law or the day that is named there, and counts them. With --covered it counts for each crate how many
+definitions some rule changes; with CRATE it lists those of the crate that none changes."""
 
 import argparse
 import itertools
@@ -32,6 +33,7 @@ from concurrent.futures import ThreadPoolExecutor
 from pathlib import Path
 
 import records
+import row_lemmas
 import side_by_side
 import wrong_rules_made
 
@@ -39,6 +41,16 @@ TOP = os.path.dirname(os.path.dirname(os.path.abspath(__file__)))
 ROWS = "Replies Desk Catalogue Shown Checks Settings Imports Texts Answers".split()
 OFFICE_ROWS = [f"Rattle.office_core.proofs.worked_rows.Worked{it}" for it in ROWS]
 ROW_CAUSES = [f"Rattle.state_encoding.proofs.Worked{it}" for it in ("CatalogueCauses", "DeskCauses", "Cells")]
+ROWS_OF = {"office_core": OFFICE_ROWS, "state_encoding": ROW_CAUSES}
+LAWS_OF = {
+    "tree_core": ["tree_core"],
+    "command_line": ["command_line"],
+    "office_core": ["catalogue_core", "desk_core", "office_core"],
+    "state_encoding": ["catalogue_core", "desk_core", "office_core", "state_encoding"],
+    "http_messages": ["http_messages"],
+    "http_desk": ["http_messages", "http_desk"],
+    "model_tests": ["isad_core", "tree_core", "atom_csv", "desk_core", "http_messages", "http_desk"],
+}
 OF_CAUSES = re.compile(r"state_encoding|office_tables|/(Desk|Catalogue)Causes\.antt")
 
 
@@ -61,7 +73,8 @@ class Rule:
     def __init__(self, modules, record):
         file = path_of(record)
         self.label, self.module, self.verdict, self.why = record.name, modules.of_path(file), "", ""
-        self.named, self.crate = record.refused_by, "state_encoding" if OF_CAUSES.search(file) else "office_core"
+        self.named, _, self.row = record.refused_by.partition(" ")
+        self.crate = over(record)
         self.why = lacking(record)
         self.verdict = "not applied" if self.why else ""
         text = Path(TOP, file).read_text(encoding="utf-8")
@@ -71,12 +84,36 @@ class Rule:
         """The modules that are tried: what is named for the rule; all rows; or all laws."""
         if what == "laws":
             return tuple(all_laws(modules, self.crate))
+        if what == "beside" and self.row:
+            return (lemmas_of_rows(modules, self.named),)
         if what == "beside":
             return tuple(of_function(self.named))
-        return tuple(ROW_CAUSES if self.crate == "state_encoding" else OFFICE_ROWS)
+        return tuple(all_rows(modules, self.crate))
 
     def line(self):
         return f"{self.verdict} | {self.label} | {self.why}"
+
+
+def over(record):
+    """The crate over whose libraries a rule is tried."""
+    named = record.refused_by.split("::")[0]
+    if OF_CAUSES.search(path_of(record)):
+        return "state_encoding"
+    return named if named in LAWS_OF else "office_core"
+
+
+def lemmas_of_rows(modules, function):
+    """The module of the lemmas of the rows of a function, which is made."""
+    text, _ = row_lemmas.rows(function)
+    crate, *path = function.split("::")
+    return modules.make(f"Rattle.{crate}.proofs.{'.'.join(path)}.Rows", text)
+
+
+def all_rows(modules, crate):
+    """The modules of all worked rows of a crate."""
+    if crate in ROWS_OF:
+        return ROWS_OF[crate]
+    return [lemmas_of_rows(modules, it) for it in row_lemmas.functions(crate)]
 
 
 def readable(new, text):
@@ -99,8 +136,7 @@ def of_function(name):
 def all_laws(modules, crate):
     """The modules of the lemmas of every law of a crate and of the crates that it depends on."""
     found = []
-    above = ["state_encoding"] if crate == "state_encoding" else []
-    for it in ["catalogue_core", "desk_core", "office_core", *above]:
+    for it in LAWS_OF[crate]:
         for folder, _, files in os.walk(f"{TOP}/crates/{it}/proofs"):
             inner = os.path.relpath(folder, f"{TOP}/crates/{it}/proofs").split("/")
             if "Answers.antt" in files and inner[0].startswith("laws"):
@@ -112,7 +148,7 @@ class Run:
     """The checks of some rules."""
 
     def __init__(self, modules, given, room):
-        self.modules, self.given, self.room, self.clean = modules, given, room, {}
+        self.modules, self.given, self.room, self.clean, self.what = modules, given, room, {}, ""
 
     def check(self, number, crate, cases):
         """The output of one check for some cases (name, module, text, asked)."""
@@ -129,6 +165,7 @@ class Run:
 
     def ask(self, rules, what):
         """Gives each rule a verdict from the modules that are tried."""
+        self.what = what
         asked = [rule.asked(self.modules, what) for rule in rules]
         grounds = [(rule.crate, rule.module, it) for rule, it in zip(rules, asked)]
         unturned = [it for it in dict.fromkeys(grounds) if it not in self.clean]
@@ -138,7 +175,7 @@ class Run:
 
     def go(self, sign, cases):
         parts = []
-        for crate in ("office_core", "state_encoding"):
+        for crate in sorted({it[1] for it in cases}):
             mine = [it for it in cases if it[1] == crate]
             parts += [(crate, mine[at : at + self.given.cases]) for at in range(0, len(mine), self.given.cases)]
         with ThreadPoolExecutor(self.given.jobs) as pool:
@@ -163,6 +200,8 @@ class Run:
             rule.verdict, rule.why = "no verdict", "what is asked is not proved with nothing turned"
         elif wrong:
             rule.verdict, rule.why = "unreadable", wrong[0][:300]
+        elif rule.row and self.what == "beside" and not any(it.endswith(f".row_{rule.row}") for it in fails):
+            rule.verdict, rule.why = "LET THROUGH", f"by the row that it names; {', '.join(dict.fromkeys(fails))}"
         elif errors:
             rule.verdict, rule.why = "refused", ", ".join(dict.fromkeys(fails)) or errors[0][3][:200]
         else:
@@ -208,41 +247,32 @@ def days_of_acceptance():
     return {day.name for day in days.written() + heads.made() + limits.made()}
 
 
-def has_field(row):
-    """Whether a worked row has this field: `CRATE::MODULE::FUNCTION FIELD`. Some are clauses of a function."""
-    function, field = row.split()
+def is_there(record, named_days):
+    """Whether what notices a rule is there: a day, a row of a function, or the proof of a law."""
+    if record.seen_in:
+        kind, _, name = record.seen_in.partition(" ")
+        return kind == "day" and name in named_days
+    function, _, row = record.refused_by.partition(" ")
+    if row:
+        return row in row_lemmas.rows(function)[1]
     crate, *path = function.split("::")
-    answers = Path(TOP, "crates", crate, "proofs", *path, "Answers.antt")
-    if answers.is_file():
-        return re.search(rf"^  {field} ", answers.read_text(encoding="utf-8"), re.M)
-    source = Path(TOP, "crates", crate, "src", *path[:-1]).with_suffix(".rt").read_text(encoding="utf-8")
-    return re.search(rf"^    ensures {field} ", source.partition(f"pub fn {path[-1]}()")[2].partition("\n{}")[0], re.M)
-
-
-def is_there(told, named_days):
-    """Whether what tells a rule is there: a day, a field of a worked row, or a law."""
-    kind, _, name = told.partition(" ")
-    if kind == "day":
-        return name in named_days
-    if kind == "row":
-        return has_field(name)
-    crate, *path = name.split("::")
     return Path(TOP, "crates", crate, "proofs", *path).is_dir()
 
 
-def look_for(tried, untried):
-    """Prints the rules that do not apply, or whose row, day or law is not there; says whether all do."""
+def look_for(rules):
+    """Prints the rules that do not apply, or whose row, law or day is not there; says whether all do."""
     named_days, wrong = days_of_acceptance(), []
-    for it in tried + untried:
+    for it in rules:
         why = lacking(it)
-        if not why and it.seen_in and not is_there(it.seen_in, named_days):
-            why = f"there is no {it.seen_in}"
+        if not why and not is_there(it, named_days):
+            why = f"there is no {it.refused_by or it.seen_in}"
         if why:
             wrong.append(f"not applied | {it.name} | {why}")
     print("".join(f"{it}\n" for it in wrong), end="")
-    number = len(tried) + len(untried)
-    print(f"{number} rules, {len(wrong)} not applied")
-    return not wrong and number > 0
+    kinds = Counter("days" if it.seen_in else "rows" if "::worked" in it.refused_by else "laws" for it in rules)
+    print(f"for the prover: {kinds['rows']} name rows, {kinds['laws']} a law; {kinds['days']} are seen in a day alone")
+    print(f"{len(rules)} rules, {len(wrong)} not applied")
+    return not wrong and bool(rules)
 
 
 # ---- which definitions are changed
@@ -324,7 +354,7 @@ def main():
         return cover(given.words)
     of_prover, others = written(given.words)
     if given.dry:
-        return 0 if look_for(of_prover, others) else 1
+        return 0 if look_for(of_prover + others) else 1
     modules = side_by_side.Modules(TOP)
     rules = [Rule(modules, it) for it in not_refused_before(of_prover, given.log)]
     tried(given, modules, rules)

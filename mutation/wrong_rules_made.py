@@ -11,23 +11,23 @@ LIMITS = [
     "most_units", "most_unit_numbers", "most_deep", "most_bytes", "most_containers", "most_seats", "most_daily", "most_hands",
     "most_run_size", "most_tickets", "most_permits", "most_orders", "most_runs",
 ]  # fmt: skip
-# the members of each form, and the day that tells it by another name
+# the members of each form, and the row that has a body of that form
 MEMBERS = {
-    "Order": {"ticket": "numbers", "container": "numbers"},
-    "OpenDay": {"day": "cancelled"},
-    "SetStatus": {"unit": "status", "status": "status", "branch": "whole_branch"},
-    "SetClosure": {"unit": "closure", "until": "closure"},
-    "Move": {"unit": "moves", "parent": "moves"},
-    "Remove": {"unit": "removed"},
-    "Register": {"name": "seats", "until": "seats"},
-    "Renew": {"ticket": "expired_holder", "until": "expired_holder"},
-    "TakeSeat": {"ticket": "seats"},
-    "LeaveSeat": {"ticket": "seats"},
-    "Cancel": {"order": "cancelled"},
-    "Issue": {"container": "ten_in_hands", "ticket": "ten_in_hands"},
-    "Return": {"container": "ten_in_hands"},
-    "Permit": {"ticket": "permits", "unit": "permits", "until": "permits"},
-    "Revoke": {"ticket": "permits", "unit": "permits"},
+    "Order": ("order", "ticket container"),
+    "OpenDay": ("day", "day"),
+    "SetStatus": ("published", "unit status branch"),
+    "SetClosure": ("closure", "unit until"),
+    "Move": ("move", "unit parent"),
+    "Remove": ("remove", "unit"),
+    "Register": ("register", "name until"),
+    "Renew": ("renew", "ticket until"),
+    "TakeSeat": ("seat", "ticket"),
+    "LeaveSeat": ("leave", "ticket"),
+    "Cancel": ("cancel", "order"),
+    "Issue": ("issue", "container ticket"),
+    "Return": ("return", "container"),
+    "Permit": ("permit", "ticket unit until"),
+    "Revoke": ("revoke", "ticket unit"),
 }
 
 
@@ -52,12 +52,13 @@ def of_members():
     """The members of bodies, each by another name."""
     crate, file = "http_messages", "specs/Members.antt"
     text, made = text_of(crate, file), []
-    for form, days in MEMBERS.items():
+    for form, (row, keys) in MEMBERS.items():
         begin = text.index(f"command_of form.{form} v =")
         line = text[begin:].split("\ncommand_of ")[0].split("\n\n")[0]
-        for key, day in days.items():
+        for key in keys.split():
             wrong = line.replace(f'(codes "{key}")', f'(codes "{key}s")')
-            made.append(Record(f"{form} has no {key}", crate, file, line, wrong, refused_by="", seen_in=f"day {day}"))
+            refuser = f"model_tests::worked::worked_bodies {row}"
+            made.append(Record(f"{form} has no {key}", crate, file, line, wrong, refused_by=refuser, seen_in=""))
     return made
 
 

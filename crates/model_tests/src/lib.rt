@@ -1,4 +1,5 @@
-//! The tests of the crates that have no tables: descriptions, forests, files, the desk, previews and sessions.
+//! The tests of the crates that have no tables: descriptions, forests, files, the desk, previews and sessions; and rows
+//! of their definitions, worked out by hand.
 #![tactic(auto)]
 
 #[cfg(test)]
@@ -19,5 +20,6 @@ mod session_tables;
 mod sessions;
 #[cfg(test)]
 mod streams;
+pub mod worked;
 #[cfg(test)]
 mod worked_aids;

@@ -1,0 +1,31 @@
+-- The order and the columns of a slip, worked out by hand.
+use Rattle.std.specs.Prelude.{◌≡◌, ◌++◌, ℕ, List, [], ◌∷◌, codes, pos}
+use Rattle.isad_core.specs.Texts.{Bytes}
+use Rattle.desk_core.specs.declared.run.Candidate.{Candidate}
+use Rattle.desk_core.specs.Slips.{slip}
+
+abbrev pub waiting : (container order ticket : ℕ) → (location name kind : Bytes) → Candidate
+waiting container order ticket location name kind =
+    record { container = container; order = order; ticket = ticket; location = location; name = name; kind = kind }
+
+-- in UTF-8, where the second letter has two bytes
+abbrev pub saelar : Bytes
+saelar = 83 ∷ 195 ∷ 164 ∷ codes "lar"
+
+-- two boxes with the same name and kind, one of another kind, one of an earlier name, and two in other places: a roll
+-- with a name too long for its column, and a box in a place with a letter of two bytes
+abbrev pub taken : List Candidate
+taken = waiting 2 6 1 saelar (codes "A") (codes "a") ∷ waiting 4 5 1 (codes "Safe") (codes "Box 2") (codes "b")
+    ∷ waiting 5 4 1 (codes "Safe") (codes "Box 2") (codes "a") ∷ waiting 3 3 333 (codes "Safe") (codes "Box 2") (codes "a")
+    ∷ waiting 6 2 22 (codes "Safe") (codes "Box 1") (codes "c")
+    ∷ waiting 7 12345678 1 (codes "Reading room") (codes "Minutes of meetings") (codes "z") ∷ []
+
+pub record Slipped : Type 0 where
+  pub shelves : slip 12 (pos 19783) taken
+      ≡ codes "Run 12  2024-03-01\n"
+      ++ codes "Reading room         Minutes of meetings      7 12345678       1\n"
+      ++ codes "Safe                 Box 1                 6        2      22\n"
+      ++ codes "Safe                 Box 2                 3        3     333\n"
+      ++ codes "Safe                 Box 2                 5        4       1\n"
+      ++ codes "Safe                 Box 2                 4        5       1\n"
+      ++ saelar ++ codes "                A                     2        6       1\n"
