@@ -4,6 +4,7 @@
 
 mod arguments;
 mod option_values;
+pub mod worked;
 
 pub use arguments::record_office;
 pub use option_values::{connections, day, number, optional_text, port, said, text};
