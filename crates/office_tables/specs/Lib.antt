@@ -17,6 +17,7 @@ pub mod ChangeStatement
 pub mod Query
 pub mod Calls
 pub mod TableStatements
+pub mod NumberedStatements
 pub mod RowNumbers
 pub mod Permits
 pub mod SharedRows

@@ -12,7 +12,7 @@ pub mod value;
 
 pub use change_statement::change;
 pub use fault::StoreFault;
-pub use query::{find, find_number};
+pub use query::{find, find_number, find_one};
 pub use streamed_rows::{Gathering, gather};
 pub use table_creation::{create_index, create_table};
 pub use transaction::{begin, commit, roll_back};

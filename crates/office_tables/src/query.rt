@@ -1,6 +1,6 @@
 //! One query.
 
-ghost use Rattle.std.specs.Prelude.{◌<◌, ◌^◌, pos, [], ◌∷◌, IfOk, IfErr};
+ghost use Rattle.std.specs.Prelude.{◌≡◌, ◌<◌, ◌^◌, pos, List, [], ◌∷◌, slice_get, IfOk, IfErr};
 ghost use Rattle.sqlite.specs.Held.{state};
 ghost use Rattle.sqlite.specs.State.{HasCleanDisk};
 ghost use Rattle.sqlite.specs.Values.{bound};
@@ -31,6 +31,26 @@ pub fn find<T: FromRow + Drop, S: Alter>(
 {
     let rows = conn.query_all(sql, params)?;
     read_all(alloc, &rows)
+}
+
+/// The first of the records that one of our queries returns, or none if it returns none.
+pub fn find_one<T: FromRow + Drop, S: Alter>(
+    alloc: Global,
+    conn: &mut Connection<S>,
+    sql: &str,
+    params: &[ValueRef<'_>],
+) -> Result<Option<T>, StoreFault>
+    requires { IsOurQuery sql.now (state S.Store conn.old) }
+    ensures reads { Reads (state S.Store conn.old) (state S.Store conn.new) result }
+    ensures found { HasCleanDisk (state S.Store conn.new)
+        → IfOk result (λ first. (all : List T) × Finds T.cells sql.now (bound params.now) (state S.Store conn.old)
+        (state S.Store conn.new) all × (first ≡ slice_get all 0)) }
+    ensures missed { HasCleanDisk (state S.Store conn.new)
+        → IfErr result (Misses T.cells T.is_legible sql.now (bound params.now) (state S.Store conn.old)
+        (state S.Store conn.new)) }
+{
+    let found = find(alloc, conn, sql, params)?;
+    Ok(found.into_iter().next())
 }
 
 /// The number in the first row that one of our queries returns, or 0 if it returns none.
