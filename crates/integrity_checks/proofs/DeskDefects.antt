@@ -1,7 +1,7 @@
 -- The first defect of the desk, part by part.
 use Rattle.std.proofs.Common.{◌≡◌, ℕ, List, length, Bool, true, false, cond, not, ◌&&◌, ◌||◌, nat_le, Some, None, refl, sym, ap, ◌∙◌}
 use Rattle.std.specs.List.{list_all}
-use Rattle.std.proofs.Math.Bool.{not-not}
+use Rattle.std.proofs.Math.Bool.{not-not, or-true}
 use Rattle.sqlite.specs.Tree.{Trees}
 use Rattle.isad_core.specs.Limits.{most_tickets}
 use Rattle.isad_core.specs.Words.{are_numbered_from}
@@ -44,6 +44,17 @@ good_readers false true false r us up gs gp h k = absurd (cc)
 good_readers false true true false us up gs gp h k = absurd (cc)
 good_readers false true true true us up gs gp h k = cards us up gs gp
 
+unregistered : (ur n f r us up gs gp : Bool) → (ur || not (n && (f && r))) ≡ true → ((ur || (us || up)) || not (n && (f && (r && (gs && gp))))) ≡ true
+unregistered true n f r us up gs gp h = refl
+unregistered false false f r us up gs gp h = or-true (us || up)
+unregistered false true false r us up gs gp h = or-true (us || up)
+unregistered false true true false us up gs gp h = or-true (us || up)
+unregistered false true true true us up gs gp h = absurd (cc)
+
+not_counted : (bad : Bool) (n : ℕ) → cond bad None (Some n) ≡ None → bad ≡ true
+not_counted true n h = refl
+not_counted false n h = absurd (cc)
+
 module _ (a : Around) (db : Trees) where
   abbrev readers : List ReaderRow
   readers = readers_in db
@@ -59,6 +70,13 @@ module _ (a : Around) (db : Trees) where
       (good_readers (has_unread read_reader (db tables.reader.tree)) numbered (nat_le (length readers) most_tickets) (list_all is_good_reader readers)
       (has_unread read_seat (db tables.seat.tree)) (has_unread read_permit (db tables.permit.tree)) (list_all (is_good_seat a (desk_in db)) (desk_in db).seats) (list_all (is_good_permit a (desk_in db)) (desk_in db).permits)
       well.0 well.1))
+
+  pub bad_readers : number_registered db ≡ None → Some Readers ≡ defect_of_desk a db
+  bad_readers none =
+      sym (ap (λ b. cond b (Some Readers) (defect_of_orders a db))
+      (unregistered (has_unread read_reader (db tables.reader.tree)) numbered (nat_le (length readers) most_tickets) (list_all is_good_reader readers)
+      (has_unread read_seat (db tables.seat.tree)) (has_unread read_permit (db tables.permit.tree)) (list_all (is_good_seat a (desk_in db)) (desk_in db).seats) (list_all (is_good_permit a (desk_in db)) (desk_in db).permits)
+      (not_counted _ (length readers) none)))
 
   -- ---- seats and permits
 

@@ -1,3 +1,4 @@
+pub mod ExaminationEnds
 pub mod DesksAlike
 pub mod JudgedReaders
 pub mod JudgedTables
@@ -6,6 +7,7 @@ pub mod DeskDefects
 pub mod Ascending
 pub mod Depths
 pub mod GoodRows
+pub mod PlacesChecked
 pub mod LinkTables
 pub mod SpanTables
 pub mod Tested

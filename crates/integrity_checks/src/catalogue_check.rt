@@ -1,17 +1,15 @@
 //! The check of the catalogue's tables.
 
-ghost use Rattle.std.specs.Prelude.{◌≡◌, not, false, IfOk};
+ghost use Rattle.std.specs.Prelude.{◌≡◌, IfOk};
 ghost use Rattle.sqlite.specs.Held.{state};
 ghost use Rattle.sqlite.specs.State.{HasCleanDisk};
-ghost use Rattle.tree_core.specs.Versions.{Version};
 ghost use Rattle.office_tables.specs.Query.{Reads};
-ghost use Rattle.office_tables.specs.CatalogueCells.{read_unit};
-ghost use Rattle.office_tables.specs.Cells.{has_unread};
 ghost use Rattle.office_tables.specs.Faults.{FaultsHaveCause};
-ghost use Rattle.office_tables.specs.Schema as tables;
 ghost use Rattle.office_tables.specs.Step.{InOffice, InTransaction};
-ghost use Rattle.integrity_checks.specs.CatalogueChecks.{containers_are_defective, catalogue_defect};
-ghost use Rattle.integrity_checks.specs.CatalogueJudgments.{defect_of_contents};
+ghost use Rattle.row_decoding.specs.Examinations.{Examines};
+ghost use Rattle.integrity_checks.specs.CatalogueChecks.{catalogue_defect};
+ghost use Rattle.integrity_checks.specs.CatalogueJudgments.{FollowsCatalogueRule, defect_of_contents};
+ghost use Rattle.integrity_checks.specs.CatalogueJudgments.{good_containment_in};
 
 use crate::catalogue_defect::CatalogueDefect;
 use crate::containers::numbered;
@@ -26,11 +24,7 @@ use std::alloc::Global;
 /// Whether the containers, and what is in them, can be a catalogue's. Assumes that each unit can be read.
 fn containers_are_good<S: Alter>(conn: &mut Connection<S>) -> Result<bool, StoreFault>
     requires inside { InOffice (state S.Store conn.old) }
-    ensures reads { Reads (state S.Store conn.old) (state S.Store conn.new) result }
-    ensures tells { HasCleanDisk (state S.Store conn.new) → (version : Version)
-        → has_unread read_unit ((state S.Store conn.old).now.trees tables.unit.tree) ≡ false
-        → IfOk result (λ good. good ≡ not (containers_are_defective version (state S.Store conn.old).now.trees)) }
-    ensures faults { FaultsHaveCause (state S.Store conn.old) (state S.Store conn.new) result }
+    ensures { Examines S.Store conn.old conn.new result (FollowsCatalogueRule good_containment_in) }
 {
     let Some(containers) = numbered(conn)? else {
         return Ok(false);
@@ -41,11 +35,7 @@ fn containers_are_good<S: Alter>(conn: &mut Connection<S>) -> Result<bool, Store
 /// The first of the elements and the containers that is defective, or none. Assumes that each unit can be read.
 fn check_contents<S: Alter>(conn: &mut Connection<S>) -> Result<Option<CatalogueDefect>, StoreFault>
     requires inside { InOffice (state S.Store conn.old) }
-    ensures reads { Reads (state S.Store conn.old) (state S.Store conn.new) result }
-    ensures tells { HasCleanDisk (state S.Store conn.new) → (version : Version)
-        → has_unread read_unit ((state S.Store conn.old).now.trees tables.unit.tree) ≡ false
-        → IfOk result (λ told. told ≡ defect_of_contents version (state S.Store conn.old).now.trees) }
-    ensures faults { FaultsHaveCause (state S.Store conn.old) (state S.Store conn.new) result }
+    ensures { Examines S.Store conn.old conn.new result (FollowsCatalogueRule defect_of_contents) }
 {
     if !elements_are_good(conn)? {
         return Ok(Some(CatalogueDefect::Elements));

@@ -1,11 +1,9 @@
 //! Whether the containers can be a catalogue's, whatever their cells are.
 
-ghost use Rattle.std.specs.Prelude.{◌≡◌, IfOk};
+ghost use Rattle.std.specs.Prelude.{◌≡◌};
 ghost use Rattle.sqlite.specs.Held.{state};
-ghost use Rattle.sqlite.specs.State.{HasCleanDisk};
-ghost use Rattle.office_tables.specs.Query.{Reads};
-ghost use Rattle.office_tables.specs.Faults.{FaultsHaveCause};
 ghost use Rattle.office_tables.specs.Step.{InOffice};
+ghost use Rattle.row_decoding.specs.Examinations.{Examines};
 ghost use Rattle.integrity_checks.specs.ScanAnswers.{is_container_answer};
 ghost use Rattle.integrity_checks.specs.CatalogueJudgments.{number_of_containers};
 
@@ -54,10 +52,7 @@ impl Gathering for Containers {
 /// The number of containers, or none if no catalogue can have their rows. Reads the whole table, row by row.
 pub(crate) fn numbered<S: Alter>(conn: &mut Connection<S>) -> Result<Option<u64>, StoreFault>
     requires inside { InOffice (state S.Store conn.old) }
-    ensures reads { Reads (state S.Store conn.old) (state S.Store conn.new) result }
-    ensures tells { HasCleanDisk (state S.Store conn.new)
-        → IfOk result (λ count. count ≡ number_of_containers (state S.Store conn.old).now.trees) }
-    ensures faults { FaultsHaveCause (state S.Store conn.old) (state S.Store conn.new) result }
+    ensures { Examines S.Store conn.old conn.new result (λ db count. count ≡ number_of_containers db) }
 {
     let all = gather(
         conn,

@@ -1,16 +1,15 @@
 //! The check of the reading room's tables.
 
-ghost use Rattle.std.specs.Prelude.{◌≡◌, false, IfOk, map};
+ghost use Rattle.std.specs.Prelude.{◌≡◌, IfOk, map};
 ghost use Rattle.sqlite.specs.Held.{state};
 ghost use Rattle.sqlite.specs.State.{HasCleanDisk};
-ghost use Rattle.desk_core.specs.DeskCauses.{Around as Held, orders_are_bad};
 ghost use Rattle.office_tables.specs.Query.{Reads};
 ghost use Rattle.office_tables.specs.Faults.{FaultsHaveCause};
 ghost use Rattle.office_tables.specs.Step.{InOffice};
-ghost use Rattle.row_decoding.specs.TableRows.{desk_in};
+ghost use Rattle.row_decoding.specs.Examinations.{Examines};
 ghost use Rattle.integrity_checks.specs.DeskChecks.{defect_of_past, defect_of_orders, desk_defect};
-ghost use Rattle.integrity_checks.specs.DeskJudgments.{AreOrdersOf, defect_beside_readers};
-ghost use Rattle.desk_core.specs.RowRecords.{Surrounds, order_row};
+ghost use Rattle.integrity_checks.specs.DeskJudgments.{FollowsDeskRule, FollowsDeskRuleWith, defect_beside_readers};
+ghost use Rattle.desk_core.specs.RowRecords.{order_row};
 
 use crate::desk_defect::DeskDefect;
 use crate::desk_rows::{
@@ -33,13 +32,8 @@ fn check_past<S: Alter>(
     orders: &[OrderRow],
 ) -> Result<Option<DeskDefect>, StoreFault>
     requires inside { InOffice (state S.Store conn.old) }
-    ensures reads { Reads (state S.Store conn.old) (state S.Store conn.new) result }
-    ensures tells { HasCleanDisk (state S.Store conn.new) → (a : Held)
-        → Surrounds around.now a (desk_in (state S.Store conn.old).now.trees)
-        → AreOrdersOf (state S.Store conn.old).now.trees (map order_row orders.now)
-        → orders_are_bad a (desk_in (state S.Store conn.old).now.trees) ≡ false
-        → IfOk result (λ told. told ≡ defect_of_past a (state S.Store conn.old).now.trees) }
-    ensures faults { FaultsHaveCause (state S.Store conn.old) (state S.Store conn.new) result }
+    ensures { Examines S.Store conn.old conn.new result
+        (FollowsDeskRuleWith around.now (map order_row orders.now) defect_of_past) }
 {
     if !holdings_are_good(alloc, conn, around, orders)? {
         return Ok(Some(DeskDefect::Holdings));
@@ -57,11 +51,7 @@ fn check_orders<S: Alter>(
     around: &Around,
 ) -> Result<Option<DeskDefect>, StoreFault>
     requires inside { InOffice (state S.Store conn.old) }
-    ensures reads { Reads (state S.Store conn.old) (state S.Store conn.new) result }
-    ensures tells { HasCleanDisk (state S.Store conn.new) → (a : Held)
-        → Surrounds around.now a (desk_in (state S.Store conn.old).now.trees)
-        → IfOk result (λ told. told ≡ defect_of_orders a (state S.Store conn.old).now.trees) }
-    ensures faults { FaultsHaveCause (state S.Store conn.old) (state S.Store conn.new) result }
+    ensures { Examines S.Store conn.old conn.new result (FollowsDeskRule around.now defect_of_orders) }
 {
     let all = orders(alloc, conn)?;
     let are_good = are_good_orders(alloc, around, &all.rows)?;
@@ -79,11 +69,7 @@ fn check_cards<S: Alter>(
     around: &Around,
 ) -> Result<Option<DeskDefect>, StoreFault>
     requires inside { InOffice (state S.Store conn.old) }
-    ensures reads { Reads (state S.Store conn.old) (state S.Store conn.new) result }
-    ensures tells { HasCleanDisk (state S.Store conn.new) → (a : Held)
-        → Surrounds around.now a (desk_in (state S.Store conn.old).now.trees)
-        → IfOk result (λ told. told ≡ defect_beside_readers a (state S.Store conn.old).now.trees) }
-    ensures faults { FaultsHaveCause (state S.Store conn.old) (state S.Store conn.new) result }
+    ensures { Examines S.Store conn.old conn.new result (FollowsDeskRule around.now defect_beside_readers) }
 {
     if !seats_are_good(alloc, conn, around)? {
         return Ok(Some(DeskDefect::Readers));

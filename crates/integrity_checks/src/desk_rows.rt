@@ -1,16 +1,13 @@
 //! Whether all rows of a table of the desk can be read and can be a desk's.
 
-ghost use Rattle.std.specs.Prelude.{◌≡◌, ◌&&◌, false, IfOk, Some, map};
+ghost use Rattle.std.specs.Prelude.{◌≡◌, Some, map};
 ghost use Rattle.sqlite.specs.Held.{state};
-ghost use Rattle.sqlite.specs.State.{HasCleanDisk};
-ghost use Rattle.desk_core.specs.DeskCauses.{Around as Held, orders_are_bad};
-ghost use Rattle.office_tables.specs.Query.{Reads};
-ghost use Rattle.office_tables.specs.Faults.{FaultsHaveCause};
 ghost use Rattle.office_tables.specs.Step.{InOffice};
+ghost use Rattle.row_decoding.specs.Examinations.{Examines};
 ghost use Rattle.row_decoding.specs.TableRows.{desk_in};
 ghost use Rattle.integrity_checks.specs.DeskChecks.{around_in};
-ghost use Rattle.integrity_checks.specs.DeskJudgments.{AreOrdersOf, good_seats_in, good_permits_in};
-ghost use Rattle.integrity_checks.specs.DeskJudgments.{good_holdings_in, good_runs_in};
+ghost use Rattle.integrity_checks.specs.DeskJudgments.{FollowsDeskRule, FollowsDeskRuleWith};
+ghost use Rattle.integrity_checks.specs.DeskJudgments.{good_seats_in, good_permits_in, good_holdings_in, good_runs_in};
 ghost use Rattle.integrity_checks.specs.ReaderRows.{number_registered};
 ghost use Rattle.desk_core.specs.RowRecords.{Surrounds, order_row};
 
@@ -33,12 +30,9 @@ pub(crate) fn surroundings<S: Alter>(
     readers: u64,
 ) -> Result<Around, StoreFault>
     requires inside { InOffice (state S.Store conn.old) }
-    ensures reads { Reads (state S.Store conn.old) (state S.Store conn.new) result }
-    ensures tells { HasCleanDisk (state S.Store conn.new)
-        → number_registered (state S.Store conn.old).now.trees ≡ Some readers
-        → IfOk result (λ around. Surrounds around (around_in limits.now today (state S.Store conn.old).now.trees)
-        (desk_in (state S.Store conn.old).now.trees)) }
-    ensures faults { FaultsHaveCause (state S.Store conn.old) (state S.Store conn.new) result }
+    ensures { Examines S.Store conn.old conn.new result
+        (λ db around. number_registered db ≡ Some readers
+        → Surrounds around (around_in limits.now today db) (desk_in db)) }
 {
     let units = unit_numbers(alloc, conn)?;
     let containers = container_numbers(alloc, conn)?;
@@ -60,11 +54,7 @@ pub(crate) fn seats_are_good<S: Alter>(
     around: &Around,
 ) -> Result<bool, StoreFault>
     requires inside { InOffice (state S.Store conn.old) }
-    ensures reads { Reads (state S.Store conn.old) (state S.Store conn.new) result }
-    ensures tells { HasCleanDisk (state S.Store conn.new) → (a : Held)
-        → Surrounds around.now a (desk_in (state S.Store conn.old).now.trees)
-        → IfOk result (λ good. good ≡ good_seats_in a (state S.Store conn.old).now.trees) }
-    ensures faults { FaultsHaveCause (state S.Store conn.old) (state S.Store conn.new) result }
+    ensures { Examines S.Store conn.old conn.new result (FollowsDeskRule around.now good_seats_in) }
 {
     let all = seats(alloc, conn)?;
     let are_good = are_good_seats(around, &all.rows);
@@ -78,11 +68,7 @@ pub(crate) fn permits_are_good<S: Alter>(
     around: &Around,
 ) -> Result<bool, StoreFault>
     requires inside { InOffice (state S.Store conn.old) }
-    ensures reads { Reads (state S.Store conn.old) (state S.Store conn.new) result }
-    ensures tells { HasCleanDisk (state S.Store conn.new) → (a : Held)
-        → Surrounds around.now a (desk_in (state S.Store conn.old).now.trees)
-        → IfOk result (λ good. good ≡ good_permits_in a (state S.Store conn.old).now.trees) }
-    ensures faults { FaultsHaveCause (state S.Store conn.old) (state S.Store conn.new) result }
+    ensures { Examines S.Store conn.old conn.new result (FollowsDeskRule around.now good_permits_in) }
 {
     let all = permits(alloc, conn)?;
     let are_good = are_good_permits(alloc, around, &all.rows)?;
@@ -97,13 +83,8 @@ pub(crate) fn holdings_are_good<S: Alter>(
     orders: &[OrderRow],
 ) -> Result<bool, StoreFault>
     requires inside { InOffice (state S.Store conn.old) }
-    ensures reads { Reads (state S.Store conn.old) (state S.Store conn.new) result }
-    ensures tells { HasCleanDisk (state S.Store conn.new) → (a : Held)
-        → Surrounds around.now a (desk_in (state S.Store conn.old).now.trees)
-        → AreOrdersOf (state S.Store conn.old).now.trees (map order_row orders.now)
-        → orders_are_bad a (desk_in (state S.Store conn.old).now.trees) ≡ false
-        → IfOk result (λ good. good ≡ good_holdings_in a (state S.Store conn.old).now.trees) }
-    ensures faults { FaultsHaveCause (state S.Store conn.old) (state S.Store conn.new) result }
+    ensures { Examines S.Store conn.old conn.new result
+        (FollowsDeskRuleWith around.now (map order_row orders.now) good_holdings_in) }
 {
     let all = holdings(alloc, conn)?;
     let are_good = are_good_holdings(alloc, around, orders, &all.rows)?;
@@ -118,13 +99,8 @@ pub(crate) fn runs_are_good<S: Alter>(
     orders: &[OrderRow],
 ) -> Result<bool, StoreFault>
     requires inside { InOffice (state S.Store conn.old) }
-    ensures reads { Reads (state S.Store conn.old) (state S.Store conn.new) result }
-    ensures tells { HasCleanDisk (state S.Store conn.new) → (a : Held)
-        → Surrounds around.now a (desk_in (state S.Store conn.old).now.trees)
-        → AreOrdersOf (state S.Store conn.old).now.trees (map order_row orders.now)
-        → orders_are_bad a (desk_in (state S.Store conn.old).now.trees) ≡ false
-        → IfOk result (λ good. good ≡ good_runs_in a (state S.Store conn.old).now.trees) }
-    ensures faults { FaultsHaveCause (state S.Store conn.old) (state S.Store conn.new) result }
+    ensures { Examines S.Store conn.old conn.new result
+        (FollowsDeskRuleWith around.now (map order_row orders.now) good_runs_in) }
 {
     let all = runs(alloc, conn)?;
     let lines = run_lines(alloc, conn)?;

@@ -1,17 +1,11 @@
 //! Whether the elements of the units can be a catalogue's, whatever their cells are.
 
-ghost use Rattle.std.specs.Prelude.{◌≡◌, not, false, IfOk};
+ghost use Rattle.std.specs.Prelude.{◌≡◌};
 ghost use Rattle.sqlite.specs.Held.{state};
-ghost use Rattle.sqlite.specs.State.{HasCleanDisk};
-ghost use Rattle.tree_core.specs.Versions.{Version};
-ghost use Rattle.office_tables.specs.Query.{Reads};
-ghost use Rattle.office_tables.specs.CatalogueCells.{read_unit};
-ghost use Rattle.office_tables.specs.Cells.{has_unread};
-ghost use Rattle.office_tables.specs.Faults.{FaultsHaveCause};
-ghost use Rattle.office_tables.specs.Schema as tables;
 ghost use Rattle.office_tables.specs.Step.{InOffice};
+ghost use Rattle.row_decoding.specs.Examinations.{Examines};
 ghost use Rattle.integrity_checks.specs.ScanAnswers.{is_element_answer};
-ghost use Rattle.integrity_checks.specs.CatalogueChecks.{elements_are_defective};
+ghost use Rattle.integrity_checks.specs.CatalogueJudgments.{FollowsCatalogueRule, good_elements_in};
 
 use crate::cells::is_nonblank_text;
 use office_tables::{Gathering, StoreFault, gather};
@@ -56,11 +50,7 @@ impl Gathering for Elements {
 /// Whether the elements can be a catalogue's. Assumes that each unit can be read. Reads the whole table, row by row.
 pub(crate) fn elements_are_good<S: Alter>(conn: &mut Connection<S>) -> Result<bool, StoreFault>
     requires inside { InOffice (state S.Store conn.old) }
-    ensures reads { Reads (state S.Store conn.old) (state S.Store conn.new) result }
-    ensures tells { HasCleanDisk (state S.Store conn.new) → (version : Version)
-        → has_unread read_unit ((state S.Store conn.old).now.trees tables.unit.tree) ≡ false
-        → IfOk result (λ good. good ≡ not (elements_are_defective version (state S.Store conn.old).now.trees)) }
-    ensures faults { FaultsHaveCause (state S.Store conn.old) (state S.Store conn.new) result }
+    ensures { Examines S.Store conn.old conn.new result (FollowsCatalogueRule good_elements_in) }
 {
     // The rows of an open connection keep the foreign keys of its tables: each element has its unit.
     let _ = conn.schema();

@@ -1,19 +1,12 @@
 //! Whether what is in the containers can be a catalogue's, whatever the cells are.
 
-ghost use Rattle.std.specs.Prelude.{◌≡◌, false, nat_le, length, option_map, IfOk};
+ghost use Rattle.std.specs.Prelude.{◌≡◌, nat_le, option_map};
 ghost use Rattle.sqlite.specs.Held.{state};
-ghost use Rattle.sqlite.specs.State.{HasCleanDisk};
-ghost use Rattle.tree_core.specs.Versions.{Version};
-ghost use Rattle.office_tables.specs.Query.{Reads};
-ghost use Rattle.office_tables.specs.CatalogueCells.{read_unit};
-ghost use Rattle.office_tables.specs.Cells.{has_unread};
-ghost use Rattle.office_tables.specs.Faults.{FaultsHaveCause};
-ghost use Rattle.office_tables.specs.Schema as tables;
 ghost use Rattle.office_tables.specs.Step.{InOffice};
+ghost use Rattle.row_decoding.specs.Examinations.{Examines};
 ghost use Rattle.integrity_checks.specs.ScanAnswers.{said_placed};
 ghost use Rattle.integrity_checks.specs.HousingPlaces.{higher as higher_of, housed};
-ghost use Rattle.row_decoding.specs.TableRows.{containers_in};
-ghost use Rattle.integrity_checks.specs.CatalogueJudgments.{good_housings_in};
+ghost use Rattle.integrity_checks.specs.CatalogueJudgments.{JudgesHousings};
 
 use office_tables::{Gathering, StoreFault, gather};
 use row_decoding::{cell, number_in};
@@ -109,12 +102,7 @@ pub(crate) fn housings_are_good<S: Alter>(
     containers: u64,
 ) -> Result<bool, StoreFault>
     requires inside { InOffice (state S.Store conn.old) }
-    ensures reads { Reads (state S.Store conn.old) (state S.Store conn.new) result }
-    ensures tells { HasCleanDisk (state S.Store conn.new) → (version : Version)
-        → has_unread read_unit ((state S.Store conn.old).now.trees tables.unit.tree) ≡ false
-        → length (containers_in (state S.Store conn.old).now.trees) ≡ containers
-        → IfOk result (λ good. good ≡ good_housings_in version (state S.Store conn.old).now.trees) }
-    ensures faults { FaultsHaveCause (state S.Store conn.old) (state S.Store conn.new) result }
+    ensures { Examines S.Store conn.old conn.new result (JudgesHousings containers) }
 {
     // The rows of an open connection keep the foreign keys of its tables: what is in a container belongs to a unit.
     let _ = conn.schema();

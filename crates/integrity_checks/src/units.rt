@@ -1,20 +1,12 @@
 //! Whether the units can be a catalogue's, whatever their cells are.
 
-ghost use Rattle.std.specs.Prelude.{◌≡◌, not, nat_lt, IfOk};
+ghost use Rattle.std.specs.Prelude.{◌≡◌, nat_lt};
 ghost use Rattle.std.specs.List.{list_all};
 ghost use Rattle.sqlite.specs.Held.{state};
-ghost use Rattle.sqlite.specs.State.{HasCleanDisk};
-ghost use Rattle.tree_core.specs.Versions.{Version};
-ghost use Rattle.catalogue_core.specs.CatalogueRows.{places_said};
-ghost use Rattle.catalogue_core.specs.Moves.{height as height_of};
-ghost use Rattle.office_tables.specs.Query.{Reads};
-ghost use Rattle.office_tables.specs.Faults.{FaultsHaveCause};
 ghost use Rattle.office_tables.specs.Step.{InOffice};
-ghost use Rattle.row_decoding.specs.TableRows.{places_in};
-ghost use Rattle.integrity_checks.specs.PlaceChecks.{AreUnitsPlaced};
+ghost use Rattle.row_decoding.specs.Examinations.{Examines};
 ghost use Rattle.integrity_checks.specs.ScanAnswers.{is_described_answer, said_described};
-ghost use Rattle.integrity_checks.specs.CatalogueChecks.{units_are_defective};
-ghost use Rattle.integrity_checks.specs.CatalogueJudgments.{are_good_numbers};
+ghost use Rattle.integrity_checks.specs.CatalogueJudgments.{JudgesUnits, are_good_numbers};
 
 use crate::ascending_numbers::Ascending;
 use crate::cells::{is_day_or_null, is_flag, is_nonblank_text, is_short, is_source_text};
@@ -112,12 +104,7 @@ pub(crate) fn units_are_good<S: Alter>(
     next: u64,
 ) -> Result<bool, StoreFault>
     requires inside { InOffice (state S.Store conn.old) }
-    ensures reads { Reads (state S.Store conn.old) (state S.Store conn.new) result }
-    ensures tells { HasCleanDisk (state S.Store conn.new) → (version : Version)
-        → AreUnitsPlaced (places_in version (state S.Store conn.old).now.trees) placed.items
-        → height ≡ height_of (places_said (places_in version (state S.Store conn.old).now.trees))
-        → IfOk result (λ good. good ≡ not (units_are_defective version next (state S.Store conn.old).now.trees)) }
-    ensures faults { FaultsHaveCause (state S.Store conn.old) (state S.Store conn.new) result }
+    ensures { Examines S.Store conn.old conn.new result (JudgesUnits placed.items height next) }
 {
     let all = gather(
         conn,

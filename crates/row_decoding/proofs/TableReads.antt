@@ -4,7 +4,9 @@ use Rattle.std.specs.List.{cons_option}
 use Rattle.std.specs.List.Sorted.{IsSorted, IsPermutation}
 use Rattle.std.proofs.lemmas.Bool.{both_ways}
 use Rattle.std.proofs.lemmas.List.Sorted.{list_any-IsPermutation}
+use Rattle.sqlite_trees.specs.declared.store.Store as store
 use Rattle.sqlite.specs.declared.error.Error.{Error}
+use Rattle.sqlite.specs.Held.{Held, state}
 use Rattle.sqlite.specs.Order.{Row}
 use Rattle.sqlite.specs.Query.{inner, end, key_cmp}
 use Rattle.sqlite.specs.Table.{Table}
@@ -14,7 +16,7 @@ use Rattle.sqlite.specs.State.{State, HasCleanDisk, Shown, Survives, FailsToQuer
 use Rattle.sqlite_typing.specs.Types.{accepts_program}
 use Rattle.sqlite_value.specs.declared.keys.Key.{Key}
 use Rattle.tree_core.specs.Versions.{Version}
-use Rattle.office_tables.specs.Query.{IsOurQuery, Gathers, StopsShort}
+use Rattle.office_tables.specs.Query.{IsOurQuery, Reads, Gathers, StopsShort}
 use Rattle.office_tables.specs.Cells.{has_unread}
 use Rattle.office_tables.specs.Faults.{fault_of, IsUnlimited, HasCause, FaultsHaveCause}
 use Rattle.office_tables.specs.StatementMeaning.{Means}
@@ -28,6 +30,7 @@ use Rattle.office_tables.proofs.Queries.{asking, plain_query}
 use Rattle.office_tables.proofs.RowReads.{asks, asks_in}
 use Rattle.office_tables.proofs.Rows.{kept_all}
 use Rattle.office_tables.proofs.statements.SelectOf.{select_rows}
+use Rattle.row_decoding.specs.Examinations.{Examines}
 use Rattle.row_decoding.specs.Readings.{AreGathered, IsTable}
 use Rattle.row_decoding.specs.declared.decoded_rows.Gathered.{Gathered}
 
@@ -45,7 +48,7 @@ module _ (table : Table) (terms : List Term) (order : List (Term × Key)) (names
   cause old new has free e h =
       read_cause sql [] old new (schema v) has _ _ means.is means.plain means.whole means.unlisted (λ db e r. none_refuse r (λ t. both_ways _ t typed) (sums_nothing _)) free e h
 
-  pub is_excused_in : {X : Type 0} (old new : State) (r : Result X StoreFault) → InTransaction v old → Survives old new (λ _. ⊥) → (HasCleanDisk new → IfErr r (StopsShort sql [] old new)) → FaultsHaveCause old new r
+  is_excused_in : {X : Type 0} (old new : State) (r : Result X StoreFault) → InTransaction v old → Survives old new (λ _. ⊥) → (HasCleanDisk new → IfErr r (StopsShort sql [] old new)) → FaultsHaveCause old new r
   is_excused_in old new (Ok x) inside crash stops clean free = tt
   is_excused_in old new (Err e) inside crash stops clean free =
       stop_cause sql old new e (cause old new (inside (early old new _ crash clean)).0 free) (stops clean)
@@ -74,7 +77,7 @@ module _ (table : Table) (terms : List Term) (order : List (Term × Key)) (names
         (got.0, subst (λ l. IsPermutation l got.0) (kept_all there) got.1.0, got.1.1, got.2)
 
     pub read_of : (old new : State) → old.now.schema ≡ schema v → (all : Gathered X)
-        → Gathers (λ rows (kept : Gathered X). AreGathered told says rows kept.rows.items kept.are_read) sql [] old new all → IsTable comes reads table told old all
+        → Gathers (λ rows (kept : Gathered X). AreGathered told says rows kept.rows.items kept.are_read) sql [] old new all → IsTable comes reads table told old.now.trees all
     read_of old new has all it =
         let got = in_table old new has it.rows it.shown in
         record {
@@ -85,11 +88,22 @@ module _ (table : Table) (terms : List Term) (order : List (Term × Key)) (names
           all = it.holds.all ∙ ap not (ap (has_unread says) got.3 ∙ unread_shown got.0 ∙ sym (list_any-IsPermutation (λ row. is_none (reads row)) (old.now.trees table.tree) got.0 got.1));
         }
 
-    pub is_told_in : (old new : State) (r : Result (Gathered X) StoreFault) → InTransaction v old → Survives old new (λ _. ⊥)
+    is_told_in : (old new : State) (r : Result (Gathered X) StoreFault) → InTransaction v old → Survives old new (λ _. ⊥)
         → (HasCleanDisk new → IfOk r (Gathers (λ rows (kept : Gathered X). AreGathered told says rows kept.rows.items kept.are_read) sql [] old new))
-        → HasCleanDisk new → IfOk r (IsTable comes reads table told old)
+        → HasCleanDisk new → IfOk r (IsTable comes reads table told old.now.trees)
     is_told_in old new (Err e) inside crash gathers clean = tt
     is_told_in old new (Ok all) inside crash gathers clean = read_of old new (inside (early old new _ crash clean)).0 all (gathers clean)
+
+    -- what the call promises that makes such a query
+    pub examines_in : {S : Type 0} {g : store.Ghosts S} {before after : Held S} {r : Result (Gathered X) StoreFault} → InTransaction v (state g before) → Reads (state g before) (state g after) r
+        → (HasCleanDisk (state g after) → IfOk r (Gathers (λ rows (kept : Gathered X). AreGathered told says rows kept.rows.items kept.are_read) sql [] (state g before) (state g after)))
+        → (HasCleanDisk (state g after) → IfErr r (StopsShort sql [] (state g before) (state g after)))
+        → Examines g before after r (IsTable comes reads table told)
+    examines_in {g = g} {before = before} {after = after} {r = r} inside read gathers stops = record {
+      reads = read;
+      answers = is_told_in (state g before) (state g after) r inside read.crash gathers;
+      faults = is_excused_in (state g before) (state g after) r inside read.crash stops;
+    }
 
 -- of tables of whichever version
 module _ (table : Table) (terms : List Term) (order : List (Term × Key)) (names : List (List ℕ)) (sql : List ℕ) (means : (v : Version) → Means v sql 0 (Select (asking table [] terms order) names))
@@ -107,13 +121,23 @@ module _ (table : Table) (terms : List Term) (order : List (Term × Key)) (names
       let at = version_of old new inside crash clean in
       stop_cause sql old new e (cause table terms order names sql at.0 (means at.0) (typed at.0) old new at.1 free) (stops clean)
 
-  pub is_told : {X Told : Type 0} (told : X → Told) (says reads : Row → Option Told) (comes : Row → Row → Ordering)
+  module _ {X Told : Type 0} (told : X → Told) (says reads : Row → Option Told) (comes : Row → Row → Ordering)
       (same : (row : Row) → says (eval_all terms ([] ∷ row ∷ [])) ≡ reads row)
-      (compares : (a b : Row) → key_cmp 0 (map (λ k. k.1) order) (eval_all (map (λ k. k.0) order) ([] ∷ a ∷ [])) (eval_all (map (λ k. k.0) order) ([] ∷ b ∷ [])) ≡ comes a b)
-      (old new : State) (r : Result (Gathered X) StoreFault) → InOffice old → Survives old new (λ _. ⊥)
-      → (HasCleanDisk new → IfOk r (Gathers (λ rows (kept : Gathered X). AreGathered told says rows kept.rows.items kept.are_read) sql [] old new))
-      → HasCleanDisk new → IfOk r (IsTable comes reads table told old)
-  is_told told says reads comes same compares old new (Err e) inside crash gathers clean = tt
-  is_told told says reads comes same compares old new (Ok all) inside crash gathers clean =
-      let at = version_of old new inside crash clean in
-      read_of table terms order names sql at.0 (means at.0) (typed at.0) told says reads comes same compares old new at.1 all (gathers clean)
+      (compares : (a b : Row) → key_cmp 0 (map (λ k. k.1) order) (eval_all (map (λ k. k.0) order) ([] ∷ a ∷ [])) (eval_all (map (λ k. k.0) order) ([] ∷ b ∷ [])) ≡ comes a b) where
+    is_told : (old new : State) (r : Result (Gathered X) StoreFault) → InOffice old → Survives old new (λ _. ⊥)
+        → (HasCleanDisk new → IfOk r (Gathers (λ rows (kept : Gathered X). AreGathered told says rows kept.rows.items kept.are_read) sql [] old new))
+        → HasCleanDisk new → IfOk r (IsTable comes reads table told old.now.trees)
+    is_told old new (Err e) inside crash gathers clean = tt
+    is_told old new (Ok all) inside crash gathers clean =
+        let at = version_of old new inside crash clean in
+        read_of table terms order names sql at.0 (means at.0) (typed at.0) told says reads comes same compares old new at.1 all (gathers clean)
+
+    pub examines : {S : Type 0} {g : store.Ghosts S} {before after : Held S} {r : Result (Gathered X) StoreFault} → InOffice (state g before) → Reads (state g before) (state g after) r
+        → (HasCleanDisk (state g after) → IfOk r (Gathers (λ rows (kept : Gathered X). AreGathered told says rows kept.rows.items kept.are_read) sql [] (state g before) (state g after)))
+        → (HasCleanDisk (state g after) → IfErr r (StopsShort sql [] (state g before) (state g after)))
+        → Examines g before after r (IsTable comes reads table told)
+    examines {g = g} {before = before} {after = after} {r = r} inside read gathers stops = record {
+      reads = read;
+      answers = is_told (state g before) (state g after) r inside read.crash gathers;
+      faults = is_excused (state g before) (state g after) r inside read.crash stops;
+    }

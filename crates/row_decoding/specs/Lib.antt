@@ -1,3 +1,4 @@
+pub mod Examinations
 pub mod Readings
 pub mod PlaceReadings
 pub mod TableRows

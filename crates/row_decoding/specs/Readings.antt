@@ -5,8 +5,8 @@ use Rattle.std.specs.declared.cmp.Ordering.TheVariants.{Equal}
 use Rattle.std.specs.List.Sorted.{IsPermutation, IsSorted}
 use Rattle.sqlite.specs.declared.types.Value.TheVariants.{Null}
 use Rattle.sqlite.specs.Order.{Row, column}
-use Rattle.sqlite.specs.State.{State}
 use Rattle.sqlite.specs.Table.{Table}
+use Rattle.sqlite.specs.Tree.{Trees}
 use Rattle.sqlite_value.specs.Order.{value_cmp}
 use Rattle.desk_core.specs.DeskRows.{SeatRow, OrderRow, HoldingRow, RunRow, RunLineRow, PermitRow}
 use Rattle.office_tables.specs.Cells.{has_unread, number_in}
@@ -58,6 +58,6 @@ pub record AreRead {Told : Type 0} (comes : Row → Row → Ordering) (reads : R
   pub are : rows ≡ filter_map reads stored
   pub all : are_read ≡ not (has_unread reads table)
 
--- the same of a table of the state and the rows that were gathered from it
-abbrev pub IsTable : {X Told : Type 0} → (Row → Row → Ordering) → (Row → Option Told) → Table → (X → Told) → State → Gathered X → Type 0
-IsTable comes reads table told s all = AreRead comes reads (s.now.trees table.tree) (map told all.rows.items) all.are_read
+-- the same of one of the tables and the rows that were gathered from it
+abbrev pub IsTable : {X Told : Type 0} → (Row → Row → Ordering) → (Row → Option Told) → Table → (X → Told) → Trees → Gathered X → Type 0
+IsTable comes reads table told db all = AreRead comes reads (db table.tree) (map told all.rows.items) all.are_read

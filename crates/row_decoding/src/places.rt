@@ -1,15 +1,13 @@
 //! The rows of the tables of places that an office can have.
 
-ghost use Rattle.std.specs.Prelude.{◌≡◌, IfOk, true};
+ghost use Rattle.std.specs.Prelude.{◌≡◌, true};
 ghost use Rattle.std.specs.Option.{option_map_or};
 ghost use Rattle.sqlite.specs.Held.{state};
-ghost use Rattle.sqlite.specs.State.{HasCleanDisk};
 ghost use Rattle.tree_core.specs.Versions.{Links, Spans};
 ghost use Rattle.catalogue_core.specs.CatalogueCauses as causes;
-ghost use Rattle.office_tables.specs.Query.{Reads};
-ghost use Rattle.office_tables.specs.Faults.{FaultsHaveCause};
 ghost use Rattle.office_tables.specs.Schema as tables;
 ghost use Rattle.office_tables.specs.Step.{InTransaction};
+ghost use Rattle.row_decoding.specs.Examinations.{Examines};
 ghost use Rattle.row_decoding.specs.PlaceReadings.{only, good_link, good_span, by_first_number};
 ghost use Rattle.row_decoding.specs.Readings.{IsTable, by_rowid};
 
@@ -117,10 +115,7 @@ pub fn links<S: Alter>(
     conn: &mut Connection<S>,
 ) -> Result<Gathered<Link>, StoreFault>
     requires inside { InTransaction Links (state S.Store conn.old) }
-    ensures reads { Reads (state S.Store conn.old) (state S.Store conn.new) result }
-    ensures tells { HasCleanDisk (state S.Store conn.new)
-        → IfOk result (IsTable by_rowid good_link tables.link (λ link. link) (state S.Store conn.old)) }
-    ensures faults { FaultsHaveCause (state S.Store conn.old) (state S.Store conn.new) result }
+    ensures { Examines S.Store conn.old conn.new result (IsTable by_rowid good_link tables.link (λ link. link)) }
 {
     read_rows(alloc, conn, "SELECT id, parent, ord FROM link ORDER BY id")
 }
@@ -131,10 +126,7 @@ pub fn spans<S: Alter>(
     conn: &mut Connection<S>,
 ) -> Result<Gathered<Span>, StoreFault>
     requires inside { InTransaction Spans (state S.Store conn.old) }
-    ensures reads { Reads (state S.Store conn.old) (state S.Store conn.new) result }
-    ensures tells { HasCleanDisk (state S.Store conn.new)
-        → IfOk result (IsTable by_first_number good_span tables.span (λ span. span) (state S.Store conn.old)) }
-    ensures faults { FaultsHaveCause (state S.Store conn.old) (state S.Store conn.new) result }
+    ensures { Examines S.Store conn.old conn.new result (IsTable by_first_number good_span tables.span (λ span. span)) }
 {
     read_rows(
         alloc,

@@ -1,13 +1,10 @@
 //! The rows of each table of the desk except the readers', and the numbers of units and containers.
 
-ghost use Rattle.std.specs.Prelude.{IfOk};
 ghost use Rattle.sqlite.specs.Held.{state};
-ghost use Rattle.sqlite.specs.State.{HasCleanDisk};
-ghost use Rattle.office_tables.specs.Query.{Reads};
 ghost use Rattle.office_tables.specs.DeskCells as cells;
-ghost use Rattle.office_tables.specs.Faults.{FaultsHaveCause};
 ghost use Rattle.office_tables.specs.Schema as tables;
 ghost use Rattle.office_tables.specs.Step.{InOffice};
+ghost use Rattle.row_decoding.specs.Examinations.{Examines};
 ghost use Rattle.row_decoding.specs.Readings.{IsTable, by_rowid, in_any_order, read_number};
 ghost use Rattle.desk_core.specs.RowRecords.{seat_row, order_row, holding_row, run_row, run_line_row, permit_row};
 
@@ -173,10 +170,7 @@ pub fn seats<S: Alter>(
     conn: &mut Connection<S>,
 ) -> Result<Gathered<SeatRow>, StoreFault>
     requires inside { InOffice (state S.Store conn.old) }
-    ensures reads { Reads (state S.Store conn.old) (state S.Store conn.new) result }
-    ensures tells { HasCleanDisk (state S.Store conn.new)
-        → IfOk result (IsTable in_any_order cells.read_seat tables.seat seat_row (state S.Store conn.old)) }
-    ensures faults { FaultsHaveCause (state S.Store conn.old) (state S.Store conn.new) result }
+    ensures { Examines S.Store conn.old conn.new result (IsTable in_any_order cells.read_seat tables.seat seat_row) }
 {
     read_rows(alloc, conn, "SELECT seat, ticket FROM seat")
 }
@@ -187,10 +181,8 @@ pub fn permits<S: Alter>(
     conn: &mut Connection<S>,
 ) -> Result<Gathered<PermitRow>, StoreFault>
     requires inside { InOffice (state S.Store conn.old) }
-    ensures reads { Reads (state S.Store conn.old) (state S.Store conn.new) result }
-    ensures tells { HasCleanDisk (state S.Store conn.new)
-        → IfOk result (IsTable in_any_order cells.read_permit tables.permit permit_row (state S.Store conn.old)) }
-    ensures faults { FaultsHaveCause (state S.Store conn.old) (state S.Store conn.new) result }
+    ensures { Examines S.Store conn.old conn.new result
+        (IsTable in_any_order cells.read_permit tables.permit permit_row) }
 {
     read_rows(alloc, conn, "SELECT ticket, unit, until FROM permit")
 }
@@ -201,10 +193,7 @@ pub fn orders<S: Alter>(
     conn: &mut Connection<S>,
 ) -> Result<Gathered<OrderRow>, StoreFault>
     requires inside { InOffice (state S.Store conn.old) }
-    ensures reads { Reads (state S.Store conn.old) (state S.Store conn.new) result }
-    ensures tells { HasCleanDisk (state S.Store conn.new)
-        → IfOk result (IsTable by_rowid cells.read_order tables.orders order_row (state S.Store conn.old)) }
-    ensures faults { FaultsHaveCause (state S.Store conn.old) (state S.Store conn.new) result }
+    ensures { Examines S.Store conn.old conn.new result (IsTable by_rowid cells.read_order tables.orders order_row) }
 {
     read_rows(
         alloc,
@@ -219,10 +208,8 @@ pub fn holdings<S: Alter>(
     conn: &mut Connection<S>,
 ) -> Result<Gathered<HoldingRow>, StoreFault>
     requires inside { InOffice (state S.Store conn.old) }
-    ensures reads { Reads (state S.Store conn.old) (state S.Store conn.new) result }
-    ensures tells { HasCleanDisk (state S.Store conn.new)
-        → IfOk result (IsTable in_any_order cells.read_holding tables.holding holding_row (state S.Store conn.old)) }
-    ensures faults { FaultsHaveCause (state S.Store conn.old) (state S.Store conn.new) result }
+    ensures { Examines S.Store conn.old conn.new result
+        (IsTable in_any_order cells.read_holding tables.holding holding_row) }
 {
     read_rows(alloc, conn, "SELECT container, place, held_by FROM holding")
 }
@@ -233,10 +220,7 @@ pub fn runs<S: Alter>(
     conn: &mut Connection<S>,
 ) -> Result<Gathered<RunRow>, StoreFault>
     requires inside { InOffice (state S.Store conn.old) }
-    ensures reads { Reads (state S.Store conn.old) (state S.Store conn.new) result }
-    ensures tells { HasCleanDisk (state S.Store conn.new)
-        → IfOk result (IsTable by_rowid cells.read_run tables.run run_row (state S.Store conn.old)) }
-    ensures faults { FaultsHaveCause (state S.Store conn.old) (state S.Store conn.new) result }
+    ensures { Examines S.Store conn.old conn.new result (IsTable by_rowid cells.read_run tables.run run_row) }
 {
     read_rows(alloc, conn, "SELECT id, day FROM run ORDER BY id")
 }
@@ -247,11 +231,8 @@ pub fn run_lines<S: Alter>(
     conn: &mut Connection<S>,
 ) -> Result<Gathered<RunLineRow>, StoreFault>
     requires inside { InOffice (state S.Store conn.old) }
-    ensures reads { Reads (state S.Store conn.old) (state S.Store conn.new) result }
-    ensures tells { HasCleanDisk (state S.Store conn.new)
-        → IfOk result (IsTable in_any_order cells.read_run_line tables.run_line run_line_row
-        (state S.Store conn.old)) }
-    ensures faults { FaultsHaveCause (state S.Store conn.old) (state S.Store conn.new) result }
+    ensures { Examines S.Store conn.old conn.new result
+        (IsTable in_any_order cells.read_run_line tables.run_line run_line_row) }
 {
     read_rows(
         alloc,
@@ -266,10 +247,7 @@ pub fn unit_numbers<S: Alter>(
     conn: &mut Connection<S>,
 ) -> Result<Gathered<u64>, StoreFault>
     requires inside { InOffice (state S.Store conn.old) }
-    ensures reads { Reads (state S.Store conn.old) (state S.Store conn.new) result }
-    ensures tells { HasCleanDisk (state S.Store conn.new)
-        → IfOk result (IsTable in_any_order read_number tables.unit (λ n. n) (state S.Store conn.old)) }
-    ensures faults { FaultsHaveCause (state S.Store conn.old) (state S.Store conn.new) result }
+    ensures { Examines S.Store conn.old conn.new result (IsTable in_any_order read_number tables.unit (λ n. n)) }
 {
     read_rows(alloc, conn, "SELECT id FROM unit")
 }
@@ -280,10 +258,7 @@ pub fn container_numbers<S: Alter>(
     conn: &mut Connection<S>,
 ) -> Result<Gathered<u64>, StoreFault>
     requires inside { InOffice (state S.Store conn.old) }
-    ensures reads { Reads (state S.Store conn.old) (state S.Store conn.new) result }
-    ensures tells { HasCleanDisk (state S.Store conn.new)
-        → IfOk result (IsTable in_any_order read_number tables.container (λ n. n) (state S.Store conn.old)) }
-    ensures faults { FaultsHaveCause (state S.Store conn.old) (state S.Store conn.new) result }
+    ensures { Examines S.Store conn.old conn.new result (IsTable in_any_order read_number tables.container (λ n. n)) }
 {
     read_rows(alloc, conn, "SELECT id FROM container")
 }

@@ -1,35 +1,31 @@
-use Rattle.std.proofs.Common.{◌≡◌, false, not, sym, subst, ◌∙◌}
+use Rattle.std.proofs.Common.{sym, ◌∙◌}
 use Rattle.sqlite.specs.Held.{state}
-use Rattle.sqlite.specs.Tree.{Trees}
-use Rattle.office_tables.specs.Cells.{has_unread}
-use Rattle.office_tables.specs.CatalogueCells.{read_unit}
-use Rattle.office_tables.specs.Schema as tables
-use Rattle.row_decoding.proofs.ReadCalls.{same_trees, before}
-use Rattle.integrity_checks.specs.CatalogueChecks.{containers_are_defective}
+use Rattle.office_tables.proofs.Calls.{looks_then}
 use Rattle.integrity_checks.proofs.CatalogueDefects.{bad_elements, bad_containment, no_defect}
+use Rattle.integrity_checks.proofs.ExaminationEnds.{earlier, examined, passes, passes_later, still}
 use Rattle.integrity_checks.proofs.catalogue_check.check_contents.Goals as goal
 
-pub returns-then-not-branch-clause-tells : goal.returns-then-not-branch-clause-tells
-returns-then-not-branch-clause-tells g c clean version units_read =
-    let old = state g.S.Store c.args.conn.now in
-    bad_elements version old.now.trees (sym (c.in_ok-elements_are_good.ensures.tells clean version units_read) ∙ c.if-not-branch.true)
+pub returns-in_err-elements_are_good : goal.returns-in_err-elements_are_good
+returns-in_err-elements_are_good g c = passes c.from_residual.ensures c.in_err-elements_are_good.ensures
 
-pub returns-then-not-branch-2-clause-tells : goal.returns-then-not-branch-2-clause-tells
-returns-then-not-branch-2-clause-tells g c clean version units_read =
-    let old = state g.S.Store c.args.conn.now in
-    let mid = state g.S.Store c.elements_are_good.new.conn in
-    let new = state g.S.Store c.containers_are_good.new.conn in
-    let clean_mid = before mid new c.in_ok-containers_are_good.ensures.reads.looks clean in
-    let second = subst (λ (db : Trees). has_unread read_unit (db tables.unit.tree) ≡ false → c.in_ok-containers_are_good.field-0 ≡ not (containers_are_defective version db))
-    (same_trees old mid c.in_ok-elements_are_good.ensures.reads.looks clean_mid) (c.in_ok-containers_are_good.ensures.tells clean version) units_read in
-    bad_containment version old.now.trees (sym (c.in_ok-elements_are_good.ensures.tells clean_mid version units_read) ∙ c.if-not-branch.false) (sym second ∙ c.if-not-branch-2.true)
+pub returns-then-not-branch : goal.returns-then-not-branch
+returns-then-not-branch g c =
+    let one = c.in_ok-elements_are_good.ensures in
+    examined one.reads.looks (λ clean version read. bad_elements version (state g.S.Store c.args.conn.now).now.trees (sym (one.answers clean version read) ∙ c.if-not-branch.true))
 
-pub returns-clause-tells : goal.returns-clause-tells
-returns-clause-tells g c clean version units_read =
-    let old = state g.S.Store c.args.conn.now in
-    let mid = state g.S.Store c.elements_are_good.new.conn in
-    let new = state g.S.Store c.containers_are_good.new.conn in
-    let clean_mid = before mid new c.in_ok-containers_are_good.ensures.reads.looks clean in
-    let second = subst (λ (db : Trees). has_unread read_unit (db tables.unit.tree) ≡ false → c.in_ok-containers_are_good.field-0 ≡ not (containers_are_defective version db))
-    (same_trees old mid c.in_ok-elements_are_good.ensures.reads.looks clean_mid) (c.in_ok-containers_are_good.ensures.tells clean version) units_read in
-    no_defect version old.now.trees (sym (c.in_ok-elements_are_good.ensures.tells clean_mid version units_read) ∙ c.if-not-branch.false) (sym second ∙ c.if-not-branch-2.false)
+pub returns-in_err-containers_are_good : goal.returns-in_err-containers_are_good
+returns-in_err-containers_are_good g c = passes_later c.from_residual-in_err-containers_are_good.ensures c.in_ok-elements_are_good.ensures.reads.looks c.in_err-containers_are_good.ensures
+
+pub returns-then-not-branch-2 : goal.returns-then-not-branch-2
+returns-then-not-branch-2 g c =
+    let one = c.in_ok-elements_are_good.ensures in
+    let two = c.in_ok-containers_are_good.ensures in
+    examined (looks_then _ _ _ one.reads.looks two.reads.looks) (λ clean version read.
+    bad_containment version (state g.S.Store c.args.conn.now).now.trees (sym (one.answers (earlier two clean) version read) ∙ c.if-not-branch.false) (sym (still one.reads.looks two clean version read) ∙ c.if-not-branch-2.true))
+
+pub returns : goal.returns
+returns g c =
+    let one = c.in_ok-elements_are_good.ensures in
+    let two = c.in_ok-containers_are_good.ensures in
+    examined (looks_then _ _ _ one.reads.looks two.reads.looks) (λ clean version read.
+    no_defect version (state g.S.Store c.args.conn.now).now.trees (sym (one.answers (earlier two clean) version read) ∙ c.if-not-branch.false) (sym (still one.reads.looks two clean version read) ∙ c.if-not-branch-2.false))

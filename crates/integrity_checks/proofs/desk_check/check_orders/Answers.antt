@@ -1,46 +1,46 @@
-use Rattle.std.proofs.Common.{◌≡◌, true, false, not, List, Bool, map, ◌&&◌, sym, ap, subst, ◌∙◌}
-use Rattle.std.specs.Prelude.{IfOk}
+use Rattle.std.proofs.Common.{◌≡◌, false, not, List, Bool, map, ◌&&◌, sym, ap, subst, ◌∙◌}
 use Rattle.std.proofs.lemmas.Bool.{and_parts, or_parts}
 use Rattle.sqlite.specs.Held.{state}
-use Rattle.sqlite.specs.Tree.{Trees}
 use Rattle.desk_core.specs.DeskCauses.{orders_are_bad}
 use Rattle.office_tables.specs.DeskCells.{read_order}
 use Rattle.office_tables.specs.Schema as tables
-use Rattle.office_tables.proofs.Calls.{early}
-use Rattle.desk_core.specs.RowRecords.{Surrounds, order_row}
+use Rattle.desk_core.specs.RowRecords.{order_row}
 use Rattle.desk_core.specs.declared.consistency.rows.OrderRow.{OrderRow}
 use Rattle.row_decoding.specs.TableRows.{desk_in}
-use Rattle.integrity_checks.specs.DeskChecks.{orders_are_defective, defect_of_past}
+use Rattle.integrity_checks.specs.DeskChecks.{orders_are_defective}
 use Rattle.integrity_checks.specs.DeskJudgments.{AreOrdersOf}
 use Rattle.row_decoding.specs.Readings.{AreRead, by_rowid}
 use Rattle.integrity_checks.proofs.DeskDefects.{was_good, was_bad, bad_orders, sound_orders}
+use Rattle.integrity_checks.proofs.ExaminationEnds.{examined, examined_last, is_full, passes}
 use Rattle.integrity_checks.proofs.JudgedTables.{orders_judged}
-use Rattle.row_decoding.proofs.ReadCalls.{same_trees}
 use Rattle.integrity_checks.proofs.desk_check.check_orders.Goals as goal
 use Rattle.integrity_checks.proofs.desk_check.check_orders.Goals.{then-all, else-all}
 
-pub returns-then-not-are_sound-clause-tells : goal.returns-then-not-are_sound-clause-tells
-returns-then-not-are_sound-clause-tells g c clean a held =
+pub returns-in_err-all : goal.returns-in_err-all
+returns-in_err-all g c = passes c.from_residual.ensures c.in_err-all.ensures
+
+pub returns-in_err-are_good : goal.returns-in_err-are_good
+returns-in_err-are_good g c = is_full c.from_residual-in_err-are_good.ensures c.in_ok-all.ensures.reads.looks
+
+pub returns-then-not-are_sound : goal.returns-then-not-are_sound
+returns-then-not-are_sound g c = examined c.in_ok-all.ensures.reads.looks (λ clean a held.
     let old = state g.S.Store c.args.conn.now in
     let all = c.in_ok-all.all in
     let good = c.in_ok-are_good.are_good in
-    let judged = orders_judged c.args.around.now a old.now.trees held (map order_row all.rows.items) all.are_read good (c.in_ok-all.ensures.tells clean)
+    let judged = orders_judged c.args.around.now a old.now.trees held (map order_row all.rows.items) all.are_read good (c.in_ok-all.ensures.answers clean)
     (λ b e around os. c.in_ok-are_good.ensures b e around (os ∙ ap (map order_row) (sym c.deref.ensures.value))) in
     let sound : c.if-all.are_sound ≡ not (orders_are_defective a old.now.trees) = elim c.if-all.branch [
       | then-all w ↦ w.are_sound-is ∙ ap (λ b. b && good) (sym w.if-all.true) ∙ judged
       | else-all w ↦ w.are_sound-is ∙ w.if-all.false ∙ ap (λ b. b && good) (sym w.if-all.false) ∙ judged
     ] in
-    bad_orders a old.now.trees (was_bad c.if-all.are_sound (orders_are_defective a old.now.trees) sound c.if-not-are_sound.true)
+    bad_orders a old.now.trees (was_bad c.if-all.are_sound (orders_are_defective a old.now.trees) sound c.if-not-are_sound.true))
 
-pub returns-clause-tells : goal.returns-clause-tells
-returns-clause-tells g c clean a held =
+pub returns : goal.returns
+returns g c = examined_last c.in_ok-all.ensures.reads.looks c.check_past.ensures (λ clean told follows a held.
     let old = state g.S.Store c.args.conn.now in
-    let mid = state g.S.Store c.orders.new.conn in
-    let new = state g.S.Store c.check_past.new.conn in
-    let clean_mid = early mid new _ c.check_past.ensures.reads.crash clean in
     let all = c.in_ok-all.all in
     let good = c.in_ok-are_good.are_good in
-    let judged = orders_judged c.args.around.now a old.now.trees held (map order_row all.rows.items) all.are_read good (c.in_ok-all.ensures.tells clean_mid)
+    let judged = orders_judged c.args.around.now a old.now.trees held (map order_row all.rows.items) all.are_read good (c.in_ok-all.ensures.answers clean)
     (λ b e around os. c.in_ok-are_good.ensures b e around (os ∙ ap (map order_row) (sym c.deref.ensures.value))) in
     let is : c.if-all.are_sound ≡ (all.are_read && good) = elim c.if-all.branch [
       | then-all w ↦ w.are_sound-is ∙ ap (λ b. b && good) (sym w.if-all.true)
@@ -48,10 +48,8 @@ returns-clause-tells g c clean a held =
     ] in
     let read = (and_parts all.are_read good (sym is ∙ c.if-not-are_sound.false)).0 in
     let sound = was_good c.if-all.are_sound (orders_are_defective a old.now.trees) (is ∙ judged) c.if-not-are_sound.false in
-    let are_all = subst (λ (b : Bool). AreRead by_rowid read_order (old.now.trees tables.orders.tree) (map order_row all.rows.items) b) read (c.in_ok-all.ensures.tells clean_mid) in
+    let are_all = subst (λ (b : Bool). AreRead by_rowid read_order (old.now.trees tables.orders.tree) (map order_row all.rows.items) b) read (c.in_ok-all.ensures.answers clean) in
     let are : AreOrdersOf old.now.trees (map order_row c.deref-2.result.now) =
     subst (λ (rows : List OrderRow). AreOrdersOf old.now.trees (map order_row rows)) (sym c.deref-2.ensures.value) are_all in
     let fine : orders_are_bad a (desk_in old.now.trees) ≡ false = (or_parts _ (orders_are_bad a (desk_in old.now.trees)) sound).1 in
-    let past = subst (λ (db : Trees). Surrounds c.args.around.now a (desk_in db) → AreOrdersOf db (map order_row c.deref-2.result.now) → orders_are_bad a (desk_in db) ≡ false → IfOk c.check_past.result (λ told. told ≡ defect_of_past a db))
-    (same_trees old mid c.in_ok-all.ensures.reads.looks clean_mid) (c.check_past.ensures.tells clean a) held are fine in
-    subst (λ d. IfOk c.check_past.result (λ told. told ≡ d)) (sound_orders a old.now.trees sound) past
+    follows a held are fine ∙ sound_orders a old.now.trees sound)

@@ -1,35 +1,31 @@
-use Rattle.std.proofs.Common.{◌≡◌, false, map, sym, subst, ◌∙◌}
+use Rattle.std.proofs.Common.{sym, ◌∙◌}
 use Rattle.sqlite.specs.Held.{state}
-use Rattle.sqlite.specs.Tree.{Trees}
-use Rattle.desk_core.specs.DeskCauses.{orders_are_bad}
-use Rattle.desk_core.specs.RowRecords.{Surrounds, order_row}
-use Rattle.row_decoding.specs.TableRows.{desk_in}
-use Rattle.integrity_checks.specs.DeskJudgments.{AreOrdersOf, good_runs_in}
+use Rattle.office_tables.proofs.Calls.{looks_then}
 use Rattle.integrity_checks.proofs.DeskDefects.{bad_holdings, bad_runs, no_defect}
-use Rattle.row_decoding.proofs.ReadCalls.{same_trees, before}
+use Rattle.integrity_checks.proofs.ExaminationEnds.{earlier, examined, passes, passes_later, still}
 use Rattle.integrity_checks.proofs.desk_check.check_past.Goals as goal
 
-pub returns-then-not-branch-clause-tells : goal.returns-then-not-branch-clause-tells
-returns-then-not-branch-clause-tells g c clean a held are fine =
-    let old = state g.S.Store c.args.conn.now in
-    bad_holdings a old.now.trees (sym (c.in_ok-holdings_are_good.ensures.tells clean a held are fine) ∙ c.if-not-branch.true)
+pub returns-in_err-holdings_are_good : goal.returns-in_err-holdings_are_good
+returns-in_err-holdings_are_good g c = passes c.from_residual.ensures c.in_err-holdings_are_good.ensures
 
-pub returns-then-not-branch-2-clause-tells : goal.returns-then-not-branch-2-clause-tells
-returns-then-not-branch-2-clause-tells g c clean a held are fine =
-    let old = state g.S.Store c.args.conn.now in
-    let mid = state g.S.Store c.holdings_are_good.new.conn in
-    let new = state g.S.Store c.runs_are_good.new.conn in
-    let clean_mid = before mid new c.in_ok-runs_are_good.ensures.reads.looks clean in
-    let second = subst (λ (db : Trees). Surrounds c.args.around.now a (desk_in db) → AreOrdersOf db (map order_row c.args.orders.now) → orders_are_bad a (desk_in db) ≡ false → c.in_ok-runs_are_good.field-0 ≡ good_runs_in a db)
-    (same_trees old mid c.in_ok-holdings_are_good.ensures.reads.looks clean_mid) (c.in_ok-runs_are_good.ensures.tells clean a) held are fine in
-    bad_runs a old.now.trees (sym (c.in_ok-holdings_are_good.ensures.tells clean_mid a held are fine) ∙ c.if-not-branch.false) (sym second ∙ c.if-not-branch-2.true)
+pub returns-then-not-branch : goal.returns-then-not-branch
+returns-then-not-branch g c =
+    let one = c.in_ok-holdings_are_good.ensures in
+    examined one.reads.looks (λ clean a held are fine. bad_holdings a (state g.S.Store c.args.conn.now).now.trees (sym (one.answers clean a held are fine) ∙ c.if-not-branch.true))
 
-pub returns-clause-tells : goal.returns-clause-tells
-returns-clause-tells g c clean a held are fine =
-    let old = state g.S.Store c.args.conn.now in
-    let mid = state g.S.Store c.holdings_are_good.new.conn in
-    let new = state g.S.Store c.runs_are_good.new.conn in
-    let clean_mid = before mid new c.in_ok-runs_are_good.ensures.reads.looks clean in
-    let second = subst (λ (db : Trees). Surrounds c.args.around.now a (desk_in db) → AreOrdersOf db (map order_row c.args.orders.now) → orders_are_bad a (desk_in db) ≡ false → c.in_ok-runs_are_good.field-0 ≡ good_runs_in a db)
-    (same_trees old mid c.in_ok-holdings_are_good.ensures.reads.looks clean_mid) (c.in_ok-runs_are_good.ensures.tells clean a) held are fine in
-    no_defect a old.now.trees (sym (c.in_ok-holdings_are_good.ensures.tells clean_mid a held are fine) ∙ c.if-not-branch.false) (sym second ∙ c.if-not-branch-2.false)
+pub returns-in_err-runs_are_good : goal.returns-in_err-runs_are_good
+returns-in_err-runs_are_good g c = passes_later c.from_residual-in_err-runs_are_good.ensures c.in_ok-holdings_are_good.ensures.reads.looks c.in_err-runs_are_good.ensures
+
+pub returns-then-not-branch-2 : goal.returns-then-not-branch-2
+returns-then-not-branch-2 g c =
+    let one = c.in_ok-holdings_are_good.ensures in
+    let two = c.in_ok-runs_are_good.ensures in
+    examined (looks_then _ _ _ one.reads.looks two.reads.looks) (λ clean a held are fine.
+    bad_runs a (state g.S.Store c.args.conn.now).now.trees (sym (one.answers (earlier two clean) a held are fine) ∙ c.if-not-branch.false) (sym (still one.reads.looks two clean a held are fine) ∙ c.if-not-branch-2.true))
+
+pub returns : goal.returns
+returns g c =
+    let one = c.in_ok-holdings_are_good.ensures in
+    let two = c.in_ok-runs_are_good.ensures in
+    examined (looks_then _ _ _ one.reads.looks two.reads.looks) (λ clean a held are fine.
+    no_defect a (state g.S.Store c.args.conn.now).now.trees (sym (one.answers (earlier two clean) a held are fine) ∙ c.if-not-branch.false) (sym (still one.reads.looks two clean a held are fine) ∙ c.if-not-branch-2.false))

@@ -1,18 +1,25 @@
 use Rattle.std.proofs.Common.{map, ◌&&◌, sym, ap, ◌∙◌}
 use Rattle.sqlite.specs.Held.{state}
 use Rattle.desk_core.specs.RowRecords.{permit_row}
+use Rattle.integrity_checks.proofs.ExaminationEnds.{examined, is_full, passes}
 use Rattle.integrity_checks.proofs.JudgedTables.{permits_judged}
 use Rattle.integrity_checks.proofs.desk_rows.permits_are_good.Goals as goal
 use Rattle.integrity_checks.proofs.desk_rows.permits_are_good.Goals.{then-all, else-all}
 
-pub returns-clause-tells : goal.returns-clause-tells
-returns-clause-tells g c clean a held =
+pub returns-in_err-all : goal.returns-in_err-all
+returns-in_err-all g c = passes c.from_residual.ensures c.in_err-all.ensures
+
+pub returns-in_err-are_good : goal.returns-in_err-are_good
+returns-in_err-are_good g c = is_full c.from_residual-in_err-are_good.ensures c.in_ok-all.ensures.reads.looks
+
+pub returns : goal.returns
+returns g c = examined c.in_ok-all.ensures.reads.looks (λ clean a held.
     let old = state g.S.Store c.args.conn.now in
     let all = c.in_ok-all.all in
     let good = c.in_ok-are_good.are_good in
-    let judged = permits_judged c.args.around.now a old.now.trees held (map permit_row all.rows.items) all.are_read good (c.in_ok-all.ensures.tells clean)
+    let judged = permits_judged c.args.around.now a old.now.trees held (map permit_row all.rows.items) all.are_read good (c.in_ok-all.ensures.answers clean)
     (λ b e around is. c.in_ok-are_good.ensures b e around (is ∙ ap (map permit_row) (sym c.deref.ensures.value))) in
     elim c.if-all.branch [
       | then-all w ↦ w.result-is ∙ ap (λ b. b && good) (sym w.if-all.true) ∙ judged
       | else-all w ↦ w.result-is ∙ w.if-all.false ∙ ap (λ b. b && good) (sym w.if-all.false) ∙ judged
-    ]
+    ])

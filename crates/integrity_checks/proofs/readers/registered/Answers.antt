@@ -1,8 +1,9 @@
-use Rattle.std.proofs.Common.{◌≡◌, rules, ap, ◌∙◌, sym, nat_le, ◌&&◌}
+use Rattle.std.proofs.Common.{◌≡◌, ap, ◌∙◌, sym, nat_le, ◌&&◌}
 use Rattle.sqlite.specs.Held.{state}
 use Rattle.office_tables.proofs.Calls.{early}
 use Rattle.office_tables.proofs.Gatherings.{stop_cause}
 use Rattle.office_tables.proofs.RowReads.{asks}
+use Rattle.integrity_checks.proofs.ExaminationEnds.{examined, passes_of}
 use Rattle.integrity_checks.proofs.JudgedReaders.{all_readers_text, all_readers_command, all_readers_means, all_readers_cause, scanned_readers, registered_so_many, registered_badly}
 use Rattle.integrity_checks.proofs.readers.registered.Goals as goal
 use Rattle.integrity_checks.proofs.readers.registered.Goals.{then-all, else-all}
@@ -10,22 +11,17 @@ use Rattle.integrity_checks.proofs.readers.registered.Goals.{then-all, else-all}
 pub gather-requires-clause-ours : goal.gather-requires-clause-ours
 gather-requires-clause-ours g c = asks all_readers_text 0 all_readers_command (state g.S.Store c.args.conn.now) all_readers_means c.requires.inside
 
-pub returns-in_err-all-clause-reads : goal.returns-in_err-all-clause-reads
-returns-in_err-all-clause-reads g c =
-    let cut = c.in_err-all.ensures.reads.cut in
-    let spares = c.in_err-all.ensures.reads.spares in
-    record { crash = c.in_err-all.ensures.reads.crash; looks = search rules; cut = search (rules, cut); spares = λ clean. let it = spares clean in search (rules, it) }
-
-pub returns-in_err-all-clause-faults : goal.returns-in_err-all-clause-faults
-returns-in_err-all-clause-faults g c clean free =
+pub returns-in_err-all : goal.returns-in_err-all
+returns-in_err-all g c =
     let old = state g.S.Store c.args.conn.now in
     let new = state g.S.Store c.gather.new.conn in
-    let at = c.requires.inside (early old new _ c.in_err-all.ensures.reads.crash clean) in
-    let why = stop_cause all_readers_text old new c.in_err-all.field-0.0 (all_readers_cause old new at.0 at.1 free) (c.in_err-all.ensures.stops clean) in
-    search (rules, why)
+    let stopped = c.in_err-all.ensures in
+    passes_of c.from_residual.ensures stopped.reads (λ clean free.
+    let at = c.requires.inside (early old new _ stopped.reads.crash clean) in
+    stop_cause all_readers_text old new c.in_err-all.field-0.0 (all_readers_cause old new at.0 at.1 free) (stopped.stops clean))
 
-pub returns-then-are_sound-clause-tells : goal.returns-then-are_sound-clause-tells
-returns-then-are_sound-clause-tells g c clean =
+pub returns-then-are_sound : goal.returns-then-are_sound
+returns-then-are_sound g c = examined c.in_ok-all.ensures.reads.looks (λ clean.
     let old = state g.S.Store c.args.conn.now in
     let new = state g.S.Store c.gather.new.conn in
     let at = c.requires.inside (early old new _ c.in_ok-all.ensures.reads.crash clean) in
@@ -36,10 +32,10 @@ returns-then-are_sound-clause-tells g c clean =
       | then-all w ↦ w.are_sound-is ∙ ap (λ b. b && few) (sym w.if-all.true)
       | else-all w ↦ w.are_sound-is ∙ w.if-all.false ∙ ap (λ b. b && few) (sym w.if-all.false)
     ] in
-    registered_so_many old.now.trees got.0 all.rows c.in_ok-all.all.count c.in_ok-all.all.are_good got.1 got.2 got.3 all.holds.0 all.holds.1 (sym is ∙ c.if-are_sound.true)
+    registered_so_many old.now.trees got.0 all.rows c.in_ok-all.all.count c.in_ok-all.all.are_good got.1 got.2 got.3 all.holds.0 all.holds.1 (sym is ∙ c.if-are_sound.true))
 
-pub returns-else-are_sound-clause-tells : goal.returns-else-are_sound-clause-tells
-returns-else-are_sound-clause-tells g c clean =
+pub returns-else-are_sound : goal.returns-else-are_sound
+returns-else-are_sound g c = examined c.in_ok-all.ensures.reads.looks (λ clean.
     let old = state g.S.Store c.args.conn.now in
     let new = state g.S.Store c.gather.new.conn in
     let at = c.requires.inside (early old new _ c.in_ok-all.ensures.reads.crash clean) in
@@ -50,4 +46,4 @@ returns-else-are_sound-clause-tells g c clean =
       | then-all w ↦ w.are_sound-is ∙ ap (λ b. b && few) (sym w.if-all.true)
       | else-all w ↦ w.are_sound-is ∙ w.if-all.false ∙ ap (λ b. b && few) (sym w.if-all.false)
     ] in
-    registered_badly old.now.trees got.0 all.rows c.in_ok-all.all.count c.in_ok-all.all.are_good got.1 got.2 got.3 all.holds.0 all.holds.1 (sym is ∙ c.if-are_sound.false)
+    registered_badly old.now.trees got.0 all.rows c.in_ok-all.all.count c.in_ok-all.all.are_good got.1 got.2 got.3 all.holds.0 all.holds.1 (sym is ∙ c.if-are_sound.false))

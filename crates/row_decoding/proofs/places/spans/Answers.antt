@@ -8,20 +8,15 @@ use Rattle.tree_core.specs.Versions.{Spans}
 use Rattle.tree_core.specs.declared.rows.Span.{Span}
 use Rattle.office_tables.specs.Schema as tables
 use Rattle.row_decoding.specs.PlaceReadings.{good_span, said_span, by_first_number}
-use Rattle.row_decoding.proofs.TableReads.{is_ours_in, is_excused_in, is_told_in}
+use Rattle.row_decoding.proofs.TableReads.{is_ours_in, examines_in}
 use Rattle.row_decoding.proofs.PlaceTexts.{place_terms, by_numbers, spans_text, spans_names, spans_mean}
 use Rattle.row_decoding.proofs.places.spans.Goals as goal
 
 pub read_rows-requires : goal.read_rows-requires
 read_rows-requires g c = record { ours = is_ours_in tables.span place_terms by_numbers spans_names spans_text Spans spans_mean refl (state g.S.Store c.args.conn.now) c.requires.inside }
 
-pub returns-clause-tells : goal.returns-clause-tells
-returns-clause-tells g c =
-    is_told_in tables.span place_terms by_numbers spans_names spans_text Spans spans_mean refl (λ (span : Span). span) said_span good_span by_first_number (λ _. refl)
-    (λ a b. ap (ordering_then (value_cmp (column a 2) (column b 2))) (then-Equal _)) (state g.S.Store c.args.conn.now) (state g.S.Store c.read_rows.new.conn) c.read_rows.result
-    c.requires.inside c.read_rows.ensures.reads.crash c.read_rows.ensures.gathers
-
-pub returns-clause-faults : goal.returns-clause-faults
-returns-clause-faults g c =
-    is_excused_in tables.span place_terms by_numbers spans_names spans_text Spans spans_mean refl (state g.S.Store c.args.conn.now) (state g.S.Store c.read_rows.new.conn) c.read_rows.result
-    c.requires.inside c.read_rows.ensures.reads.crash c.read_rows.ensures.stops
+pub returns : goal.returns
+returns g c =
+    examines_in tables.span place_terms by_numbers spans_names spans_text Spans spans_mean refl (λ (span : Span). span) said_span good_span by_first_number (λ _. refl)
+    (λ a b. ap (ordering_then (value_cmp (column a 2) (column b 2))) (then-Equal _))
+    c.requires.inside c.read_rows.ensures.reads c.read_rows.ensures.gathers c.read_rows.ensures.stops

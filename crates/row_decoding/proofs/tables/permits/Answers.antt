@@ -4,19 +4,14 @@ use Rattle.office_tables.specs.DeskCells.{read_permit}
 use Rattle.office_tables.specs.Schema as tables
 use Rattle.row_decoding.specs.Readings.{in_any_order, said_permit}
 use Rattle.desk_core.specs.RowRecords.{permit_row}
-use Rattle.row_decoding.proofs.TableReads.{is_ours, is_excused, is_told}
+use Rattle.row_decoding.proofs.TableReads.{is_ours, examines}
 use Rattle.row_decoding.proofs.TableTexts.{permits_text, permits_terms, permits_names, permits_mean}
 use Rattle.row_decoding.proofs.tables.permits.Goals as goal
 
 pub read_rows-requires : goal.read_rows-requires
 read_rows-requires g c = record { ours = is_ours tables.permit permits_terms [] permits_names permits_text permits_mean (λ _. refl) (state g.S.Store c.args.conn.now) c.requires.inside }
 
-pub returns-clause-tells : goal.returns-clause-tells
-returns-clause-tells g c =
-    is_told tables.permit permits_terms [] permits_names permits_text permits_mean (λ _. refl) permit_row said_permit read_permit in_any_order (λ _. refl) (λ a b. refl) (state g.S.Store c.args.conn.now) (state g.S.Store c.read_rows.new.conn) c.read_rows.result
-    c.requires.inside c.read_rows.ensures.reads.crash c.read_rows.ensures.gathers
-
-pub returns-clause-faults : goal.returns-clause-faults
-returns-clause-faults g c =
-    is_excused tables.permit permits_terms [] permits_names permits_text permits_mean (λ _. refl) (state g.S.Store c.args.conn.now) (state g.S.Store c.read_rows.new.conn) c.read_rows.result
-    c.requires.inside c.read_rows.ensures.reads.crash c.read_rows.ensures.stops
+pub returns : goal.returns
+returns g c =
+    examines tables.permit permits_terms [] permits_names permits_text permits_mean (λ _. refl) permit_row said_permit read_permit in_any_order (λ _. refl) (λ a b. refl)
+    c.requires.inside c.read_rows.ensures.reads c.read_rows.ensures.gathers c.read_rows.ensures.stops
