@@ -168,16 +168,16 @@ def messages():
 
 
 DAYS = {
-    "a_hundred_permits": permits(),
+    "most_permits": permits(),
     "most_fields": answered(head_of(FIELDS)),
     "a_field_more": [*head_of(FIELDS + 1), *REFUSED],
     "longest_head": answered(head_as_long(HEAD)),
     "a_byte_more": [*head_as_long(HEAD + 1), *REFUSED],
     "no_end_of_a_head": [ASKED[0].replace(">", ">|") + "x" * (HEAD - len(ASKED[0]) + 2), *REFUSED],
     "most_messages": messages(),
-    "two_hundred_seats": seats(),
-    "fifty_orders": orders(),
-    "a_hundred_a_run": a_run(),
+    "most_seats": seats(),
+    "most_daily": orders(),
+    "largest_run": a_run(),
     "most_rows": rows(),
     "longest_field": fields(),
 }

@@ -6,7 +6,7 @@
 Each of COUNT sessions (200) has its own seed, from SEED (0) on. The sessions of the seeds in seeds.txt come too. A seed
 chooses the settings, what rows may say, and how often each command comes. A session has seventy commands, chosen so
 that many are accepted and most refusals come, and three questions after each. Some sessions begin with a chain of
-units, with a ticket that has a hundred permits, or with a file that is not text. `trial` must answer to the byte as
+units, with a ticket that has all its permits, or with a file that is not text. `trial` must answer to the byte as
 acceptance/plain does.
 
 The script prints how many sessions were equal, how often each command was accepted or refused, and how often each
