@@ -8,9 +8,10 @@
 The changes are the records of wrong_rules/CRATE/SUBJECT.rules (records.py says how they are written), and those that
 wrong_rules_made.py makes; with WORD, those whose name has one of the words. Each with `refused by` is made in copies of
 the modules between the definition and the worked rows or the law that it names (side_by_side.py). Where it names one
-row of a function, each row of the function is a lemma (row_lemmas.py), and that row must fail. What these let through
-is tried by all worked rows, and then by all laws. Only what the same copies prove without the change counts. The
-libraries are those in crates/*/out/rlib of --over, or of this checkout, as `rt check` and `rt ci` leave them.
+row of a function, each row of the function is a lemma (row_lemmas.py), and that row or a lemma before the rows must
+fail. What these let through is tried by all worked rows, and then by all laws. Only what the same copies prove without
+the change counts. The libraries are those in crates/*/out/rlib of --over, or of this checkout, as `rt check` and
+`rt ci` leave them.
 
 A line says for each rule that it is `refused`, with the rows or lemmas that fail; `LET THROUGH`; `unreadable`, if the
 wrong text does not parse; `not applied`, if the old text does not occur once in its file; or `no verdict`. With --log
@@ -144,6 +145,12 @@ def all_laws(modules, crate):
     return sorted(set(found))
 
 
+def breaks(row, fails):
+    """Whether a row fails, or a lemma that is no row."""
+    names = [it.rpartition(".")[2] for it in fails]
+    return f"row_{row}" in names or not all(it.startswith("row_") for it in names)
+
+
 class Run:
     """The checks of some rules."""
 
@@ -200,8 +207,8 @@ class Run:
             rule.verdict, rule.why = "no verdict", "what is asked is not proved with nothing turned"
         elif wrong:
             rule.verdict, rule.why = "unreadable", wrong[0][:300]
-        elif rule.row and self.what == "beside" and not any(it.endswith(f".row_{rule.row}") for it in fails):
-            rule.verdict, rule.why = "LET THROUGH", f"by the row that it names; {', '.join(dict.fromkeys(fails))}"
+        elif errors and self.what == "beside" and rule.row and not breaks(rule.row, fails):
+            rule.verdict, rule.why = "LET THROUGH", f"but for other rows: {', '.join(dict.fromkeys(fails))}"
         elif errors:
             rule.verdict, rule.why = "refused", ", ".join(dict.fromkeys(fails)) or errors[0][3][:200]
         else:
