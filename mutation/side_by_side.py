@@ -165,7 +165,7 @@ class Bench:
         return words
 
     def check(self):
-        """The errors of each case, as (kind, module, place, text); none if the check did not end, or has other errors."""
+        """The errors of each case, as (kind, module, place, text); none if the check did not end or has other errors."""
         for kind in ("specs", "proofs"):
             self.write(f"{kind}/Lib.antt", "".join(f"pub mod {it}\n" for it in self.cases))
         project = f"{KIT}/rattle/logic/antt-project.json"
