@@ -1,7 +1,7 @@
 -- The statements on a container: what their texts mean, what they tell, and why they fail. And the container that is told.
-use Rattle.std.proofs.Common.{◌≡◌, ◌<◌, ℕ, pos, List, [], ◌∷◌, length, map, filter, find, codes, true, false, ◌++◌, Option, Some, None, Result, IfOk, IfErr, Ordering, nat_eq, refl, sym, ap, arith}
+use Rattle.std.proofs.Common.{◌≡◌, ℕ, pos, List, [], ◌∷◌, map, filter, codes, Result, IfOk, IfErr, Ordering, nat_eq, refl}
 use Rattle.std.proofs.Math.Nat.{le_refl}
-use Rattle.std.specs.Prelude.{⊤, IsSome, option_map, option_to_list, slice_get}
+use Rattle.std.specs.Prelude.{⊤}
 use Rattle.std.specs.Cmp.{IsTotalOrder, on_total, int_cmp_total}
 use Rattle.std.specs.List.{AllByRecursion}
 use Rattle.std.specs.Ordering.{int_cmp}
@@ -28,7 +28,6 @@ use Rattle.office_tables.specs.Schema.{schema, container}
 use Rattle.office_tables.specs.SharedRows.{container_row}
 use Rattle.office_tables.specs.Step.{Holds}
 use Rattle.office_tables.specs.declared.fault.StoreFault.{StoreFault}
-use Rattle.office_tables.proofs.Reading.{first_shown}
 use Rattle.office_tables.proofs.Queries.{asking}
 use Rattle.office_tables.proofs.statements.SelectOf.{select_finds, select_faults}
 use Rattle.office_tables.proofs.Tests.{only, same_number, by_one_int}
@@ -108,15 +107,3 @@ module _ (old new : State) (n : ℕ) (v : Version) (has : old.now.schema ≡ sch
       select_faults v container number_text with_its_number (col 1 0 ∷ []) in_order (codes "id" ∷ []) (Int (pos n) ∷ []) (number_means v) old new has container_row bs stored
       (λ (b : Numbered). nat_eq n b.0) (λ b. only (same_number b.0 n)) (λ b. number_cells b.0) (λ (b : Numbered). Int (pos b.0) ∷ []) (λ _. refl) by_number (λ _. refl) (λ a b. by_one_int (pos a.0) (pos b.0))
       number_cells items (λ (b : Numbered). b.0) (λ _. refl) (λ _. ⊤) refl free (all_of (λ (_ : Numbered). ⊤) (λ _. tt) bs) r
-
--- ---- what is told
-
--- the first of the rows tells what is written on it
-pub box_told : (n : ℕ) (bs : List Numbered) (found : List BoxKey) → found ≡ map (λ (b : Numbered). b.1) (filter (λ (b : Numbered). nat_eq n b.0) bs) → slice_get found 0 ≡ option_map (λ (b : Numbered). b.1) (find (λ (b : Numbered). nat_eq n b.0) bs)
-box_told n bs found are = first_shown (λ (b : Numbered). b.1) (λ (b : Numbered). nat_eq n b.0) bs found are
-
--- what an iterator gives first is the first of its items
-pub first_out : {A : Type 0} (r : Option A) (xs rest : List A) → xs ≡ option_to_list r ++ rest → (0 < length xs → IsSome r) → r ≡ slice_get xs 0
-first_out (Some x) xs rest e some = sym (ap (λ l. slice_get l 0) e)
-first_out None [] rest e some = refl
-first_out None (x ∷ xs) rest e some = absurd (let none : false ≡ true = some (omega arith) in cc)

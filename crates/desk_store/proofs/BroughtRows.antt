@@ -1,7 +1,7 @@
 -- The statement on the day of a run: what its text means, what it tells, and why it fails. And the lines of a run, as they are told.
 use Rattle.std.proofs.Common.{◌≡◌, ℕ, pos, Bool, List, [], ◌∷◌, ◌++◌, map, filter, find, codes, true, cond, Option, Some, None, Result, IfOk, IfErr, nat_eq, inl, inr, refl, sym, ap, ap₂, subst, ◌∙◌}
 use Rattle.std.proofs.Math.Nat.{le_refl}
-use Rattle.std.specs.Prelude.{option_map, slice_get}
+use Rattle.std.specs.Prelude.{option_map}
 use Rattle.std.specs.List.{AllByRecursion, AllZip}
 use Rattle.std.proofs.lemmas.Bool.{cases_Bool, eqb-true}
 use Rattle.sqlite.specs.declared.types.Value.TheVariants.{Int}
@@ -29,7 +29,6 @@ use Rattle.office_tables.specs.Order.{IsOrdered}
 use Rattle.office_tables.specs.Schema.{schema, run}
 use Rattle.office_tables.specs.Step.{Holds}
 use Rattle.office_tables.specs.declared.fault.StoreFault.{StoreFault}
-use Rattle.office_tables.proofs.Reading.{first_shown}
 use Rattle.office_tables.proofs.Queries.{asking}
 use Rattle.office_tables.proofs.statements.SelectOf.{select_finds, select_faults}
 use Rattle.office_tables.proofs.Tests.{only, same_number, by_one_int}
@@ -89,9 +88,6 @@ found_by p (y ∷ ys) x e = elim (cases_Bool (p y)) [
   | inl there ↦ (let k : Some y ≡ Some x = sym (ap (λ b. cond b (Some y) (find p ys)) there) ∙ e in let same : y ≡ x = cc in subst (λ z. p z ≡ true) same there)
   | inr other ↦ found_by p ys x (sym (ap (λ b. cond b (Some y) (find p ys)) other) ∙ e)
 ]
-
-pub day_told : (n : ℕ) (xs : List RunRow) (found : List RunDay) → found ≡ map day_of (filter (λ (x : RunRow). nat_eq n x.id) xs) → slice_get found 0 ≡ option_map day_of (find (λ (x : RunRow). nat_eq n x.id) xs)
-day_told n xs found are = first_shown day_of (λ (x : RunRow). nat_eq n x.id) xs found are
 
 -- it is the run that was asked for
 pub same_run : (n : ℕ) (xs : List RunRow) (x : RunRow) → find (λ (x : RunRow). nat_eq n x.id) xs ≡ Some x → n ≡ x.id

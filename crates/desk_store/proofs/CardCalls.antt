@@ -1,15 +1,15 @@
 -- A reader's card, and the holder of a ticket: the parts are read one after another, and nothing is changed between them.
 use Rattle.std.proofs.Common.{◌≡◌, ℕ, ℤ, suc, ◌+◌, ◌<◌, ◌≤◌, ◌^◌, ◌&&◌, true, false, Bool, cond, nat_eq, List, [], ◌∷◌, map, filter, length, find, Option, Some, None, refl, sym, ap, subst, ◌∙◌, arith}
-use Rattle.std.specs.Prelude.{nat_lt, is_some, option_map, slice_get}
+use Rattle.std.specs.Prelude.{nat_lt, is_some, option_map}
 use Rattle.std.specs.List.{AllByRecursion, count_by}
 use Rattle.std.proofs.lemmas.Bool.Decides.{nat_tests}
 use Rattle.std.proofs.lemmas.List.{length-map}
 use Rattle.std.proofs.lemmas.List.Sums.{length-filter, count_by-le-length}
 use Rattle.isad_core.specs.Limits.{most_orders}
-use Rattle.desk_core.specs.DeskRows.{Desk, ReaderRow, SeatRow, OrderRow}
+use Rattle.desk_core.specs.DeskRows.{Desk, SeatRow, OrderRow}
 use Rattle.desk_core.specs.declared.reader.Reader.{Reader}
 use Rattle.desk_core.proofs.Counts.{count_map}
-use Rattle.desk_store.specs.Readers.{is_live, live_orders, held_with, seat_of, placed_on, card_of, ticket_holder}
+use Rattle.desk_store.specs.Readers.{is_live, live_orders, held_with, reader_with, seat_of, placed_on, card_of, ticket_holder}
 use Rattle.office_tables.specs.RowNumbers.{AreCounted}
 use Rattle.desk_store.specs.declared.reader_summary.LiveOrder.{LiveOrder}
 use Rattle.desk_store.specs.declared.reader_summary.OrderLine.{OrderLine}
@@ -94,18 +94,12 @@ few_lines = few_told line_of
 
 -- ---- the card
 
--- what the first of the rows tells that are kept
-pub first_told : {A B C : Type 0} (f : A → B) (h : B → C) (p : A → Bool) (xs : List A) → option_map (λ x. h (f x)) (find p xs) ≡ option_map h (slice_get (map f (filter p xs)) 0)
-first_told f h p [] = refl
-first_told f h p (x ∷ xs) =
-    elim (p x) as (λ b. option_map (λ x. h (f x)) (cond b (Some x) (find p xs)) ≡ option_map h (slice_get (map f (cond b (x ∷ filter p xs) (filter p xs))) 0)) [ true ↦ refl | false ↦ first_told f h p xs ]
+mapped_twice : {A B C : Type 0} (f : A → B) (h : B → C) (o : Option A) → option_map h (option_map f o) ≡ option_map (λ x. h (f x)) o
+mapped_twice f h None = refl
+mapped_twice f h (Some x) = refl
 
-pub seat_told : (t : ℕ) (d : Desk) (seats : List TakenSeat) → seats ≡ map taken (filter (λ (s : SeatRow). nat_eq t s.ticket) d.seats) → option_map (λ (s : TakenSeat). s.seat) (slice_get seats 0) ≡ seat_of t d
-seat_told t d seats are = ap (λ l. option_map (λ (s : TakenSeat). s.seat) (slice_get l 0)) are ∙ sym (first_told taken (λ (s : TakenSeat). s.seat) (λ (s : SeatRow). nat_eq t s.ticket) d.seats)
-
-pub first_none : {A : Type 0} (xs : List A) → length xs ≡ 0 → slice_get xs 0 ≡ None
-first_none [] h = refl
-first_none (x ∷ xs) h = absurd (omega (arith, h))
+pub seat_told : (t : ℕ) (d : Desk) (seat : Option TakenSeat) → seat ≡ option_map taken (find (λ (s : SeatRow). nat_eq t s.ticket) d.seats) → option_map (λ (s : TakenSeat). s.seat) seat ≡ seat_of t d
+seat_told t d seat is = ap (option_map (λ (s : TakenSeat). s.seat)) is ∙ mapped_twice taken (λ (s : TakenSeat). s.seat) (find (λ (s : SeatRow). nat_eq t s.ticket) d.seats)
 
 -- the card that the ticket's row makes
 abbrev pub card_with : ℕ → ℤ → Desk → NamedReader → ReaderCard
@@ -117,9 +111,8 @@ card_with t today d x = record {
   orders = length d.orders;
 }
 
-pub card_told : (t : ℕ) (today : ℤ) (d : Desk) (rows : List NamedReader) → rows ≡ map named (filter (λ (r : ReaderRow). nat_eq t r.ticket) d.readers) → option_map (card_with t today d) (slice_get rows 0) ≡ card_of t today d
-card_told t today d rows are =
-    ap (λ l. option_map (card_with t today d) (slice_get l 0)) are ∙ sym (first_told named (card_with t today d) (λ (r : ReaderRow). nat_eq t r.ticket) d.readers)
+pub card_told : (t : ℕ) (today : ℤ) (d : Desk) (row : Option NamedReader) → row ≡ option_map named (reader_with t d) → option_map (card_with t today d) row ≡ card_of t today d
+card_told t today d row is = ap (option_map (card_with t today d)) is ∙ mapped_twice named (card_with t today d) (reader_with t d)
 
 -- ---- the holder
 
@@ -127,6 +120,5 @@ card_told t today d rows are =
 abbrev pub holder_with : ℕ → Desk → NamedReader → Reader
 holder_with t d x = record { ticket = t; until = x.until; seat = seat_of t d; held = held_with t d }
 
-pub holder_told : (t : ℕ) (d : Desk) (rows : List NamedReader) → rows ≡ map named (filter (λ (r : ReaderRow). nat_eq t r.ticket) d.readers) → option_map (holder_with t d) (slice_get rows 0) ≡ ticket_holder t d
-holder_told t d rows are =
-    ap (λ l. option_map (holder_with t d) (slice_get l 0)) are ∙ sym (first_told named (holder_with t d) (λ (r : ReaderRow). nat_eq t r.ticket) d.readers)
+pub holder_told : (t : ℕ) (d : Desk) (row : Option NamedReader) → row ≡ option_map named (reader_with t d) → option_map (holder_with t d) row ≡ ticket_holder t d
+holder_told t d row is = ap (option_map (holder_with t d)) is ∙ mapped_twice named (holder_with t d) (reader_with t d)

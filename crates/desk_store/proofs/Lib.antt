@@ -21,6 +21,7 @@ pub mod OpeningCalls
 pub mod WaitingRows
 pub mod ReshelvingRows
 pub mod ReshelvingCalls
+pub mod TableSteps
 pub mod ToldCalls
 pub mod TellingCalls
 pub mod BoxRows

@@ -1,6 +1,6 @@
 -- With whom a container is: the ticket of the order that it is out with.
-use Rattle.std.proofs.Common.{◌≡◌, ℕ, ◌+◌, ◌<◌, ◌≤◌, nat_eq, List, [], ◌∷◌, ◌++◌, map, filter, length, take, Option, Some, None, refl, sym, ap, ◌∙◌}
-use Rattle.std.specs.Prelude.{get_or, option_map, slice_get}
+use Rattle.std.proofs.Common.{◌≡◌, ℕ, ◌+◌, ◌<◌, ◌≤◌, List, [], ◌∷◌, ◌++◌, map, length, take, Option, None, refl, sym, ap, ◌∙◌}
+use Rattle.std.specs.Prelude.{get_or, option_map}
 use Rattle.std.specs.List.{filter_map, cons_option}
 use Rattle.std.proofs.lemmas.List.{take_more, take_all}
 use Rattle.std.proofs.lemmas.List.Elements.{filter_map-append}
@@ -9,21 +9,12 @@ use Rattle.desk_store.specs.Holdings.{ticket_of, loan_by, issued_by}
 use Rattle.office_tables.specs.RowNumbers.{AreCounted}
 use Rattle.desk_store.specs.declared.holdings.Loan.{Loan}
 use Rattle.desk_store.specs.declared.loans.HoldingLine.{HoldingLine}
-use Rattle.desk_store.proofs.CardCalls.{first_told, unknown}
+use Rattle.desk_store.proofs.CardCalls.{unknown}
 use Rattle.desk_store.proofs.LoanRows.{line_of}
 
 -- there is no such order
 pub never_placed : (o : ℕ) (xs : List OrderRow) → AreCounted (λ (x : OrderRow). x.id) xs → length xs < o → ticket_of xs o ≡ None
 never_placed o xs counted h = ap (option_map (λ (x : OrderRow). x.ticket)) (unknown (λ (x : OrderRow). x.id) o xs counted h)
-
-same_option : (o : Option ℕ) → option_map (λ t. t) o ≡ o
-same_option None = refl
-same_option (Some t) = refl
-
-pub holder_told : (o : ℕ) (xs : List OrderRow) (found : List ℕ) → found ≡ map (λ (x : OrderRow). x.ticket) (filter (λ (x : OrderRow). nat_eq o x.id) xs) → slice_get found 0 ≡ ticket_of xs o
-holder_told o xs found are =
-    ap (λ l. slice_get l 0) are ∙ sym (same_option (slice_get (map (λ (x : OrderRow). x.ticket) (filter (λ (x : OrderRow). nat_eq o x.id) xs)) 0))
-    ∙ sym (first_told (λ (x : OrderRow). x.ticket) (λ t. t) (λ (x : OrderRow). nat_eq o x.id) xs)
 
 -- ---- the loans of the lines, one after another
 

@@ -1,7 +1,7 @@
 -- The statement that finds an order: what its text means, what it tells, and why it fails.
 use Rattle.std.proofs.Common.{◌≡◌, ◌≤◌, ℕ, pos, List, [], ◌∷◌, map, filter, find, codes, true, false, Bool, cond, Option, Some, None, Result, IfOk, IfErr, nat_eq, refl, sym, ap, subst, ◌∙◌}
 use Rattle.std.proofs.Math.Nat.{le_refl}
-use Rattle.std.specs.Prelude.{option_map, slice_get}
+use Rattle.std.specs.Prelude.{option_map}
 use Rattle.std.specs.List.{AllByRecursion}
 use Rattle.sqlite.specs.declared.types.Value.TheVariants.{Int}
 use Rattle.sqlite.specs.Order.{Row}
@@ -25,7 +25,6 @@ use Rattle.office_tables.specs.Order.{IsOrdered}
 use Rattle.office_tables.specs.Schema.{schema, orders}
 use Rattle.office_tables.specs.Step.{Holds}
 use Rattle.office_tables.specs.declared.fault.StoreFault.{StoreFault}
-use Rattle.office_tables.proofs.Reading.{first_shown}
 use Rattle.office_tables.proofs.Queries.{asking}
 use Rattle.office_tables.proofs.statements.SelectOf.{select_finds, select_faults}
 use Rattle.office_tables.proofs.Tests.{only, same_number, by_one_int}
@@ -54,33 +53,30 @@ entry_columns = col 1 2 ∷ col 1 3 ∷ col 1 4 ∷ col 1 5 ∷ []
 abbrev entry_names : List (List ℕ)
 entry_names = codes "ticket" ∷ codes "container" ∷ codes "day" ∷ codes "state" ∷ []
 
-abbrev pub orders_with_text : List ℕ
-orders_with_text = codes "SELECT ticket, container, day, state FROM orders WHERE id = ?1 ORDER BY id"
+abbrev pub find_order_text : List ℕ
+find_order_text = codes "SELECT ticket, container, day, state FROM orders WHERE id = ?1 ORDER BY id"
 
-abbrev pub orders_with_command : Command
-orders_with_command = Select (asking orders with_its_number entry_columns in_order) entry_names
+abbrev pub find_order_command : Command
+find_order_command = Select (asking orders with_its_number entry_columns in_order) entry_names
 
-pub orders_with_means : (v : Version) → Means v orders_with_text 1 orders_with_command
+pub find_order_means : (v : Version) → Means v find_order_text 1 find_order_command
 unfolding understood everything
-orders_with_means v = record { is = refl; plain = (refl, refl); whole = (le_refl _, refl, refl); unlisted = refl }
+find_order_means v = record { is = refl; plain = (refl, refl); whole = (le_refl _, refl, refl); unlisted = refl }
 
 module _ (old new : State) (n : ℕ) (v : Version) (has : old.now.schema ≡ schema v) (xs : List OrderRow) (stored : Holds orders order_cells old xs) {X : Type 0} (items : X → List OrderEntry) (r : Result X StoreFault) where
-  pub orders_with_finds : IfOk r (λ found. Finds entry_cells orders_with_text (Int (pos n) ∷ []) old new (items found)) → IfOk r (λ found. (ys : List OrderRow) × IsOrdered by_order (filter (λ (o : OrderRow). nat_eq n o.id) xs) ys × (items found ≡ map entry_of ys))
-  orders_with_finds =
-      select_finds v orders orders_with_text with_its_number entry_columns in_order entry_names (Int (pos n) ∷ []) (orders_with_means v) old new has order_cells xs stored
+  pub find_order_finds : IfOk r (λ found. Finds entry_cells find_order_text (Int (pos n) ∷ []) old new (items found)) → IfOk r (λ found. (ys : List OrderRow) × IsOrdered by_order (filter (λ (o : OrderRow). nat_eq n o.id) xs) ys × (items found ≡ map entry_of ys))
+  find_order_finds =
+      select_finds v orders find_order_text with_its_number entry_columns in_order entry_names (Int (pos n) ∷ []) (find_order_means v) old new has order_cells xs stored
       (λ (o : OrderRow). nat_eq n o.id) (λ o. only (same_number o.id n)) (λ o. entry_cells (entry_of o)) (λ (o : OrderRow). Int (pos o.id) ∷ []) (λ _. refl) by_order (λ _. refl) (λ a b. by_one_int (pos a.id) (pos b.id))
       entry_cells items entry_of (λ _. refl) r
 
-  pub orders_with_faults : AllByRecursion IsLegibleOrder xs → IsUnlimited old → IfErr r (Misses entry_cells IsEntry orders_with_text (Int (pos n) ∷ []) old new) → IfErr r (HasCause old new)
-  orders_with_faults legible free =
-      select_faults v orders orders_with_text with_its_number entry_columns in_order entry_names (Int (pos n) ∷ []) (orders_with_means v) old new has order_cells xs stored
+  pub find_order_faults : AllByRecursion IsLegibleOrder xs → IsUnlimited old → IfErr r (Misses entry_cells IsEntry find_order_text (Int (pos n) ∷ []) old new) → IfErr r (HasCause old new)
+  find_order_faults legible free =
+      select_faults v orders find_order_text with_its_number entry_columns in_order entry_names (Int (pos n) ∷ []) (find_order_means v) old new has order_cells xs stored
       (λ (o : OrderRow). nat_eq n o.id) (λ o. only (same_number o.id n)) (λ o. entry_cells (entry_of o)) (λ (o : OrderRow). Int (pos o.id) ∷ []) (λ _. refl) by_order (λ _. refl) (λ a b. by_one_int (pos a.id) (pos b.id))
       entry_cells items entry_of (λ _. refl) IsEntry refl free (all_weaker IsLegibleOrder (λ o. IsEntry (entry_of o)) (λ o h. h.day) xs legible) r
 
 -- ---- the order that is found
-
-pub entry_found : (n : ℕ) (xs : List OrderRow) (rows : List OrderEntry) → rows ≡ map entry_of (filter (λ (o : OrderRow). nat_eq n o.id) xs) → slice_get rows 0 ≡ option_map entry_of (find (λ (o : OrderRow). nat_eq n o.id) xs)
-entry_found n xs rows are = first_shown entry_of (λ (o : OrderRow). nat_eq n o.id) xs rows are
 
 pub told_none : (row : Option OrderRow) → option_map entry_of row ≡ None → IsThere row None
 told_none None h = refl

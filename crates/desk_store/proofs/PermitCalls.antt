@@ -20,10 +20,9 @@ use Rattle.sqlite_trees.proofs.ListLemmas.{all-filter}
 use Rattle.sqlite_trees.specs.declared.store.Store as store
 use Rattle.desk_core.specs.DeskRows.{Desk, PermitRow}
 use Rattle.office_tables.specs.Calls.{StoreUpdates}
-use Rattle.office_tables.specs.ChangeStatement.{Leaves}
-use Rattle.office_tables.specs.Faults.{FaultsHaveCause}
 use Rattle.office_tables.specs.Order.{IsOrdered}
 use Rattle.office_tables.specs.Step.{Goes, PutsRow, OnlyTouches}
+use Rattle.office_tables.specs.NumberedStatements.{PutsNumbered, ThinsNumbered}
 use Rattle.office_tables.specs.declared.fault.StoreFault.{StoreFault}
 use Rattle.office_tables.proofs.Calls.{early, on_ok_then, on_ok_both, on_err_then, goes_then, cut_then}
 use Rattle.office_tables.proofs.Causes.{still_unlimited}
@@ -100,15 +99,14 @@ module _ {S : Type 0} (g : store.Ghosts S) (before after : Held S) (r : Result U
   abbrev new : State
   new = state g after
 
-  pub takes_back : (t u : ℕ) → Leaves old new r → (HasCleanDisk new → (ps : List PermitRow) → HasNumbered permit_cells (old.now.trees tables.permit.tree) ps → OnOk r (HasNumbered permit_cells (new.now.trees tables.permit.tree) (without_permit t u ps)))
-      → (HasCleanDisk new → OnOk r (OnlyTouches (tables.permit.tree ∷ []) old.now new.now)) → FaultsHaveCause old new r → StoreUpdates g RepresentsDeskAlone IsLegible before after r (λ _. ⊤) (revoked t u) (tables.permit.tree ∷ [])
-  takes_back t u leaves rows only faults = record {
-    represents_updated = λ clean beside d shown may. on_ok_both r _ _ _ (λ touches has. with_permits old.now new.now d shown _ touches has (tickets_left t u d old.now.trees shown)) (only clean) (rows clean d.permits shown.permits);
-    only = only;
-    goes = leaves.goes;
-    cut = leaves.cut;
-    spares = λ clean. untouched_last (tables.permit.tree ∷ []) old new r (leaves.spares clean);
-    faults = λ beside d shown may kept. faults;
+  pub takes_back : (t u : ℕ) → ThinsNumbered g tables.permit permit_cells before after r (without_permit t u) → StoreUpdates g RepresentsDeskAlone IsLegible before after r (λ _. ⊤) (revoked t u) (tables.permit.tree ∷ [])
+  takes_back t u thins = record {
+    represents_updated = λ clean beside d shown may. on_ok_both r _ _ _ (λ touches has. with_permits old.now new.now d shown _ touches has (tickets_left t u d old.now.trees shown)) (thins.only clean) (thins.rows clean d.permits shown.permits);
+    only = thins.only;
+    goes = thins.leaves.goes;
+    cut = thins.leaves.cut;
+    spares = λ clean. untouched_last (tables.permit.tree ∷ []) old new r (thins.leaves.spares clean);
+    faults = λ beside d shown may kept. thins.faults;
   }
 
 -- ---- a permit is granted: first the one that there is goes
@@ -126,46 +124,44 @@ module _ {S : Type 0} (g : store.Ghosts S) (before mid after : Held S) (t u : �
   abbrev row : PermitRow
   row = record { ticket = t; unit = u; until = until }
 
-  pub not_cleared : (e : StoreFault) → Leaves {X = Unit} a b (Err e) → FaultsHaveCause {X = Unit} a b (Err e)
+  pub not_cleared : (e : StoreFault) → ThinsNumbered {X = Unit} g tables.permit permit_cells before mid (Err e) (without_permit t u)
       → StoreUpdates {X = Unit} g RepresentsDeskAlone IsLegible before mid (Err e) (MayHave t u a.now.trees) (with_permit t u until) (tables.permit.tree ∷ [])
-  not_cleared e leaves faults = record {
+  not_cleared e thins = record {
     represents_updated = λ clean beside d shown may. tt;
     only = λ clean. tt;
     goes = tt;
-    cut = leaves.cut;
-    spares = λ clean. untouched (tables.permit.tree ∷ []) a b e (leaves.spares clean);
-    faults = λ beside d shown may kept. faults;
+    cut = thins.leaves.cut;
+    spares = λ clean. untouched (tables.permit.tree ∷ []) a b e (thins.leaves.spares clean);
+    faults = λ beside d shown may kept. thins.faults;
   }
 
   module _ (goes : Goes a b) (only : HasCleanDisk b → OnlyTouches (tables.permit.tree ∷ []) a.now b.now) (left : HasCleanDisk b → (ps : List PermitRow) → HasNumbered permit_cells (a.now.trees tables.permit.tree) ps → HasNumbered permit_cells (b.now.trees tables.permit.tree) (without_permit t u ps))
-      (r : Result Unit StoreFault) where
+      (r : Result Unit StoreFault) (puts : PutsNumbered g tables.permit permit_cells mid after r row (λ s ps. (list_any (is_permit t u) ps ≡ false) × HasUnitRow u s.now.trees)) where
     still_there : HasCleanDisk b → HasUnitRow u a.now.trees → HasUnitRow u b.now.trees
     still_there clean known = subst (λ rows. (row : Row) × Has rows row × (rowid row ≡ Int (pos u))) (sym (only clean tables.unit.tree refl refl)) known
 
     row_put : HasCleanDisk b → PutsRow tables.permit.tree (permit_cells (next_rowid (b.now.trees tables.permit.tree), row)) b.now c.now → (ps : List PermitRow) → HasNumbered permit_cells (a.now.trees tables.permit.tree) ps → HasNumbered permit_cells (c.now.trees tables.permit.tree) (granted t u until ps)
-    row_put clean puts ps stored =
-        one_more permit_cells (λ _. refl) (b.now.trees tables.permit.tree) (c.now.trees tables.permit.tree) (without_permit t u ps) (next_rowid (b.now.trees tables.permit.tree)) row (left clean ps stored) puts.rows puts.fresh
+    row_put clean at ps stored =
+        one_more permit_cells (λ _. refl) (b.now.trees tables.permit.tree) (c.now.trees tables.permit.tree) (without_permit t u ps) (next_rowid (b.now.trees tables.permit.tree)) row (left clean ps stored) at.rows at.fresh
 
-    pub rows_granted : Leaves b c r → (HasCleanDisk c → OnOk r (PutsRow tables.permit.tree (permit_cells (next_rowid (b.now.trees tables.permit.tree), row)) b.now c.now))
-        → HasCleanDisk c → (ps : List PermitRow) → HasNumbered permit_cells (a.now.trees tables.permit.tree) ps → OnOk r (HasNumbered permit_cells (c.now.trees tables.permit.tree) (granted t u until ps))
-    rows_granted leaves puts clean ps stored = on_ok_then r _ _ (λ at. row_put (early b c _ leaves.crash clean) at ps stored) (puts clean)
+    pub rows_granted : HasCleanDisk c → (ps : List PermitRow) → HasNumbered permit_cells (a.now.trees tables.permit.tree) ps → OnOk r (HasNumbered permit_cells (c.now.trees tables.permit.tree) (granted t u until ps))
+    rows_granted clean ps stored = on_ok_then r _ _ (λ at. row_put (early b c _ puts.leaves.crash clean) at ps stored) (puts.puts clean)
 
     put : HasCleanDisk b → PutsRow tables.permit.tree (permit_cells (next_rowid (b.now.trees tables.permit.tree), row)) b.now c.now → (d : Desk) → RepresentsDesk a.now.trees d → IsNumberOf d.readers t → RepresentsDesk c.now.trees (with_permit t u until d)
-    put clean puts d shown given =
-        with_permits a.now c.now d shown (granted t u until d.permits) (λ tree known other. puts.only tree known other ∙ only clean tree known other)
-        (row_put clean puts d.permits shown.permits) (given, tickets_left t u d a.now.trees shown)
+    put clean at d shown given =
+        with_permits a.now c.now d shown (granted t u until d.permits) (λ tree known other. at.only tree known other ∙ only clean tree known other)
+        (row_put clean at d.permits shown.permits) (given, tickets_left t u d a.now.trees shown)
 
-    pub grants : Leaves b c r → (HasCleanDisk c → OnOk r (PutsRow tables.permit.tree (permit_cells (next_rowid (b.now.trees tables.permit.tree), row)) b.now c.now))
-        → ((ps : List PermitRow) → HasNumbered permit_cells (b.now.trees tables.permit.tree) ps → list_any (is_permit t u) ps ≡ false → HasUnitRow u b.now.trees → FaultsHaveCause b c r)
-        → StoreUpdates g RepresentsDeskAlone IsLegible before after r (MayHave t u a.now.trees) (with_permit t u until) (tables.permit.tree ∷ [])
-    grants leaves puts faults =
+    pub grants : StoreUpdates g RepresentsDeskAlone IsLegible before after r (MayHave t u a.now.trees) (with_permit t u until) (tables.permit.tree ∷ [])
+    grants =
+        let leaves = puts.leaves in
         let back = early b c _ leaves.crash in
         record {
-          represents_updated = λ clean beside d shown may. on_ok_then r _ _ (λ at. put (back clean) at d shown may.0) (puts clean);
-          only = λ clean. on_ok_then r _ _ (λ (at : PutsRow tables.permit.tree (permit_cells (next_rowid (b.now.trees tables.permit.tree), row)) b.now c.now) tree known other. at.only tree known other ∙ only (back clean) tree known other) (puts clean);
+          represents_updated = λ clean beside d shown may. on_ok_then r _ _ (λ at. put (back clean) at d shown may.0) (puts.puts clean);
+          only = λ clean. on_ok_then r _ _ (λ (at : PutsRow tables.permit.tree (permit_cells (next_rowid (b.now.trees tables.permit.tree), row)) b.now c.now) tree known other. at.only tree known other ∙ only (back clean) tree known other) (puts.puts clean);
           goes = on_ok_then r _ _ (goes_then a b c goes) leaves.goes;
           cut = on_err_then r _ _ (cut_then a b c goes.on) leaves.cut;
           spares = λ clean. last_touched (tables.permit.tree ∷ []) a b c goes.on only r leaves.cut clean (untouched_last (tables.permit.tree ∷ []) b c r (leaves.spares clean));
           faults = λ beside d shown may kept clean free. last_cause a b c goes.on r leaves.cut clean (λ cleaner.
-              faults (without_permit t u d.permits) (left cleaner d.permits shown.permits) (none_left t u d.permits) (still_there cleaner may.1) clean (still_unlimited a b goes.on free));
+              puts.faults (without_permit t u d.permits) (left cleaner d.permits shown.permits) (none_left t u d.permits, still_there cleaner may.1) clean (still_unlimited a b goes.on free));
         }

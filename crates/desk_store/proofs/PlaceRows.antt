@@ -1,7 +1,7 @@
 -- The statement on where a container is: what its text means, what it tells, and why it fails. And the place that it tells.
 use Rattle.std.proofs.Common.{◌≡◌, ℕ, pos, Bool, List, [], ◌∷◌, map, filter, find, codes, true, false, cond, Option, Some, None, Result, IfOk, IfErr, nat_eq, refl, sym, subst}
 use Rattle.std.proofs.Math.Nat.{le_refl}
-use Rattle.std.specs.Prelude.{⊤, option_map, slice_get}
+use Rattle.std.specs.Prelude.{⊤, option_map}
 use Rattle.std.specs.List.{AllByRecursion}
 use Rattle.sqlite.specs.declared.types.Value.TheVariants.{Int}
 use Rattle.sqlite.specs.Order.{Row}
@@ -27,7 +27,6 @@ use Rattle.office_tables.specs.Order.{IsOrdered}
 use Rattle.office_tables.specs.Schema.{schema, holding}
 use Rattle.office_tables.specs.Step.{Holds}
 use Rattle.office_tables.specs.declared.fault.StoreFault.{StoreFault}
-use Rattle.office_tables.proofs.Reading.{first_shown}
 use Rattle.office_tables.proofs.Queries.{asking}
 use Rattle.office_tables.proofs.statements.SelectOf.{select_finds, select_faults}
 use Rattle.office_tables.proofs.Tests.{only, same_number, by_one_int}
@@ -78,10 +77,6 @@ module _ (old new : State) (n : ℕ) (v : Version) (has : old.now.schema ≡ sch
       place_cells items place_entry (λ _. refl) (λ _. ⊤) refl free (all_of (λ _. ⊤) (λ _. tt) xs) r
 
 -- ---- the place that is told
-
-pub entry_told : (n : ℕ) (xs : List HoldingRow) (found : List PlaceEntry) → found ≡ map place_entry (filter (λ (h : HoldingRow). nat_eq n h.container) xs)
-    → slice_get found 0 ≡ option_map place_entry (find (λ (h : HoldingRow). nat_eq n h.container) xs)
-entry_told n xs found are = first_shown place_entry (λ (h : HoldingRow). nat_eq n h.container) xs found are
 
 -- the row of an entry, of whatever container
 abbrev pub row_of : PlaceEntry → HoldingRow

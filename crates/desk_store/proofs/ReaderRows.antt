@@ -177,26 +177,26 @@ named_columns = col 1 2 ∷ col 1 3 ∷ []
 abbrev named_names : List (List ℕ)
 named_names = codes "name" ∷ codes "until" ∷ []
 
-abbrev pub readers_with_text : List ℕ
-readers_with_text = codes "SELECT name, until FROM reader WHERE ticket = ?1 ORDER BY ticket"
+abbrev pub find_reader_text : List ℕ
+find_reader_text = codes "SELECT name, until FROM reader WHERE ticket = ?1 ORDER BY ticket"
 
-abbrev pub readers_with_command : Command
-readers_with_command = Select (asking reader with_its_number named_columns in_order) named_names
+abbrev pub find_reader_command : Command
+find_reader_command = Select (asking reader with_its_number named_columns in_order) named_names
 
-pub readers_with_means : (v : Version) → Means v readers_with_text 1 readers_with_command
+pub find_reader_means : (v : Version) → Means v find_reader_text 1 find_reader_command
 unfolding understood everything
-readers_with_means v = record { is = refl; plain = (refl, refl); whole = (le_refl _, refl, refl); unlisted = refl }
+find_reader_means v = record { is = refl; plain = (refl, refl); whole = (le_refl _, refl, refl); unlisted = refl }
 
 module _ (old new : State) (t : ℕ) (v : Version) (has : old.now.schema ≡ schema v) (xs : List ReaderRow) (stored : Holds reader reader_cells old xs) {X : Type 0} (items : X → List NamedReader) (r : Result X StoreFault) where
-  pub readers_with_finds : IfOk r (λ found. Finds named_cells readers_with_text (Int (pos t) ∷ []) old new (items found)) → IfOk r (λ found. (ys : List ReaderRow) × IsOrdered by_ticket (filter (λ (x : ReaderRow). nat_eq t x.ticket) xs) ys × (items found ≡ map named ys))
-  readers_with_finds =
-      select_finds v reader readers_with_text with_its_number named_columns in_order named_names (Int (pos t) ∷ []) (readers_with_means v) old new has reader_cells xs stored
+  pub find_reader_finds : IfOk r (λ found. Finds named_cells find_reader_text (Int (pos t) ∷ []) old new (items found)) → IfOk r (λ found. (ys : List ReaderRow) × IsOrdered by_ticket (filter (λ (x : ReaderRow). nat_eq t x.ticket) xs) ys × (items found ≡ map named ys))
+  find_reader_finds =
+      select_finds v reader find_reader_text with_its_number named_columns in_order named_names (Int (pos t) ∷ []) (find_reader_means v) old new has reader_cells xs stored
       (λ (x : ReaderRow). nat_eq t x.ticket) (λ x. only (same_number x.ticket t)) (λ x. named_cells (named x)) (λ (x : ReaderRow). Int (pos x.ticket) ∷ []) (λ _. refl) by_ticket (λ _. refl) (λ a b. by_one_int (pos a.ticket) (pos b.ticket))
       named_cells items named (λ _. refl) r
 
-  pub readers_with_faults : AllByRecursion IsLegibleReader xs → IsUnlimited old → IfErr r (Misses named_cells IsNamed readers_with_text (Int (pos t) ∷ []) old new) → IfErr r (HasCause old new)
-  readers_with_faults legible free =
-      select_faults v reader readers_with_text with_its_number named_columns in_order named_names (Int (pos t) ∷ []) (readers_with_means v) old new has reader_cells xs stored
+  pub find_reader_faults : AllByRecursion IsLegibleReader xs → IsUnlimited old → IfErr r (Misses named_cells IsNamed find_reader_text (Int (pos t) ∷ []) old new) → IfErr r (HasCause old new)
+  find_reader_faults legible free =
+      select_faults v reader find_reader_text with_its_number named_columns in_order named_names (Int (pos t) ∷ []) (find_reader_means v) old new has reader_cells xs stored
       (λ (x : ReaderRow). nat_eq t x.ticket) (λ x. only (same_number x.ticket t)) (λ x. named_cells (named x)) (λ (x : ReaderRow). Int (pos x.ticket) ∷ []) (λ _. refl) by_ticket (λ _. refl) (λ a b. by_one_int (pos a.ticket) (pos b.ticket))
       named_cells items named (λ _. refl) IsNamed refl free (all_weaker IsLegibleReader (λ x. IsNamed (named x)) (λ x h. (h.name, h.until)) xs legible) r
 

@@ -1,5 +1,5 @@
 -- The statements on the rows of runs and of their lines: what their texts mean, what they leave or tell, and why they fail.
-use Rattle.std.proofs.Common.{◌≡◌, ◌≤◌, ◌<◌, ◌^◌, ℕ, ℤ, pos, List, [], ◌∷◌, ◌++◌, length, map, filter, codes, false, ◌&&◌, Result, OnOk, IfOk, IfErr, nat_eq, refl, sym, subst, arith}
+use Rattle.std.proofs.Common.{◌≡◌, ◌≤◌, ◌<◌, ◌^◌, ℕ, ℤ, pos, List, [], ◌∷◌, length, map, filter, codes, false, ◌&&◌, Result, OnOk, IfOk, IfErr, nat_eq, refl, sym, subst, arith}
 use Rattle.std.specs.Prelude.{⊤}
 use Rattle.std.proofs.Math.Nat.{le_refl}
 use Rattle.std.proofs.lemmas.Result.{IfOk-weaker}
@@ -36,12 +36,11 @@ use Rattle.office_tables.specs.Faults.{IsUnlimited, HasCause}
 use Rattle.office_tables.specs.StatementMeaning.{Means}
 use Rattle.office_tables.specs.Schema.{schema, run, run_line}
 use Rattle.office_tables.specs.Schema as tables
-use Rattle.office_tables.specs.Step.{Holds, OnlyTouches, PutsRow}
+use Rattle.office_tables.specs.Step.{Holds, PutsRow}
 use Rattle.office_tables.specs.declared.fault.StoreFault.{StoreFault}
 use Rattle.desk_store.specs.Rows.{run_cells, run_line_cells}
 use Rattle.office_tables.specs.RowNumbers.{AreCounted, HasNumbered}
 use Rattle.desk_store.specs.declared.runs.TakenLine.{TakenLine}
-use Rattle.office_tables.proofs.Calls.{on_ok_then}
 use Rattle.office_tables.proofs.Casts.{cast_int, cast_null}
 use Rattle.office_tables.proofs.InsertCauses.{IsWelcome}
 use Rattle.office_tables.proofs.Queries.{asking}
@@ -49,7 +48,7 @@ use Rattle.office_tables.proofs.statements.InsertOf.{insert_puts, insert_faults}
 use Rattle.office_tables.proofs.statements.SelectOf.{select_finds, select_faults}
 use Rattle.office_tables.proofs.Tests.{only, both, same_number, by_two_ints}
 use Rattle.office_tables.proofs.statements.LastOf.{last_of, last_finds, last_faults}
-use Rattle.office_tables.proofs.numbered.OwnNumbers.{one_at_end, told_permuted}
+use Rattle.office_tables.proofs.numbered.OwnNumbers.{told_permuted}
 use Rattle.office_tables.proofs.statements.WelcomeOf.{number_welcome, next_welcome, none_agrees}
 
 -- ---- the last run
@@ -134,27 +133,19 @@ module _ (old new : State) (l : RunLineRow) (v : Version) (has : old.now.schema 
   news : (edit_of old.now.trees run_line [] Chosen 0 (value_rows params 5 1 insert_line_terms)).news ≡ run_line_cells added ∷ []
   news = rw (cast_null, cast_int (pos l.run), cast_int (pos l.container), cast_int (pos l.order_no), cast_int (pos l.ticket)) refl
 
-  puts : (r : Result Unit StoreFault) → Ran insert_line_text params old new r → OnOk r (PutsRow tables.run_line.tree (run_line_cells added) old.now new.now)
-  puts = insert_puts v 5 run_line refl insert_line_text insert_line_terms 5 params (insert_line_means v) old new has (run_line_cells added) news
+  pub insert_line_puts : (r : Result Unit StoreFault) → Ran insert_line_text params old new r → OnOk r (PutsRow tables.run_line.tree (run_line_cells added) old.now new.now)
+  insert_line_puts = insert_puts v 5 run_line refl insert_line_text insert_line_terms 5 params (insert_line_means v) old new has (run_line_cells added) news
 
-  pub insert_line_only : (r : Result Unit StoreFault) → Ran insert_line_text params old new r → OnOk r (OnlyTouches (tables.run_line.tree ∷ []) old.now new.now)
-  insert_line_only r ran = on_ok_then r _ _ (λ put. put.only) (puts r ran)
+  module _ (ls : List RunLineRow) (at : HasNumbered run_line_cells (old.now.trees tables.run_line.tree) ls) (none : list_any (λ (x : RunLineRow). nat_eq l.run x.run && nat_eq l.container x.container) ls ≡ false) where
+    welcome : IsWelcome (schema v) old.now.trees run_line (run_line_cells added)
+    welcome =
+        let apart : list_any (λ r. agree plain (1 ∷ 2 ∷ []) r (1 ∷ 2 ∷ []) (run_line_cells added)) (old.now.trees run_line.tree) ≡ false =
+        none_agrees run_line_cells (old.now.trees run_line.tree) ls at (1 ∷ 2 ∷ []) (run_line_cells added) (λ (x : RunLineRow). nat_eq l.run x.run && nat_eq l.container x.container) (λ x. same_line x added) none in
+        next_welcome v run_line run_line_cells (λ (l : RunLineRow). Int (pos l.run) ∷ Int (pos l.container) ∷ Int (pos l.order_no) ∷ Int (pos l.ticket) ∷ []) (λ _. refl) l ls old.now.trees at (rw apart refl)
+        (record { typed = refl; present = refl; checked = refl; referred = refl; parents = refl })
 
-  module _ (ls : List RunLineRow) (at : HasNumbered run_line_cells (old.now.trees tables.run_line.tree) ls) where
-    pub insert_line_puts : (r : Result Unit StoreFault) → Ran insert_line_text params old new r → OnOk r (HasNumbered run_line_cells (new.now.trees tables.run_line.tree) (ls ++ l ∷ []))
-    insert_line_puts r ran =
-        on_ok_then r _ _ (λ put. one_at_end run_line_cells (λ _. refl) (old.now.trees tables.run_line.tree) (new.now.trees tables.run_line.tree) ls (next_rowid (old.now.trees tables.run_line.tree)) l at put.rows put.fresh) (puts r ran)
-
-    module _ (none : list_any (λ (x : RunLineRow). nat_eq l.run x.run && nat_eq l.container x.container) ls ≡ false) where
-      welcome : IsWelcome (schema v) old.now.trees run_line (run_line_cells added)
-      welcome =
-          let apart : list_any (λ r. agree plain (1 ∷ 2 ∷ []) r (1 ∷ 2 ∷ []) (run_line_cells added)) (old.now.trees run_line.tree) ≡ false =
-          none_agrees run_line_cells (old.now.trees run_line.tree) ls at (1 ∷ 2 ∷ []) (run_line_cells added) (λ (x : RunLineRow). nat_eq l.run x.run && nat_eq l.container x.container) (λ x. same_line x added) none in
-          next_welcome v run_line run_line_cells (λ (l : RunLineRow). Int (pos l.run) ∷ Int (pos l.container) ∷ Int (pos l.order_no) ∷ Int (pos l.ticket) ∷ []) (λ _. refl) l ls old.now.trees at (rw apart refl)
-          (record { typed = refl; present = refl; checked = refl; referred = refl; parents = refl })
-
-      pub insert_line_faults : IsUnlimited old → IsLive old → (r : Result Unit StoreFault) → Ran insert_line_text params old new r → IfErr r (HasCause old new)
-      insert_line_faults = insert_faults v 5 run_line refl insert_line_text insert_line_terms 5 params (insert_line_means v) old new has (run_line_cells added) news refl welcome
+    pub insert_line_faults : IsUnlimited old → IsLive old → (r : Result Unit StoreFault) → Ran insert_line_text params old new r → IfErr r (HasCause old new)
+    insert_line_faults = insert_faults v 5 run_line refl insert_line_text insert_line_terms 5 params (insert_line_means v) old new has (run_line_cells added) news refl welcome
 
 -- ---- the lines of a run
 

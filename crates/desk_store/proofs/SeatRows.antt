@@ -152,18 +152,18 @@ pub seats_means : (v : Version) → Means v seats_text 0 seats_command
 unfolding understood everything
 seats_means v = record { is = refl; plain = (refl, refl); whole = (le_refl _, refl, refl); unlisted = refl }
 
-abbrev pub seats_with_text : List ℕ
-seats_with_text = codes "SELECT seat, ticket FROM seat WHERE ticket = ?1 ORDER BY seat"
+abbrev pub find_seat_text : List ℕ
+find_seat_text = codes "SELECT seat, ticket FROM seat WHERE ticket = ?1 ORDER BY seat"
 
 abbrev with_the_ticket : List Term
 with_the_ticket = op2 (Compare Eq Binary) (col 1 2) (col 0 0) ∷ []
 
-abbrev pub seats_with_command : Command
-seats_with_command = Select (asking seat with_the_ticket taken_columns in_order) taken_names
+abbrev pub find_seat_command : Command
+find_seat_command = Select (asking seat with_the_ticket taken_columns in_order) taken_names
 
-pub seats_with_means : (v : Version) → Means v seats_with_text 1 seats_with_command
+pub find_seat_means : (v : Version) → Means v find_seat_text 1 find_seat_command
 unfolding understood everything
-seats_with_means v = record { is = refl; plain = (refl, refl); whole = (le_refl _, refl, refl); unlisted = refl }
+find_seat_means v = record { is = refl; plain = (refl, refl); whole = (le_refl _, refl, refl); unlisted = refl }
 
 module _ (old new : State) (v : Version) (has : old.now.schema ≡ schema v) (xs : List SeatRow) (stored : Holds seat seat_cells old xs) {X : Type 0} (items : X → List TakenSeat) (r : Result X StoreFault) where
   pub seats_finds : IfOk r (λ found. Finds taken_cells seats_text [] old new (items found)) → IfOk r (λ found. (ys : List SeatRow) × IsOrdered by_seat (filter (λ _. true) xs) ys × (items found ≡ map taken ys))
@@ -178,14 +178,14 @@ module _ (old new : State) (v : Version) (has : old.now.schema ≡ schema v) (xs
       (λ _. true) (λ _. refl) (λ s. taken_cells (taken s)) (λ (s : SeatRow). Int (pos s.seat) ∷ []) (λ _. refl) by_seat (λ _. refl) (λ a b. by_one_int (pos a.seat) (pos b.seat))
       taken_cells items taken (λ _. refl) (λ s. s.seat < 2 ^ 32) refl free legible r
 
-  pub seats_with_finds : (t : ℕ) → IfOk r (λ found. Finds taken_cells seats_with_text (Int (pos t) ∷ []) old new (items found)) → IfOk r (λ found. (ys : List SeatRow) × IsOrdered by_seat (filter (λ (s : SeatRow). nat_eq t s.ticket) xs) ys × (items found ≡ map taken ys))
-  seats_with_finds t =
-      select_finds v seat seats_with_text with_the_ticket taken_columns in_order taken_names (Int (pos t) ∷ []) (seats_with_means v) old new has seat_cells xs stored
+  pub find_seat_finds : (t : ℕ) → IfOk r (λ found. Finds taken_cells find_seat_text (Int (pos t) ∷ []) old new (items found)) → IfOk r (λ found. (ys : List SeatRow) × IsOrdered by_seat (filter (λ (s : SeatRow). nat_eq t s.ticket) xs) ys × (items found ≡ map taken ys))
+  find_seat_finds t =
+      select_finds v seat find_seat_text with_the_ticket taken_columns in_order taken_names (Int (pos t) ∷ []) (find_seat_means v) old new has seat_cells xs stored
       (λ (s : SeatRow). nat_eq t s.ticket) (λ s. only (same_number s.ticket t)) (λ s. taken_cells (taken s)) (λ (s : SeatRow). Int (pos s.seat) ∷ []) (λ _. refl) by_seat (λ _. refl) (λ a b. by_one_int (pos a.seat) (pos b.seat))
       taken_cells items taken (λ _. refl) r
 
-  pub seats_with_faults : (t : ℕ) → AllByRecursion (λ (s : SeatRow). s.seat < 2 ^ 32) xs → IsUnlimited old → IfErr r (Misses taken_cells (λ s. s.seat < 2 ^ 32) seats_with_text (Int (pos t) ∷ []) old new) → IfErr r (HasCause old new)
-  seats_with_faults t legible free =
-      select_faults v seat seats_with_text with_the_ticket taken_columns in_order taken_names (Int (pos t) ∷ []) (seats_with_means v) old new has seat_cells xs stored
+  pub find_seat_faults : (t : ℕ) → AllByRecursion (λ (s : SeatRow). s.seat < 2 ^ 32) xs → IsUnlimited old → IfErr r (Misses taken_cells (λ s. s.seat < 2 ^ 32) find_seat_text (Int (pos t) ∷ []) old new) → IfErr r (HasCause old new)
+  find_seat_faults t legible free =
+      select_faults v seat find_seat_text with_the_ticket taken_columns in_order taken_names (Int (pos t) ∷ []) (find_seat_means v) old new has seat_cells xs stored
       (λ (s : SeatRow). nat_eq t s.ticket) (λ s. only (same_number s.ticket t)) (λ s. taken_cells (taken s)) (λ (s : SeatRow). Int (pos s.seat) ∷ []) (λ _. refl) by_seat (λ _. refl) (λ a b. by_one_int (pos a.seat) (pos b.seat))
       taken_cells items taken (λ _. refl) (λ s. s.seat < 2 ^ 32) refl free legible r

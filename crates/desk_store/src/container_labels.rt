@@ -1,6 +1,6 @@
 //! Which containers there are, and what is written on them. Their table belongs to the catalogue.
 
-ghost use Rattle.std.specs.Prelude.{◌≡◌, ℕ, nat_eq, true, map, filter, IfOk, IfSome, ⊤, is_some, option_map, slice_get};
+ghost use Rattle.std.specs.Prelude.{◌≡◌, ℕ, nat_eq, true, find, IfOk, IfSome, ⊤, is_some, option_map};
 ghost use Rattle.std.specs.List.{AllByRecursion};
 ghost use Rattle.sqlite.specs.Held.{state};
 ghost use Rattle.isad_core.specs.LegibleValues.{IsLegibleBox};
@@ -17,24 +17,24 @@ ghost use Rattle.desk_store.specs.Stacks.{RepresentsQueues, IsLegibleStacks, box
 use isad_core::BoxKey;
 use isad_core::limits::MOST_CONTAINERS;
 use office_tables::value::number;
-use office_tables::{StoreFault, find};
+use office_tables::{StoreFault, find_one};
 use sqlite::{Alter, Connection};
 use std::alloc::Global;
 
-/// What is written on the container with this number: one item, or none. The row is found by its number.
-fn boxes_with<S: Alter>(
+/// What is written on the container with this number, or none if no row has the number.
+fn find_box<S: Alter>(
     alloc: Global,
     conn: &mut Connection<S>,
     container: u64,
-) -> Result<Vec<BoxKey>, StoreFault>
+) -> Result<Option<BoxKey>, StoreFault>
     requires inside { InOffice (state S.Store conn.old) }
     requires small { IsNumber container }
     ensures { LooksUp S.Store (Holds tables.container container_row) conn.old conn.new result
         (AreCounted (λ b. b.0)) (AllByRecursion (λ b. IsLegibleBox b.1))
-        (λ bs found. found.items ≡ map (λ (b : ℕ × BoxKey). b.1)
-        (filter (λ (b : ℕ × BoxKey). nat_eq container b.0) bs)) }
+        (λ bs found. found ≡ option_map (λ (b : ℕ × BoxKey). b.1)
+        (find (λ (b : ℕ × BoxKey). nat_eq container b.0) bs)) }
 {
-    find(
+    find_one(
         alloc,
         conn,
         "SELECT name, location, kind FROM container WHERE id = ?1 ORDER BY id",
@@ -56,36 +56,28 @@ pub(crate) fn box_of<S: Alter>(
     if container > MOST_CONTAINERS {
         return Ok(None);
     }
-    let found = boxes_with(alloc, conn, container)?;
-    Ok(found.into_iter().next())
+    find_box(alloc, conn, container)
 }
 
-/// The number of the container with this number: one item, or none. Nothing that is written on it is read.
-fn numbers_with<S: Alter>(
+/// The number of the container with this number, or none. Nothing that is written on it is read.
+fn find_container<S: Alter>(
     alloc: Global,
     conn: &mut Connection<S>,
     container: u64,
-) -> Result<Vec<u64>, StoreFault>
+) -> Result<Option<u64>, StoreFault>
     requires inside { InOffice (state S.Store conn.old) }
     requires small { IsNumber container }
     ensures { LooksUp S.Store (Holds tables.container container_row) conn.old conn.new result
         (AreCounted (λ b. b.0)) (λ _. ⊤)
-        (λ bs found. found.items ≡ map (λ (b : ℕ × BoxKey). b.0)
-        (filter (λ (b : ℕ × BoxKey). nat_eq container b.0) bs)) }
+        (λ bs found. found ≡ option_map (λ (b : ℕ × BoxKey). b.0)
+        (find (λ (b : ℕ × BoxKey). nat_eq container b.0) bs)) }
 {
-    find(
+    find_one(
         alloc,
         conn,
         "SELECT id FROM container WHERE id = ?1 ORDER BY id",
         &[number(container)],
     )
-}
-
-/// Whether a row was found.
-fn is_found(numbers: &[u64]) -> bool
-    ensures { result ≡ is_some (slice_get numbers.now 0) }
-{
-    numbers.first().is_some()
 }
 
 /// Whether there is a container with this number.
@@ -102,6 +94,6 @@ pub(crate) fn is_known<S: Alter>(
     if container > MOST_CONTAINERS {
         return Ok(false);
     }
-    let numbers = numbers_with(alloc, conn, container)?;
-    Ok(is_found(&numbers))
+    let found = find_container(alloc, conn, container)?;
+    Ok(found.is_some())
 }

@@ -1,9 +1,9 @@
 //! Containers that are with readers.
 
-ghost use Rattle.std.specs.Prelude.{◌≡◌, nat_eq, map, filter, ⊤};
+ghost use Rattle.std.specs.Prelude.{◌≡◌, map, ⊤};
 ghost use Rattle.sqlite.specs.Held.{state};
 ghost use Rattle.isad_core.specs.Limits.{IsNumber};
-ghost use Rattle.desk_core.specs.DeskRows.{HoldingRow, OrderRow};
+ghost use Rattle.desk_core.specs.DeskRows.{HoldingRow};
 ghost use Rattle.office_tables.specs.Calls.{StoreAnswers};
 ghost use Rattle.office_tables.specs.Schema as tables;
 ghost use Rattle.office_tables.specs.Step.{InOffice, Holds};
@@ -16,7 +16,7 @@ ghost use Rattle.office_tables.specs.RowNumbers.{AreByNumber, AreCounted};
 use crate::holdings::Loan;
 use office_tables::from_row::FromRow;
 use office_tables::value::{NO_NUMBER, number};
-use office_tables::{StoreFault, find};
+use office_tables::{StoreFault, find, find_one};
 use sqlite::{Alter, Connection, Row};
 use std::alloc::Global;
 
@@ -65,19 +65,18 @@ pub(crate) fn holding_lines<S: Alter>(
     )
 }
 
-/// The ticket of an order: one item, or none. The order is found by its number.
-pub(crate) fn tickets_of<S: Alter>(
+/// The ticket of an order, or none if there is no such order. The order is found by its number.
+fn find_ticket<S: Alter>(
     alloc: Global,
     conn: &mut Connection<S>,
     order: u64,
-) -> Result<Vec<u64>, StoreFault>
+) -> Result<Option<u64>, StoreFault>
     requires inside { InOffice (state S.Store conn.old) }
     requires small { IsNumber order }
     ensures { LooksUp S.Store (Holds tables.orders order_cells) conn.old conn.new result
-        (AreCounted (λ o. o.id)) (λ _. ⊤)
-        (λ xs found. found.items ≡ map (λ (o : OrderRow). o.ticket) (filter (λ o. nat_eq order o.id) xs)) }
+        (AreCounted (λ o. o.id)) (λ _. ⊤) (λ xs found. found ≡ ticket_of xs order) }
 {
-    find(
+    find_one(
         alloc,
         conn,
         "SELECT ticket FROM orders WHERE id = ?1 ORDER BY id",
@@ -98,8 +97,7 @@ fn holder_of<S: Alter>(
     if order >= NO_NUMBER {
         return Ok(None);
     }
-    let found = tickets_of(alloc, conn, order)?;
-    Ok(found.first().copied())
+    find_ticket(alloc, conn, order)
 }
 
 /// The loan of the container in this line, or none if the line has no order or there is no such order.

@@ -1,6 +1,6 @@
 //! Orders, from when they are placed to when they end.
 
-ghost use Rattle.std.specs.Prelude.{◌≡◌, ◌≤◌, nat_eq, map, filter, IfOk, IfSome, ◌≢◌, IfErr};
+ghost use Rattle.std.specs.Prelude.{◌≡◌, ◌≤◌, nat_eq, find, option_map, IfOk, IfSome, ◌≢◌, IfErr};
 ghost use Rattle.std.specs.Prelude.{IsOk, ⊤};
 ghost use Rattle.std.specs.List.{AllByRecursion};
 ghost use Rattle.sqlite.specs.Held.{state};
@@ -19,7 +19,7 @@ use isad_core::Day;
 use isad_core::limits::MOST_ORDERS;
 use office_tables::from_row::FromRow;
 use office_tables::value::number;
-use office_tables::{StoreFault, find};
+use office_tables::{StoreFault, find_one};
 use sqlite::{Alter, Connection, Row};
 use std::alloc::Global;
 
@@ -82,21 +82,21 @@ impl FromRow for OrderEntry {
     }
 }
 
-/// The order with this number: one item, or none. It is found by the number of its row.
-fn orders_with<S: Alter>(
+/// The order with this number, or none. It is found by the number of its row.
+fn find_order<S: Alter>(
     alloc: Global,
     conn: &mut Connection<S>,
     order: u64,
-) -> Result<Vec<OrderEntry>, StoreFault>
+) -> Result<Option<OrderEntry>, StoreFault>
     requires inside { InOffice (state S.Store conn.old) }
     requires small { IsNumber order }
     ensures { LooksUp S.Store (Holds tables.orders order_cells) conn.old conn.new result
         (AreCounted (λ o. o.id)) (AllByRecursion IsLegibleOrder)
-        (λ xs found. found.items ≡ map (λ (o : OrderRow).
+        (λ xs found. found ≡ option_map (λ (o : OrderRow).
         record { ticket = o.ticket; container = o.container; day = o.day; state = o.state })
-        (filter (λ o. nat_eq order o.id) xs)) }
+        (find (λ o. nat_eq order o.id) xs)) }
 {
-    find(
+    find_one(
         alloc,
         conn,
         "SELECT ticket, container, day, state FROM orders WHERE id = ?1 ORDER BY id",
@@ -144,8 +144,7 @@ pub fn order<S: Alter>(
     if order > MOST_ORDERS {
         return Ok(None);
     }
-    let found = orders_with(alloc, conn, order)?;
-    let Some(entry) = found.first().copied() else {
+    let Some(entry) = find_order(alloc, conn, order)? else {
         return Ok(None);
     };
     let placed = entry.placed()?;

@@ -41,7 +41,6 @@ pub fn queue_head<S: Alter>(
         return Ok(None);
     }
     let place = place_of(alloc, conn, container)?;
-    let waiting = first_for(alloc, conn, container)?;
-    let first = waiting.first().copied();
+    let first = first_for(alloc, conn, container)?;
     Ok(Some(QueueHead { place, first }))
 }

@@ -1,6 +1,6 @@
 //! Queues of containers.
 
-ghost use Rattle.std.specs.Prelude.{◌≡◌, ◌≢◌, nat_eq, map, filter, IfOk, IfErr, IfSome, IsOk, ⊤};
+ghost use Rattle.std.specs.Prelude.{◌≡◌, ◌≢◌, nat_eq, find, option_map, IfOk, IfErr, IfSome, IsOk, ⊤};
 ghost use Rattle.sqlite.specs.Held.{state};
 ghost use Rattle.isad_core.specs.Limits.{IsNumber};
 ghost use Rattle.desk_core.specs.DeskRows.{HoldingRow};
@@ -21,7 +21,7 @@ use desk_core::Place;
 use isad_core::{List, Text};
 use office_tables::from_row::FromRow;
 use office_tables::value::number;
-use office_tables::{StoreFault, find};
+use office_tables::{StoreFault, find_one};
 use sqlite::{Alter, Connection, Row};
 use std::alloc::Global;
 
@@ -78,20 +78,20 @@ impl PlaceEntry {
     }
 }
 
-/// The row with the place of a container: one row, or none. It is found by the container's number.
-fn places_with<S: Alter>(
+/// The row with the place of a container, or none. It is found by the container's number.
+fn find_place<S: Alter>(
     alloc: Global,
     conn: &mut Connection<S>,
     container: u64,
-) -> Result<Vec<PlaceEntry>, StoreFault>
+) -> Result<Option<PlaceEntry>, StoreFault>
     requires inside { InOffice (state S.Store conn.old) }
     requires small { IsNumber container }
     ensures { LooksUp S.Store (Holds tables.holding holding_cells) conn.old conn.new result
         (AreByNumber (λ h. h.container)) (λ _. ⊤)
-        (λ xs found. found.items ≡ map (λ (h : HoldingRow). record { place = h.place; held_by = h.held_by })
-        (filter (λ (h : HoldingRow). nat_eq container h.container) xs)) }
+        (λ xs found. found ≡ option_map (λ (h : HoldingRow). record { place = h.place; held_by = h.held_by })
+        (find (λ (h : HoldingRow). nat_eq container h.container) xs)) }
 {
-    find(
+    find_one(
         alloc,
         conn,
         "SELECT place, held_by FROM holding WHERE container = ?1 ORDER BY container",
@@ -110,8 +110,7 @@ pub(crate) fn place_of<S: Alter>(
     ensures tells { StoreAnswers S.Store RepresentsDeskAlone IsLegible conn.old conn.new result (λ _. ⊤)
         (λ _ d place. IsAt (holding_of container d) place) }
 {
-    let found = places_with(alloc, conn, container)?;
-    match found.first() {
+    match find_place(alloc, conn, container)? {
         Some(entry) => entry.place(),
         None => Ok(Place::Shelf),
     }

@@ -2,17 +2,15 @@
 
 ghost use Rattle.std.specs.Prelude.{◌≡◌, false, List, [], ◌∷◌, OnOk, ⊤};
 ghost use Rattle.std.specs.List.{list_any};
-ghost use Rattle.sqlite.specs.Edit.{next_rowid};
 ghost use Rattle.sqlite.specs.Held.{state};
 ghost use Rattle.sqlite.specs.State.{HasCleanDisk};
 ghost use Rattle.isad_core.specs.Limits.{IsNumber};
 ghost use Rattle.desk_core.specs.DeskRows.{PermitRow};
 ghost use Rattle.office_tables.specs.Calls.{StoreUpdates, StoreAnswers};
-ghost use Rattle.office_tables.specs.ChangeStatement.{Leaves};
-ghost use Rattle.office_tables.specs.Faults.{FaultsHaveCause};
 ghost use Rattle.office_tables.specs.Order.{IsOrdered};
 ghost use Rattle.office_tables.specs.Schema as tables;
-ghost use Rattle.office_tables.specs.Step.{InOffice, OnlyTouches, PutsRow};
+ghost use Rattle.office_tables.specs.Step.{InOffice};
+ghost use Rattle.office_tables.specs.NumberedStatements.{PutsNumbered, ThinsNumbered};
 ghost use Rattle.desk_store.specs.Permits.{permits_of, by_unit, is_permit, without_permit, with_permit, granted};
 ghost use Rattle.desk_store.specs.Permits.{revoked, HasUnitRow, MayHave};
 ghost use Rattle.office_tables.specs.Permits.{permit_cells};
@@ -100,18 +98,9 @@ fn insert_permit<S: Alter>(
     requires inside { InOffice (state S.Store conn.old) }
     requires small { IsNumber ticket }
     requires known { IsNumber unit }
-    ensures leaves { Leaves (state S.Store conn.old) (state S.Store conn.new) result }
-    ensures puts { HasCleanDisk (state S.Store conn.new)
-        → OnOk result (PutsRow tables.permit.tree
-        (permit_cells (
-          next_rowid
-              ((state S.Store conn.old).now.trees tables.permit.tree),
-          record { ticket = ticket; unit = unit; until = until },
-        )) (state S.Store conn.old).now (state S.Store conn.new).now) }
-    ensures faults { (ps : List PermitRow)
-        → HasNumbered permit_cells ((state S.Store conn.old).now.trees tables.permit.tree) ps
-        → list_any (is_permit ticket unit) ps ≡ false → HasUnitRow unit (state S.Store conn.old).now.trees
-        → FaultsHaveCause (state S.Store conn.old) (state S.Store conn.new) result }
+    ensures { PutsNumbered S.Store tables.permit permit_cells conn.old conn.new result
+        (record { ticket = ticket; unit = unit; until = until })
+        (λ s ps. (list_any (is_permit ticket unit) ps ≡ false) × HasUnitRow unit s.now.trees) }
 {
     change(
         conn,
@@ -129,15 +118,7 @@ fn clear_permit<S: Alter>(
     requires inside { InOffice (state S.Store conn.old) }
     requires small { IsNumber ticket }
     requires known { IsNumber unit }
-    ensures leaves { Leaves (state S.Store conn.old) (state S.Store conn.new) result }
-    ensures rows { HasCleanDisk (state S.Store conn.new) → (ps : List PermitRow)
-        → HasNumbered permit_cells ((state S.Store conn.old).now.trees tables.permit.tree) ps
-        → OnOk result (HasNumbered permit_cells ((state S.Store conn.new).now.trees tables.permit.tree)
-        (without_permit ticket unit ps)) }
-    ensures only { HasCleanDisk (state S.Store conn.new)
-        → OnOk result (OnlyTouches (tables.permit.tree ∷ []) (state S.Store conn.old).now
-        (state S.Store conn.new).now) }
-    ensures faults { FaultsHaveCause (state S.Store conn.old) (state S.Store conn.new) result }
+    ensures { ThinsNumbered S.Store tables.permit permit_cells conn.old conn.new result (without_permit ticket unit) }
 {
     change(
         conn,

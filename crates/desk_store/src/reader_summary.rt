@@ -1,7 +1,7 @@
 //! What the desk knows about a ticket.
 
 ghost use Rattle.std.specs.Prelude.{◌≡◌, ◌<◌, ◌≤◌, ◌^◌, ◌&&◌, nat_eq, length, map, filter};
-ghost use Rattle.std.specs.Prelude.{option_map, slice_get, IfOk, IfSome, ⊤};
+ghost use Rattle.std.specs.Prelude.{option_map, IfOk, IfSome, ⊤};
 ghost use Rattle.std.specs.List.{count_by};
 ghost use Rattle.std.specs.Ordering.{int_eq};
 ghost use Rattle.sqlite.specs.Held.{state};
@@ -16,8 +16,8 @@ ghost use Rattle.desk_store.specs.Rows.{order_cells};
 ghost use Rattle.desk_store.specs.Representation.{RepresentsDeskAlone, IsLegible};
 ghost use Rattle.office_tables.specs.RowNumbers.{AreCounted};
 
-use crate::readers::{MOST_TICKETS, NamedReader, readers_with};
-use crate::taken_seats::{TakenSeat, seats_with};
+use crate::readers::{MOST_TICKETS, NamedReader, find_reader};
+use crate::taken_seats::{TakenSeat, find_seat};
 use desk_core::Reader;
 use isad_core::{Day, List, Text};
 use office_tables::from_row::FromRow;
@@ -161,11 +161,11 @@ fn count_out(live: &[LiveOrder]) -> u32
     u32::try_from(out).unwrap_or(u32::MAX)
 }
 
-/// The seat in the first of these rows, or none if there is no row.
-pub(crate) fn seat_in(seats: &[TakenSeat]) -> Option<u32>
-    ensures { result ≡ option_map (λ s. s.seat) (slice_get seats.now 0) }
+/// The seat that is taken, if one is.
+pub(crate) fn seat_in(taken: Option<TakenSeat>) -> Option<u32>
+    ensures { result ≡ option_map (λ s. s.seat) taken }
 {
-    seats.first().map(|taken| taken.seat)
+    taken.map(|taken| taken.seat)
 }
 
 /// The orders of a ticket that wait or are out, how many it placed on the day, and how many all tickets have
@@ -207,17 +207,16 @@ pub fn reader<S: Alter>(
     if ticket > u64::from(MOST_TICKETS) {
         return Ok(None);
     }
-    let named = readers_with(alloc, conn, ticket)?;
-    let Some(NamedReader { name, until }) = named.into_iter().next() else {
+    let Some(NamedReader { name, until }) = find_reader(alloc, conn, ticket)? else {
         return Ok(None);
     };
-    let seats = seats_with(alloc, conn, ticket)?;
+    let taken = find_seat(alloc, conn, ticket)?;
     let told = orders_of(alloc, conn, ticket, today)?;
     Ok(Some(ReaderCard {
         reader: Reader {
             ticket,
             until,
-            seat: seat_in(&seats),
+            seat: seat_in(taken),
             held: count_out(told.live.as_slice()),
         },
         name,

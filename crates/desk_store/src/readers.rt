@@ -1,7 +1,7 @@
 //! Tickets and their readers.
 
-ghost use Rattle.std.specs.Prelude.{◌≡◌, ◌<◌, ◌≤◌, nat_eq, true, false, [], ◌∷◌, map};
-ghost use Rattle.std.specs.Prelude.{filter, length, IfOk, IfSome, is_some, slice_get, ⊤};
+ghost use Rattle.std.specs.Prelude.{◌≡◌, ◌<◌, ◌≤◌, nat_eq, true, false, [], ◌∷◌, find};
+ghost use Rattle.std.specs.Prelude.{length, option_map, IfOk, IfSome, is_some, ⊤};
 ghost use Rattle.std.specs.List.{AllByRecursion, list_any};
 ghost use Rattle.sqlite.specs.Held.{state};
 ghost use Rattle.sqlite.specs.State.{HasCleanDisk};
@@ -21,7 +21,7 @@ ghost use Rattle.office_tables.specs.RowNumbers.{AreCounted};
 use isad_core::{Day, Text, limits};
 use office_tables::from_row::FromRow;
 use office_tables::value::{day, number, words};
-use office_tables::{StoreFault, change, find, find_number};
+use office_tables::{StoreFault, change, find_number, find_one};
 use sqlite::{Alter, Connection, Row};
 use std::alloc::Global;
 
@@ -57,20 +57,20 @@ impl FromRow for NamedReader {
     }
 }
 
-/// The reader with this ticket: one item, or none. A ticket is the number of its row.
-pub(crate) fn readers_with<S: Alter>(
+/// The reader with this ticket, or none. A ticket is the number of its row.
+pub(crate) fn find_reader<S: Alter>(
     alloc: Global,
     conn: &mut Connection<S>,
     ticket: u64,
-) -> Result<Vec<NamedReader>, StoreFault>
+) -> Result<Option<NamedReader>, StoreFault>
     requires inside { InOffice (state S.Store conn.old) }
     requires small { IsNumber ticket }
     ensures { LooksUp S.Store (Holds tables.reader reader_cells) conn.old conn.new result
         (AreCounted (λ r. r.ticket)) (AllByRecursion IsLegibleReader)
-        (λ xs found. found.items ≡ map (λ (r : ReaderRow). record { name = r.name; until = r.until })
-        (filter (λ r. nat_eq ticket r.ticket) xs)) }
+        (λ xs found. found ≡ option_map (λ (r : ReaderRow). record { name = r.name; until = r.until })
+        (find (λ r. nat_eq ticket r.ticket) xs)) }
 {
-    find(
+    find_one(
         alloc,
         conn,
         "SELECT name, until FROM reader WHERE ticket = ?1 ORDER BY ticket",
@@ -177,13 +177,6 @@ pub fn add_reader<S: Alter>(
     Ok(Some(ticket))
 }
 
-/// Whether there is a row.
-fn is_there(rows: &[NamedReader]) -> bool
-    ensures { result ≡ is_some (slice_get rows.now 0) }
-{
-    rows.first().is_some()
-}
-
 /// Whether a ticket was given.
 pub fn is_registered<S: Alter>(
     alloc: Global,
@@ -198,6 +191,6 @@ pub fn is_registered<S: Alter>(
     if ticket > u64::from(MOST_TICKETS) {
         return Ok(false);
     }
-    let rows = readers_with(alloc, conn, ticket)?;
-    Ok(is_there(&rows))
+    let found = find_reader(alloc, conn, ticket)?;
+    Ok(found.is_some())
 }

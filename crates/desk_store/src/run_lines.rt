@@ -1,6 +1,6 @@
 //! What runs brought to the desk.
 
-ghost use Rattle.std.specs.Prelude.{◌≡◌, nat_eq, true, map, filter};
+ghost use Rattle.std.specs.Prelude.{◌≡◌, nat_eq, true, find, option_map};
 ghost use Rattle.std.specs.List.{AllByRecursion, AllZip};
 ghost use Rattle.sqlite.specs.Held.{state};
 ghost use Rattle.isad_core.specs.Days.{is_day_number};
@@ -22,7 +22,7 @@ use desk_core::Candidate;
 use isad_core::{Day, List};
 use office_tables::from_row::FromRow;
 use office_tables::value::number;
-use office_tables::{StoreFault, find};
+use office_tables::{StoreFault, find_one};
 use sqlite::{Alter, Connection, Row};
 use std::alloc::Global;
 
@@ -50,19 +50,19 @@ impl FromRow for RunDay {
     }
 }
 
-/// The day of a run: one item, or none. A run is found by the number of its row.
-fn days_with<S: Alter>(
+/// The day of a run, or none if there is no such run. A run is found by the number of its row.
+fn find_day<S: Alter>(
     alloc: Global,
     conn: &mut Connection<S>,
     run: u64,
-) -> Result<Vec<RunDay>, StoreFault>
+) -> Result<Option<RunDay>, StoreFault>
     requires inside { InOffice (state S.Store conn.old) }
     requires small { IsNumber run }
     ensures { LooksUp S.Store (Holds tables.run run_cells) conn.old conn.new result
         (AreCounted (λ r. r.id)) (AllByRecursion (λ r. is_day_number r.day ≡ true))
-        (λ xs found. found.items ≡ map (λ (r : RunRow). record { day = r.day }) (filter (λ r. nat_eq run r.id) xs)) }
+        (λ xs found. found ≡ option_map (λ (r : RunRow). record { day = r.day }) (find (λ r. nat_eq run r.id) xs)) }
 {
-    find(
+    find_one(
         alloc,
         conn,
         "SELECT day FROM run WHERE id = ?1 ORDER BY id",
@@ -126,8 +126,7 @@ pub fn run<S: Alter>(
     if run > u64::from(MOST_RUNS) {
         return Ok(None);
     }
-    let days = days_with(alloc, conn, run)?;
-    let Some(made) = days.first().copied() else {
+    let Some(made) = find_day(alloc, conn, run)? else {
         return Ok(None);
     };
     let lines = lines_with(alloc, conn, run)?;

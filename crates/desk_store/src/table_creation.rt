@@ -8,7 +8,7 @@ ghost use Rattle.office_tables.specs.Creation.{IsMaking};
 ghost use Rattle.office_tables.specs.Faults.{HasCause};
 ghost use Rattle.office_tables.specs.Schema.{no_schema, desk_schema};
 ghost use Rattle.office_tables.specs.Step.{Continues, IsAborted};
-ghost use Rattle.desk_store.specs.TableCreation.{reader_schema, order_schema, run_schema};
+ghost use Rattle.desk_store.specs.TableCreation.{Makes, reader_schema, order_schema, run_schema};
 
 use crate::blank::is_blank;
 use office_tables::{StoreFault, create_table};
@@ -16,14 +16,7 @@ use sqlite::{Alter, Connection};
 
 /// Creates the tables of the readers and of the taken seats.
 fn create_readers<S: Alter>(conn: &mut Connection<S>) -> Result<(), StoreFault>
-    ensures made { (start : Database) → IsMaking [] no_schema start (state S.Store conn.old)
-        → OnOk result (Continues (state S.Store conn.old) (state S.Store conn.new) × IsMaking [] reader_schema start
-        (state S.Store conn.new)) }
-    ensures faults { (start : Database) → IsMaking [] no_schema start (state S.Store conn.old)
-        → HasCleanDisk (state S.Store conn.new)
-        → IfErr result (HasCause (state S.Store conn.old) (state S.Store conn.new)) }
-    ensures cut { (start : Database) → IsMaking [] no_schema start (state S.Store conn.old)
-        → OnErr result (IsAborted (state S.Store conn.old) (state S.Store conn.new)) }
+    ensures { Makes S.Store no_schema reader_schema conn.old conn.new result }
 {
     create_table(
         conn,
@@ -37,14 +30,7 @@ fn create_readers<S: Alter>(conn: &mut Connection<S>) -> Result<(), StoreFault>
 
 /// Creates the table of the orders.
 fn create_orders<S: Alter>(conn: &mut Connection<S>) -> Result<(), StoreFault>
-    ensures made { (start : Database) → IsMaking [] reader_schema start (state S.Store conn.old)
-        → OnOk result (Continues (state S.Store conn.old) (state S.Store conn.new) × IsMaking [] order_schema start
-        (state S.Store conn.new)) }
-    ensures faults { (start : Database) → IsMaking [] reader_schema start (state S.Store conn.old)
-        → HasCleanDisk (state S.Store conn.new)
-        → IfErr result (HasCause (state S.Store conn.old) (state S.Store conn.new)) }
-    ensures cut { (start : Database) → IsMaking [] reader_schema start (state S.Store conn.old)
-        → OnErr result (IsAborted (state S.Store conn.old) (state S.Store conn.new)) }
+    ensures { Makes S.Store reader_schema order_schema conn.old conn.new result }
 {
     create_table(
         conn,
@@ -54,14 +40,7 @@ fn create_orders<S: Alter>(conn: &mut Connection<S>) -> Result<(), StoreFault>
 
 /// Creates the tables of the containers that are not on the shelf, and of the runs.
 fn create_runs<S: Alter>(conn: &mut Connection<S>) -> Result<(), StoreFault>
-    ensures made { (start : Database) → IsMaking [] order_schema start (state S.Store conn.old)
-        → OnOk result (Continues (state S.Store conn.old) (state S.Store conn.new) × IsMaking [] run_schema start
-        (state S.Store conn.new)) }
-    ensures faults { (start : Database) → IsMaking [] order_schema start (state S.Store conn.old)
-        → HasCleanDisk (state S.Store conn.new)
-        → IfErr result (HasCause (state S.Store conn.old) (state S.Store conn.new)) }
-    ensures cut { (start : Database) → IsMaking [] order_schema start (state S.Store conn.old)
-        → OnErr result (IsAborted (state S.Store conn.old) (state S.Store conn.new)) }
+    ensures { Makes S.Store order_schema run_schema conn.old conn.new result }
 {
     create_table(
         conn,
@@ -79,14 +58,7 @@ fn create_runs<S: Alter>(conn: &mut Connection<S>) -> Result<(), StoreFault>
 
 /// Creates the table of the permits.
 fn create_permits<S: Alter>(conn: &mut Connection<S>) -> Result<(), StoreFault>
-    ensures made { (start : Database) → IsMaking [] run_schema start (state S.Store conn.old)
-        → OnOk result (Continues (state S.Store conn.old) (state S.Store conn.new) × IsMaking [] desk_schema start
-        (state S.Store conn.new)) }
-    ensures faults { (start : Database) → IsMaking [] run_schema start (state S.Store conn.old)
-        → HasCleanDisk (state S.Store conn.new)
-        → IfErr result (HasCause (state S.Store conn.old) (state S.Store conn.new)) }
-    ensures cut { (start : Database) → IsMaking [] run_schema start (state S.Store conn.old)
-        → OnErr result (IsAborted (state S.Store conn.old) (state S.Store conn.new)) }
+    ensures { Makes S.Store run_schema desk_schema conn.old conn.new result }
 {
     create_table(
         conn,
@@ -96,14 +68,7 @@ fn create_permits<S: Alter>(conn: &mut Connection<S>) -> Result<(), StoreFault>
 
 /// Creates the desk's tables in a store that has no tables.
 fn make_desk<S: Alter>(conn: &mut Connection<S>) -> Result<(), StoreFault>
-    ensures made { (start : Database) → IsMaking [] no_schema start (state S.Store conn.old)
-        → OnOk result (Continues (state S.Store conn.old) (state S.Store conn.new) × IsMaking [] desk_schema start
-        (state S.Store conn.new)) }
-    ensures faults { (start : Database) → IsMaking [] no_schema start (state S.Store conn.old)
-        → HasCleanDisk (state S.Store conn.new)
-        → IfErr result (HasCause (state S.Store conn.old) (state S.Store conn.new)) }
-    ensures cut { (start : Database) → IsMaking [] no_schema start (state S.Store conn.old)
-        → OnErr result (IsAborted (state S.Store conn.old) (state S.Store conn.new)) }
+    ensures { Makes S.Store no_schema desk_schema conn.old conn.new result }
 {
     create_readers(conn)?;
     create_orders(conn)?;

@@ -1,6 +1,6 @@
 //! The seats that are taken, and who has them.
 
-ghost use Rattle.std.specs.Prelude.{◌≡◌, ◌<◌, ◌^◌, not, nat_eq, false, [], ◌∷◌, map, filter, OnOk};
+ghost use Rattle.std.specs.Prelude.{◌≡◌, ◌<◌, ◌^◌, not, nat_eq, false, [], ◌∷◌, filter, find, option_map, OnOk};
 ghost use Rattle.std.specs.Prelude.{IfSome, ⊤};
 ghost use Rattle.std.specs.List.{AllByRecursion, list_any};
 ghost use Rattle.sqlite.specs.Held.{state};
@@ -19,7 +19,7 @@ ghost use Rattle.desk_store.specs.declared.taken_seats.TakenSeat.{TakenSeat};
 
 use office_tables::from_row::FromRow;
 use office_tables::value::number;
-use office_tables::{StoreFault, change, find};
+use office_tables::{StoreFault, change, find, find_one};
 use sqlite::{Alter, Connection, Row};
 use std::alloc::Global;
 
@@ -63,20 +63,20 @@ pub fn seats<S: Alter>(
     )
 }
 
-/// The seat of a ticket: one item, or none. Seats are found by their tickets, which are unique.
-pub(crate) fn seats_with<S: Alter>(
+/// The seat of a ticket, or none. Seats are found by their tickets, which are unique.
+pub(crate) fn find_seat<S: Alter>(
     alloc: Global,
     conn: &mut Connection<S>,
     ticket: u64,
-) -> Result<Vec<TakenSeat>, StoreFault>
+) -> Result<Option<TakenSeat>, StoreFault>
     requires inside { InOffice (state S.Store conn.old) }
     requires small { IsNumber ticket }
     ensures { LooksUp S.Store (Holds tables.seat seat_cells) conn.old conn.new result
         (AreByNumber (λ s. s.seat)) (AllByRecursion (λ s. s.seat < 2 ^ 32))
-        (λ xs found. found.items ≡ map (λ (s : SeatRow). record { seat = s.seat; ticket = s.ticket })
-        (filter (λ s. nat_eq ticket s.ticket) xs)) }
+        (λ xs found. found ≡ option_map (λ (s : SeatRow). record { seat = s.seat; ticket = s.ticket })
+        (find (λ s. nat_eq ticket s.ticket) xs)) }
 {
-    find(
+    find_one(
         alloc,
         conn,
         "SELECT seat, ticket FROM seat WHERE ticket = ?1 ORDER BY seat",

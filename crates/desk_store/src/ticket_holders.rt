@@ -10,8 +10,8 @@ ghost use Rattle.desk_store.specs.Readers.{ticket_holder};
 ghost use Rattle.desk_store.specs.Representation.{RepresentsDeskAlone, IsLegible};
 
 use crate::reader_summary::{OrderLine, live_lines, seat_in};
-use crate::readers::{MOST_TICKETS, readers_with};
-use crate::taken_seats::seats_with;
+use crate::readers::{MOST_TICKETS, find_reader};
+use crate::taken_seats::find_seat;
 use desk_core::Reader;
 use office_tables::StoreFault;
 use sqlite::{Alter, Connection};
@@ -40,16 +40,15 @@ pub fn ticket_holder<S: Alter>(
     if ticket > u64::from(MOST_TICKETS) {
         return Ok(None);
     }
-    let named = readers_with(alloc, conn, ticket)?;
-    let Some(row) = named.into_iter().next() else {
+    let Some(row) = find_reader(alloc, conn, ticket)? else {
         return Ok(None);
     };
-    let seats = seats_with(alloc, conn, ticket)?;
+    let taken = find_seat(alloc, conn, ticket)?;
     let lines = live_lines(alloc, conn, ticket)?;
     Ok(Some(Reader {
         ticket,
         until: row.until,
-        seat: seat_in(&seats),
+        seat: seat_in(taken),
         held: count_out(&lines),
     }))
 }

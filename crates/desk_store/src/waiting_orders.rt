@@ -1,6 +1,6 @@
 //! The orders that wait for containers.
 
-ghost use Rattle.std.specs.Prelude.{◌≡◌, ◌≤◌, length, map, filter, take, ⊤};
+ghost use Rattle.std.specs.Prelude.{◌≡◌, ◌≤◌, length, map, filter, find, option_map, ⊤};
 ghost use Rattle.std.specs.List.{count_by, list_any};
 ghost use Rattle.sqlite.specs.Held.{state};
 ghost use Rattle.isad_core.specs.Limits.{IsNumber, most_orders};
@@ -17,7 +17,7 @@ ghost use Rattle.office_tables.specs.RowNumbers.{AreCounted};
 use crate::orders::WaitingOrder;
 use office_tables::from_row::FromRow;
 use office_tables::value::{NO_NUMBER, number};
-use office_tables::{StoreFault, find, find_number};
+use office_tables::{StoreFault, find, find_number, find_one};
 use sqlite::{Alter, Connection, Row};
 use std::alloc::Global;
 
@@ -65,15 +65,15 @@ pub(crate) fn first_for<S: Alter>(
     alloc: Global,
     conn: &mut Connection<S>,
     container: u64,
-) -> Result<Vec<WaitingOrder>, StoreFault>
+) -> Result<Option<WaitingOrder>, StoreFault>
     requires inside { InOffice (state S.Store conn.old) }
     requires small { IsNumber container }
     ensures { LooksUp S.Store (Holds tables.orders order_cells) conn.old conn.new result
         (AreCounted (λ o. o.id)) (λ _. ⊤)
-        (λ xs found. found.items ≡ take 1 (map (λ (o : OrderRow). record { order = o.id; ticket = o.ticket })
-        (filter (waits_for container) xs))) }
+        (λ xs found. found ≡ option_map (λ (o : OrderRow). record { order = o.id; ticket = o.ticket })
+        (find (waits_for container) xs)) }
 {
-    find(
+    find_one(
         alloc,
         conn,
         "SELECT id, ticket FROM orders WHERE state = 1 AND container = ?1 ORDER BY id LIMIT 1",

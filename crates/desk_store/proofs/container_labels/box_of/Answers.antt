@@ -1,9 +1,10 @@
-use Rattle.std.proofs.Common.{None, sym, ap, ◌∙◌, arith}
-use Rattle.std.specs.Prelude.{⊤, option_map}
+use Rattle.std.proofs.Common.{Option, Some, None, Result, Ok, Err, IfOk, sym, ap, arith}
+use Rattle.std.specs.Prelude.{⊤, IfSome, option_map}
 use Rattle.sqlite.specs.Held.{state}
+use Rattle.office_tables.specs.declared.fault.StoreFault.{StoreFault}
 use Rattle.office_tables.proofs.Calls.{looks_nowhere}
 use Rattle.desk_store.specs.Stacks.{RepresentsQueues, IsLegibleStacks}
-use Rattle.desk_store.proofs.BoxRows.{Numbered, box_told, first_out}
+use Rattle.desk_store.proofs.BoxRows.{Numbered}
 use Rattle.desk_store.proofs.CardCalls.{unknown}
 use Rattle.desk_store.proofs.TellingCalls.{ends_well}
 use Rattle.desk_store.proofs.container_labels.box_of.Goals as goal
@@ -17,9 +18,19 @@ returns-then-container-gt-MOST_CONTAINERS-clause-tells g c =
 
 pub returns-clause-tells : goal.returns-clause-tells
 returns-clause-tells g c =
-    ends_well RepresentsQueues IsLegibleStacks (λ _. ⊤) g.S.Store c.args.conn.now c.args.conn.now c.boxes_with.new.conn _ c.in_ok-found.ensures.reads.looks _ (λ clean s shown.
-    let items = c.in_ok-found.found.items in
-    let size = c.in_ok-found.found.ok.0 in
-    let as_long = c.into_iter.ensures.len in
-    first_out c.next.result items c.next.new.self.rest.items (sym c.into_iter.ensures.rest ∙ c.next.ensures.items) (λ some. c.next.ensures.variant.1 (omega (arith, some, size, as_long)))
-    ∙ box_told c.args.container s.boxes items (c.in_ok-found.ensures.answers clean s.boxes shown.boxes shown.numbers))
+    record {
+      answers = λ clean beside s shown. c.find_box.ensures.answers clean s.boxes shown.boxes shown.numbers;
+      looks = c.find_box.ensures.reads.looks;
+      cut = c.find_box.ensures.reads.cut;
+      spares = c.find_box.ensures.reads.spares;
+      faults = λ beside s shown may kept. c.find_box.ensures.faults s.boxes shown.boxes kept.boxes;
+    }
+
+-- whatever was found, the number is one
+either_way : {X P : Type 0} (r : Result (Option X) StoreFault) → P → IfOk r (λ found. IfSome found (λ _. P))
+either_way (Ok (Some x)) p = p
+either_way (Ok None) p = tt
+either_way (Err e) p = tt
+
+pub returns-clause-small : goal.returns-clause-small
+returns-clause-small g c = either_way c.find_box.result (let few = c.if-container-gt-MOST_CONTAINERS.false in omega (arith, few))

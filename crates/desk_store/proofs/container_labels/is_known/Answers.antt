@@ -1,8 +1,7 @@
-use Rattle.std.proofs.Common.{false, nat_eq, sym, ap, ◌∙◌, arith}
-use Rattle.std.specs.Prelude.{⊤, is_some, slice_get}
+use Rattle.std.proofs.Common.{false, sym, ap, ◌∙◌, arith}
+use Rattle.std.specs.Prelude.{⊤, is_some}
 use Rattle.sqlite.specs.Held.{state}
 use Rattle.office_tables.proofs.Calls.{looks_nowhere}
-use Rattle.office_tables.proofs.Reading.{first_shown}
 use Rattle.desk_store.specs.Stacks.{RepresentsQueues, IsLegibleStacks, box_with}
 use Rattle.desk_store.proofs.BoxRows.{Numbered}
 use Rattle.desk_store.proofs.CardCalls.{some_mapped, unknown}
@@ -18,8 +17,5 @@ returns-then-container-gt-MOST_CONTAINERS-clause-tells g c =
 
 pub returns-clause-tells : goal.returns-clause-tells
 returns-clause-tells g c =
-    ends_well RepresentsQueues IsLegibleStacks (λ _. ⊤) g.S.Store c.args.conn.now c.args.conn.now c.numbers_with.new.conn _ c.in_ok-numbers.ensures.reads.looks _ (λ clean s shown.
-    let rows = c.in_ok-numbers.ensures.answers clean s.boxes shown.boxes shown.numbers in
-    c.is_found.ensures ∙ ap (λ l. is_some (slice_get l 0)) c.deref.ensures.value
-    ∙ ap is_some (first_shown (λ (b : Numbered). b.0) (λ (b : Numbered). nat_eq c.args.container b.0) s.boxes c.in_ok-numbers.numbers.items rows)
-    ∙ some_mapped (λ (b : Numbered). b.0) (box_with c.args.container s))
+    ends_well RepresentsQueues IsLegibleStacks (λ _. ⊤) g.S.Store c.args.conn.now c.args.conn.now c.find_container.new.conn _ c.in_ok-found.ensures.reads.looks _ (λ clean s shown.
+    c.is_some.ensures ∙ ap is_some (c.in_ok-found.ensures.answers clean s.boxes shown.boxes shown.numbers) ∙ some_mapped (λ (b : Numbered). b.0) (box_with c.args.container s))

@@ -1,8 +1,8 @@
-use Rattle.std.proofs.Common.{None, sym, ap, ◌∙◌, arith}
-use Rattle.std.specs.Prelude.{slice_get, ⊤}
+use Rattle.std.proofs.Common.{None, sym, arith}
+use Rattle.std.specs.Prelude.{⊤}
 use Rattle.sqlite.specs.Held.{state}
 use Rattle.office_tables.proofs.Calls.{looks_nowhere}
-use Rattle.desk_store.proofs.LoanCalls.{never_placed, holder_told}
+use Rattle.desk_store.proofs.LoanCalls.{never_placed}
 use Rattle.desk_store.proofs.loans.holder_of.Goals as goal
 use Rattle.desk_store.proofs.TellingCalls.{ends_well}
 use Rattle.desk_store.specs.Representation.{RepresentsDeskAlone, IsLegible}
@@ -19,7 +19,11 @@ returns-then-order-ge-NO_NUMBER g c =
 pub returns : goal.returns
 returns g c =
     record {
-      tells = ends_well RepresentsDeskAlone IsLegible (λ _. ⊤) g.S.Store c.args.conn.now c.args.conn.now c.tickets_of.new.conn _ c.in_ok-found.ensures.reads.looks _ (λ clean d shown.
-          c.copied.ensures ∙ c.first.ensures.value ∙ ap (λ l. slice_get l 0) c.deref.ensures.value
-          ∙ holder_told c.args.order d.orders c.in_ok-found.found.items (c.in_ok-found.ensures.answers clean d.orders shown.orders shown.order_numbers));
+      tells = record {
+        answers = λ clean beside d shown. c.find_ticket.ensures.answers clean d.orders shown.orders shown.order_numbers;
+        looks = c.find_ticket.ensures.reads.looks;
+        cut = c.find_ticket.ensures.reads.cut;
+        spares = c.find_ticket.ensures.reads.spares;
+        faults = λ beside d shown may kept. c.find_ticket.ensures.faults d.orders shown.orders tt;
+      };
     }

@@ -1,5 +1,5 @@
-use Rattle.std.proofs.Common.{◌≡◌, true, false, nat_eq, None, refl, ap, sym, subst, ◌∙◌, arith}
-use Rattle.std.specs.Prelude.{slice_get, ⊤}
+use Rattle.std.proofs.Common.{◌≡◌, true, false, nat_eq, None, refl, sym, subst, ◌∙◌, arith}
+use Rattle.std.specs.Prelude.{⊤}
 use Rattle.sqlite.specs.Effect.{Database}
 use Rattle.sqlite.specs.Held.{state}
 use Rattle.desk_core.specs.DeskRows.{OrderRow}
@@ -8,7 +8,7 @@ use Rattle.office_tables.proofs.CallEnds.{same_fault}
 use Rattle.desk_store.specs.Orders.{order_with, IsThere}
 use Rattle.desk_store.specs.Representation.{RepresentsDesk, RepresentsDeskAlone, IsLegible}
 use Rattle.desk_store.proofs.CardCalls.{unknown}
-use Rattle.desk_store.proofs.OrderReads.{entry_found, told_none, told_there, legible_there}
+use Rattle.desk_store.proofs.OrderReads.{told_none, told_there, legible_there}
 use Rattle.office_tables.proofs.Sparing.{spares_own}
 use Rattle.desk_store.proofs.orders.order.Goals as goal
 use Rattle.desk_store.proofs.TellingCalls.{ends_not, ends_well}
@@ -22,32 +22,29 @@ returns-then-order-gt-MOST_ORDERS-clause-tells g c =
 
 pub returns-in_default-clause-tells : goal.returns-in_default-clause-tells
 returns-in_default-clause-tells g c =
-    ends_well RepresentsDeskAlone IsLegible (λ _. ⊤) g.S.Store c.args.conn.now c.args.conn.now c.orders_with.new.conn _ c.in_ok-found.ensures.reads.looks None (λ clean d shown.
-    let first = c.copied.ensures ∙ c.first.ensures.value ∙ ap (λ l. slice_get l 0) c.deref.ensures.value in
-    let there = entry_found c.args.order d.orders c.in_ok-found.found.items (c.in_ok-found.ensures.answers clean d.orders shown.orders shown.order_numbers) in
-    told_none (order_with c.args.order d) (sym there ∙ sym first ∙ c.in_default.is))
+    ends_well RepresentsDeskAlone IsLegible (λ _. ⊤) g.S.Store c.args.conn.now c.args.conn.now c.find_order.new.conn _ c.in_ok-entry.ensures.reads.looks None (λ clean d shown.
+    let there = c.in_ok-entry.ensures.answers clean d.orders shown.orders shown.order_numbers in
+    told_none (order_with c.args.order d) (sym there ∙ c.in_default.is))
 
 pub returns-in_err-placed-clause-tells : goal.returns-in_err-placed-clause-tells
 returns-in_err-placed-clause-tells g c =
     let a = state g.S.Store c.args.conn.now in
-    let b = state g.S.Store c.orders_with.new.conn in
-    let looked = c.in_ok-found.ensures.reads.looks in
+    let b = state g.S.Store c.find_order.new.conn in
+    let looked = c.in_ok-entry.ensures.reads.looks in
     let e = c.from_residual-in_err-placed.ensures in
-    ends_not RepresentsDeskAlone IsLegible (λ _. ⊤) g.S.Store c.args.conn.now c.orders_with.new.conn c.orders_with.new.conn _ looked
+    ends_not RepresentsDeskAlone IsLegible (λ _. ⊤) g.S.Store c.args.conn.now c.find_order.new.conn c.find_order.new.conn _ looked
     c.in_err-placed.field-0.0 (cut_after b b (looks_nowhere b (still_office a b c.requires.inside looked.goes)).goes.on)
     (λ clean. spares_own b b (looks_nowhere b (still_office a b c.requires.inside looked.goes)) clean c.in_err-placed.field-0.0 c.in_err-placed.ensures.fair)
     (λ d shown may kept clean free.
     let before = subst (λ (db : Database). RepresentsDesk db.trees d) (looked.same clean) shown in
-    let first = c.copied.ensures ∙ c.first.ensures.value ∙ ap (λ l. slice_get l 0) c.deref.ensures.value in
-    let there = entry_found c.args.order d.orders c.in_ok-found.found.items (c.in_ok-found.ensures.answers clean d.orders before.orders before.order_numbers) in
-    let some = legible_there (λ (o : OrderRow). nat_eq c.args.order o.id) d.orders kept.orders c.in-Some.entry (sym there ∙ sym first ∙ c.in-Some.is) in
+    let there = c.in_ok-entry.ensures.answers clean d.orders before.orders before.order_numbers in
+    let some = legible_there (λ (o : OrderRow). nat_eq c.args.order o.id) d.orders kept.orders c.in-Some.entry (sym there ∙ c.in-Some.is) in
     absurd (let none : false ≡ true = c.in_err-placed.ensures.known some.0 some.1 in cc))
     c.from_residual-in_err-placed.result (same_fault c.from_residual-in_err-placed.result c.in_err-placed.field-0.0 e.0 e.1)
 
 pub returns-clause-tells : goal.returns-clause-tells
 returns-clause-tells g c =
-    ends_well RepresentsDeskAlone IsLegible (λ _. ⊤) g.S.Store c.args.conn.now c.args.conn.now c.orders_with.new.conn _ c.in_ok-found.ensures.reads.looks _ (λ clean d shown.
-    let first = c.copied.ensures ∙ c.first.ensures.value ∙ ap (λ l. slice_get l 0) c.deref.ensures.value in
-    let there = entry_found c.args.order d.orders c.in_ok-found.found.items (c.in_ok-found.ensures.answers clean d.orders shown.orders shown.order_numbers) in
-    told_there (order_with c.args.order d) c.in-Some.entry c.in_ok-placed.placed (sym there ∙ sym first ∙ c.in-Some.is)
+    ends_well RepresentsDeskAlone IsLegible (λ _. ⊤) g.S.Store c.args.conn.now c.args.conn.now c.find_order.new.conn _ c.in_ok-entry.ensures.reads.looks _ (λ clean d shown.
+    let there = c.in_ok-entry.ensures.answers clean d.orders shown.orders shown.order_numbers in
+    told_there (order_with c.args.order d) c.in-Some.entry c.in_ok-placed.placed (sym there ∙ c.in-Some.is)
     c.in_ok-placed.ensures.ticket c.in_ok-placed.ensures.container c.in_ok-placed.ensures.day c.in_ok-placed.ensures.state)

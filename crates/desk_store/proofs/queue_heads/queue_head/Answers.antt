@@ -1,14 +1,16 @@
-use Rattle.std.proofs.Common.{None, sym, ap, ◌∙◌}
-use Rattle.std.specs.Prelude.{⊤, slice_get}
+use Rattle.std.proofs.Common.{None, refl, sym, ◌∙◌}
+use Rattle.std.specs.Prelude.{⊤}
 use Rattle.sqlite.specs.Held.{state}
 use Rattle.office_tables.proofs.Calls.{early, looks_then, looks_nowhere}
 use Rattle.office_tables.proofs.CallEnds.{same_fault}
+use Rattle.office_tables.proofs.Reading.{first_shown}
+use Rattle.desk_store.specs.Holdings.{waits_for}
 use Rattle.desk_store.specs.Orders.{queue_of}
 use Rattle.desk_store.specs.Stacks.{RepresentsQueues, IsLegibleStacks, box_with}
 use Rattle.desk_store.proofs.QueueCalls.{unknown_head, known_head}
 use Rattle.desk_store.proofs.ToldCalls.{shown_on}
 use Rattle.desk_store.proofs.TellingCalls.{ends_not, ends_well}
-use Rattle.desk_store.proofs.WaitingRows.{first_taken}
+use Rattle.desk_store.proofs.WaitingRows.{waiting_of}
 use Rattle.desk_store.proofs.queue_heads.queue_head.Goals as goal
 
 pub returns-in_err-known-clause-tells : goal.returns-in_err-known-clause-tells
@@ -30,15 +32,15 @@ returns-in_err-place-clause-tells g c =
     c.in_err-place.field-0.0 c.in_err-place.ensures.tells.cut c.in_err-place.ensures.tells.spares (λ s shown may kept. c.in_err-place.ensures.tells.faults tt s.desk shown.desk tt kept.desk)
     c.from_residual-in_err-place.result (same_fault c.from_residual-in_err-place.result c.in_err-place.field-0.0 e.0 e.1)
 
-pub returns-in_err-waiting-clause-tells : goal.returns-in_err-waiting-clause-tells
-returns-in_err-waiting-clause-tells g c =
+pub returns-in_err-first-clause-tells : goal.returns-in_err-first-clause-tells
+returns-in_err-first-clause-tells g c =
     let a = state g.S.Store c.args.conn.now in
     let b = state g.S.Store c.is_known.new.conn in
     let p = state g.S.Store c.place_of.new.conn in
-    let e = c.from_residual-in_err-waiting.ensures in
+    let e = c.from_residual-in_err-first.ensures in
     ends_not RepresentsQueues IsLegibleStacks (λ _. ⊤) g.S.Store c.args.conn.now c.place_of.new.conn c.first_for.new.conn _ (looks_then a b p c.in_ok-known.ensures.tells.looks c.in_ok-place.ensures.tells.looks)
-    c.in_err-waiting.field-0.0 c.in_err-waiting.ensures.reads.cut c.in_err-waiting.ensures.reads.spares (λ s shown may kept. c.in_err-waiting.ensures.faults s.desk.orders shown.desk.orders tt)
-    c.from_residual-in_err-waiting.result (same_fault c.from_residual-in_err-waiting.result c.in_err-waiting.field-0.0 e.0 e.1)
+    c.in_err-first.field-0.0 c.in_err-first.ensures.reads.cut c.in_err-first.ensures.reads.spares (λ s shown may kept. c.in_err-first.ensures.faults s.desk.orders shown.desk.orders tt)
+    c.from_residual-in_err-first.result (same_fault c.from_residual-in_err-first.result c.in_err-first.field-0.0 e.0 e.1)
 
 pub returns-clause-tells : goal.returns-clause-tells
 returns-clause-tells g c =
@@ -48,8 +50,7 @@ returns-clause-tells g c =
     let z = state g.S.Store c.first_for.new.conn in
     let one = c.in_ok-known.ensures.tells.looks in
     let two = looks_then a b p one c.in_ok-place.ensures.tells.looks in
-    let three = c.in_ok-waiting.ensures.reads.looks in
-    let first = c.copied-first.ensures ∙ c.first.ensures.value ∙ ap (λ l. slice_get l 0) c.deref.ensures.value in
+    let three = c.in_ok-first.ensures.reads.looks in
     ends_well RepresentsQueues IsLegibleStacks (λ _. ⊤) g.S.Store c.args.conn.now c.args.conn.now c.first_for.new.conn _ (looks_then a p z two three) _ (λ clean s shown.
     let at_p = early p z _ three.goes.on.crash clean in
     let at_b = early b p _ c.in_ok-place.ensures.tells.looks.goes.on.crash at_p in
@@ -57,5 +58,5 @@ returns-clause-tells g c =
     let shown_p = shown_on RepresentsQueues a p two at_p s shown in
     known_head c.args.container s (box_with c.args.container s) (sym (c.in_ok-known.ensures.tells.answers at_b tt s shown) ∙ c.if-not-known.false)
     c.in_ok-place.place (c.in_ok-place.ensures.tells.answers at_p tt s.desk shown_b.desk)
-    c.copied-first.result
-    (first ∙ ap (λ l. slice_get l 0) (c.in_ok-waiting.ensures.answers clean s.desk.orders shown_p.desk.orders shown_p.desk.order_numbers) ∙ first_taken (queue_of c.args.container s.desk)))
+    c.in_ok-first.first
+    (c.in_ok-first.ensures.answers clean s.desk.orders shown_p.desk.orders shown_p.desk.order_numbers ∙ sym (first_shown waiting_of (waits_for c.args.container) s.desk.orders (queue_of c.args.container s.desk) refl)))

@@ -1,5 +1,5 @@
-use Rattle.std.proofs.Common.{◌≡◌, ◌<◌, ◌^◌, length, List, None, refl, ap, sym, subst, ◌∙◌, arith}
-use Rattle.std.specs.Prelude.{option_map, slice_get, ⊤}
+use Rattle.std.proofs.Common.{◌<◌, ◌^◌, length, None, refl, ap, sym, subst, ◌∙◌, arith}
+use Rattle.std.specs.Prelude.{option_map, ⊤}
 use Rattle.std.specs.List.{count_by}
 use Rattle.sqlite.specs.Held.{state}
 use Rattle.desk_core.specs.DeskRows.{ReaderRow}
@@ -7,9 +7,8 @@ use Rattle.office_tables.proofs.Calls.{early, looks_then, looks_nowhere}
 use Rattle.office_tables.proofs.CallEnds.{same_fault}
 use Rattle.desk_store.specs.declared.reader_summary.LiveOrder.{LiveOrder}
 use Rattle.desk_store.specs.declared.reader_summary.TicketOrders.{TicketOrders}
-use Rattle.desk_store.specs.declared.readers.NamedReader.{NamedReader}
 use Rattle.desk_store.specs.Representation.{RepresentsDeskAlone, IsLegible}
-use Rattle.desk_store.proofs.CardCalls.{unknown, out_of_live, few_live, seat_told, first_none, card_with, card_told}
+use Rattle.desk_store.proofs.CardCalls.{unknown, out_of_live, few_live, seat_told, card_with, card_told}
 use Rattle.desk_store.proofs.ReaderRows.{named}
 use Rattle.desk_store.proofs.reader_summary.reader.Goals as goal
 use Rattle.desk_store.proofs.ToldCalls.{shown_on}
@@ -25,45 +24,40 @@ returns-then-ticket-from-clause-tells g c =
 
 pub returns-in_default-clause-tells : goal.returns-in_default-clause-tells
 returns-in_default-clause-tells g c =
-    ends_well RepresentsDeskAlone IsLegible (λ _. ⊤) g.S.Store c.args.conn.now c.args.conn.now c.readers_with.new.conn _ c.in_ok-named.ensures.reads.looks None (λ clean d shown.
-    let empty : length c.in_ok-named.named.items ≡ 0 = omega (arith, c.in_default.ensures.cases.0, c.into_iter.ensures.len, c.in_ok-named.named.ok.0) in
-    sym (ap (option_map (card_with c.args.ticket c.args.today d)) (first_none c.in_ok-named.named.items empty))
-    ∙ card_told c.args.ticket c.args.today d c.in_ok-named.named.items (c.in_ok-named.ensures.answers clean d.readers shown.readers shown.tickets))
+    ends_well RepresentsDeskAlone IsLegible (λ _. ⊤) g.S.Store c.args.conn.now c.args.conn.now c.find_reader.new.conn _ c.in_ok-name.ensures.reads.looks None (λ clean d shown.
+    sym (ap (option_map (card_with c.args.ticket c.args.today d)) c.in_default.is) ∙ card_told c.args.ticket c.args.today d _ (c.in_ok-name.ensures.answers clean d.readers shown.readers shown.tickets))
 
-pub returns-in_err-seats-clause-tells : goal.returns-in_err-seats-clause-tells
-returns-in_err-seats-clause-tells g c =
-    let e = c.from_residual-in_err-seats.ensures in
-    ends_not RepresentsDeskAlone IsLegible (λ _. ⊤) g.S.Store c.args.conn.now c.readers_with.new.conn c.seats_with.new.conn _ c.in_ok-named.ensures.reads.looks
-    c.in_err-seats.field-0.0 c.in_err-seats.ensures.reads.cut c.in_err-seats.ensures.reads.spares (λ d shown may kept. c.in_err-seats.ensures.faults d.seats shown.seats kept.seats)
-    c.from_residual-in_err-seats.result (same_fault c.from_residual-in_err-seats.result c.in_err-seats.field-0.0 e.0 e.1)
+pub returns-in_err-taken-clause-tells : goal.returns-in_err-taken-clause-tells
+returns-in_err-taken-clause-tells g c =
+    let e = c.from_residual-in_err-taken.ensures in
+    ends_not RepresentsDeskAlone IsLegible (λ _. ⊤) g.S.Store c.args.conn.now c.find_reader.new.conn c.find_seat.new.conn _ c.in_ok-name.ensures.reads.looks
+    c.in_err-taken.field-0.0 c.in_err-taken.ensures.reads.cut c.in_err-taken.ensures.reads.spares (λ d shown may kept. c.in_err-taken.ensures.faults d.seats shown.seats kept.seats)
+    c.from_residual-in_err-taken.result (same_fault c.from_residual-in_err-taken.result c.in_err-taken.field-0.0 e.0 e.1)
 
 pub returns-in_err-told-clause-tells : goal.returns-in_err-told-clause-tells
 returns-in_err-told-clause-tells g c =
     let a = state g.S.Store c.args.conn.now in
-    let b = state g.S.Store c.readers_with.new.conn in
-    let s = state g.S.Store c.seats_with.new.conn in
+    let b = state g.S.Store c.find_reader.new.conn in
+    let s = state g.S.Store c.find_seat.new.conn in
     let e = c.from_residual-in_err-told.ensures in
-    ends_not RepresentsDeskAlone IsLegible (λ _. ⊤) g.S.Store c.args.conn.now c.seats_with.new.conn c.orders_of.new.conn _ (looks_then a b s c.in_ok-named.ensures.reads.looks c.in_ok-seats.ensures.reads.looks)
+    ends_not RepresentsDeskAlone IsLegible (λ _. ⊤) g.S.Store c.args.conn.now c.find_seat.new.conn c.orders_of.new.conn _ (looks_then a b s c.in_ok-name.ensures.reads.looks c.in_ok-taken.ensures.reads.looks)
     c.in_err-told.field-0.0 c.in_err-told.ensures.tells.cut c.in_err-told.ensures.tells.spares (λ d shown may kept. c.in_err-told.ensures.tells.faults tt d shown tt kept)
     c.from_residual-in_err-told.result (same_fault c.from_residual-in_err-told.result c.in_err-told.field-0.0 e.0 e.1)
 
 pub returns-clause-tells : goal.returns-clause-tells
 returns-clause-tells g c =
     let a = state g.S.Store c.args.conn.now in
-    let b = state g.S.Store c.readers_with.new.conn in
-    let s = state g.S.Store c.seats_with.new.conn in
+    let b = state g.S.Store c.find_reader.new.conn in
+    let s = state g.S.Store c.find_seat.new.conn in
     let z = state g.S.Store c.orders_of.new.conn in
-    let first = c.in_ok-named.ensures.reads.looks in
-    let two = looks_then a b s first c.in_ok-seats.ensures.reads.looks in
+    let first = c.in_ok-name.ensures.reads.looks in
+    let two = looks_then a b s first c.in_ok-taken.ensures.reads.looks in
     ends_well RepresentsDeskAlone IsLegible (λ _. ⊤) g.S.Store c.args.conn.now c.args.conn.now c.orders_of.new.conn _ (looks_then a s z two c.in_ok-told.ensures.tells.looks) _ (λ clean d shown.
     let at_s = early s z _ c.in_ok-told.ensures.tells.looks.goes.on.crash clean in
-    let at_b = early b s _ c.in_ok-seats.ensures.reads.crash at_s in
+    let at_b = early b s _ c.in_ok-taken.ensures.reads.crash at_s in
     let shown_b = shown_on RepresentsDeskAlone a b first at_b d shown in
-    let row = sym c.into_iter.ensures.rest ∙ c.in-Some.ensures.items in
-    let card = sym (ap (λ (l : List NamedReader). option_map (card_with c.args.ticket c.args.today d) (slice_get l 0)) row)
-    ∙ card_told c.args.ticket c.args.today d c.in_ok-named.named.items (c.in_ok-named.ensures.answers at_b d.readers shown.readers shown.tickets) in
-    let seat = c.seat_in.ensures ∙ ap (λ l. option_map (λ s. s.seat) (slice_get l 0)) c.deref.ensures.value
-    ∙ seat_told c.args.ticket d c.in_ok-seats.seats.items (c.in_ok-seats.ensures.answers at_s d.seats shown_b.seats shown_b.seats_rise) in
+    let card = sym (ap (option_map (card_with c.args.ticket c.args.today d)) c.in-Some.is) ∙ card_told c.args.ticket c.args.today d _ (c.in_ok-name.ensures.answers at_b d.readers shown.readers shown.tickets) in
+    let seat = c.seat_in.ensures ∙ seat_told c.args.ticket d _ (c.in_ok-taken.ensures.answers at_s d.seats shown_b.seats shown_b.seats_rise) in
     let told = c.in_ok-told.ensures.tells.answers clean tt d (shown_on RepresentsDeskAlone a s two at_s d shown) in
     let live = c.as_slice.ensures ∙ ap (λ (o : TicketOrders). o.live) told in
     let few = subst (λ l. length l < 2 ^ 32) (sym live) (few_live c.args.ticket d shown.few_orders) in

@@ -1,11 +1,11 @@
 use Rattle.std.proofs.Common.{false, sym, ap, ◌∙◌, arith}
-use Rattle.std.specs.Prelude.{is_some, slice_get, ⊤}
+use Rattle.std.specs.Prelude.{is_some, ⊤}
 use Rattle.sqlite.specs.Held.{state}
 use Rattle.desk_core.specs.DeskRows.{ReaderRow}
 use Rattle.office_tables.proofs.Calls.{looks_nowhere}
-use Rattle.desk_store.specs.declared.readers.NamedReader.{NamedReader}
+use Rattle.desk_store.specs.Readers.{reader_with}
 use Rattle.desk_store.specs.Representation.{RepresentsDeskAlone, IsLegible}
-use Rattle.desk_store.proofs.CardCalls.{first_told, some_mapped, unknown}
+use Rattle.desk_store.proofs.CardCalls.{some_mapped, unknown}
 use Rattle.desk_store.proofs.ReaderRows.{named}
 use Rattle.desk_store.proofs.readers.is_registered.Goals as goal
 use Rattle.desk_store.proofs.TellingCalls.{ends_well}
@@ -20,9 +20,5 @@ returns-then-ticket-from-clause-tells g c =
 
 pub returns-clause-tells : goal.returns-clause-tells
 returns-clause-tells g c =
-    ends_well RepresentsDeskAlone IsLegible (λ _. ⊤) g.S.Store c.args.conn.now c.args.conn.now c.readers_with.new.conn _ c.in_ok-rows.ensures.reads.looks _ (λ clean d shown.
-    let rows = c.in_ok-rows.ensures.answers clean d.readers shown.readers shown.tickets in
-    c.is_there.ensures ∙ ap (λ l. is_some (slice_get l 0)) (c.deref.ensures.value ∙ rows)
-    ∙ sym (some_mapped (λ (r : NamedReader). r) _)
-    ∙ sym (ap is_some (first_told named (λ (r : NamedReader). r) (λ (r : ReaderRow). Rattle.std.proofs.Common.nat_eq c.args.ticket r.ticket) d.readers))
-    ∙ some_mapped (λ (r : ReaderRow). named r) _)
+    ends_well RepresentsDeskAlone IsLegible (λ _. ⊤) g.S.Store c.args.conn.now c.args.conn.now c.find_reader.new.conn _ c.in_ok-found.ensures.reads.looks _ (λ clean d shown.
+    c.is_some.ensures ∙ ap is_some (c.in_ok-found.ensures.answers clean d.readers shown.readers shown.tickets) ∙ some_mapped named (reader_with c.args.ticket d))

@@ -1,5 +1,4 @@
-use Rattle.std.proofs.Common.{None, refl, sym, ap, subst, ◌∙◌, arith}
-use Rattle.std.specs.Prelude.{slice_get}
+use Rattle.std.proofs.Common.{None, refl, sym, subst, ◌∙◌, arith}
 use Rattle.sqlite.specs.Held.{state}
 use Rattle.desk_core.specs.DeskRows.{RunRow}
 use Rattle.office_tables.proofs.Calls.{early, looks_then, looks_nowhere}
@@ -7,7 +6,6 @@ use Rattle.office_tables.proofs.CallEnds.{same_fault}
 use Rattle.desk_store.specs.Runs.{run_with}
 use Rattle.desk_store.specs.Stacks.{RepresentsQueues, IsLegibleStacks, AreKnown, IsToldRun}
 use Rattle.desk_store.proofs.BroughtCalls.{none_told, run_told, known_lines}
-use Rattle.desk_store.proofs.BroughtRows.{day_told}
 use Rattle.desk_store.proofs.CardCalls.{unknown}
 use Rattle.desk_store.proofs.ToldCalls.{shown_on, shown_back}
 use Rattle.desk_store.proofs.TellingCalls.{ends_not, ends_well}
@@ -26,17 +24,16 @@ returns-then-run-from g c =
 pub returns-in_default : goal.returns-in_default
 returns-in_default g c =
     record {
-      tells = ends_well RepresentsQueues IsLegibleStacks (AreKnown c.args.run) g.S.Store c.args.conn.now c.args.conn.now c.days_with.new.conn _ c.in_ok-days.ensures.reads.looks None (λ clean s shown.
-          let first = c.copied.ensures ∙ c.first.ensures.value ∙ ap (λ l. slice_get l 0) c.deref.ensures.value in
-          let there = day_told c.args.run s.desk.runs c.in_ok-days.days.items (c.in_ok-days.ensures.answers clean s.desk.runs shown.desk.runs shown.desk.run_numbers) in
-          none_told s (run_with c.args.run s.desk) (sym there ∙ sym first ∙ c.in_default.is));
+      tells = ends_well RepresentsQueues IsLegibleStacks (AreKnown c.args.run) g.S.Store c.args.conn.now c.args.conn.now c.find_day.new.conn _ c.in_ok-made.ensures.reads.looks None (λ clean s shown.
+          let there = c.in_ok-made.ensures.answers clean s.desk.runs shown.desk.runs shown.desk.run_numbers in
+          none_told s (run_with c.args.run s.desk) (sym there ∙ c.in_default.is));
     }
 
 pub returns-in_err-lines : goal.returns-in_err-lines
 returns-in_err-lines g c =
     let e = c.from_residual-in_err-lines.ensures in
     record {
-      tells = ends_not RepresentsQueues IsLegibleStacks (AreKnown c.args.run) g.S.Store c.args.conn.now c.days_with.new.conn c.lines_with.new.conn _ c.in_ok-days.ensures.reads.looks
+      tells = ends_not RepresentsQueues IsLegibleStacks (AreKnown c.args.run) g.S.Store c.args.conn.now c.find_day.new.conn c.lines_with.new.conn _ c.in_ok-made.ensures.reads.looks
           c.in_err-lines.field-0.0 c.in_err-lines.ensures.reads.cut c.in_err-lines.ensures.reads.spares (λ s shown may kept. c.in_err-lines.ensures.faults s.desk.run_lines shown.desk.run_lines tt)
           c.from_residual-in_err-lines.result (same_fault c.from_residual-in_err-lines.result c.in_err-lines.field-0.0 e.0 e.1);
     }
@@ -44,27 +41,27 @@ returns-in_err-lines g c =
 pub returns-in_err-told : goal.returns-in_err-told
 returns-in_err-told g c =
     let a = state g.S.Store c.args.conn.now in
-    let b = state g.S.Store c.days_with.new.conn in
+    let b = state g.S.Store c.find_day.new.conn in
     let l = state g.S.Store c.lines_with.new.conn in
     let z = state g.S.Store c.candidates_of.new.conn in
     let e = c.from_residual-in_err-told.ensures in
     record {
-      tells = ends_not RepresentsQueues IsLegibleStacks (AreKnown c.args.run) g.S.Store c.args.conn.now c.lines_with.new.conn c.candidates_of.new.conn _ (looks_then a b l c.in_ok-days.ensures.reads.looks c.in_ok-lines.ensures.reads.looks)
+      tells = ends_not RepresentsQueues IsLegibleStacks (AreKnown c.args.run) g.S.Store c.args.conn.now c.lines_with.new.conn c.candidates_of.new.conn _ (looks_then a b l c.in_ok-made.ensures.reads.looks c.in_ok-lines.ensures.reads.looks)
           c.in_err-told.field-0.0 c.in_err-told.ensures.tells.cut c.in_err-told.ensures.tells.spares (λ s shown may kept clean.
           let before = early l z _ c.in_err-told.ensures.tells.cut.crash clean in
           let shown_b = shown_back RepresentsQueues b l c.in_ok-lines.ensures.reads.looks before s shown in
           let are = c.in_ok-lines.ensures.answers before s.desk.run_lines shown_b.desk.run_lines tt in
-          c.in_err-told.ensures.tells.faults tt s shown (rw c.deref-2.ensures.value (known_lines c.args.run s c.in_ok-lines.lines.items are may)) kept clean)
+          c.in_err-told.ensures.tells.faults tt s shown (rw c.deref.ensures.value (known_lines c.args.run s c.in_ok-lines.lines.items are may)) kept clean)
           c.from_residual-in_err-told.result (same_fault c.from_residual-in_err-told.result c.in_err-told.field-0.0 e.0 e.1);
     }
 
 pub returns : goal.returns
 returns g c =
     let a = state g.S.Store c.args.conn.now in
-    let b = state g.S.Store c.days_with.new.conn in
+    let b = state g.S.Store c.find_day.new.conn in
     let l = state g.S.Store c.lines_with.new.conn in
     let z = state g.S.Store c.candidates_of.new.conn in
-    let one = c.in_ok-days.ensures.reads.looks in
+    let one = c.in_ok-made.ensures.reads.looks in
     let two = looks_then a b l one c.in_ok-lines.ensures.reads.looks in
     let three = c.in_ok-told.ensures.tells.looks in
     record {
@@ -73,9 +70,8 @@ returns g c =
           let at_b = early b l _ c.in_ok-lines.ensures.reads.crash at_l in
           let shown_b = shown_on RepresentsQueues a b one at_b s shown in
           let shown_l = shown_on RepresentsQueues a l two at_l s shown in
-          let first = c.copied.ensures ∙ c.first.ensures.value ∙ ap (λ l. slice_get l 0) c.deref.ensures.value in
-          let there = day_told c.args.run s.desk.runs c.in_ok-days.days.items (c.in_ok-days.ensures.answers at_b s.desk.runs shown.desk.runs shown.desk.run_numbers) in
+          let there = c.in_ok-made.ensures.answers at_b s.desk.runs shown.desk.runs shown.desk.run_numbers in
           let are = c.in_ok-lines.ensures.answers at_l s.desk.run_lines shown_b.desk.run_lines tt in
-          run_told c.args.run s (run_with c.args.run s.desk) c.in-Some.made c.in_ok-lines.lines.items c.in_ok-told.told.items refl (sym there ∙ sym first ∙ c.in-Some.is) are
-          (rw c.deref-2.ensures.value at (c.in_ok-told.ensures.tells.answers clean tt s shown_l)));
+          run_told c.args.run s (run_with c.args.run s.desk) c.in-Some.made c.in_ok-lines.lines.items c.in_ok-told.told.items refl (sym there ∙ c.in-Some.is) are
+          (rw c.deref.ensures.value at (c.in_ok-told.ensures.tells.answers clean tt s shown_l)));
     }

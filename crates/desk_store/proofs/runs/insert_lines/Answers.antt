@@ -1,8 +1,10 @@
-use Rattle.std.proofs.Common.{◌<◌, ◌∷◌, [], ◌++◌, length, map, arith, subst}
+use Rattle.std.proofs.Common.{◌<◌, ◌∷◌, [], ◌++◌, length, map, refl, arith, subst}
 use Rattle.std.proofs.lemmas.List.{take_all}
+use Rattle.sqlite.specs.Edit.{next_rowid}
 use Rattle.sqlite.specs.Held.{state}
 use Rattle.office_tables.proofs.Calls.{early, goes_then}
 use Rattle.office_tables.proofs.Touching.{touched_again}
+use Rattle.office_tables.proofs.numbered.OwnNumbers.{one_at_end}
 use Rattle.office_tables.proofs.CallEnds.{same_fault}
 use Rattle.office_tables.proofs.StoreCalls.{makes_cut}
 use Rattle.desk_store.specs.Rows.{run_line_cells}
@@ -26,10 +28,11 @@ loop-line-preserved g c =
       (
         goes_then a b d invariant.1.0 last,
         (
-          λ clean. touched_again (tables.run_line.tree ∷ []) a.now b.now d.now (invariant.1.1.0 (early b d _ last.on.crash clean)) (c.in_ok-insert_line.ensures.only clean),
+          λ clean. touched_again (tables.run_line.tree ∷ []) a.now b.now d.now (invariant.1.1.0 (early b d _ last.on.crash clean)) (c.in_ok-insert_line.ensures.puts clean).only,
           λ clean ls at.
               let before = invariant.1.1.1 (early b d _ last.on.crash clean) ls at in
-              let one = c.in_ok-insert_line.ensures.rows clean _ before in
+              let put = c.in_ok-insert_line.ensures.puts clean in
+              let one = one_at_end run_line_cells (λ _. refl) (b.now.trees tables.run_line.tree) (d.now.trees tables.run_line.tree) _ (next_rowid (b.now.trees tables.run_line.tree)) _ before put.rows put.fresh in
               subst (HasNumbered run_line_cells (d.now.trees tables.run_line.tree)) (line_more c.args.run ls c.args.taken.now i _ low) one,
         ),
       ),

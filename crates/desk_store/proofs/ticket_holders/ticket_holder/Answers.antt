@@ -1,14 +1,13 @@
-use Rattle.std.proofs.Common.{◌≡◌, ◌<◌, ◌^◌, length, List, None, refl, ap, sym, subst, ◌∙◌, arith, nat_eq}
-use Rattle.std.specs.Prelude.{option_map, slice_get, ⊤}
+use Rattle.std.proofs.Common.{◌<◌, ◌^◌, length, List, None, refl, ap, sym, subst, ◌∙◌, arith, nat_eq}
+use Rattle.std.specs.Prelude.{option_map, ⊤}
 use Rattle.std.specs.List.{count_by}
 use Rattle.sqlite.specs.Held.{state}
 use Rattle.desk_core.specs.DeskRows.{ReaderRow}
 use Rattle.office_tables.proofs.Calls.{early, looks_then, looks_nowhere}
 use Rattle.office_tables.proofs.CallEnds.{same_fault}
 use Rattle.desk_store.specs.declared.reader_summary.OrderLine.{OrderLine}
-use Rattle.desk_store.specs.declared.readers.NamedReader.{NamedReader}
 use Rattle.desk_store.specs.Representation.{RepresentsDeskAlone, IsLegible}
-use Rattle.desk_store.proofs.CardCalls.{unknown, out_of_lines, few_lines, seat_told, first_none, holder_with, holder_told}
+use Rattle.desk_store.proofs.CardCalls.{unknown, out_of_lines, few_lines, seat_told, holder_with, holder_told}
 use Rattle.desk_store.proofs.ReaderRows.{named}
 use Rattle.desk_store.proofs.ticket_holders.ticket_holder.Goals as goal
 use Rattle.desk_store.proofs.ToldCalls.{shown_on}
@@ -24,25 +23,23 @@ returns-then-ticket-from-clause-tells g c =
 
 pub returns-in_default-clause-tells : goal.returns-in_default-clause-tells
 returns-in_default-clause-tells g c =
-    ends_well RepresentsDeskAlone IsLegible (λ _. ⊤) g.S.Store c.args.conn.now c.args.conn.now c.readers_with.new.conn _ c.in_ok-named.ensures.reads.looks None (λ clean d shown.
-    let empty : length c.in_ok-named.named.items ≡ 0 = omega (arith, c.in_default.ensures.cases.0, c.into_iter.ensures.len, c.in_ok-named.named.ok.0) in
-    sym (ap (option_map (holder_with c.args.ticket d)) (first_none c.in_ok-named.named.items empty))
-    ∙ holder_told c.args.ticket d c.in_ok-named.named.items (c.in_ok-named.ensures.answers clean d.readers shown.readers shown.tickets))
+    ends_well RepresentsDeskAlone IsLegible (λ _. ⊤) g.S.Store c.args.conn.now c.args.conn.now c.find_reader.new.conn _ c.in_ok-row.ensures.reads.looks None (λ clean d shown.
+    sym (ap (option_map (holder_with c.args.ticket d)) c.in_default.is) ∙ holder_told c.args.ticket d _ (c.in_ok-row.ensures.answers clean d.readers shown.readers shown.tickets))
 
-pub returns-in_err-seats-clause-tells : goal.returns-in_err-seats-clause-tells
-returns-in_err-seats-clause-tells g c =
-    let e = c.from_residual-in_err-seats.ensures in
-    ends_not RepresentsDeskAlone IsLegible (λ _. ⊤) g.S.Store c.args.conn.now c.readers_with.new.conn c.seats_with.new.conn _ c.in_ok-named.ensures.reads.looks
-    c.in_err-seats.field-0.0 c.in_err-seats.ensures.reads.cut c.in_err-seats.ensures.reads.spares (λ d shown may kept. c.in_err-seats.ensures.faults d.seats shown.seats kept.seats)
-    c.from_residual-in_err-seats.result (same_fault c.from_residual-in_err-seats.result c.in_err-seats.field-0.0 e.0 e.1)
+pub returns-in_err-taken-clause-tells : goal.returns-in_err-taken-clause-tells
+returns-in_err-taken-clause-tells g c =
+    let e = c.from_residual-in_err-taken.ensures in
+    ends_not RepresentsDeskAlone IsLegible (λ _. ⊤) g.S.Store c.args.conn.now c.find_reader.new.conn c.find_seat.new.conn _ c.in_ok-row.ensures.reads.looks
+    c.in_err-taken.field-0.0 c.in_err-taken.ensures.reads.cut c.in_err-taken.ensures.reads.spares (λ d shown may kept. c.in_err-taken.ensures.faults d.seats shown.seats kept.seats)
+    c.from_residual-in_err-taken.result (same_fault c.from_residual-in_err-taken.result c.in_err-taken.field-0.0 e.0 e.1)
 
 pub returns-in_err-lines-clause-tells : goal.returns-in_err-lines-clause-tells
 returns-in_err-lines-clause-tells g c =
     let a = state g.S.Store c.args.conn.now in
-    let b = state g.S.Store c.readers_with.new.conn in
-    let s = state g.S.Store c.seats_with.new.conn in
+    let b = state g.S.Store c.find_reader.new.conn in
+    let s = state g.S.Store c.find_seat.new.conn in
     let e = c.from_residual-in_err-lines.ensures in
-    ends_not RepresentsDeskAlone IsLegible (λ _. ⊤) g.S.Store c.args.conn.now c.seats_with.new.conn c.live_lines.new.conn _ (looks_then a b s c.in_ok-named.ensures.reads.looks c.in_ok-seats.ensures.reads.looks)
+    ends_not RepresentsDeskAlone IsLegible (λ _. ⊤) g.S.Store c.args.conn.now c.find_seat.new.conn c.live_lines.new.conn _ (looks_then a b s c.in_ok-row.ensures.reads.looks c.in_ok-taken.ensures.reads.looks)
     c.in_err-lines.field-0.0 c.in_err-lines.ensures.reads.cut c.in_err-lines.ensures.reads.spares (λ d shown may kept. c.in_err-lines.ensures.faults d.orders shown.orders tt)
     c.from_residual-in_err-lines.result (same_fault c.from_residual-in_err-lines.result c.in_err-lines.field-0.0 e.0 e.1)
 
@@ -50,22 +47,19 @@ pub returns-clause-tells : goal.returns-clause-tells
 returns-clause-tells g c =
     let t = c.args.ticket in
     let a = state g.S.Store c.args.conn.now in
-    let b = state g.S.Store c.readers_with.new.conn in
-    let s = state g.S.Store c.seats_with.new.conn in
+    let b = state g.S.Store c.find_reader.new.conn in
+    let s = state g.S.Store c.find_seat.new.conn in
     let z = state g.S.Store c.live_lines.new.conn in
-    let first = c.in_ok-named.ensures.reads.looks in
-    let two = looks_then a b s first c.in_ok-seats.ensures.reads.looks in
+    let first = c.in_ok-row.ensures.reads.looks in
+    let two = looks_then a b s first c.in_ok-taken.ensures.reads.looks in
     ends_well RepresentsDeskAlone IsLegible (λ _. ⊤) g.S.Store c.args.conn.now c.args.conn.now c.live_lines.new.conn _ (looks_then a s z two c.in_ok-lines.ensures.reads.looks) _ (λ clean d shown.
     let at_s = early s z _ c.in_ok-lines.ensures.reads.crash clean in
-    let at_b = early b s _ c.in_ok-seats.ensures.reads.crash at_s in
+    let at_b = early b s _ c.in_ok-taken.ensures.reads.crash at_s in
     let shown_b = shown_on RepresentsDeskAlone a b first at_b d shown in
     let shown_s = shown_on RepresentsDeskAlone a s two at_s d shown in
-    let row = sym c.into_iter.ensures.rest ∙ c.in-Some.ensures.items in
-    let holder = sym (ap (λ (l : List NamedReader). option_map (holder_with t d) (slice_get l 0)) row)
-    ∙ holder_told t d c.in_ok-named.named.items (c.in_ok-named.ensures.answers at_b d.readers shown.readers shown.tickets) in
-    let seat = c.seat_in.ensures ∙ ap (λ l. option_map (λ s. s.seat) (slice_get l 0)) c.deref.ensures.value
-    ∙ seat_told t d c.in_ok-seats.seats.items (c.in_ok-seats.ensures.answers at_s d.seats shown_b.seats shown_b.seats_rise) in
-    let lines = c.deref-2.ensures.value ∙ c.in_ok-lines.ensures.answers clean d.orders shown_s.orders shown_s.order_numbers in
+    let holder = sym (ap (option_map (holder_with t d)) c.in-Some.is) ∙ holder_told t d _ (c.in_ok-row.ensures.answers at_b d.readers shown.readers shown.tickets) in
+    let seat = c.seat_in.ensures ∙ seat_told t d _ (c.in_ok-taken.ensures.answers at_s d.seats shown_b.seats shown_b.seats_rise) in
+    let lines = c.deref.ensures.value ∙ c.in_ok-lines.ensures.answers clean d.orders shown_s.orders shown_s.order_numbers in
     let few = subst (λ (l : List OrderLine). length l < 2 ^ 32) (sym lines) (few_lines t d shown.few_orders) in
     let held = c.count_out.ensures few ∙ ap (count_by (λ (l : OrderLine). nat_eq l.state 2)) lines ∙ out_of_lines t d.orders in
     (rw (seat, held) refl) ∙ holder)

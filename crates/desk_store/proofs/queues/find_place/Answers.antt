@@ -1,0 +1,26 @@
+use Rattle.std.proofs.Common.{Ok, [], map, filter, nat_eq, ap, ◌∙◌}
+use Rattle.std.proofs.lemmas.Result.{IfOk-weaker}
+use Rattle.sqlite.specs.Held.{state}
+use Rattle.sqlite_trees.proofs.ListLemmas.{ascending-filter}
+use Rattle.desk_core.specs.DeskRows.{HoldingRow}
+use Rattle.office_tables.proofs.Reading.{first_shown}
+use Rattle.office_tables.proofs.RowReads.{asks}
+use Rattle.office_tables.proofs.Sorted.{only_order}
+use Rattle.desk_store.proofs.LoanRows.{by_container, by_container_total}
+use Rattle.desk_store.proofs.PlaceRows.{place_text, place_command, place_means, place_finds, place_faults, place_entry}
+use Rattle.office_tables.proofs.StatementEnds.{looks_up}
+use Rattle.desk_store.proofs.queues.find_place.Goals as goal
+
+pub find_one-requires : goal.find_one-requires
+find_one-requires g c = asks place_text 1 place_command (state g.S.Store c.args.conn.now) place_means c.requires.inside
+
+pub returns : goal.returns
+returns g c =
+    looks_up c.requires.inside c.find_one.ensures.reads (rw c.number.ensures at c.find_one.ensures.found) (rw c.number.ensures at c.find_one.ensures.missed)
+    (λ v has found xs stored up.
+    let kept = filter (λ (h : HoldingRow). nat_eq c.args.container h.container) xs in
+    let rising = ascending-filter _ (λ (h : HoldingRow). nat_eq c.args.container h.container) xs up in
+    IfOk-weaker c.find_one.result _ _ (λ first it.
+    let all = place_finds _ _ c.args.container v has xs stored (λ l. l) (Ok it.0) it.1 in
+    it.2 ∙ first_shown place_entry (λ (h : HoldingRow). nat_eq c.args.container h.container) xs it.0 (all.2 ∙ ap (map place_entry) (only_order by_container by_container_total kept all.0 rising all.1.1 all.1.0))) found)
+    (λ v has missed xs stored _ free. place_faults _ _ c.args.container v has xs stored (λ _. []) c.find_one.result free missed)
