@@ -1,10 +1,11 @@
 -- A call that reads first, on tables that show a model: what it does when it then writes, or leaves all as it is.
 use Rattle.std.proofs.Common.{◌≡◌, ℕ, true, nat_eq, List, Result, Ok, Err, OnOk, sym, subst}
+use Rattle.std.specs.Prelude.{IsErr, IsErrAnd}
 use Rattle.std.specs.List.{list_all, list_any}
 use Rattle.sqlite_trees.specs.declared.store.Store as store
 use Rattle.sqlite.specs.Effect.{Database}
 use Rattle.sqlite.specs.Held.{Held, state}
-use Rattle.sqlite.specs.State.{State, HasCleanDisk}
+use Rattle.sqlite.specs.State.{HasCleanDisk}
 use Rattle.sqlite.specs.Tree.{Trees}
 use Rattle.tree_core.specs.Forest.{Forest}
 use Rattle.tree_core.specs.Versions.{Version}
@@ -14,80 +15,77 @@ use Rattle.office_tables.specs.Calls.{Updates}
 use Rattle.office_tables.specs.Step.{Goes, IsAborted, LeavesUnchanged, OnlyTouches}
 use Rattle.office_tables.specs.declared.fault.StoreFault.{StoreFault}
 use Rattle.office_tables.proofs.CallEnds.{excused_then}
+use Rattle.refinement.proofs.Doings.{makes_passed}
 use Rattle.csv_import.specs.RowEntry.{RepresentsLegible}
 use Rattle.office_tables.proofs.Calls.{cut_then, early, goes_then, on_err_then, on_ok_then}
 use Rattle.office_tables.proofs.Outcomes.{on_ok_by}
 use Rattle.office_tables.proofs.Touching.{nothing_touched, touched_wider}
 
-module _ {S Stays Model : Type 0} (g : store.Ghosts S) (represents : Database → Stays → Model → Type 0) (kept may : Model → Type 0) (made : Model → Model) (touched : List ℕ) (before mid : Held S) (looked : LeavesUnchanged (state g before) (state g mid)) where
-  abbrev a : State
-  a = state g before
+-- what the last step needs, and that it makes what the call does
+pub record Serves {Model : Type 0} (kept_then may_then : Model → Type 0) (made_then made : Model → Model) (m : Model) : Type 0 where
+  pub within : kept_then m
+  pub allowed : may_then m
+  pub same : made_then m ≡ made m
 
-  abbrev b : State
-  b = state g mid
-
-  still_shows : (s : Stays) (m : Model) → HasCleanDisk b → represents a.now s m → represents b.now s m
-  still_shows s m clean it = subst (λ db. represents db s m) (sym (looked.same clean)) it
-
+module _ {S Stays Model : Type 0} {g : store.Ghosts S} {represents : Database → Stays → Model → Type 0} {kept may : Model → Type 0} {made : Model → Model} {touched : List ℕ} {before mid : Held S} (looked : LeavesUnchanged (state g before) (state g mid)) where
   -- all stays as it is, and so it should be
-  pub makes_nothing : {X : Type 0} (x : X) → ((s : Stays) (m : Model) → represents a.now s m → may m → HasCleanDisk b → m ≡ made m) → Updates g represents kept before mid (Ok x) may made touched
-  makes_nothing x same = record {
-    represents_updated = λ clean s m it allowed. subst (λ k. represents b.now s k) (same s m it allowed clean) (still_shows s m clean it);
-    only = λ clean. subst (λ db. OnlyTouches touched a.now db) (sym (looked.same clean)) (nothing_touched touched a.now);
-    goes = looked.goes;
-    cut = tt;
-    faults = λ s m it allowed within clean free. tt;
-  }
+  pub makes_nothing : {X : Type 0} {x : X} → ((s : Stays) (m : Model) → represents (state g before).now s m → may m → HasCleanDisk (state g mid) → m ≡ made m) → Updates g represents kept before mid (Ok x) may made touched
+  makes_nothing same =
+      let a = state g before in
+      let b = state g mid in
+      record {
+        represents_updated = λ clean s m it allowed. subst (λ k. represents b.now s k) (same s m it allowed clean) (subst (λ db. represents db s m) (sym (looked.same clean)) it);
+        only = λ clean. subst (λ db. OnlyTouches touched a.now db) (sym (looked.same clean)) (nothing_touched touched a.now);
+        goes = looked.goes;
+        cut = tt;
+        faults = λ s m it allowed within clean free. tt;
+      }
 
   -- its last step writes
-  module _ (after : Held S) (kept_then may_then : Model → Type 0) (made_then : Model → Model) (touched_less : List ℕ) (less : list_all (λ t. list_any (nat_eq t) touched) touched_less ≡ true) where
-    abbrev c : State
-    c = state g after
-
-    -- what the step needs, and that it makes what the call does
-    pub record Serves (m : Model) : Type 0 where
-      pub within : kept_then m
-      pub allowed : may_then m
-      pub same : made_then m ≡ made m
-
-    pub makes_then : {X : Type 0} (r : Result X StoreFault) → Updates g represents kept_then mid after r may_then made_then touched_less
-        → ((s : Stays) (m : Model) → represents a.now s m → may m → HasCleanDisk b → Serves m) → Updates g represents kept before after r may made touched
-    makes_then r step serves = record {
-      represents_updated = λ clean s m it allowed.
-          on_ok_by r (Goes b c) (represents c.now s (made m))
-          (λ went.
-          let at_b = early b c _ went.on.crash clean in
-          let so = serves s m it allowed at_b in
-          subst (λ k. OnOk r (represents c.now s k)) so.same (step.represents_updated clean s m (still_shows s m at_b it) so.allowed))
-          step.goes;
-      only = λ clean.
-          on_ok_by r (Goes b c) (OnlyTouches touched a.now c.now)
-          (λ went.
-          let at_b = early b c _ went.on.crash clean in
-          on_ok_then r (OnlyTouches touched_less b.now c.now) (OnlyTouches touched a.now c.now)
-          (λ only. touched_wider touched_less touched a.now c.now less (subst (λ db. OnlyTouches touched_less db c.now) (looked.same at_b) only)) (step.only clean))
-          step.goes;
-      goes = on_ok_then r (Goes b c) (Goes a c) (goes_then a b c looked.goes) step.goes;
-      cut = on_err_then r (IsAborted b c) (IsAborted a c) (cut_then a b c looked.goes.on) step.cut;
-      faults = λ s m it allowed within.
-          excused_then a b c looked.goes.on r step.cut
-          (λ at_b. let so = serves s m it allowed at_b in step.faults s m (still_shows s m at_b it) so.allowed so.within);
-    }
+  pub makes_then : {X : Type 0} {after : Held S} {kept_then may_then : Model → Type 0} {made_then : Model → Model} {touched_less : List ℕ} {r : Result X StoreFault} → Updates g represents kept_then mid after r may_then made_then touched_less
+      → list_all (λ t. list_any (nat_eq t) touched) touched_less ≡ true
+      → ((s : Stays) (m : Model) → represents (state g before).now s m → may m → HasCleanDisk (state g mid) → Serves kept_then may_then made_then made m) → Updates g represents kept before after r may made touched
+  makes_then {after = after} {touched_less = touched_less} {r = r} step less serves =
+      let a = state g before in
+      let b = state g mid in
+      let c = state g after in
+      record {
+        represents_updated = λ clean s m it allowed.
+            on_ok_by r (Goes b c) (represents c.now s (made m))
+            (λ went.
+            let at_b = early b c _ went.on.crash clean in
+            let so = serves s m it allowed at_b in
+            subst (λ k. OnOk r (represents c.now s k)) so.same (step.represents_updated clean s m (subst (λ db. represents db s m) (sym (looked.same at_b)) it) so.allowed))
+            step.goes;
+        only = λ clean.
+            on_ok_by r (Goes b c) (OnlyTouches touched a.now c.now)
+            (λ went.
+            let at_b = early b c _ went.on.crash clean in
+            on_ok_then r (OnlyTouches touched_less b.now c.now) (OnlyTouches touched a.now c.now)
+            (λ only. touched_wider touched_less touched a.now c.now less (subst (λ db. OnlyTouches touched_less db c.now) (looked.same at_b) only)) (step.only clean))
+            step.goes;
+        goes = on_ok_then r (Goes b c) (Goes a c) (goes_then a b c looked.goes) step.goes;
+        cut = on_err_then r (IsAborted b c) (IsAborted a c) (cut_then a b c looked.goes.on) step.cut;
+        faults = λ s m it allowed within.
+            excused_then a b c looked.goes.on r step.cut
+            (λ at_b. let so = serves s m it allowed at_b in step.faults s m (subst (λ db. represents db s m) (sym (looked.same at_b)) it) so.allowed so.within);
+      }
 
 -- what it tells besides changes nothing of it
-pub makes_same : {S X Y Stays Model : Type 0} (g : store.Ghosts S) (represents : Database → Stays → Model → Type 0) (kept may : Model → Type 0) (made : Model → Model) (touched : List ℕ) (before after : Held S) (x : X) (y : Y)
+pub makes_same : {S X Y Stays Model : Type 0} {g : store.Ghosts S} {represents : Database → Stays → Model → Type 0} {kept may : Model → Type 0} {made : Model → Model} {touched : List ℕ} {before after : Held S} {x : X} {y : Y}
     → Updates g represents kept before after (Ok x) may made touched → Updates g represents kept before after (Ok y) may made touched
-makes_same g represents kept may made touched before after x y it = record { represents_updated = it.represents_updated; only = it.only; goes = it.goes; cut = tt; faults = λ s m shown allowed within clean free. tt }
+makes_same it = record { represents_updated = it.represents_updated; only = it.only; goes = it.goes; cut = tt; faults = λ s m shown allowed within clean free. tt }
 
-pub makes_same_fault : {S X Y Stays Model : Type 0} (g : store.Ghosts S) (represents : Database → Stays → Model → Type 0) (kept may : Model → Type 0) (made : Model → Model) (touched : List ℕ) (before after : Held S) (e : StoreFault) (r : Result Y StoreFault) → r ≡ Err e
-    → Updates {X = X} g represents kept before after (Err e) may made touched → Updates g represents kept before after r may made touched
-makes_same_fault g represents kept may made touched before after e r is it =
-    subst (λ k. Updates g represents kept before after k may made touched) (sym is) (record { represents_updated = λ clean s m shown allowed. tt; only = λ clean. tt; goes = tt; cut = it.cut; faults = it.faults })
+-- it passes the fault of its last step on
+pub makes_fault : {S X Y Stays Model : Type 0} {g : store.Ghosts S} {represents : Database → Stays → Model → Type 0} {kept may : Model → Type 0} {made : Model → Model} {touched : List ℕ} {before after : Held S} (e : StoreFault) {r : Result Y StoreFault}
+    → IsErr r × IsErrAnd r (λ f. f ≡ e) → Updates {X = X} g represents kept before after (Err e) may made touched → Updates g represents kept before after r may made touched
+makes_fault {g = g} {represents = represents} {kept = kept} {may = may} {made = made} {touched = touched} {before = before} {after = after} e {r = r} handed it =
+    makes_passed e handed it.cut it.faults
 
 -- a call that leaves the settings
-pub makes_legible : {S X : Type 0} (g : store.Ghosts S) (places : Trees → Forest ℕ → Type 0) (version : Version) (kept may : Catalogue → Type 0) (made : Catalogue → Catalogue) (touched : List ℕ) (before after : Held S) (r : Result X StoreFault)
+pub makes_legible : {S X : Type 0} {g : store.Ghosts S} {places : Trees → Forest ℕ → Type 0} {version : Version} {kept may : Catalogue → Type 0} {made : Catalogue → Catalogue} {touched : List ℕ} {before after : Held S} {r : Result X StoreFault}
     → Updates g (RepresentsNumbered places version) kept before after r may made touched → Updates g (RepresentsLegible places version) kept before after r may made touched
-makes_legible g places version kept may made touched before after r it = record {
+makes_legible {g = g} {places = places} {version = version} {made = made} {after = after} {r = r} it = record {
   represents_updated = λ clean o c shown allowed.
       on_ok_then r (RepresentsNumbered places version (state g after).now o (made c)) (RepresentsLegible places version (state g after).now o (made c))
       (λ made_so. record { tables = made_so; settings = shown.settings }) (it.represents_updated clean o c shown.tables allowed);

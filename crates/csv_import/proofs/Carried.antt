@@ -1,6 +1,7 @@
 -- Carrying out an import: the rows are entered, and then the outcome is judged.
 use Rattle.std.proofs.Common.{◌≡◌, ℕ, ℤ, Bool, true, false, cond, ◌≤◌, List, [], ◌∷◌, length, map, Option, Some, None, Result, Ok, Err, refl, sym, ap, subst, ◌∙◌}
 use Rattle.std.specs.Prelude.{⊤, IsOk, nat_lt}
+use Rattle.std.proofs.lemmas.Bool.{le-ltb, ltb-false}
 use Rattle.sqlite.specs.Effect.{Database}
 use Rattle.sqlite.specs.Held.{Held, state}
 use Rattle.sqlite.specs.State as store
@@ -16,23 +17,25 @@ use Rattle.tree_core.specs.Forest.{Forest}
 use Rattle.tree_core.specs.Versions.{Version}
 use Rattle.desk_core.specs.Refusals.{first_that_holds, when}
 use Rattle.desk_core.specs.declared.refusal.Refusal.{Refusal}
-use Rattle.desk_core.specs.declared.refusal.Refusal.TheVariants.{Full}
+use Rattle.desk_core.specs.declared.refusal.Refusal.TheVariants.{BadFile, Full}
 use Rattle.desk_store.specs.Representation.{RepresentsDesk}
 use Rattle.catalogue_core.specs.CatalogueMerge.{Catalogue}
 use Rattle.catalogue_core.specs.EntryByRow.{number_there}
+use Rattle.catalogue_core.specs.GoodCatalogues.{AreGoodUnits}
 use Rattle.catalogue_core.specs.Sources.{is_source}
 use Rattle.catalogue_statements.specs.Settings.{AreLegibleSettings}
-use Rattle.catalogue_statements.specs.Representation.{RepresentsNumbered, catalogue_trees}
+use Rattle.catalogue_statements.specs.Representation.{Represents, RepresentsNumbered, RepresentsSettings, catalogue_trees}
 use Rattle.catalogue_statements.specs.declared.office.OfficeRow.{OfficeRow}
 use Rattle.office_core.specs.Rules.{Reply, after, gate, refusal, told}
 use Rattle.office_core.specs.SoundOffice.{HasLegibleSettings, IsSoundOffice}
 use Rattle.office_core.specs.State.{State}
 use Rattle.office_core.specs.declared.command.Command.{Command}
+use Rattle.office_core.specs.declared.done.Done.{Done}
 use Rattle.office_core.specs.declared.command.Command.TheVariants as command
 use Rattle.office_core.proofs.KeptOffices.{office_settings}
 use Rattle.state_encoding.specs.OfficeRows.{tables}
-use Rattle.office_tables.specs.Calls.{Answers}
-use Rattle.office_tables.specs.Step.{Goes, IsAborted, LeavesUnchanged, OnlyTouches}
+use Rattle.office_tables.specs.Calls.{Answers, Updates}
+use Rattle.office_tables.specs.Step.{Goes, IsAborted, LeavesUnchanged}
 use Rattle.office_tables.specs.declared.fault.StoreFault.{StoreFault}
 use Rattle.office_tables.proofs.CallEnds.{excused_then}
 use Rattle.office_tables.proofs.Calls.{cut_then, early, goes_then, on_err_then, on_ok_then}
@@ -40,21 +43,36 @@ use Rattle.refinement.specs.CommandSteps.{CarriesOut, CarriesOutStep}
 use Rattle.refinement.specs.Gate.{gated, unless_refused}
 use Rattle.refinement.specs.AccessConditions.{RepresentsWhole}
 use Rattle.refinement.specs.Representation.{RepresentsState, office_of}
-use Rattle.refinement.proofs.Doings.{accepted, refused}
+use Rattle.refinement.proofs.Doings.{accepted, does_then, is_refused, refused}
 use Rattle.refinement.proofs.Frames.{desk_kept}
 use Rattle.refinement.proofs.Tellings.{looked_crash}
 use Rattle.csv_import.specs.Arrivals.{IsReady}
-use Rattle.csv_import.specs.RowEntry.{RepresentsLegible, counts_of, entered}
+use Rattle.csv_import.specs.PendingImport.{Finds}
+use Rattle.csv_import.specs.RowEntry.{RepresentsEntering, RepresentsLegible, counts_of, entered}
+use Rattle.csv_import.specs.RowPlan.{plan_of}
 use Rattle.csv_import.specs.CatalogueImport.{CanBePlaced, FitsIn, HasNumbered, has_room, judged, next_with_room, told_of}
 use Rattle.csv_import.specs.KnownUnits.{KnowsUnits}
 use Rattle.csv_import.specs.Remarks.{HaveUnits}
 use Rattle.csv_import.specs.declared.row_entry.Counts.{Counts}
-use Rattle.csv_import.proofs.Counting.{room_there}
+use Rattle.csv_import.specs.declared.row_entry.Outcome.{Outcome}
+use Rattle.csv_import.specs.declared.row_plan.Planned.{Planned}
+use Rattle.csv_import.specs.declared.row_plan.Planned.TheVariants as plans
+use Rattle.csv_import.proofs.Counting.{no_room_there, room_there}
+use Rattle.csv_import.proofs.Frames.{entering_of}
+use Rattle.csv_import.proofs.Refused.{faulty, fits_planned, full}
 use Rattle.csv_import.proofs.Imports.{after_is, can_enter, entered_is, has_imported, now, refusal_is, same_desk, texts_stay, told_is}
 use Rattle.refinement.proofs.Passing.{if_ok_with}
 
 pub settings_shown : (s : State) → HasLegibleSettings s → AreLegibleSettings (office_of s)
 settings_shown s it = record { country = it.country; repo = it.repo; seats = it.seats; daily = it.daily; hands = it.hands; run_size = it.run_size; day = it.day }
+
+-- the containers were counted, and there are no more than an office may have
+pub few_containers : (s : State) {many : Bool} → many ≡ nat_lt most_containers (length s.catalogue.containers) → many ≡ false → length s.catalogue.containers ≤ most_containers
+few_containers s counted few = ltb-false most_containers (length s.catalogue.containers) (sym counted ∙ few)
+
+-- then the gate has the last word
+pub judged_few : (s : State) (made : Done) → length s.catalogue.containers ≤ most_containers → judged s made ≡ gated s made
+judged_few s made few = ap (λ (b : Bool). cond b (Err Full) (gated s made)) (le-ltb most_containers (length s.catalogue.containers) few)
 
 -- the rows' units are there, once they are entered; the same rows and units may be told otherwise
 pub have_units : (source : Bytes) (file : File) (units : List ℕ) (s : State) → length s.catalogue.containers ≤ most_containers → HasNumbered source file units s
@@ -100,37 +118,48 @@ judged_step places version s t asked db becomes last r is shown = at (nat_lt mos
         accept (last ∙ (ap (λ (b : Bool). first_that_holds (when b Full ∷ gate t ∷ [])) e ∙ ap (λ w. first_that_holds (w ∷ [])) f))
         (is ∙ (ap (λ (b : Bool). cond b (Err Full) (gated t (told s asked))) e ∙ ap (λ w. unless_refused w (told s asked)) f))
 
-module _ {S : Type 0} (g : kept_in.Ghosts S) (places : Trees → Forest ℕ → Type 0) (version : Version) (today : ℤ) (source bytes : Bytes) (file : File) (read : file_of bytes ≡ Ok file) (numbers : Bytes → Option ℕ) (next : ℕ) (before : store.State) (mid after_it : Held S) (r : Result Reply StoreFault) (counts : Counts) (units : List ℕ) where
+-- the day, the source, the units of the rows, and the next number, where there is room
+abbrev IsFitting : ℤ → Bytes → File → (Bytes → Option ℕ) → ℕ → State → Type 0
+IsFitting today source file numbers next s = (today ≡ s.day) × (is_source source ≡ true) × FitsIn source file s × KnowsUnits s.catalogue source file.rows numbers × (next ≡ s.catalogue.next)
+
+-- what a call that entered the rows did, and how it counted them
+abbrev Entered : {S : Type 0} → kept_in.Ghosts S → (Trees → Forest ℕ → Type 0) → Version → Bytes → (Bytes → Option ℕ) → ℕ → Held S → Held S → Outcome → List Row → Type 0
+Entered g places version source numbers next before after outcome rows =
+    Updates g (RepresentsLegible places version) (λ _. ⊤) before after (let r : Result Outcome StoreFault = Ok outcome in r) (IsReady source rows numbers next) (entered source rows) catalogue_trees
+    × Finds g (RepresentsLegible places version) (IsReady source rows numbers next) before after (let r : Result Outcome StoreFault = Ok outcome in r)
+    (λ c made. (made.counts ≡ counts_of c.forest source rows) × (map Some made.units.items ≡ map (λ row. number_there (entered source rows c) source row.legacy) rows))
+
+module _ {S : Type 0} (g : kept_in.Ghosts S) (places : Trees → Forest ℕ → Type 0) (version : Version) (today : ℤ) (source bytes : Bytes) (file : File) (read : file_of bytes ≡ Ok file) (numbers : Bytes → Option ℕ) (next : ℕ) (held mid after_it : Held S) (r : Result Reply StoreFault) (outcome : Outcome) where
+  abbrev before : store.State
+  before = state g held
+
   abbrev b : store.State
   b = state g mid
 
   abbrev c : store.State
   c = state g after_it
 
-  abbrev Known : State → Type 0
-  Known s = (today ≡ s.day) × (is_source source ≡ true) × FitsIn source file s × KnowsUnits s.catalogue source file.rows numbers × (next ≡ s.catalogue.next)
+  abbrev counts : Counts
+  counts = outcome.counts
 
-  -- what entering the rows did
-  pub record HasEnteredAll : Type 0 where
-    pub represents : HasCleanDisk b → (o : OfficeRow) (k : Catalogue) → RepresentsLegible places version before.now o k → IsReady source file.rows numbers next k → RepresentsLegible places version b.now o (entered source file.rows k)
-    pub only : HasCleanDisk b → OnlyTouches catalogue_trees before.now b.now
-    pub goes : Goes before b
-    pub counted : HasCleanDisk b → (o : OfficeRow) (k : Catalogue) → RepresentsLegible places version before.now o k → IsReady source file.rows numbers next k → counts ≡ counts_of k.forest source file.rows
-    pub units_are : HasCleanDisk b → (o : OfficeRow) (k : Catalogue) → RepresentsLegible places version before.now o k → IsReady source file.rows numbers next k
-        → map Some units ≡ map (λ (row : Row). number_there (entered source file.rows k) source row.legacy) file.rows
+  abbrev units : List ℕ
+  units = outcome.units.items
+
+  abbrev Known : State → Type 0
+  Known = IsFitting today source file numbers next
 
   ready : (s : State) → IsSoundOffice s → Known s → IsReady source file.rows numbers next s.catalogue
   ready s sound so = record { can = can_enter s source bytes file read sound so.1 so.2; known = so.3; number = so.4 }
 
-  module _ (come : HasEnteredAll) where
+  module _ (come : Entered g places version source numbers next held mid outcome file.rows) where
     shown_now : HasCleanDisk b → (s : State) → (sound : IsSoundOffice s) → (so : Known s) → RepresentsState places version before.now s → RepresentsState places version b.now (now s source bytes file read sound so.1 so.2)
     shown_now clean s sound so it =
         let named = so.1 in
         let fits = so.2 in
-        let shown = come.represents clean (office_of s) s.catalogue (shown_legible places version before.now s sound it) (ready s sound so) in
+        let shown = come.0.represents_updated clean (office_of s) s.catalogue (shown_legible places version before.now s sound it) (ready s sound so) in
         record {
           catalogue = subst (λ (k : Catalogue). RepresentsNumbered places version b.now (office_of s) k) (entered_is s source bytes file read sound named fits) shown.tables;
-          desk = subst (RepresentsDesk b.now.trees) (sym (same_desk s source bytes file read sound named fits version)) (desk_kept before.now b.now catalogue_trees (come.only clean) (tables version s).desk refl it.desk);
+          desk = subst (RepresentsDesk b.now.trees) (sym (same_desk s source bytes file read sound named fits version)) (desk_kept before.now b.now catalogue_trees (come.0.only clean) (tables version s).desk refl it.desk);
           texts = texts_stay s source bytes file read sound named fits;
         }
 
@@ -139,13 +168,13 @@ module _ {S : Type 0} (g : kept_in.Ghosts S) (places : Trees → Forest ℕ → 
     has_numbered clean s sound so it = record {
       imported = has_imported s source bytes file read sound so.1 so.2;
       numbered =
-          come.units_are clean (office_of s) s.catalogue (shown_legible places version before.now s sound it) (ready s sound so)
+          (come.1 clean (office_of s) s.catalogue (shown_legible places version before.now s sound it) (ready s sound so)).1
           ∙ ap (λ (k : Catalogue). map (λ (row : Row). number_there k source row.legacy) file.rows) (entered_is s source bytes file read sound so.1 so.2);
     }
 
-    pub imports : Answers g (RepresentsWhole places version) (HasNumbered source file units) mid after_it r (λ _. ⊤) (λ _ s reply. HasNumbered source file units s → today ≡ s.day → reply ≡ judged s (told_of source file counts s))
+    imports_so : Answers g (RepresentsWhole places version) (HasNumbered source file units) mid after_it r (λ _. ⊤) (λ _ s reply. HasNumbered source file units s → today ≡ s.day → reply ≡ judged s (told_of source file counts s))
         → CarriesOut places version (λ s. (today ≡ s.day) × (is_source source ≡ true) × FitsIn source file s × KnowsUnits s.catalogue source file.rows numbers × (next ≡ s.catalogue.next)) (command.Import source bytes) before c r
-    imports tells =
+    imports_so tells =
         let asked = command.Import source bytes in
         let still = λ (clean : HasCleanDisk c). early b c _ (looked_crash r b c tells.looks tells.cut) clean in
         record {
@@ -156,16 +185,76 @@ module _ {S : Type 0} (g : kept_in.Ghosts S) (places : Trees → Forest ℕ → 
               let t = now s source bytes file read sound named fits in
               let shown = shown_now at_b s sound so it in
               let has = has_numbered at_b s sound so it in
-              let counts_are = come.counted at_b (office_of s) s.catalogue (shown_legible places version before.now s sound it) (ready s sound so) in
+              let counts_are = (come.1 at_b (office_of s) s.catalogue (shown_legible places version before.now s sound it) (ready s sound so)).0 in
               if_ok_with r (LeavesUnchanged b c) (λ reply. HasNumbered source file units t → today ≡ t.day → reply ≡ judged t (told_of source file counts t)) (λ reply. CarriesOutStep places version s asked reply c.now)
               (λ reply looked is.
               judged_step places version s t asked c.now (after_is s source bytes file read sound named fits) (refusal_is s source bytes file read sound named fits) reply
               (is has so.0 ∙ ap (judged t) (ap (λ (n : Counts). told_of source file n t) counts_are ∙ sym (told_is s source bytes file read sound named fits)))
               (subst (λ (db : Database). RepresentsState places version db t) (sym (looked.same clean)) shown))
               tells.looks (tells.answers clean tt t shown);
-          goes = on_ok_then r (LeavesUnchanged b c) (Goes before c) (λ looked. goes_then before b c come.goes looked.goes) tells.looks;
-          cut = on_err_then r (IsAborted b c) (IsAborted before c) (λ cut. cut_then before b c come.goes.on cut) tells.cut;
+          goes = on_ok_then r (LeavesUnchanged b c) (Goes before c) (λ looked. goes_then before b c come.0.goes looked.goes) tells.looks;
+          cut = on_err_then r (IsAborted b c) (IsAborted before c) (λ cut. cut_then before b c come.0.goes.on cut) tells.cut;
           faults = λ s sound so it.
-              excused_then before b c come.goes.on r tells.cut
+              excused_then before b c come.0.goes.on r tells.cut
               (λ at_b. tells.faults tt (now s source bytes file read sound so.1 so.2) (shown_now at_b s sound so it) tt (has_numbered at_b s sound so it));
         }
+
+-- the same, where the rows are told otherwise
+pub imports : {S : Type 0} {g : kept_in.Ghosts S} {places : Trees → Forest ℕ → Type 0} {version : Version} {today : ℤ} {source bytes : Bytes} {file : File} (read : file_of bytes ≡ Ok file) {numbers : Bytes → Option ℕ} {next : ℕ} {held mid after_it : Held S} {r : Result Reply StoreFault} {outcome : Outcome} {rows : List Row} → rows ≡ file.rows
+    → Updates g (RepresentsLegible places version) (λ _. ⊤) held mid (let r : Result Outcome StoreFault = Ok outcome in r) (IsReady source rows numbers next) (entered source rows) catalogue_trees
+    → Finds g (RepresentsLegible places version) (IsReady source rows numbers next) held mid (let r : Result Outcome StoreFault = Ok outcome in r)
+    (λ c made. (made.counts ≡ counts_of c.forest source rows) × (map Some made.units.items ≡ map (λ row. number_there (entered source rows c) source row.legacy) rows))
+    → Answers g (RepresentsWhole places version) (HasNumbered source file outcome.units.items) mid after_it r (λ _. ⊤) (λ _ s reply. HasNumbered source file outcome.units.items s → today ≡ s.day → reply ≡ judged s (told_of source file outcome.counts s))
+    → CarriesOut places version (IsFitting today source file numbers next) (command.Import source bytes) (state g held) (state g after_it) r
+imports {g = g} {places = places} {version = version} {today = today} {source = source} {bytes = bytes} {file = file} read {numbers = numbers} {next = next} {held = held} {mid = mid} {after_it = after_it} {r = r} {outcome = outcome} same made finds tells =
+    imports_so g places version today source bytes file read numbers next held mid after_it r outcome (subst (Entered g places version source numbers next held mid outcome) same (made, finds)) tells
+
+-- the rows are ready to be entered
+pub ready_for : {today : ℤ} {source : Bytes} (bytes : Bytes) {file : File} (read : file_of bytes ≡ Ok file) {numbers : Bytes → Option ℕ} {next : ℕ} {rows : List Row} → rows ≡ file.rows → (s : State) → IsSoundOffice s
+    → (today ≡ s.day) × (is_source source ≡ true) × FitsIn source file s × KnowsUnits s.catalogue source file.rows numbers × (next ≡ s.catalogue.next) → IsReady source rows numbers next s.catalogue
+ready_for {source = source} bytes {file = file} read {numbers = numbers} {next = next} same s sound so =
+    subst (λ (rs : List Row). IsReady source rs numbers next s.catalogue) (sym same) (record { can = can_enter s source bytes file read sound so.1 so.2; known = so.3; number = so.4 })
+
+-- ---- step by step: more and more is known of the state
+
+-- the day and the source
+abbrev HasBegun : ℤ → Bytes → State → Type 0
+HasBegun today source s = (today ≡ s.day) × (is_source source ≡ true)
+
+-- and the units of the rows
+abbrev IsLookedUp : ℤ → Bytes → File → (Bytes → Option ℕ) → State → Type 0
+IsLookedUp today source file numbers s = (today ≡ s.day) × (is_source source ≡ true) × KnowsUnits s.catalogue source file.rows numbers
+
+-- and how many are new, where all can be placed
+abbrev IsPlaced : ℤ → Bytes → File → (Bytes → Option ℕ) → ℕ → State → Type 0
+IsPlaced today source file numbers new s = (today ≡ s.day) × (is_source source ≡ true) × CanBePlaced source file new s × KnowsUnits s.catalogue source file.rows numbers
+
+-- the plan was made of the rows as they are told
+planned_so : {places : Trees → Forest ℕ → Type 0} {version : Version} {today : ℤ} {source : Bytes} (file : File) {numbers : Bytes → Option ℕ} {rows : List Row} {plan : Planned} (a b : store.State) → rows ≡ file.rows
+    → (HasCleanDisk b → (o : OfficeRow) (k : Catalogue) → Represents places version a.now o k → AreGoodUnits k → (q : Bytes) → KnowsUnits k q rows numbers → plan ≡ plan_of k.forest q rows)
+    → HasCleanDisk b → (s : State) → IsSoundOffice s → IsLookedUp today source file numbers s → RepresentsState places version a.now s → plan ≡ plan_of s.catalogue.forest source file.rows
+planned_so {source = source} file {numbers = numbers} a b same planned clean s sound so it =
+    planned clean (office_of s) s.catalogue it.catalogue sound.sound.units source (subst (λ (rs : List Row). KnowsUnits s.catalogue source rs numbers) (sym same) so.2) ∙ ap (plan_of s.catalogue.forest source) same
+
+module _ {places : Trees → Forest ℕ → Type 0} {version : Version} {today : ℤ} {source bytes : Bytes} {file : File} (read : file_of bytes ≡ Ok file) {numbers : Bytes → Option ℕ} {rows : List Row} (same : rows ≡ file.rows) {a b : store.State} (looked : LeavesUnchanged a b) where
+  pub when_known : {c : store.State} {r : Result Reply StoreFault}
+      → (HasCleanDisk b → (o : OfficeRow) (k : Catalogue) → RepresentsEntering version a.now o k → AreGoodUnits k → KnowsUnits k source rows numbers)
+      → CarriesOut places version (IsLookedUp today source file numbers) (command.Import source bytes) b c r → CarriesOut places version (HasBegun today source) (command.Import source bytes) a c r
+  when_known told last = does_then looked last (λ clean s sound so it.
+      (so.0, so.1, subst (λ (rs : List Row). KnowsUnits s.catalogue source rs numbers) same (told clean (office_of s) s.catalogue (entering_of version a.now (office_of s) s.catalogue it.catalogue.catalogue) sound.sound.units)))
+
+  module _ {plan : Planned} (planned : HasCleanDisk b → (o : OfficeRow) (k : Catalogue) → Represents places version a.now o k → AreGoodUnits k → (q : Bytes) → KnowsUnits k q rows numbers → plan ≡ plan_of k.forest q rows) where
+    pub when_placed : {new : ℕ} {c : store.State} {r : Result Reply StoreFault} → plan ≡ plans.Fits new
+        → CarriesOut places version (IsPlaced today source file numbers new) (command.Import source bytes) b c r → CarriesOut places version (IsLookedUp today source file numbers) (command.Import source bytes) a c r
+    when_placed {new = new} is last = does_then looked last (λ clean s sound so it. (so.0, so.1, fits_planned s source file new (sym is ∙ planned_so file a b same planned clean s sound so it), so.2))
+
+    pub refused_row : {row cause : ℕ} → plan ≡ plans.Faulty row cause → CarriesOut places version (IsLookedUp today source file numbers) (command.Import source bytes) a b (Ok (Err (BadFile row cause)))
+    refused_row {row} {cause} is = is_refused looked (λ clean s sound so it. faulty s source bytes file read sound so.1 row cause (sym is ∙ planned_so file a b same planned clean s sound so it))
+
+  module _ {new : ℕ} {found : Option ℕ} (told : HasCleanDisk b → (k : Catalogue) (o : OfficeRow) → RepresentsSettings places version a.now k o → found ≡ next_with_room new k) where
+    pub when_roomy : {next : ℕ} {c : store.State} {r : Result Reply StoreFault} → found ≡ Some next
+        → CarriesOut places version (IsFitting today source file numbers next) (command.Import source bytes) b c r → CarriesOut places version (IsPlaced today source file numbers new) (command.Import source bytes) a c r
+    when_roomy {next = next} is last = does_then looked last (λ clean s sound so it. fits_now source file today numbers new next s so (sym is ∙ told clean s.catalogue (office_of s) it.catalogue))
+
+    pub refused_full : found ≡ None → CarriesOut places version (IsPlaced today source file numbers new) (command.Import source bytes) a b (Ok (Err Full))
+    refused_full is = is_refused looked (λ clean s sound so it. full s source bytes file read sound so.1 new so.2 (no_room_there new s.catalogue (sym is ∙ told clean s.catalogue (office_of s) it.catalogue)))

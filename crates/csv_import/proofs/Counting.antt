@@ -1,10 +1,16 @@
 -- How many units and containers there are, as SQL counts them.
-use Rattle.std.proofs.Common.{◌≡◌, ℕ, ◌+◌, ◌<◌, ◌≤◌, Bool, true, false, cond, ◌&&◌, Some, None, refl, sym, ap, ap₂, ◌∙◌, inl, inr, arith}
+use Rattle.std.proofs.Common.{◌≡◌, ℕ, ◌+◌, ◌<◌, ◌≤◌, Bool, true, false, cond, ◌&&◌, length, Some, None, Result, Ok, refl, sym, ap, ap₂, ◌∙◌, inl, inr, arith}
 use Rattle.std.specs.Prelude.{nat_le, nat_lt}
-use Rattle.std.proofs.lemmas.Bool.{cases_Bool, le-leb, le-ltb, leb-false, leb-true, lt-leb, lt-ltb, ltb-false, ltb-true}
+use Rattle.std.proofs.lemmas.Bool.{and_parts, cases_Bool, le-leb, le-ltb, leb-false, leb-true, lt-leb, lt-ltb, ltb-false, ltb-true}
+use Rattle.std.proofs.lemmas.List.Sorted.{length_permutation}
+use Rattle.sqlite.specs.Tree.{Trees}
 use Rattle.isad_core.specs.Limits.{most_containers, most_unit_numbers, most_units}
-use Rattle.tree_core.specs.Forest.{size}
+use Rattle.tree_core.specs.Forest.{Forest, nodes, size}
 use Rattle.catalogue_core.specs.CatalogueMerge.{Catalogue}
+use Rattle.catalogue_core.specs.Units.{Unit}
+use Rattle.catalogue_core.proofs.NodeLemmas.{length-nodes}
+use Rattle.catalogue_statements.specs.Representation.{RepresentsUnits}
+use Rattle.catalogue_statements.proofs.Offices.{same_number}
 use Rattle.office_tables.specs.RowCounts.{capped}
 use Rattle.csv_import.specs.CatalogueImport.{has_room, next_with_room}
 
@@ -45,3 +51,13 @@ no_room_there new c e = at (has_room new c) e
     at : (b : Bool) → None ≡ cond b (Some c.next) None → b ≡ false
     at true h = absurd (cc)
     at false h = refl
+
+-- how many units there are, by the rows that are counted
+pub units_counted : {E : Type 0} {db : Trees} {f : Forest Unit} {units : ℕ} (at : RepresentsUnits db f) → ◌≡◌ {A = Result ℕ E} (Ok units) (Ok (capped (length at.units))) → units ≡ capped (size f)
+units_counted {f = f} at is = same_number is ∙ ap capped (length_permutation (nodes f) at.units at.are ∙ length-nodes f)
+
+-- the next number is within the limit, where there is room
+pub number_within : (units next new : ℕ) → (nat_le (units + new) most_units && nat_le (next + new) (most_unit_numbers + 1)) ≡ true → next ≤ most_unit_numbers + 1
+number_within units next new room =
+    let after = leb-true (next + new) (most_unit_numbers + 1) (and_parts (nat_le (units + new) most_units) (nat_le (next + new) (most_unit_numbers + 1)) room).1 in
+    omega (arith, after)

@@ -22,6 +22,11 @@ use Rattle.csv_import.proofs.KnownUnits.{is_known_by, known_still, number_still,
 use Rattle.csv_import.proofs.OneRow.{entered_known, entered_new, may_come, none_there}
 use Rattle.csv_import.proofs.RowsToCome.{one_entered}
 
+-- one that is told can be kept in a table
+pub number_there_small : (o : Option ℕ) → ((n : ℕ) → o ≡ Some n → IsNumber n) → IfSome o IsNumber
+number_there_small None h = tt
+number_there_small (Some n) h = h n refl
+
 -- one that is told, or another, can be kept in a table
 pub number_or : (o : Option ℕ) (n : ℕ) → IfSome o IsNumber → IsNumber n → IsNumber (unwrap_or o n)
 number_or (Some m) n h k = h

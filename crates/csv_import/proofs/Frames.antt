@@ -1,14 +1,15 @@
 -- The catalogue's tables beside the places: what they show as the office's row and the next number change by themselves.
-use Rattle.std.proofs.Common.{◌≡◌, ℕ, true, not, List, Option, None, Result, OnOk, sym, subst, ◌∙◌}
+use Rattle.std.proofs.Common.{◌≡◌, ℕ, true, not, List, Option, None, Result, OnOk, refl, sym, subst, ◌∙◌}
 use Rattle.std.specs.Prelude.{⊤}
 use Rattle.sqlite.specs.Effect.{Database}
 use Rattle.sqlite.specs.Held.{Held, state}
 use Rattle.sqlite_trees.specs.declared.store.Store as store
 use Rattle.isad_core.specs.Texts.{Bytes}
+use Rattle.isad_core.specs.declared.values.Values.{Values}
 use Rattle.atom_csv.specs.declared.file.Row.{Row}
 use Rattle.tree_core.specs.Versions.{Version}
 use Rattle.catalogue_core.specs.Bounds.{IsKept}
-use Rattle.catalogue_core.specs.Descriptions.{HasPlaceFor, IsNew, KnowsItsContainers, MayDescribe, with_unit}
+use Rattle.catalogue_core.specs.Descriptions.{AreWhole, HasPlaceFor, IsNew, KnowsItsContainers, MayDescribe, with_unit, with_values}
 use Rattle.catalogue_core.specs.EntryByRow.{new_at, with_new}
 use Rattle.catalogue_core.specs.CatalogueMerge.{Catalogue}
 use Rattle.catalogue_core.specs.Units.{Unit}
@@ -20,7 +21,7 @@ use Rattle.catalogue_statements.specs.declared.office.OfficeRow.{OfficeRow}
 use Rattle.refinement.proofs.Frames.{are_apart, untouched}
 use Rattle.catalogue_store.specs.ImportEntries.{with_entered}
 use Rattle.csv_import.specs.RowEntry.{RepresentsEntering}
-use Rattle.csv_import.specs.Turns.{MayCome}
+use Rattle.csv_import.specs.Turns.{MayChange, MayCome}
 use Rattle.csv_import.proofs.OneRow.{unit_comes}
 
 -- the catalogue with another number as the next
@@ -83,6 +84,14 @@ makes_entering g version kept may kept_then may_then made made_then touched befo
       cut = it.cut;
       faults = λ o c shown allowed within. (let so = serves o.next_unit c allowed in it.faults o (at_next o.next_unit c) shown so.1 so.0);
     }
+
+-- a known unit gets values
+pub makes_valued : {S X : Type 0} {g : store.Ghosts S} {version : Version} {before after : Held S} {r : Result X StoreFault} (unit : ℕ) (values : Values)
+    → Updates g (RepresentsCatalogue version) (λ c. IsKept c × AreWhole values) before after r (MayDescribe unit) (with_values unit values) described_trees
+    → Updates g (RepresentsEntering version) (λ _. ⊤) before after r (MayChange unit values) (with_values unit values) described_trees
+makes_valued {g = g} {version = version} {before = before} {after = after} {r = r} unit values it =
+    makes_entering g version (λ _. ⊤) (MayChange unit values) (λ c. IsKept c × AreWhole values) (MayDescribe unit) (with_values unit values) (with_values unit values) described_trees before after r
+    (λ n c allowed. ((kept_at n c allowed.kept, allowed.whole), describes_at n unit c allowed.there)) (λ n c allowed. refl) it
 
 -- the unit of a row, by the number that it gets
 abbrev pub unit_at : Bytes → Row → ℕ → Unit

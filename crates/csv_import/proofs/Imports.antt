@@ -60,6 +60,7 @@ use Rattle.csv_import.specs.RowEntry.{CanEnter, counts_of, entered, or_as_before
 use Rattle.csv_import.specs.CatalogueImport.{FitsIn, HasImported, told_of}
 use Rattle.csv_import.specs.RowPlan.{new_of}
 use Rattle.csv_import.specs.Remarks.{HasEntered, HasItsUnit}
+use Rattle.csv_import.proofs.FileBounds.{file_bounded}
 use Rattle.csv_import.proofs.GoodMerges.{legible_with, merged_days, merged_good}
 use Rattle.csv_import.proofs.SameValues.{one_description}
 
@@ -172,6 +173,7 @@ module _ (s : State) (source bytes : Bytes) (file : File) (read : file_of bytes 
     apart = g.sound.desk.boxes;
     days = g.sound.days.closures;
     legible = g.texts.catalogue;
+    few_boxes = (file_bounded bytes file read).boxes;
     room = record { after = made; placed = placed; few = few; numbers = numbers };
   }
 

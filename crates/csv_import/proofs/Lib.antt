@@ -19,3 +19,4 @@ pub mod RightAbove
 pub mod KnownUnits
 pub mod EnteredNumbers
 pub mod Noted
+pub mod FileBounds

@@ -184,7 +184,3 @@ told_of_it c id u told found e =
 -- the unit of a row, by the number that comes next
 pub unit_comes : (source : Bytes) (row : Row) (next : ℕ) (c : Catalogue) → next ≡ c.next → record (new_unit source (new_at c source row)) { id = next } ≡ new_unit source (new_at c source row)
 unit_comes source row next c e = ap (λ n. record (new_unit source (new_at c source row)) { id = n }) e
-
--- there is a number after it
-pub number_low : (c : Catalogue) (next : ℕ) → AreGoodUnits c → next ≡ c.next → next < 2 ^ 62
-number_low c next good e = let top = good.next.1 in omega (arith, top, e)

@@ -1,7 +1,7 @@
 -- Rows that are entered one after another: what holds of those that are still to come.
-use Rattle.std.proofs.Common.{◌≡◌, ◌+◌, ◌<◌, ◌≤◌, ◌&&◌, ◌^◌, ◌++◌, ℕ, Bool, true, false, not, cond, List, [], ◌∷◌, length, length-append, Option, Some, None, Result, Ok, Err, refl, sym, ap, ap₂, ◌∙◌, subst, arith}
+use Rattle.std.proofs.Common.{◌≡◌, ◌+◌, ◌<◌, ◌≤◌, ◌&&◌, ◌++◌, ℕ, Bool, true, false, not, cond, List, [], ◌∷◌, length, length-append, Option, Some, None, Result, Ok, Err, refl, sym, ap, ap₂, ◌∙◌, subst, arith}
 use Rattle.std.specs.Prelude.{count_by, drop, find, get_or, option_map}
-use Rattle.std.proofs.lemmas.List.{at_drop_all, at_drop_more, drop_more}
+use Rattle.std.proofs.lemmas.List.{at_drop_all, drop_more}
 use Rattle.std.specs.List.{AllByRecursion, flat_map}
 use Rattle.std.specs.Option.{option_map_or}
 use Rattle.isad_core.specs.Boxes.{distinct}
@@ -21,8 +21,10 @@ use Rattle.catalogue_core.proofs.KeptCatalogues.{kept_within, knows}
 use Rattle.catalogue_core.proofs.RowCounts.{changed_counts, new_counts, same_counts}
 use Rattle.catalogue_core.proofs.RowsMerged.{row_by_row}
 use Rattle.catalogue_statements.proofs.Untold.{boxes_within}
+use Rattle.tree_core.specs.declared.arrivals.Arrival.{Arrival}
+use Rattle.csv_import.specs.Arrivals.{BringUnits, IsReady, arrivals_of}
 use Rattle.csv_import.specs.RowEntry.{CanEnter, counts_of, entered, or_as_before}
-use Rattle.csv_import.specs.Turns.{AreToCome, IsTurn, boxes_named, counted, entry_of}
+use Rattle.csv_import.specs.Turns.{AreToCome, IsTurn, counted, entry_of}
 use Rattle.csv_import.specs.declared.row_entry.Counts.{Counts}
 use Rattle.csv_import.specs.declared.row_entry.Entry.{Entry}
 use Rattle.csv_import.specs.declared.row_entry.Entry.TheVariants as entry
@@ -289,31 +291,32 @@ all_come source rows next counts c d it h =
 
 -- ---- the rows of a file
 
-pub all_to_come : (source : Bytes) (rows : List Row) (c : Catalogue) → CanEnter source rows c → boxes_named rows < 2 ^ 61 → AreToCome source rows c.next c
-all_to_come source rows c it few = record {
+pub all_to_come : (source : Bytes) (rows : List Row) (c : Catalogue) → CanEnter source rows c → AreToCome source rows c.next c
+all_to_come source rows c it = record {
   named = it.named;
   told = it.told;
   units = it.units;
   apart = it.apart;
   days = it.days;
   legible = it.legible;
-  few_boxes = (let there = it.containers.few in omega (arith, there, few));
+  few_boxes = (let there = it.containers.few in let few = it.few_boxes in omega (arith, there, few));
   room = it.room;
   number = refl;
 }
 
+-- where they are ready, by the next number
+pub to_come : {source : Bytes} {rows : List Row} {numbers : Bytes → Option ℕ} {next : ℕ} {c : Catalogue} → IsReady source rows numbers next c → AreToCome source rows next c
+to_come {source} {rows} {numbers} {next} {c} it = subst (λ n. AreToCome source rows n c) (sym it.number) (all_to_come source rows c it.can)
+
+pub are_brought : {source : Bytes} {rows : List Row} {numbers : Bytes → Option ℕ} {next : ℕ} {arrivals : List Arrival} {c : Catalogue} → IsReady source rows numbers next c → arrivals ≡ arrivals_of c.forest source next rows → BringUnits source rows numbers next arrivals c
+are_brought it are = record { come = to_come it; known = it.known.each; units = are }
+
 -- ---- going through a list
 
-pub named_more : (rows : List Row) (i : ℕ) (row : Row) → i < length rows → get_or rows i row ≡ row → boxes_named (drop i rows) ≡ length row.values.boxes + boxes_named (drop (i + 1) rows)
-named_more rows i row low is =
-    at_drop_more boxes_named rows i row low
-    ∙ (ap (λ (r : Row). boxes_named (r ∷ drop (i + 1) rows)) is
-    ∙ length-append row.values.boxes (flat_map (λ (r : Row). r.values.boxes) (drop (i + 1) rows)))
-
-pub counted_few : (became : Entry) (counts : Counts) (n : ℕ) → (counts.changed ≤ n) × (counts.new ≤ n) × (counts.same ≤ n) → ((counted became counts).changed ≤ n + 1) × ((counted became counts).new ≤ n + 1) × ((counted became counts).same ≤ n + 1)
-counted_few entry.Changed counts n h = (let a = h.0 in omega (arith, a), let b = h.1 in omega (arith, b), let e = h.2 in omega (arith, e))
-counted_few entry.New counts n h = (let a = h.0 in omega (arith, a), let b = h.1 in omega (arith, b), let e = h.2 in omega (arith, e))
-counted_few entry.Same counts n h = (let a = h.0 in omega (arith, a), let b = h.1 in omega (arith, b), let e = h.2 in omega (arith, e))
+pub counted_few : (became : Entry) (counts : Counts) (n : ℕ) → counts.changed + counts.new + counts.same ≤ n → (counted became counts).changed + (counted became counts).new + (counted became counts).same ≤ n + 1
+counted_few entry.Changed counts n few = omega (arith, few)
+counted_few entry.New counts n few = omega (arith, few)
+counted_few entry.Same counts n few = omega (arith, few)
 
 -- the rows from the i-th on, when its turn comes
 pub from_here : (source : Bytes) (rows : List Row) (next : ℕ) (counts : Counts) (c d : Catalogue) (i : ℕ) (row : Row) → i < length rows → get_or rows i row ≡ row

@@ -19,6 +19,10 @@ use Rattle.csv_import.specs.RowPlan.{new_of}
 use Rattle.csv_import.specs.Remarks.{HasEntered}
 use Rattle.csv_import.specs.declared.row_entry.Counts.{Counts}
 
+-- the most rows of a file
+abbrev pub most_rows : ℕ
+most_rows = 20000
+
 -- an office may have this many more units, each with a number of its own
 abbrev pub has_room : ℕ → Catalogue → Bool
 has_room new c = nat_le (size c.forest + new) most_units && nat_le (c.next + new) (most_unit_numbers + 1)

@@ -5,4 +5,5 @@ pub mod Arrivals
 pub mod RowPlan
 pub mod AncestorPaths
 pub mod Remarks
+pub mod PendingImport
 pub mod CatalogueImport

@@ -1,6 +1,6 @@
 -- The rows of a file, entered into a catalogue.
-use Rattle.std.specs.Prelude.{◌≡◌, ℕ, ◌+◌, ◌≤◌, true, count_by, List, Result, Ok, Err}
-use Rattle.std.specs.List.{AllByRecursion}
+use Rattle.std.specs.Prelude.{◌≡◌, ℕ, ◌+◌, ◌<◌, ◌≤◌, ◌^◌, true, count_by, length, List, Result, Ok, Err}
+use Rattle.std.specs.List.{AllByRecursion, flat_map}
 use Rattle.std.specs.Str.{bytes_eq}
 use Rattle.sqlite.specs.Effect.{Database}
 use Rattle.sqlite.specs.Tree.{Trees}
@@ -41,6 +41,10 @@ counts_of f source rows = record {
   same = count_by (is_same f source) rows;
 }
 
+-- how many containers the rows name
+abbrev pub boxes_named : List Row → ℕ
+boxes_named rows = length (flat_map (λ row. row.values.boxes) rows)
+
 -- rows as a file contains them: good, in UTF-8, and no two for the same unit
 pub record AreFileRows (rows : List Row) : Type 0 where
   pub good : AllByRecursion IsGoodRow rows
@@ -63,6 +67,7 @@ pub record CanEnter (source : Bytes) (rows : List Row) (c : Catalogue) : Type 0 
   pub apart : distinct c.containers ≡ c.containers
   pub days : AllByRecursion (λ unit. IsSomeDay unit.until) (nodes c.forest)
   pub legible : IsLegibleCatalogue c
+  pub few_boxes : boxes_named rows < 2 ^ 61
   pub room : HasRoomFor source rows c
 
 -- the tables represent the catalogue and settings that can be read back; the next unit number is the catalogue's

@@ -1,6 +1,6 @@
 -- One row of a file, when its turn comes.
 use Rattle.std.specs.Prelude.{◌≡◌, ◌<◌, ◌+◌, ◌^◌, ℕ, true, cond, length, List, Option, Some, None, Ok}
-use Rattle.std.specs.List.{AllByRecursion, flat_map}
+use Rattle.std.specs.List.{AllByRecursion}
 use Rattle.isad_core.specs.Boxes.{distinct}
 use Rattle.isad_core.specs.Texts.{Bytes}
 use Rattle.isad_core.specs.declared.values.Values.{Values}
@@ -13,10 +13,10 @@ use Rattle.catalogue_core.specs.GoodRows.{IsGoodRow}
 use Rattle.catalogue_core.specs.Intake.{same_values}
 use Rattle.catalogue_core.specs.LegibleCatalogues.{IsLegibleCatalogue}
 use Rattle.catalogue_core.specs.CatalogueMerge.{Catalogue, new_unit}
-use Rattle.catalogue_core.specs.EntryByRow.{new_at, with_row}
+use Rattle.catalogue_core.specs.EntryByRow.{new_at, number_there, with_row}
 use Rattle.catalogue_core.specs.Sources.{is_source}
 use Rattle.catalogue_core.specs.Units.{Unit}
-use Rattle.csv_import.specs.RowEntry.{AreFileRows, HasRoomFor}
+use Rattle.csv_import.specs.RowEntry.{AreFileRows, HasRoomFor, boxes_named}
 use Rattle.csv_import.specs.declared.row_entry.Counts.{Counts}
 use Rattle.csv_import.specs.declared.row_entry.Entry.{Entry}
 use Rattle.csv_import.specs.declared.row_entry.Entry.TheVariants as entry
@@ -42,6 +42,10 @@ pub record IsTurn (source : Bytes) (row : Row) (next : ℕ) (c : Catalogue) : Ty
   pub after : Catalogue
   pub placed : with_row source row c ≡ Ok after
 
+-- the same, and the row's unit has this number, or none
+abbrev pub IsTurnOf : Bytes → Row → Option ℕ → ℕ → Catalogue → Type 0
+IsTurnOf source row number next c = IsTurn source row next c × (number ≡ number_there c source row.legacy)
+
 -- the unit exists, and may get these values
 pub record MayChange (unit : ℕ) (values : Values) (c : Catalogue) : Type 0 where
   pub units : AreGoodUnits c
@@ -56,10 +60,6 @@ pub record MayCome (source : Bytes) (row : Row) (next : ℕ) (c : Catalogue) : T
   pub number : next ≡ c.next
   pub new : IsNew (new_unit source (new_at c source row)) c
   pub place : HasPlaceFor (new_at c source row).parent c
-
--- how many containers the rows name
-abbrev pub boxes_named : List Row → ℕ
-boxes_named rows = length (flat_map (λ row. row.values.boxes) rows)
 
 -- the rows that are still to be entered can be placed one after another, and this is the next number
 pub record AreToCome (source : Bytes) (rows : List Row) (next : ℕ) (c : Catalogue) : Type 0 where

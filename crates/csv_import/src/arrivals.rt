@@ -1,6 +1,6 @@
 //! The units that the rows of a file add, each with its parent. Nothing is entered.
 
-ghost use Rattle.std.specs.Prelude.{◌≡◌, ◌+◌, ◌<◌, ◌^◌, ℕ, List, length, option_and_then, IfOk, IfSome};
+ghost use Rattle.std.specs.Prelude.{◌≡◌, ℕ, List, option_and_then, IfOk, IfSome};
 ghost use Rattle.std.specs.BTreeMap.{get_by_text};
 ghost use Rattle.std.specs.List.{AllByRecursion};
 ghost use Rattle.isad_core.specs.Limits.{IsNumber};
@@ -13,6 +13,7 @@ ghost use Rattle.csv_import.specs.Arrivals.{KnowsNumbers, arrival_at, arrivals_o
 ghost use Rattle.csv_import.specs.KnownUnits.{KnowsUnits, TellsParent, TellsParentOfNew};
 
 use crate::legacy::{ByLegacy, kept_number, remember};
+use crate::pending_import::Import;
 use atom_csv::Row;
 use std::alloc::{AllocError, Global};
 use tree_core::Arrival;
@@ -55,26 +56,18 @@ fn arrival_of(catalogued: &ByLegacy, numbers: &ByLegacy, next: u64, row: &Row) -
     Some(Arrival { unit: next, parent })
 }
 
-/// The units that the rows of a file add, numbered in file order from `next` on. `catalogued` has the numbers of the
-/// catalogued units among those of the rows and their parents.
-pub(crate) fn arrivals(
-    alloc: Global,
-    catalogued: &ByLegacy,
-    next: u64,
-    rows: &[Row],
-) -> Result<Vec<Arrival>, AllocError>
-    requires there { (legacy : Bytes) → IfSome (get_by_text catalogued.now legacy) IsNumber }
-    requires room { next + length rows.now < 2 ^ 63 }
-    ensures tells { IfOk result (λ arrivals. (c : Catalogue) (source : Bytes)
-        → KnowsUnits c source rows.now (get_by_text catalogued.now)
-        → arrivals.items ≡ arrivals_of c.forest source next rows.now) }
+/// The units that the rows of a file add, numbered in file order.
+pub(crate) fn arrivals(alloc: Global, import: &Import<'_>) -> Result<Vec<Arrival>, AllocError>
+    ensures tells { IfOk result (λ arrivals. (c : Catalogue)
+        → KnowsUnits c import.now.source.now import.now.rows.now (get_by_text import.now.catalogued.now)
+        → arrivals.items ≡ arrivals_of c.forest import.now.source.now import.now.next import.now.rows.now) }
     ensures numbered { IfOk result (λ arrivals. AllByRecursion IsNumbered arrivals.items) }
 {
     let mut numbers = ByLegacy::new(alloc);
     let mut arrivals = Vec::new(alloc);
-    for row in rows {
-        let unit = next + arrivals.len() as u64;
-        let brought = arrival_of(catalogued, &numbers, unit, row);
+    for row in import.rows {
+        let unit = import.next + arrivals.len() as u64;
+        let brought = arrival_of(import.catalogued, &numbers, unit, row);
         if let Some(arrival) = brought {
             remember(&mut numbers, alloc, &row.legacy, unit)?;
             arrivals.push(arrival)?;

@@ -1,7 +1,6 @@
 //! The import of a file into the catalogue.
 
-ghost use Rattle.std.specs.Prelude.{◌≡◌, ◌+◌, ◌&&◌, true, length, nat_le, nat_lt, Ok, IfSome, ⊤};
-ghost use Rattle.std.specs.BTreeMap.{get_by_text};
+ghost use Rattle.std.specs.Prelude.{◌≡◌, ◌+◌, ◌≤◌, ◌&&◌, true, length, nat_le, nat_lt, Ok, IfOk, IfSome, ⊤};
 ghost use Rattle.std.specs.List.{AllByRecursion};
 ghost use Rattle.sqlite.specs.Held.{state};
 ghost use Rattle.isad_core.specs.Limits.{IsNumber, most_containers, most_unit_numbers, most_units};
@@ -15,12 +14,11 @@ ghost use Rattle.catalogue_statements.specs.Settings.{AreLegibleSettings};
 ghost use Rattle.catalogue_statements.specs.Representation.{RepresentsSettings};
 ghost use Rattle.refinement.specs.CommandSteps.{Performs};
 ghost use Rattle.refinement.specs.AccessConditions.{RepresentsWhole};
-ghost use Rattle.csv_import.specs.CatalogueImport.{CanBePlaced, HasNumbered, judged, told_of};
+ghost use Rattle.csv_import.specs.CatalogueImport.{HasNumbered, judged, most_rows, told_of};
 ghost use Rattle.csv_import.specs.CatalogueImport as spec;
-ghost use Rattle.csv_import.specs.KnownUnits.{KnowsUnits};
 
-use crate::legacy::ByLegacy;
 use crate::numbers::known_units;
+use crate::pending_import::Import;
 use crate::remarks::remarks;
 use crate::row_entry::{Outcome, enter_rows};
 use crate::row_plan::{Planned, plan};
@@ -54,6 +52,7 @@ fn next_with_room<P: Places, S: Alter>(
     requires inside { InTransaction P.version (state S.Store conn.old) }
     ensures tells { Answers S.Store (RepresentsSettings P.represents P.version) AreLegibleSettings conn.old conn.new
         result (λ _. ⊤) (λ c _ next. next ≡ spec.next_with_room new c) }
+    ensures low { IfOk result (λ next. IfSome next (λ number. number ≤ most_unit_numbers + 1)) }
 {
     let office = settings::<P, S>(alloc, conn)?;
     let counted = count_units(alloc, conn)?;
@@ -109,32 +108,7 @@ fn judge<P: Places, S: Alter>(
     pass::<P, S>(alloc, conn, today, done)
 }
 
-/// Imports rows that can all be placed, of which `new` are new, or refuses if there is no room for them. `catalogued`
-/// has the numbers of the catalogued units among those of the rows and their parents.
-fn import_rows<P: Places, S: Alter>(
-    alloc: Global,
-    conn: &mut Connection<S>,
-    today: Day,
-    source: &Text,
-    catalogued: &ByLegacy,
-    file: &File,
-    new: u64,
-) -> Result<Result<Done, Refusal>, StoreFault>
-    requires inside { InTransaction P.version (state S.Store conn.old) }
-    requires low { (legacy : Bytes) → IfSome (get_by_text catalogued.now legacy) IsNumber }
-    ensures { (bytes : Bytes) → file_of bytes ≡ Ok file.now → Performs P.Places S.Store (λ s. (today ≡ s.day)
-        × (is_source source.now ≡ true) × CanBePlaced source.now file.now new s
-        × KnowsUnits s.catalogue source.now file.now.rows (get_by_text catalogued.now))
-        (command.Import source.now bytes) conn.old conn.new result }
-{
-    let Some(next) = next_with_room::<P, S>(alloc, conn, new)? else {
-        return Ok(Err(Refusal::Full));
-    };
-    let outcome = enter_rows::<P, S>(alloc, conn, source, catalogued, next, file.rows.as_slice())?;
-    judge::<P, S>(alloc, conn, today, file, &outcome)
-}
-
-/// Imports a file that was read, or refuses it if one of its rows cannot be placed.
+/// Imports a file that was read, or refuses it if one of its rows cannot be placed or there is no room for the new ones.
 fn import_read<P: Places, S: Alter>(
     alloc: Global,
     conn: &mut Connection<S>,
@@ -143,17 +117,28 @@ fn import_read<P: Places, S: Alter>(
     file: &File,
 ) -> Result<Result<Done, Refusal>, StoreFault>
     requires inside { InTransaction P.version (state S.Store conn.old) }
+    requires few { length file.now.rows ≤ most_rows }
     ensures { (bytes : Bytes) → file_of bytes ≡ Ok file.now → Performs P.Places S.Store
         (λ s. (today ≡ s.day) × (is_source source.now ≡ true)) (command.Import source.now bytes)
         conn.old conn.new result }
 {
-    let catalogued = known_units::<P, S>(alloc, conn, source, file.rows.as_slice())?;
-    match plan::<P, S>(alloc, conn, &catalogued, file.rows.as_slice())? {
-        Planned::Fits { new } => {
-            import_rows::<P, S>(alloc, conn, today, source, &catalogued, file, new)
-        }
-        Planned::Faulty { row, cause } => Ok(Err(Refusal::BadFile { row, cause })),
-    }
+    let rows = file.rows.as_slice();
+    let catalogued = known_units::<P, S>(alloc, conn, source, rows)?;
+    let new = match plan::<P, S>(alloc, conn, &catalogued, rows)? {
+        Planned::Fits { new } => new,
+        Planned::Faulty { row, cause } => return Ok(Err(Refusal::BadFile { row, cause })),
+    };
+    let Some(next) = next_with_room::<P, S>(alloc, conn, new)? else {
+        return Ok(Err(Refusal::Full));
+    };
+    let import = Import {
+        source,
+        rows,
+        catalogued: &catalogued,
+        next,
+    };
+    let outcome = enter_rows::<P, S>(alloc, conn, &import)?;
+    judge::<P, S>(alloc, conn, today, file, &outcome)
 }
 
 /// Imports a file of a source into the catalogue: units that exist get the file's values, and new units are added.

@@ -7,6 +7,7 @@ mod catalogue_import;
 mod legacy;
 mod numbers;
 mod paths;
+mod pending_import;
 mod remarks;
 mod row_entry;
 mod row_plan;

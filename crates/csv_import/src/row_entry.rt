@@ -1,13 +1,12 @@
 //! The rows of a file, entered into the tables of a catalogue.
 
-ghost use Rattle.std.specs.Prelude.{◌≡◌, ◌+◌, ◌<◌, ◌≤◌, ◌^◌, [], ◌∷◌, cond, false, find, is_some, length};
+ghost use Rattle.std.specs.Prelude.{◌≡◌, ◌+◌, ◌<◌, ◌≤◌, ◌^◌, [], ◌∷◌, cond, find, is_some, length};
 ghost use Rattle.std.specs.Prelude.{map, None, Some, IfOk, IfSome, ⊤};
 ghost use Rattle.std.specs.BTreeMap.{get_by_text};
 ghost use Rattle.std.specs.List.{AllByRecursion};
 ghost use Rattle.sqlite.specs.Held.{state};
 ghost use Rattle.sqlite.specs.State.{HasCleanDisk};
 ghost use Rattle.isad_core.specs.Limits.{IsNumber};
-ghost use Rattle.isad_core.specs.Texts.{Bytes};
 ghost use Rattle.tree_core.specs.Forest.{nodes};
 ghost use Rattle.catalogue_core.specs.Descriptions.{with_values};
 ghost use Rattle.catalogue_core.specs.Intake.{same_values, unit_of};
@@ -19,13 +18,14 @@ ghost use Rattle.catalogue_statements.specs.declared.office.OfficeRow.{OfficeRow
 ghost use Rattle.catalogue_store.specs.Arrivals.{IsNumbered};
 ghost use Rattle.office_tables.specs.Calls.{Updates};
 ghost use Rattle.office_tables.specs.Step.{InTransaction};
-ghost use Rattle.csv_import.specs.Arrivals.{BringUnits, IsReady};
-ghost use Rattle.csv_import.specs.RowEntry.{RepresentsEntering, RepresentsLegible, counts_of, entered};
-ghost use Rattle.csv_import.specs.KnownUnits.{TellsUnits, units_from};
-ghost use Rattle.csv_import.specs.Turns.{AreToCome, IsTurn, MayChange, MayCome, boxes_named, counted, entry_of};
+ghost use Rattle.csv_import.specs.PendingImport.{AreNext, Brings, Finds, IsPending, counted_in, imported};
+ghost use Rattle.csv_import.specs.RowEntry.{RepresentsEntering, RepresentsLegible, entered};
+ghost use Rattle.csv_import.specs.KnownUnits.{units_from};
+ghost use Rattle.csv_import.specs.Turns.{IsTurnOf, MayChange, MayCome, counted, entry_of};
 
 use crate::arrivals::arrivals;
-use crate::legacy::{ByLegacy, kept_number};
+use crate::legacy::kept_number;
+use crate::pending_import::Import;
 use atom_csv::Row;
 use catalogue_statements::office::set_next_unit;
 use catalogue_store::{NewUnit, Places, enter_unit, enter_values, values as values_of};
@@ -34,9 +34,6 @@ use office_tables::StoreFault;
 use sqlite::{Alter, Connection};
 use std::alloc::{AllocError, Global};
 use tree_core::Arrival;
-
-/// All unit numbers are far below this one.
-const LAST_NUMBER: u64 = 1 << 62;
 
 /// How many rows of a file changed a unit, added one, or left one as it was.
 #[derive(Clone, Copy, Debug, PartialEq, Eq)]
@@ -136,12 +133,9 @@ fn enter_row<P: Places, S: Alter>(
     requires low { IfSome number IsNumber }
     requires small { IsNumber next }
     ensures makes { Updates S.Store (RepresentsEntering P.version) (λ _. ⊤) conn.old conn.new result
-        (λ c. IsTurn source.now row.now next c × (number ≡ number_there c source.now row.now.legacy))
-        (entered source.now (row.now ∷ [])) described_trees }
-    ensures told { HasCleanDisk (state S.Store conn.new) → (o : OfficeRow) (c : Catalogue)
-        → RepresentsEntering P.version (state S.Store conn.old).now o c → IsTurn source.now row.now next c
-        → number ≡ number_there c source.now row.now.legacy
-        → IfOk result (λ entry. entry ≡ entry_of (unit_of c.forest source.now row.now) row.now.values) }
+        (IsTurnOf source.now row.now number next) (entered source.now (row.now ∷ [])) described_trees }
+    ensures told { Finds S.Store (RepresentsEntering P.version) (IsTurnOf source.now row.now number next) conn.old
+        conn.new result (λ c entry. entry ≡ entry_of (unit_of c.forest source.now row.now) row.now.values) }
 {
     match number {
         Some(unit) => enter_known::<P, S>(alloc, conn, unit, &row.values),
@@ -151,9 +145,7 @@ fn enter_row<P: Places, S: Alter>(
 
 /// The counts with one more row.
 fn count(counts: Counts, became: Entry) -> Counts
-    requires changed { counts.changed + 1 < 2 ^ 64 }
-    requires new { counts.new + 1 < 2 ^ 64 }
-    requires same { counts.same + 1 < 2 ^ 64 }
+    requires { counts.changed + counts.new + counts.same + 1 < 2 ^ 64 }
     ensures { result ≡ counted became counts }
 {
     match became {
@@ -172,59 +164,31 @@ fn count(counts: Counts, became: Entry) -> Counts
     }
 }
 
-/// Enters rows one after another. `catalogued` has the numbers of the units that are catalogued. `next` is the next new
-/// number. The places of new units are entered separately.
+/// Enters the rows one after another. The places of new units are entered separately.
 fn enter_each<P: Places, S: Alter>(
     alloc: Global,
     conn: &mut Connection<S>,
-    source: &Text,
-    catalogued: &ByLegacy,
-    next: u64,
-    rows: &[Row],
+    import: &Import<'_>,
 ) -> Result<Counts, StoreFault>
     requires inside { InTransaction P.version (state S.Store conn.old) }
-    requires low { (legacy : Bytes) → IfSome (get_by_text catalogued.now legacy) IsNumber }
-    requires room { next + length rows.now < 2 ^ 63 }
     ensures makes { Updates S.Store (RepresentsEntering P.version) (λ _. ⊤) conn.old conn.new result
-        (λ c. AreToCome source.now rows.now next c × TellsUnits c source.now rows.now (get_by_text catalogued.now))
-        (entered source.now rows.now) described_trees }
-    ensures counts { HasCleanDisk (state S.Store conn.new) → (o : OfficeRow) (c : Catalogue)
-        → RepresentsEntering P.version (state S.Store conn.old).now o c → AreToCome source.now rows.now next c
-        → TellsUnits c source.now rows.now (get_by_text catalogued.now)
-        → IfOk result (λ counts. (counts ≡ counts_of c.forest source.now rows.now)
-        × (next + counts.new ≡ (entered source.now rows.now c).next)) }
-    ensures few { IfOk result (λ counts. counts.new ≤ length rows.now) }
+        (AreNext import.now) (imported import.now) described_trees }
+    ensures counts { Finds S.Store (RepresentsEntering P.version) (AreNext import.now) conn.old conn.new result
+        (λ c counts. (counts ≡ counted_in c import.now) × (import.now.next + counts.new ≡ (imported import.now c).next)) }
+    ensures few { IfOk result (λ counts. counts.new ≤ length import.now.rows.now) }
 {
     let mut counts = Counts {
         changed: 0,
         new: 0,
         same: 0,
     };
-    for row in rows {
-        let number = kept_number(catalogued, &row.legacy);
-        let became = enter_row::<P, S>(alloc, conn, source, number, next + counts.new, row)?;
+    for row in import.rows {
+        let number = kept_number(import.catalogued, &row.legacy);
+        let next = import.next + counts.new;
+        let became = enter_row::<P, S>(alloc, conn, import.source, number, next, row)?;
         counts = count(counts, became);
     }
     Ok(counts)
-}
-
-/// No memory holds this many rows or containers. Fewer can be numbered after those that an office
-/// has.
-const MOST_HELD: u64 = 1 << 61;
-
-/// Whether the rows name more containers than any memory holds.
-fn name_too_many(rows: &[Row]) -> bool
-    ensures { result ≡ false → boxes_named rows.now < 2 ^ 61 }
-{
-    let mut named: u64 = 0;
-    for row in rows {
-        let more = row.values.boxes.len() as u64;
-        if more >= MOST_HELD - named {
-            return true;
-        }
-        named += more;
-    }
-    false
 }
 
 /// The next new number after a row. The row's unit has a number already, or takes this one.
@@ -239,91 +203,58 @@ fn number_after(number: u64, known: Option<u64>) -> u64
     }
 }
 
-/// The units of rows in their order: those that are catalogued, and new ones with the numbers from `next` on.
-fn units_of(
-    alloc: Global,
-    catalogued: &ByLegacy,
-    next: u64,
-    rows: &[Row],
-) -> Result<Vec<u64>, AllocError>
-    requires low { (legacy : Bytes) → IfSome (get_by_text catalogued.now legacy) IsNumber }
-    requires room { next + length rows.now < 2 ^ 63 }
-    ensures units { IfOk result (λ units. units.items ≡ units_from (get_by_text catalogued.now) next rows.now) }
+/// The units of the rows in their order: those that are catalogued, and new ones.
+fn units_of(alloc: Global, import: &Import<'_>) -> Result<Vec<u64>, AllocError>
+    ensures units { IfOk result (λ units. units.items
+        ≡ units_from (get_by_text import.now.catalogued.now) import.now.next import.now.rows.now) }
     ensures small { IfOk result (λ units. AllByRecursion IsNumber units.items) }
 {
     let mut units = Vec::new(alloc);
-    let mut number = next;
-    for row in rows {
-        let known = kept_number(catalogued, &row.legacy);
+    let mut number = import.next;
+    for row in import.rows {
+        let known = kept_number(import.catalogued, &row.legacy);
         units.push(known.unwrap_or(number))?;
         number = number_after(number, known);
     }
     Ok(units)
 }
 
-/// Enters rows, and the places of the units that they add, all places at once. `catalogued` has the numbers of the
-/// units that are catalogued. `next` is the next new number.
+/// Enters the rows, and the places of the units that they add, all places at once.
 fn enter_with_places<P: Places, S: Alter>(
     alloc: Global,
     conn: &mut Connection<S>,
-    source: &Text,
-    catalogued: &ByLegacy,
-    next: u64,
-    rows: &[Row],
+    import: &Import<'_>,
     arrivals: &[Arrival],
 ) -> Result<Counts, StoreFault>
     requires inside { InTransaction P.version (state S.Store conn.old) }
-    requires low { (legacy : Bytes) → IfSome (get_by_text catalogued.now legacy) IsNumber }
-    requires room { next + length rows.now < 2 ^ 63 }
     requires numbered { AllByRecursion IsNumbered arrivals.now }
     ensures makes { Updates S.Store (RepresentsNumbered P.represents P.version) (λ _. ⊤) conn.old conn.new result
-        (BringUnits source.now rows.now (get_by_text catalogued.now) next arrivals.now) (entered source.now rows.now)
-        catalogue_trees }
-    ensures counts { HasCleanDisk (state S.Store conn.new) → (o : OfficeRow) (c : Catalogue)
-        → RepresentsNumbered P.represents P.version (state S.Store conn.old).now o c
-        → BringUnits source.now rows.now (get_by_text catalogued.now) next arrivals.now c
-        → IfOk result (λ counts. counts ≡ counts_of c.forest source.now rows.now) }
+        (Brings import.now arrivals.now) (imported import.now) catalogue_trees }
+    ensures counts { Finds S.Store (RepresentsNumbered P.represents P.version) (Brings import.now arrivals.now)
+        conn.old conn.new result (λ c counts. counts ≡ counted_in c import.now) }
 {
     P::add_all(alloc, conn, arrivals)?;
-    let counts = enter_each::<P, S>(alloc, conn, source, catalogued, next, rows)?;
-    set_next_unit(conn, next + counts.new)?;
+    let counts = enter_each::<P, S>(alloc, conn, import)?;
+    set_next_unit(conn, import.next + counts.new)?;
     Ok(counts)
 }
 
-/// Enters the rows of a file from a source, one after another: the unit of a row gets the row's values, or is added
-/// with the next number, which is `next` for the first. `catalogued` has the numbers of the catalogued units among
-/// those of the rows and their parents.
+/// Enters the rows one after another: the unit of a row gets the row's values, or is added with the next number.
 pub(crate) fn enter_rows<P: Places, S: Alter>(
     alloc: Global,
     conn: &mut Connection<S>,
-    source: &Text,
-    catalogued: &ByLegacy,
-    next: u64,
-    rows: &[Row],
+    import: &Import<'_>,
 ) -> Result<Outcome, StoreFault>
     requires inside { InTransaction P.version (state S.Store conn.old) }
-    requires low { (legacy : Bytes) → IfSome (get_by_text catalogued.now legacy) IsNumber }
     ensures makes { Updates S.Store (RepresentsLegible P.represents P.version) (λ _. ⊤) conn.old conn.new result
-        (IsReady source.now rows.now (get_by_text catalogued.now) next) (entered source.now rows.now) catalogue_trees }
-    ensures counts { HasCleanDisk (state S.Store conn.new) → (o : OfficeRow) (c : Catalogue)
-        → RepresentsLegible P.represents P.version (state S.Store conn.old).now o c
-        → IsReady source.now rows.now (get_by_text catalogued.now) next c
-        → IfOk result (λ made. made.counts ≡ counts_of c.forest source.now rows.now) }
-    ensures units { HasCleanDisk (state S.Store conn.new) → (o : OfficeRow) (c : Catalogue)
-        → RepresentsLegible P.represents P.version (state S.Store conn.old).now o c
-        → IsReady source.now rows.now (get_by_text catalogued.now) next c
-        → IfOk result (λ made. map Some made.units.items
-        ≡ map (λ row. number_there (entered source.now rows.now c) source.now row.legacy) rows.now) }
+        (IsPending import.now) (imported import.now) catalogue_trees }
+    ensures finds { Finds S.Store (RepresentsLegible P.represents P.version) (IsPending import.now) conn.old conn.new
+        result (λ c made. (made.counts ≡ counted_in c import.now) × (map Some made.units.items
+        ≡ map (λ row. number_there (imported import.now c) import.now.source.now row.legacy) import.now.rows.now)) }
     ensures small { IfOk result (λ made. AllByRecursion IsNumber made.units.items) }
 {
-    if name_too_many(rows) || rows.len() as u64 >= MOST_HELD {
-        return Err(StoreFault::Memory);
-    }
-    if next >= LAST_NUMBER {
-        return Err(StoreFault::Schema);
-    }
-    let arrivals = arrivals(alloc, catalogued, next, rows)?;
-    let units = units_of(alloc, catalogued, next, rows)?;
-    let counts = enter_with_places::<P, S>(alloc, conn, source, catalogued, next, rows, &arrivals)?;
+    let arrivals = arrivals(alloc, import)?;
+    let units = units_of(alloc, import)?;
+    let counts = enter_with_places::<P, S>(alloc, conn, import, &arrivals)?;
     Ok(Outcome { counts, units })
 }

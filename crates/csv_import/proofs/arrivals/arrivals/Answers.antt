@@ -8,25 +8,29 @@ use Rattle.sqlite_trees.proofs.ListLemmas.{all-append}
 use Rattle.isad_core.specs.Limits.{IsNumber}
 use Rattle.atom_csv.specs.declared.file.Row.{Row as RowTold}
 use Rattle.catalogue_store.specs.Arrivals.{IsNumbered}
+use Rattle.csv_import.proofs.EnteredNumbers.{number_there_small}
 use Rattle.csv_import.proofs.Arrived.{AreTold, all_told, at_number, brings_none, brings_one, low_more}
 use Rattle.csv_import.proofs.KnownUnits.{parent_at, told_at}
 use Rattle.csv_import.proofs.arrivals.arrivals.Goals as goal
 use Rattle.csv_import.proofs.arrivals.arrivals.Goals.{in-Some+in_ok-remember+in_ok-push, in_default}
+
+pub arrival_of-brought-requires-clause-there : goal.arrival_of-brought-requires-clause-there
+arrival_of-brought-requires-clause-there c = λ legacy. number_there_small _ (c.args.import.now.small legacy)
 
 pub loop-row-preserved : goal.loop-row-preserved
 loop-row-preserved c =
     let invariant = c.loop-row.invariant in
     let few = invariant.few in
     let made = c.arrival_of-brought.ensures in
-    let rows = c.args.rows.now in
-    let next = c.args.next in
+    let rows = c.args.import.now.rows.now in
+    let next = c.args.import.now.next in
     let i = c.loop-row.row-index in
     let item = c.row-item.result in
-    let known = get_by_text c.args.catalogued.now in
+    let known = get_by_text c.args.import.now.catalogued.now in
     let numbers = get_by_text c.loop-row.numbers in
     let items = c.loop-row.arrivals.items in
     let unit : next + c.len.result ≡ next + length items = omega (arith, c.len.ensures) in
-    let low : next + c.len.result < 2 ^ 63 = omega (arith, unit, few, c.loop-row-test.true, c.requires.room) in
+    let low : next + c.len.result < 2 ^ 63 = omega (arith, unit, few, c.loop-row-test.true, c.args.import.now.few) in
     let rest : drop i rows ≡ item ∷ drop (i + 1) rows = drop_more rows i item c.loop-row-test.true ∙ ap (λ (r : RowTold). r ∷ drop (i + 1) rows) (sym c.row-item.is) in
     record {
       few = elim c.match-brought.branch [
@@ -64,8 +68,9 @@ loop-row-preserved c =
     }
 
 pub returns-clause-tells : goal.returns-clause-tells
-returns-clause-tells c k source knows =
-    let rows = c.args.rows.now in
+returns-clause-tells c k knows =
+    let source = c.args.import.now.source.now in
+    let rows = c.args.import.now.rows.now in
     let last = c.loop-row-test.false in
-    all_told k.forest source c.args.next (get_by_text c.loop-row.numbers) c.loop-row.arrivals.items rows
-    (subst (AreTold k.forest source c.args.next (get_by_text c.loop-row.numbers) c.loop-row.arrivals.items rows) (drop_all c.loop-row.row-index rows (omega (arith, last))) (c.loop-row.invariant.so_far k source knows))
+    all_told k.forest source c.args.import.now.next (get_by_text c.loop-row.numbers) c.loop-row.arrivals.items rows
+    (subst (AreTold k.forest source c.args.import.now.next (get_by_text c.loop-row.numbers) c.loop-row.arrivals.items rows) (drop_all c.loop-row.row-index rows (omega (arith, last))) (c.loop-row.invariant.so_far k source knows))

@@ -14,6 +14,6 @@ invariant-loop-row l = record {
   few : length l.arrivals.items ≤ l.row-index;
   numbered : AllByRecursion IsNumbered l.arrivals.items;
   low : (legacy : Bytes) → IfSome (get_by_text l.numbers legacy) IsNumber;
-  so_far : (c : Catalogue) (source : Bytes) → KnowsUnits c source l.rows (get_by_text l.catalogued)
-      → AreTold c.forest source l.next (get_by_text l.numbers) l.arrivals.items l.rows (drop l.row-index l.rows);
+  so_far : (c : Catalogue) (source : Bytes) → KnowsUnits c source l.import.rows.now (get_by_text l.import.catalogued.now)
+      → AreTold c.forest source l.import.next (get_by_text l.numbers) l.arrivals.items l.import.rows.now (drop l.row-index l.import.rows.now);
 }

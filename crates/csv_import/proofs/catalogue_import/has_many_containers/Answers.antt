@@ -8,6 +8,7 @@ use Rattle.office_tables.specs.RowCounts.{capped}
 use Rattle.office_tables.proofs.Calls.{cut_after, office_of}
 use Rattle.refinement.proofs.Doings.{tells_passed}
 use Rattle.csv_import.proofs.Counting.{many_counted}
+use Rattle.csv_import.proofs.Tellings.{tells_so}
 use Rattle.csv_import.proofs.catalogue_import.has_many_containers.Goals as goal
 
 pub count_containers-requires : goal.count_containers-requires
@@ -31,13 +32,8 @@ returns-in_err-containers g c =
 pub returns : goal.returns
 returns g c =
     record {
-      tells = record {
-        answers = λ clean k o it.
-            let boxes = c.in_ok-counted.ensures.answers clean (counted_from 1 k.containers) it.catalogue.containers tt in
-            let containers = same_number (c.in_ok-containers.ensures.value (capped (length (counted_from 1 k.containers))) (c.deref.ensures.value ∙ boxes)) ∙ ap capped (length-counted 1 k.containers) in
-            ap (nat_lt most_containers) containers ∙ many_counted (length k.containers);
-        looks = c.in_ok-counted.ensures.reads.looks;
-        cut = tt;
-        faults = λ k o it may kept clean free. tt;
-      };
+      tells = tells_so c.in_ok-counted.ensures.reads.looks (λ clean k o it.
+          let boxes = c.in_ok-counted.ensures.answers clean (counted_from 1 k.containers) it.catalogue.containers tt in
+          let containers = same_number (c.in_ok-containers.ensures.value (capped (length (counted_from 1 k.containers))) (c.deref.ensures.value ∙ boxes)) ∙ ap capped (length-counted 1 k.containers) in
+          ap (nat_lt most_containers) containers ∙ many_counted (length k.containers));
     }

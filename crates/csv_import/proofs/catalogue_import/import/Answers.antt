@@ -5,6 +5,7 @@ use Rattle.atom_csv.specs.ReadProgress.{IsBad}
 use Rattle.atom_csv.specs.declared.file.FileFault.{FileFault}
 use Rattle.office_tables.proofs.Calls.{looks_nowhere, office_of}
 use Rattle.refinement.proofs.Doings.{is_refused}
+use Rattle.csv_import.proofs.FileBounds.{file_bounded}
 use Rattle.csv_import.proofs.Refused.{bad}
 use Rattle.csv_import.proofs.catalogue_import.import.Goals as goal
 
@@ -16,3 +17,6 @@ returns-in-Bad g c =
     let bytes = c.args.file.now in
     let is : file_of bytes ≡ Err (c.in-Bad.row, c.in-Bad.cause) = subst (λ (e : FileFault). IsBad e (λ row cause. file_of c.args.file.now ≡ Err (row, cause))) c.in-Bad.is c.in-Err.ensures.bad in
     is_refused (looks_nowhere a (office_of v a c.requires.inside)) (λ clean s sound so it. bad s source bytes c.in-Bad.row c.in-Bad.cause so.1 is)
+
+pub import_read-requires-clause-few : goal.import_read-requires-clause-few
+import_read-requires-clause-few g c = (file_bounded c.args.file.now c.in-Ok.read c.in-Ok.ensures.rows).rows

@@ -1,23 +1,23 @@
 use Rattle.std.proofs.Common.{◌≡◌, Bool, true, false, List, [], cond, length, Err, sym, ap, subst, ◌∙◌}
-use Rattle.std.specs.Prelude.{⊤, nat_lt}
+use Rattle.std.specs.Prelude.{nat_lt}
 use Rattle.std.specs.List.{AllByRecursion}
-use Rattle.std.proofs.lemmas.Bool.{ltb-false}
 use Rattle.sqlite.specs.Effect.{Database}
 use Rattle.sqlite.specs.Held.{state}
+use Rattle.sqlite.specs.State.{HasCleanDisk}
 use Rattle.isad_core.specs.Limits.{IsNumber, most_containers}
+use Rattle.catalogue_statements.specs.Representation.{Represents}
 use Rattle.desk_core.specs.declared.refusal.Refusal.TheVariants.{Full}
 use Rattle.office_core.specs.ImportReply as reply
+use Rattle.office_core.specs.State.{State}
 use Rattle.office_core.specs.declared.done.Done.TheVariants as done
 use Rattle.office_core.specs.declared.done.Remark.{Remark}
-use Rattle.office_tables.proofs.CallEnds.{same_fault, tells_cut}
 use Rattle.office_tables.proofs.Calls.{early, looks_then, still}
 use Rattle.refinement.specs.Gate.{gated}
-use Rattle.refinement.specs.AccessConditions.{CanBeJudged, RepresentsWhole}
 use Rattle.refinement.specs.Representation.{RepresentsState, office_of}
 use Rattle.refinement.proofs.Doings.{tells_passed}
-use Rattle.csv_import.specs.CatalogueImport.{HasNumbered, judged, told_of}
-use Rattle.csv_import.proofs.Carried.{have_units, settings_shown}
-use Rattle.csv_import.proofs.Tellings.{told_last}
+use Rattle.csv_import.specs.CatalogueImport.{told_of}
+use Rattle.csv_import.proofs.Carried.{few_containers, have_units, judged_few, settings_shown}
+use Rattle.csv_import.proofs.Tellings.{tells_cut_later, tells_so, told_last}
 use Rattle.csv_import.proofs.catalogue_import.judge.Goals as goal
 
 pub returns-in_err-has_many_containers : goal.returns-in_err-has_many_containers
@@ -31,14 +31,9 @@ pub returns-then-branch : goal.returns-then-branch
 returns-then-branch g c =
     let told = c.in_ok-has_many_containers.ensures.tells in
     record {
-      tells = λ source. record {
-        answers = λ clean beside s it has day.
-            let many : nat_lt most_containers (length s.catalogue.containers) ≡ true = sym (told.answers clean s.catalogue (office_of s) it.catalogue) ∙ c.if-branch.true in
-            sym (ap (λ (b : Bool). cond b (Err Full) (gated s (told_of source c.args.file.now c.args.outcome.now.counts s))) many);
-        looks = told.looks;
-        cut = tt;
-        faults = λ beside s it may has clean free. tt;
-      };
+      tells = λ source. tells_so told.looks (λ clean beside s it has day.
+          let many : nat_lt most_containers (length s.catalogue.containers) ≡ true = sym (told.answers clean s.catalogue (office_of s) it.catalogue) ∙ c.if-branch.true in
+          sym (ap (λ (b : Bool). cond b (Err Full) (gated s (told_of source c.args.file.now c.args.outcome.now.counts s))) many));
     }
 
 pub remarks-requires-clause-small : goal.remarks-requires-clause-small
@@ -46,20 +41,14 @@ remarks-requires-clause-small g c = subst (AllByRecursion IsNumber) (sym c.deref
 
 pub returns-in_err-remarks : goal.returns-in_err-remarks
 returns-in_err-remarks g c =
-    let v = g.P.Places.version in
-    let e = c.from_residual-in_err-remarks.ensures in
     let counted = c.in_ok-has_many_containers.ensures.tells in
-    let units = c.args.outcome.now.units.items in
     record {
       tells = λ source.
           let told = c.in_err-remarks.ensures.tells source in
-          tells_cut g.S.Store (RepresentsWhole g.P.Places.represents v) (HasNumbered source c.args.file.now units) (λ _. ⊤) c.args.conn.now c.has_many_containers.new.conn c.remarks.new.conn c.from_residual-in_err-remarks.result _ c.in_err-remarks.field-0.0
-          (same_fault c.from_residual-in_err-remarks.result c.in_err-remarks.field-0.0 e.0 e.1) counted.looks told.cut
-          (λ beside s it may has at_b clean free.
-          let few : nat_lt most_containers (length s.catalogue.containers) ≡ false = sym (counted.answers at_b s.catalogue (office_of s) it.catalogue) ∙ c.if-branch.false in
-          let within = ltb-false most_containers (length s.catalogue.containers) few in
-          let still = subst (λ (db : Database). RepresentsState g.P.Places.represents v db s) (sym (counted.looks.same at_b)) it in
-          told.faults (office_of s) s.catalogue still.catalogue (have_units source c.args.file.now units s within has _ c.as_slice.ensures _ c.deref.ensures.value) (has.imported.judged within).catalogue clean free);
+          tells_cut_later c.has_many_containers.new.conn _ c.from_residual-in_err-remarks.ensures counted.looks told.cut (λ beside s it may has at_b clean free.
+          let within = few_containers s (counted.answers at_b s.catalogue (office_of s) it.catalogue) c.if-branch.false in
+          let still = subst (λ (db : Database). RepresentsState g.P.Places.represents g.P.Places.version db s) (sym (counted.looks.same at_b)) it in
+          told.faults (office_of s) s.catalogue still.catalogue (have_units source c.args.file.now c.args.outcome.now.units.items s within has _ c.as_slice.ensures _ c.deref.ensures.value) (has.imported.judged within).catalogue clean free);
     }
 
 pub pass-requires : goal.pass-requires
@@ -72,37 +61,27 @@ pass-requires g c =
 pub returns : goal.returns
 returns g c =
     let v = g.P.Places.version in
-    let a = state g.S.Store c.args.conn.now in
     let b = state g.S.Store c.has_many_containers.new.conn in
     let d = state g.S.Store c.remarks.new.conn in
     let counted = c.in_ok-has_many_containers.ensures.tells in
-    let units = c.args.outcome.now.units.items in
-    let looks = looks_then a b d counted.looks (c.in_ok-remarks.ensures.tells []).looks in
+    let looks = looks_then _ b d counted.looks (c.in_ok-remarks.ensures.tells []).looks in
     let n = c.args.outcome.now.counts in
-    let made = done.Import n.changed n.new c.in_ok-remarks.remarks n.same c.from.result in
     record {
       tells = λ source.
           let told = c.in_ok-remarks.ensures.tells source in
-          told_last g.S.Store (RepresentsWhole g.P.Places.represents v) (HasNumbered source c.args.file.now units) (λ _. ⊤) (RepresentsWhole g.P.Places.represents v) CanBeJudged (λ _. ⊤) c.args.conn.now c.remarks.new.conn c.pass.new.conn c.pass.result
-          (λ beside s. beside) (λ beside s. s) (λ _ s reply. CanBeJudged s → c.args.today ≡ s.day → reply ≡ gated s made)
-          (λ _ s reply. HasNumbered source c.args.file.now units s → c.args.today ≡ s.day → reply ≡ judged s (told_of source c.args.file.now n s))
-          looks
+          let within = λ (clean : HasCleanDisk d) (s : State) (it : Represents g.P.Places.represents v (state g.S.Store c.args.conn.now).now (office_of s) s.catalogue). few_containers s (counted.answers (early b d _ told.looks.goes.on.crash clean) s.catalogue (office_of s) it) c.if-branch.false in
+          told_last (λ beside s. beside) (λ beside s. s) c.pass.ensures.tells looks
           (record {
             shown = λ clean beside s it. subst (λ (db : Database). RepresentsState g.P.Places.represents v db s) (sym (looks.same clean)) it;
-            allowed = λ clean beside s it may has.
-                let at_b = early b d _ told.looks.goes.on.crash clean in
-                let few : nat_lt most_containers (length s.catalogue.containers) ≡ false = sym (counted.answers at_b s.catalogue (office_of s) it.catalogue) ∙ c.if-branch.false in
-                (tt, has.imported.judged (ltb-false most_containers (length s.catalogue.containers) few));
+            allowed = λ clean beside s it may has. (tt, has.imported.judged (within clean s it.catalogue));
           })
           (λ clean beside s it told_reply is has day.
           let at_b = early b d _ told.looks.goes.on.crash clean in
-          let few : nat_lt most_containers (length s.catalogue.containers) ≡ false = sym (counted.answers at_b s.catalogue (office_of s) it.catalogue) ∙ c.if-branch.false in
-          let within = ltb-false most_containers (length s.catalogue.containers) few in
+          let few = within clean s it.catalogue in
           let still = subst (λ (db : Database). RepresentsState g.P.Places.represents v db s) (sym (counted.looks.same at_b)) it in
-          let remarked = told.answers clean (office_of s) s.catalogue still.catalogue (have_units source c.args.file.now units s within has _ c.as_slice.ensures _ c.deref.ensures.value) ∙ ap (reply.remarks s.catalogue.forest source) c.as_slice.ensures in
-          is (has.imported.judged within) day
+          let remarked = told.answers clean (office_of s) s.catalogue still.catalogue (have_units source c.args.file.now c.args.outcome.now.units.items s few has _ c.as_slice.ensures _ c.deref.ensures.value) ∙ ap (reply.remarks s.catalogue.forest source) c.as_slice.ensures in
+          is (has.imported.judged few) day
           ∙ (ap (λ (marks : List Remark). gated s (done.Import n.changed n.new marks n.same c.from.result)) remarked
           ∙ ap (λ k. gated s (done.Import n.changed n.new (reply.remarks s.catalogue.forest source c.args.file.now.rows) n.same k)) c.from.ensures
-          ∙ sym (ap (λ (b : Bool). cond b (Err Full) (gated s (told_of source c.args.file.now n s))) few)))
-          c.pass.ensures.tells;
+          ∙ sym (judged_few s (told_of source c.args.file.now n s) few)));
     }

@@ -12,6 +12,7 @@ use Rattle.refinement.proofs.Doings.{tells_passed_later}
 use Rattle.csv_import.specs.RowEntry.{RepresentsEntering}
 use Rattle.csv_import.specs.KnownUnits.{IsAsked}
 use Rattle.csv_import.proofs.KnownUnits.{all_known, asked_nothing, still_asked}
+use Rattle.csv_import.proofs.Tellings.{tells_so}
 use Rattle.csv_import.proofs.numbers.known_units.Goals as goal
 
 pub loop-row-init : goal.loop-row-init
@@ -63,11 +64,6 @@ returns-clause-tells g c =
     let rows = c.args.rows.now in
     let source = c.args.source.now in
     let asked = contains_text c.loop-row.asked in
-    record {
-      answers = λ clean o k it good.
-          let all = c.loop-row.invariant.so_far clean o k it good in
-          all_known k source asked (get_by_text c.loop-row.numbers) rows all.0 (subst (AllByRecursion (IsAsked k source asked)) (take_all c.loop-row.row-index rows (omega (arith, c.loop-row-test.false))) all.1);
-      looks = c.loop-row.invariant.looks;
-      cut = tt;
-      faults = λ o k it may kept clean free. tt;
-    }
+    tells_so c.loop-row.invariant.looks (λ clean o k it good.
+    let all = c.loop-row.invariant.so_far clean o k it good in
+    all_known k source asked (get_by_text c.loop-row.numbers) rows all.0 (subst (AllByRecursion (IsAsked k source asked)) (take_all c.loop-row.row-index rows (omega (arith, c.loop-row-test.false))) all.1))

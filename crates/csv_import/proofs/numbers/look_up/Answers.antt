@@ -8,20 +8,16 @@ use Rattle.isad_core.specs.Limits.{IsNumber}
 use Rattle.office_tables.proofs.Calls.{looks_nowhere, office_of}
 use Rattle.csv_import.proofs.Arrived.{low_more}
 use Rattle.csv_import.proofs.KnownUnits.{asked_again, asked_and_found, asked_in_vain}
+use Rattle.csv_import.proofs.Tellings.{tells_so}
 use Rattle.csv_import.proofs.numbers.look_up.Goals as goal
 
 pub returns-then-not-branch-clause-tells : goal.returns-then-not-branch-clause-tells
 returns-then-not-branch-clause-tells g c =
     let a = state g.S.Store c.args.conn.now in
     let noted = c.in_ok-note.ensures in
-    record {
-      answers = λ clean o k it good knows.
-          asked_again k c.args.source.now (contains_text c.args.asked.now) (contains_text c.note.new.noted) (get_by_text c.args.numbers.now) c.args.legacy.now knows noted.noted
-          (there (contains_text c.args.asked.now c.args.legacy.now) (sym noted.new ∙ c.if-not-branch.true));
-      looks = looks_nowhere a (office_of g.P.Places.version a c.requires.inside);
-      cut = tt;
-      faults = λ o k it may kept clean free. tt;
-    }
+    tells_so (looks_nowhere a (office_of g.P.Places.version a c.requires.inside)) (λ clean o k it good knows.
+    asked_again k c.args.source.now (contains_text c.args.asked.now) (contains_text c.note.new.noted) (get_by_text c.args.numbers.now) c.args.legacy.now knows noted.noted
+    (there (contains_text c.args.asked.now c.args.legacy.now) (sym noted.new ∙ c.if-not-branch.true)))
   where
     there : (b : Bool) → not b ≡ false → b ≡ true
     there true h = refl
@@ -30,26 +26,16 @@ returns-then-not-branch-clause-tells g c =
 pub returns-in_default-clause-tells : goal.returns-in_default-clause-tells
 returns-in_default-clause-tells g c =
     let told = c.in_ok-unit.ensures.tells in
-    record {
-      answers = λ clean o k it good knows.
-          asked_in_vain k c.args.source.now (contains_text c.args.asked.now) (contains_text c.note.new.noted) (get_by_text c.args.numbers.now) c.args.legacy.now knows c.in_ok-note.ensures.noted
-          (sym c.in_default.is ∙ told.answers clean o k it good);
-      looks = told.looks;
-      cut = tt;
-      faults = λ o k it may kept clean free. tt;
-    }
+    tells_so told.looks (λ clean o k it good knows.
+    asked_in_vain k c.args.source.now (contains_text c.args.asked.now) (contains_text c.note.new.noted) (get_by_text c.args.numbers.now) c.args.legacy.now knows c.in_ok-note.ensures.noted
+    (sym c.in_default.is ∙ told.answers clean o k it good))
 
 pub returns-clause-tells : goal.returns-clause-tells
 returns-clause-tells g c =
     let told = c.in_ok-unit.ensures.tells in
-    record {
-      answers = λ clean o k it good knows.
-          asked_and_found k c.args.source.now (contains_text c.args.asked.now) (contains_text c.note.new.noted) (get_by_text c.args.numbers.now) c.args.legacy.now knows c.in_ok-note.ensures.noted
-          (get_by_text c.remember.new.kept) c.in-Some.unit (sym c.in-Some.is ∙ told.answers clean o k it good) c.in_ok-remember.ensures;
-      looks = told.looks;
-      cut = tt;
-      faults = λ o k it may kept clean free. tt;
-    }
+    tells_so told.looks (λ clean o k it good knows.
+    asked_and_found k c.args.source.now (contains_text c.args.asked.now) (contains_text c.note.new.noted) (get_by_text c.args.numbers.now) c.args.legacy.now knows c.in_ok-note.ensures.noted
+    (get_by_text c.remember.new.kept) c.in-Some.unit (sym c.in-Some.is ∙ told.answers clean o k it good) c.in_ok-remember.ensures)
 
 pub returns-clause-small : goal.returns-clause-small
 returns-clause-small g c q =

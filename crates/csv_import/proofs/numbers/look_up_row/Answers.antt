@@ -8,6 +8,7 @@ use Rattle.office_tables.proofs.Calls.{early, looks_then, still}
 use Rattle.refinement.proofs.Doings.{tells_passed_later}
 use Rattle.csv_import.specs.RowEntry.{RepresentsEntering}
 use Rattle.csv_import.proofs.Noted.{noted_itself, still_noted}
+use Rattle.csv_import.proofs.Tellings.{tells_so}
 use Rattle.csv_import.proofs.numbers.look_up_row.Goals as goal
 
 pub returns-then-is_some-clause-tells : goal.returns-then-is_some-clause-tells
@@ -15,37 +16,27 @@ returns-then-is_some-clause-tells g c =
     let told = c.in_ok-look_up.ensures.tells in
     let source = c.args.source.now in
     let legacy = c.args.row.now.legacy in
-    record {
-      answers = λ clean o k it good knows.
-          let now = told.answers clean o k it good knows in
-          let own = noted_itself (contains_text c.args.asked.now) (contains_text c.look_up.new.asked) legacy c.in_ok-look_up.ensures.asked in (
-            now,
-            record {
-              unit = own;
-              parent = λ new. absurd (let clash : true ≡ false = sym (sym (ap is_some c.kept_number.ensures) ∙ (sym c.is_some.ensures ∙ c.if-is_some.true)) ∙ ap is_some (now.told legacy own ∙ new) in cc);
-            },
-          );
-      looks = told.looks;
-      cut = tt;
-      faults = λ o k it may kept clean free. tt;
-    }
+    tells_so told.looks (λ clean o k it good knows.
+    let now = told.answers clean o k it good knows in
+    let own = noted_itself (contains_text c.args.asked.now) (contains_text c.look_up.new.asked) legacy c.in_ok-look_up.ensures.asked in (
+      now,
+      record {
+        unit = own;
+        parent = λ new. absurd (let clash : true ≡ false = sym (sym (ap is_some c.kept_number.ensures) ∙ (sym c.is_some.ensures ∙ c.if-is_some.true)) ∙ ap is_some (now.told legacy own ∙ new) in cc);
+      },
+    ))
 
 pub returns-in_default-clause-tells : goal.returns-in_default-clause-tells
 returns-in_default-clause-tells g c =
     let told = c.in_ok-look_up.ensures.tells in
     let legacy = c.args.row.now.legacy in
-    record {
-      answers = λ clean o k it good knows. (
-        told.answers clean o k it good knows,
-        record {
-          unit = noted_itself (contains_text c.args.asked.now) (contains_text c.look_up.new.asked) legacy c.in_ok-look_up.ensures.asked;
-          parent = λ new. subst (λ (p : Option Bytes). IfSome p (λ parent. contains_text c.look_up.new.asked parent ≡ true)) (sym c.in_default.is) tt;
-        },
-      );
-      looks = told.looks;
-      cut = tt;
-      faults = λ o k it may kept clean free. tt;
-    }
+    tells_so told.looks (λ clean o k it good knows. (
+      told.answers clean o k it good knows,
+      record {
+        unit = noted_itself (contains_text c.args.asked.now) (contains_text c.look_up.new.asked) legacy c.in_ok-look_up.ensures.asked;
+        parent = λ new. subst (λ (p : Option Bytes). IfSome p (λ parent. contains_text c.look_up.new.asked parent ≡ true)) (sym c.in_default.is) tt;
+      },
+    ))
 
 pub look_up-requires-2-clause-inside : goal.look_up-requires-2-clause-inside
 look_up-requires-2-clause-inside g c = still g.P.Places.version (state g.S.Store c.args.conn.now) (state g.S.Store c.look_up.new.conn) c.requires.inside c.in_ok-look_up.ensures.tells.looks.goes
@@ -68,21 +59,16 @@ returns-clause-tells g c =
     let asked = contains_text c.args.asked.now in
     let mid = contains_text c.look_up.new.asked in
     let later = contains_text c.look_up-2.new.asked in
-    record {
-      answers = λ clean o k it good knows.
-          let at_b = early b d _ second.tells.looks.goes.on.crash clean in
-          let shown = subst (λ (db : Database). RepresentsEntering v db o k) (sym (first.tells.looks.same at_b)) it in
-          let now = second.tells.answers clean o k shown good (first.tells.answers at_b o k it good knows) in (
-            now,
-            record {
-              unit = still_noted mid later c.in-Some.parent second.asked legacy (noted_itself asked mid legacy first.asked);
-              parent = λ new. subst (λ (p : Option Bytes). IfSome p (λ parent. later parent ≡ true)) (sym c.in-Some.is) (noted_itself mid later c.in-Some.parent second.asked);
-            },
-          );
-      looks = looks_then a b d first.tells.looks second.tells.looks;
-      cut = tt;
-      faults = λ o k it may kept clean free. tt;
-    }
+    tells_so (looks_then a b d first.tells.looks second.tells.looks) (λ clean o k it good knows.
+    let at_b = early b d _ second.tells.looks.goes.on.crash clean in
+    let shown = subst (λ (db : Database). RepresentsEntering v db o k) (sym (first.tells.looks.same at_b)) it in
+    let now = second.tells.answers clean o k shown good (first.tells.answers at_b o k it good knows) in (
+      now,
+      record {
+        unit = still_noted mid later c.in-Some.parent second.asked legacy (noted_itself asked mid legacy first.asked);
+        parent = λ new. subst (λ (p : Option Bytes). IfSome p (λ parent. later parent ≡ true)) (sym c.in-Some.is) (noted_itself mid later c.in-Some.parent second.asked);
+      },
+    ))
 
 pub returns-clause-more : goal.returns-clause-more
 returns-clause-more g c q was =

@@ -9,6 +9,7 @@ use Rattle.office_tables.proofs.Calls.{cut_after, office_of}
 use Rattle.office_tables.specs.declared.fault.StoreFault.TheVariants as fault
 use Rattle.refinement.proofs.Doings.{tells_passed}
 use Rattle.csv_import.proofs.OneRow.{finds_number, low_number}
+use Rattle.csv_import.proofs.Tellings.{tells_so}
 use Rattle.csv_import.proofs.numbers.number_of.Goals as goal
 
 pub known-requires : goal.known-requires
@@ -21,12 +22,7 @@ returns-in_err-unit-clause-tells g c =
 pub returns-in_default-clause-tells : goal.returns-in_default-clause-tells
 returns-in_default-clause-tells g c =
     let told = c.in_ok-unit.ensures.tells in
-    record {
-      answers = λ clean o k it good. sym c.in_default.is ∙ finds_number k c.args.source.now c.args.legacy.now c.in_ok-unit.field-0 good (told.answers clean tt k.forest it.units);
-      looks = told.looks;
-      cut = tt;
-      faults = λ o k it good kept clean free. tt;
-    }
+    tells_so told.looks (λ clean o k it good. sym c.in_default.is ∙ finds_number k c.args.source.now c.args.legacy.now c.in_ok-unit.field-0 good (told.answers clean tt k.forest it.units))
 
 pub returns-then-unit-ge-NO_NUMBER-clause-tells : goal.returns-then-unit-ge-NO_NUMBER-clause-tells
 returns-then-unit-ge-NO_NUMBER-clause-tells g c =
@@ -42,9 +38,4 @@ returns-then-unit-ge-NO_NUMBER-clause-tells g c =
 pub returns-clause-tells : goal.returns-clause-tells
 returns-clause-tells g c =
     let told = c.in_ok-unit.ensures.tells in
-    record {
-      answers = λ clean o k it good. sym c.in-Some.is ∙ finds_number k c.args.source.now c.args.legacy.now c.in_ok-unit.field-0 good (told.answers clean tt k.forest it.units);
-      looks = told.looks;
-      cut = tt;
-      faults = λ o k it good kept clean free. tt;
-    }
+    tells_so told.looks (λ clean o k it good. sym c.in-Some.is ∙ finds_number k c.args.source.now c.args.legacy.now c.in_ok-unit.field-0 good (told.answers clean tt k.forest it.units))

@@ -4,6 +4,7 @@ use Rattle.sqlite.specs.Held.{state}
 use Rattle.office_tables.proofs.Calls.{looks_nowhere, office_of}
 use Rattle.csv_import.specs.Remarks.{IsRankOf, IsRanked}
 use Rattle.csv_import.specs.declared.remarks.Ranked.{Ranked}
+use Rattle.csv_import.proofs.Tellings.{tells_so}
 use Rattle.csv_import.proofs.remarks.kept_rank.Goals as goal
 
 pub returns-in-Some : goal.returns-in-Some
@@ -11,22 +12,12 @@ returns-in-Some g c =
     let a = state g.S.Store c.args.conn.now in
     let it = subst (λ o. IfSome o (λ (r : Ranked). (c.args.last.now ≡ Some r) × (r.unit ≡ c.args.unit))) c.in-Some.is c.kept_of.ensures in
     record {
-      tells = record {
-        answers = λ clean o k shown ranked. (subst (λ n. IsRankOf k n c.in-Some.ranked.rank) it.1 (subst (IsRanked k) it.0 ranked), ranked);
-        looks = looks_nowhere a (office_of g.P.Places.version a c.requires.inside);
-        cut = tt;
-        faults = λ o k shown may kept clean free. tt;
-      };
+      tells = tells_so (looks_nowhere a (office_of g.P.Places.version a c.requires.inside)) (λ clean o k shown ranked. (subst (λ n. IsRankOf k n c.in-Some.ranked.rank) it.1 (subst (IsRanked k) it.0 ranked), ranked));
     }
 
 pub returns : goal.returns
 returns g c =
     let told = c.in_ok-rank.ensures.tells in
     record {
-      tells = record {
-        answers = λ clean o k shown ranked. (told.answers clean o k shown, told.answers clean o k shown);
-        looks = told.looks;
-        cut = tt;
-        faults = λ o k shown may kept clean free. tt;
-      };
+      tells = tells_so told.looks (λ clean o k shown ranked. (told.answers clean o k shown, told.answers clean o k shown));
     }

@@ -7,6 +7,7 @@ use Rattle.catalogue_statements.proofs.FoundUnits.{none_found, one_found}
 use Rattle.catalogue_store.proofs.MarkCauses.{legible_units}
 use Rattle.office_tables.proofs.Calls.{office_of}
 use Rattle.refinement.proofs.Doings.{tells_passed}
+use Rattle.csv_import.proofs.Tellings.{tells_so}
 use Rattle.csv_import.proofs.remarks.rank_there.Goals as goal
 
 pub levels_of-requires-clause-inside : goal.levels_of-requires-clause-inside
@@ -23,33 +24,23 @@ pub returns-in_default : goal.returns-in_default
 returns-in_default g c =
     let a = state g.S.Store c.args.conn.now in
     record {
-      tells = record {
-        answers = λ clean o k it unit is.
-            let at = it.catalogue.units in
-            let got = c.in_ok-levels.ensures.answers clean at.units at.rows tt in
-            let few : length got.0 ≡ 0 = omega (arith, c.in_default.ensures.cases.0, c.in_ok-levels.levels.ok.0, ap length got.2, length-map got.0 (λ (u : Described). u.values.level)) in
-            let clash : None ≡ Some unit = sym (none_found a.now.trees k.forest at c.args.unit got.0 got.1.0 few) ∙ is in
-            absurd (cc);
-        looks = c.in_ok-levels.ensures.reads.looks;
-        cut = tt;
-        faults = λ o k it may kept clean free. tt;
-      };
+      tells = tells_so c.in_ok-levels.ensures.reads.looks (λ clean o k it unit is.
+          let at = it.catalogue.units in
+          let got = c.in_ok-levels.ensures.answers clean at.units at.rows tt in
+          let few : length got.0 ≡ 0 = omega (arith, c.in_default.ensures.cases.0, c.in_ok-levels.levels.ok.0, ap length got.2, length-map got.0 (λ (u : Described). u.values.level)) in
+          let clash : None ≡ Some unit = sym (none_found a.now.trees k.forest at c.args.unit got.0 got.1.0 few) ∙ is in
+          absurd (cc));
     }
 
 pub returns : goal.returns
 returns g c =
     let a = state g.S.Store c.args.conn.now in
     record {
-      tells = record {
-        answers = λ clean o k it unit is.
-            let at = it.catalogue.units in
-            let got = c.in_ok-levels.ensures.answers clean at.units at.rows tt in
-            let found = one_found a.now.trees k.forest at c.args.unit got.0 got.1.0 c.pop.new.self.items c.in-Some.level (sym got.2 ∙ c.in-Some.ensures.items) in
-            let both : Some found.0 ≡ Some unit = sym found.3 ∙ is in
-            let same : found.0 ≡ unit = cc in
-            c.rank.ensures ∙ ap rank_of (c.as_str.ensures ∙ (found.4 ∙ ap (λ (u : Described). u.values.level) same));
-        looks = c.in_ok-levels.ensures.reads.looks;
-        cut = tt;
-        faults = λ o k it may kept clean free. tt;
-      };
+      tells = tells_so c.in_ok-levels.ensures.reads.looks (λ clean o k it unit is.
+          let at = it.catalogue.units in
+          let got = c.in_ok-levels.ensures.answers clean at.units at.rows tt in
+          let found = one_found a.now.trees k.forest at c.args.unit got.0 got.1.0 c.pop.new.self.items c.in-Some.level (sym got.2 ∙ c.in-Some.ensures.items) in
+          let both : Some found.0 ≡ Some unit = sym found.3 ∙ is in
+          let same : found.0 ≡ unit = cc in
+          c.rank.ensures ∙ ap rank_of (c.as_str.ensures ∙ (found.4 ∙ ap (λ (u : Described). u.values.level) same)));
     }

@@ -16,6 +16,7 @@ use Rattle.office_core.specs.declared.done.Remark.TheVariants.{LevelTooHigh}
 use Rattle.office_tables.specs.declared.fault.StoreFault.TheVariants.{Schema}
 use Rattle.office_tables.proofs.CallEnds.{tells_not}
 use Rattle.office_tables.proofs.Calls.{cut_after, goes_nowhere, office_of}
+use Rattle.csv_import.proofs.Tellings.{tells_so}
 use Rattle.csv_import.proofs.remarks.remark_below.Goals as goal
 
 pub returns-then-parent-ge-NO_NUMBER : goal.returns-then-parent-ge-NO_NUMBER
@@ -32,18 +33,13 @@ returns-then-is_above g c =
     let told = c.in_ok-above.ensures.tells in
     let own = rank_of c.args.row.now.values.level in
     record {
-      tells = record {
-        answers = λ clean o k it ranked.
-            let both = told.answers clean o k it ranked in (
-              both.1,
-              λ unit is.
-                  let high : c.is_above.result ≡ is_level_above own (rank_of unit.values.level) = c.is_above.ensures ∙ ap₂ is_level_above (c.rank.ensures ∙ ap rank_of c.as_str.ensures) (both.0 unit is) in
-                  sym (ap (λ (b : Bool). remark_if b (LevelTooHigh c.args.row.now.row)) (sym high ∙ c.if-is_above.true)),
-            );
-        looks = told.looks;
-        cut = tt;
-        faults = λ o k it may kept clean free. tt;
-      };
+      tells = tells_so told.looks (λ clean o k it ranked.
+          let both = told.answers clean o k it ranked in (
+            both.1,
+            λ unit is.
+                let high : c.is_above.result ≡ is_level_above own (rank_of unit.values.level) = c.is_above.ensures ∙ ap₂ is_level_above (c.rank.ensures ∙ ap rank_of c.as_str.ensures) (both.0 unit is) in
+                sym (ap (λ (b : Bool). remark_if b (LevelTooHigh c.args.row.now.row)) (sym high ∙ c.if-is_above.true)),
+          ));
     }
 
 pub returns : goal.returns
@@ -51,16 +47,11 @@ returns g c =
     let told = c.in_ok-above.ensures.tells in
     let own = rank_of c.args.row.now.values.level in
     record {
-      tells = record {
-        answers = λ clean o k it ranked.
-            let both = told.answers clean o k it ranked in (
-              both.1,
-              λ unit is.
-                  let high : c.is_above.result ≡ is_level_above own (rank_of unit.values.level) = c.is_above.ensures ∙ ap₂ is_level_above (c.rank.ensures ∙ ap rank_of c.as_str.ensures) (both.0 unit is) in
-                  sym (ap (λ (b : Bool). remark_if b (LevelTooHigh c.args.row.now.row)) (sym high ∙ c.if-is_above.false)),
-            );
-        looks = told.looks;
-        cut = tt;
-        faults = λ o k it may kept clean free. tt;
-      };
+      tells = tells_so told.looks (λ clean o k it ranked.
+          let both = told.answers clean o k it ranked in (
+            both.1,
+            λ unit is.
+                let high : c.is_above.result ≡ is_level_above own (rank_of unit.values.level) = c.is_above.ensures ∙ ap₂ is_level_above (c.rank.ensures ∙ ap rank_of c.as_str.ensures) (both.0 unit is) in
+                sym (ap (λ (b : Bool). remark_if b (LevelTooHigh c.args.row.now.row)) (sym high ∙ c.if-is_above.false)),
+          ));
     }

@@ -16,6 +16,7 @@ use Rattle.office_tables.proofs.Calls.{looks_nowhere, office_of}
 use Rattle.csv_import.specs.Remarks.{HasParent, IsRanked}
 use Rattle.csv_import.proofs.Remarked.{is_below, top_remark}
 use Rattle.csv_import.proofs.RightAbove.{last_number, there}
+use Rattle.csv_import.proofs.Tellings.{tells_so}
 use Rattle.csv_import.proofs.remarks.remark_on.Goals as goal
 use Rattle.refinement.proofs.Passing.{if_ok_then}
 
@@ -44,17 +45,11 @@ returns-in-Some g c =
 
 pub returns-in-None : goal.returns-in-None
 returns-in-None g c =
-    let a = state g.S.Store c.args.conn.now in
     let row = c.args.row.now in
     record {
-      tells = λ source. record {
-        answers = λ clean o k it ranked has.
-            let unit = there k.forest source row has.its in
-            let none : last_but_one (map (λ (u : Described). u.id) (path (is_from source row.legacy) k.forest)) ≡ None =
-            last_number (path (is_from source row.legacy) k.forest) ∙ (sym has.above ∙ c.in-None.is) in
-            (ranked, c.remark_on_top.ensures ∙ top_remark k.forest source row unit.0 unit.1 none has.its);
-        looks = looks_nowhere a (office_of g.P.Places.version a c.requires.inside);
-        cut = tt;
-        faults = λ o k it may kept clean free. tt;
-      };
+      tells = λ source. tells_so (looks_nowhere _ (office_of g.P.Places.version (state g.S.Store c.args.conn.now) c.requires.inside)) (λ clean o k it ranked has.
+          let unit = there k.forest source row has.its in
+          let none : last_but_one (map (λ (u : Described). u.id) (path (is_from source row.legacy) k.forest)) ≡ None =
+          last_number (path (is_from source row.legacy) k.forest) ∙ (sym has.above ∙ c.in-None.is) in
+          (ranked, c.remark_on_top.ensures ∙ top_remark k.forest source row unit.0 unit.1 none has.its));
     }

@@ -1,14 +1,12 @@
-use Rattle.std.proofs.Common.{◌≡◌, sym, subst, ◌∙◌}
+use Rattle.std.proofs.Common.{sym, subst, ◌∙◌}
 use Rattle.sqlite.specs.Effect.{Database}
 use Rattle.sqlite.specs.Held.{state}
 use Rattle.sqlite.specs.State.{HasCleanDisk}
 use Rattle.tree_core.specs.Forest.{each}
-use Rattle.catalogue_core.specs.Bounds.{IsKept}
 use Rattle.catalogue_core.specs.CatalogueMerge.{Catalogue}
 use Rattle.catalogue_core.specs.Units.{Unit as Described}
 use Rattle.catalogue_statements.specs.Representation.{Represents}
 use Rattle.catalogue_statements.specs.declared.office.OfficeRow.{OfficeRow}
-use Rattle.office_core.specs.ImportReply as reply
 use Rattle.office_tables.proofs.Calls.{still}
 use Rattle.refinement.proofs.Doings.{tells_passed}
 use Rattle.csv_import.specs.Remarks.{HaveParents, HaveUnits}
@@ -42,15 +40,10 @@ returns g c =
           (let above = told.answers clean tt (each (λ (u : Described). u.id) k.forest) it.shown in
           let h : HaveParents source rows c.deref.result.now k = record { entered = has.entered; above = c.deref.ensures.value ∙ (above ∙ above_numbers k source has.entered.units units rows has.numbered) } in
           h) in
-          told_last g.S.Store (Represents g.P.Places.represents v) IsKept (HaveUnits source rows units) (Represents g.P.Places.represents v) IsKept (HaveParents source rows c.deref.result.now) c.args.conn.now c.parents.new.conn c.remarks_below.new.conn c.remarks_below.result
-          (λ o k. o) (λ o k. k)
-          (λ _ k told. HaveParents source rows c.deref.result.now k → told ≡ reply.remarks k.forest source rows)
-          (λ _ k told. HaveUnits source rows units k → told ≡ reply.remarks k.forest source rows)
-          told.looks
+          told_last (λ o k. o) (λ o k. k) (c.remarks_below.ensures.tells source) told.looks
           (record {
             shown = λ clean o k it. subst (λ (db : Database). Represents g.P.Places.represents v db o k) (sym (told.looks.same clean)) it;
             allowed = λ clean o k it has kept. (have clean o k it has, kept);
           })
-          (λ clean o k it remarks is has. is (have clean o k it has))
-          (c.remarks_below.ensures.tells source);
+          (λ clean o k it remarks is has. is (have clean o k it has));
     }

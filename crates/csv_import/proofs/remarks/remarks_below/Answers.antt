@@ -12,6 +12,7 @@ use Rattle.office_core.specs.declared.done.Remark.{Remark}
 use Rattle.office_tables.proofs.Calls.{early, looks_then, still}
 use Rattle.refinement.proofs.Doings.{tells_full, tells_passed_later}
 use Rattle.csv_import.proofs.RightAbove.{parent_at, told_all, told_at}
+use Rattle.csv_import.proofs.Tellings.{tells_so}
 use Rattle.csv_import.proofs.remarks.remarks_below.Goals as goal
 
 pub loop-row-preserved-in-Continue-branch-3 : goal.loop-row-preserved-in-Continue-branch-3
@@ -98,10 +99,5 @@ returns g c =
     let second : iter_rest (zip_second c.into_iter-row-iterator.result) ≡ parents = ap (λ z. iter_rest (zip_second z)) c.into_iter-row-iterator.ensures.into_iter_gives ∙ c.zip-row-items.ensures.second.0 in
     let last = zip_end rows parents c.loop-row.yielded _ c.loop-row.row-iterator c.next.new.self c.next.result first second c.loop-row.yielded_by c.in-None.is c.next.ensures.steps in
     record {
-      tells = λ source. record {
-        answers = λ clean o k it have. told_all k source rows parents (length c.loop-row.yielded) c.loop-row.told have last (c.loop-row.invariant.so_far clean source o k it have);
-        looks = c.loop-row.invariant.looks;
-        cut = tt;
-        faults = λ o k it may kept clean free. tt;
-      };
+      tells = λ source. tells_so c.loop-row.invariant.looks (λ clean o k it have. told_all k source rows parents (length c.loop-row.yielded) c.loop-row.told have last (c.loop-row.invariant.so_far clean source o k it have));
     }

@@ -1,6 +1,8 @@
 use Rattle.std.proofs.Common.{◌≡◌, ◌∙◌, ◌≤◌, ◌+◌, [], ◌∷◌, arith, drop, sym, subst}
+use Rattle.std.specs.Prelude.{IfSome}
 use Rattle.std.specs.BTreeMap.{get_by_text}
 use Rattle.sqlite.specs.Held.{state}
+use Rattle.isad_core.specs.Limits.{IsNumber}
 use Rattle.catalogue_core.specs.CatalogueMerge.{Catalogue}
 use Rattle.catalogue_core.specs.EntryByRow.{number_there}
 use Rattle.catalogue_statements.specs.Representation.{described_trees}
@@ -9,6 +11,7 @@ use Rattle.office_tables.proofs.Touching.{nothing_touched, touched_again}
 use Rattle.refinement.proofs.Doings.{makes_passed_later}
 use Rattle.csv_import.specs.RowEntry.{RepresentsEntering, entered}
 use Rattle.csv_import.specs.declared.row_entry.Counts.{Counts}
+use Rattle.csv_import.proofs.EnteredNumbers.{number_there_small}
 use Rattle.csv_import.proofs.KnownUnits.{known_still, told_here}
 use Rattle.csv_import.proofs.RowsToCome.{HaveCome, all_come, at_end, counted_few, from_here, next_comes, none_come, one_entered}
 use Rattle.csv_import.proofs.row_entry.enter_each.Goals as goal
@@ -18,14 +21,17 @@ loop-row-init g c =
     let a = state g.S.Store c.args.conn.now in
     record {
       inside = c.requires.inside;
-      few = (omega arith, omega arith, omega arith);
+      few = omega arith;
       goes = goes_nowhere a (office_of g.P.Places.version a c.requires.inside);
       only = λ clean. nothing_touched described_trees a.now;
-      so_far = λ clean o k it come told. (k, it, none_come c.args.source.now c.args.rows.now c.args.next k come, told);
+      so_far = λ clean o k it come told. (k, it, none_come c.args.import.now.source.now c.args.import.now.rows.now c.args.import.now.next k come, told);
     }
 
 pub enter_row-requires-clause-inside : goal.enter_row-requires-clause-inside
 enter_row-requires-clause-inside g c = still g.P.Places.version (state g.S.Store c.args.conn.now) (state g.S.Store c.loop-row.conn) c.loop-row.invariant.inside c.loop-row.invariant.goes
+
+pub enter_row-requires-clause-low : goal.enter_row-requires-clause-low
+enter_row-requires-clause-low g c = subst (λ o. IfSome o IsNumber) (sym c.kept_number-number.ensures) (number_there_small _ (c.args.import.now.small c.row-item.result.legacy))
 
 pub loop-row-preserved : goal.loop-row-preserved
 loop-row-preserved g c =
@@ -33,58 +39,58 @@ loop-row-preserved g c =
     let b = state g.S.Store c.loop-row.conn in
     let d = state g.S.Store c.enter_row.new.conn in
     let i = c.loop-row.row-index in
-    let rows = c.args.rows.now in
-    let source = c.args.source.now in
+    let rows = c.args.import.now.rows.now in
+    let source = c.args.import.now.source.now in
     let row = c.row-item.result in
     let invariant = c.loop-row.invariant in
-    let numbers = get_by_text c.args.catalogued.now in
+    let numbers = get_by_text c.args.import.now.catalogued.now in
     let step = c.in_ok-became.ensures.makes in
     record {
       inside = invariant.inside;
-      few = subst (λ (n : Counts). (n.changed ≤ i + 1) × (n.new ≤ i + 1) × (n.same ≤ i + 1)) (sym c.count-counts.ensures) (counted_few c.in_ok-became.became c.loop-row.counts i invariant.few);
+      few = subst (λ (n : Counts). n.changed + n.new + n.same ≤ i + 1) (sym c.count-counts.ensures) (counted_few c.in_ok-became.became c.loop-row.counts i invariant.few);
       goes = goes_then a b d invariant.goes step.goes;
       only = λ clean. touched_again described_trees a.now b.now d.now (invariant.only (early b d _ step.goes.on.crash clean)) (step.only clean);
       so_far = λ clean o k it come told.
           let before = early b d _ step.goes.on.crash clean in
           let x = invariant.so_far before o k it come told in
-          let have = from_here source rows c.args.next c.loop-row.counts k x.0 i row c.loop-row-test.true (sym c.row-item.is) x.2 in
+          let have = from_here source rows c.args.import.now.next c.loop-row.counts k x.0 i row c.loop-row-test.true (sym c.row-item.is) x.2 in
           let here = told_here x.0 source rows numbers i row c.loop-row-test.true (sym c.row-item.is) x.3 in
           let number : c.kept_number-number.result ≡ number_there x.0 source row.legacy = c.kept_number-number.ensures ∙ here.0 in
-          let turn = (one_entered source row (drop (i + 1) rows) (c.args.next + c.loop-row.counts.new) x.0 have.come).turn in (
+          let turn = (one_entered source row (drop (i + 1) rows) (c.args.import.now.next + c.loop-row.counts.new) x.0 have.come).turn in (
             entered source (row ∷ []) x.0,
             step.represents_updated clean o x.0 x.1 (turn, number),
-            subst (λ (counts : Counts). HaveCome source rows (drop (i + 1) rows) c.args.next counts k (entered source (row ∷ []) x.0)) (sym c.count-counts.ensures)
-                (next_comes source rows row (drop (i + 1) rows) c.args.next c.loop-row.counts k x.0 c.in_ok-became.became have (c.in_ok-became.ensures.told clean o x.0 x.1 turn number)),
-            known_still source row (drop (i + 1) rows) (c.args.next + c.loop-row.counts.new) x.0 numbers have.come here.1,
+            subst (λ (counts : Counts). HaveCome source rows (drop (i + 1) rows) c.args.import.now.next counts k (entered source (row ∷ []) x.0)) (sym c.count-counts.ensures)
+                (next_comes source rows row (drop (i + 1) rows) c.args.import.now.next c.loop-row.counts k x.0 c.in_ok-became.became have (c.in_ok-became.ensures.told clean o x.0 x.1 (turn, number))),
+            known_still source row (drop (i + 1) rows) (c.args.import.now.next + c.loop-row.counts.new) x.0 numbers have.come here.1,
           );
     }
 
 pub returns-in_err-became-clause-makes : goal.returns-in_err-became-clause-makes
 returns-in_err-became-clause-makes g c =
     let i = c.loop-row.row-index in
-    let rows = c.args.rows.now in
-    let source = c.args.source.now in
+    let rows = c.args.import.now.rows.now in
+    let source = c.args.import.now.source.now in
     let row = c.row-item.result in
     let invariant = c.loop-row.invariant in
-    let numbers = get_by_text c.args.catalogued.now in
+    let numbers = get_by_text c.args.import.now.catalogued.now in
     let step = c.in_err-became.ensures.makes in
     makes_passed_later _ c.from_residual.ensures c.loop-row.conn invariant.goes.on step.cut (λ o k it so kept before.
     let x = invariant.so_far before o k it so.0 so.1 in
-    let have = from_here source rows c.args.next c.loop-row.counts k x.0 i row c.loop-row-test.true (sym c.row-item.is) x.2 in
-    let turn = (one_entered source row (drop (i + 1) rows) (c.args.next + c.loop-row.counts.new) x.0 have.come).turn in
+    let have = from_here source rows c.args.import.now.next c.loop-row.counts k x.0 i row c.loop-row-test.true (sym c.row-item.is) x.2 in
+    let turn = (one_entered source row (drop (i + 1) rows) (c.args.import.now.next + c.loop-row.counts.new) x.0 have.come).turn in
     let here = told_here x.0 source rows numbers i row c.loop-row-test.true (sym c.row-item.is) x.3 in
     step.faults o x.0 x.1 (turn, c.kept_number-number.ensures ∙ here.0) tt)
 
 pub returns-clause-makes : goal.returns-clause-makes
 returns-clause-makes g c =
     let b = state g.S.Store c.loop-row.conn in
-    let source = c.args.source.now in
-    let rows = c.args.rows.now in
+    let source = c.args.import.now.source.now in
+    let rows = c.args.import.now.rows.now in
     let invariant = c.loop-row.invariant in
     record {
       represents_updated = λ clean o k it so.
           let x = invariant.so_far clean o k it so.0 so.1 in
-          let all = all_come source rows c.args.next c.loop-row.counts k x.0 so.0 (at_end source rows c.args.next c.loop-row.counts k x.0 c.loop-row.row-index (omega (arith, c.loop-row-test.false)) x.2) in
+          let all = all_come source rows c.args.import.now.next c.loop-row.counts k x.0 so.0 (at_end source rows c.args.import.now.next c.loop-row.counts k x.0 c.loop-row.row-index (omega (arith, c.loop-row-test.false)) x.2) in
           subst (λ (y : Catalogue). RepresentsEntering g.P.Places.version b.now o y) (sym all.is) x.1;
       only = invariant.only;
       goes = invariant.goes;
@@ -93,9 +99,9 @@ returns-clause-makes g c =
     }
 
 pub returns-clause-counts : goal.returns-clause-counts
-returns-clause-counts g c clean o k it come told =
-    let source = c.args.source.now in
-    let rows = c.args.rows.now in
-    let x = c.loop-row.invariant.so_far clean o k it come told in
-    let all = all_come source rows c.args.next c.loop-row.counts k x.0 come (at_end source rows c.args.next c.loop-row.counts k x.0 c.loop-row.row-index (omega (arith, c.loop-row-test.false)) x.2) in
+returns-clause-counts g c clean o k it so =
+    let source = c.args.import.now.source.now in
+    let rows = c.args.import.now.rows.now in
+    let x = c.loop-row.invariant.so_far clean o k it so.0 so.1 in
+    let all = all_come source rows c.args.import.now.next c.loop-row.counts k x.0 so.0 (at_end source rows c.args.import.now.next c.loop-row.counts k x.0 c.loop-row.row-index (omega (arith, c.loop-row-test.false)) x.2) in
     (all.counts_are, all.number)

@@ -2,20 +2,18 @@ use Rattle.std.proofs.Common.{cond, refl, sym, ap, ◌∙◌}
 use Rattle.std.specs.Prelude.{⊤}
 use Rattle.sqlite.specs.Held.{state}
 use Rattle.isad_core.specs.declared.values.Values.{Values}
-use Rattle.catalogue_core.specs.Bounds.{IsKept}
-use Rattle.catalogue_core.specs.Descriptions.{AreWhole, MayDescribe, with_values}
+use Rattle.catalogue_core.specs.Descriptions.{with_values}
 use Rattle.catalogue_core.specs.Intake.{same_values}
-use Rattle.catalogue_core.specs.CatalogueMerge.{Catalogue}
 use Rattle.catalogue_core.proofs.KeptCatalogues.{all_places}
 use Rattle.catalogue_statements.specs.Representation.{described_trees}
-use Rattle.office_tables.proofs.CallEnds.{makes_not, same_fault}
+use Rattle.office_tables.proofs.CallEnds.{makes_not}
 use Rattle.office_tables.proofs.Calls.{cut_after, early, office_of, still_office}
 use Rattle.office_tables.specs.declared.fault.StoreFault.TheVariants as fault
 use Rattle.csv_import.specs.RowEntry.{RepresentsEntering}
 use Rattle.csv_import.specs.Turns.{MayChange}
 use Rattle.csv_import.specs.declared.row_entry.Entry.TheVariants as entry
-use Rattle.csv_import.proofs.Afterwards.{makes_nothing, makes_same, makes_same_fault, makes_then}
-use Rattle.csv_import.proofs.Frames.{at_next, describes_at, kept_at, knows_at, makes_entering}
+use Rattle.csv_import.proofs.Afterwards.{makes_fault, makes_nothing, makes_same, makes_then}
+use Rattle.csv_import.proofs.Frames.{at_next, kept_at, knows_at, makes_valued}
 use Rattle.csv_import.proofs.OneRow.{is_valued, not_untold, told_of_it}
 use Rattle.csv_import.proofs.SameValues.{nothing_changes}
 use Rattle.office_tables.proofs.StoreCalls.{as_updates}
@@ -48,7 +46,7 @@ returns-in_default-clause-makes g c =
 pub returns-then-are_same-clause-makes : goal.returns-then-are_same-clause-makes
 returns-then-are_same-clause-makes g c =
     let told = c.in_ok-found.ensures.tells in
-    makes_nothing g.S.Store (RepresentsEntering g.P.Places.version) (λ _. ⊤) (MayChange c.args.unit c.args.values.now) (with_values c.args.unit c.args.values.now) described_trees c.args.conn.now c.values.new.conn told.looks entry.Same
+    makes_nothing told.looks
     (λ o k it may clean.
     let v = is_valued k c.args.unit may.there.there in
     let is = told_of_it k c.args.unit v.unit c.in-Some.found v.by_number (sym c.in-Some.is ∙ told.answers clean o (at_next o.next_unit k) (record { version = g.P.Places.version; catalogue = it; places = all_places k may.units })) in
@@ -62,29 +60,14 @@ returns-then-are_same-clause-told g c clean o k it may u found =
 
 pub returns-in_err-enter_values-clause-makes : goal.returns-in_err-enter_values-clause-makes
 returns-in_err-enter_values-clause-makes g c =
-    let represents = RepresentsEntering g.P.Places.version in
-    let handed = c.from_residual-in_err-enter_values.ensures in
-    let e = c.in_err-enter_values.field-0.0 in
-    let may = MayChange c.args.unit c.args.values.now in
-    let made = with_values c.args.unit c.args.values.now in
-    let within = λ (k : Catalogue). IsKept k × AreWhole c.args.values.now in
-    let there = MayDescribe c.args.unit in
-    makes_same_fault g.S.Store represents (λ _. ⊤) may made described_trees c.args.conn.now c.enter_values.new.conn e c.from_residual-in_err-enter_values.result
-    (same_fault c.from_residual-in_err-enter_values.result e handed.0 handed.1)
-    (makes_then g.S.Store represents (λ _. ⊤) may made described_trees c.args.conn.now c.values.new.conn c.in_ok-found.ensures.tells.looks c.enter_values.new.conn (λ _. ⊤) may made described_trees refl _
-    (makes_entering g.S.Store g.P.Places.version (λ _. ⊤) may within there made made described_trees c.values.new.conn c.enter_values.new.conn _ (λ n k allowed. ((kept_at n k allowed.kept, allowed.whole), describes_at n c.args.unit k allowed.there)) (λ n k allowed. refl) (as_updates _ _ _ _ _ _ _ _ _ (c.in_err-enter_values.ensures.makes g.P.Places.version)))
+    makes_fault _ c.from_residual-in_err-enter_values.ensures
+    (makes_then c.in_ok-found.ensures.tells.looks (makes_valued c.args.unit c.args.values.now (as_updates _ _ _ _ _ _ _ _ _ (c.in_err-enter_values.ensures.makes g.P.Places.version))) refl
     (λ o k it allowed clean. record { within = tt; allowed = allowed; same = refl }))
 
 pub returns-clause-makes : goal.returns-clause-makes
 returns-clause-makes g c =
-    let represents = RepresentsEntering g.P.Places.version in
-    let may = MayChange c.args.unit c.args.values.now in
-    let made = with_values c.args.unit c.args.values.now in
-    let within = λ (k : Catalogue). IsKept k × AreWhole c.args.values.now in
-    let there = MayDescribe c.args.unit in
-    makes_same g.S.Store represents (λ _. ⊤) may made described_trees c.args.conn.now c.enter_values.new.conn _ entry.Changed
-    (makes_then g.S.Store represents (λ _. ⊤) may made described_trees c.args.conn.now c.values.new.conn c.in_ok-found.ensures.tells.looks c.enter_values.new.conn (λ _. ⊤) may made described_trees refl _
-    (makes_entering g.S.Store g.P.Places.version (λ _. ⊤) may within there made made described_trees c.values.new.conn c.enter_values.new.conn _ (λ n k allowed. ((kept_at n k allowed.kept, allowed.whole), describes_at n c.args.unit k allowed.there)) (λ n k allowed. refl) (as_updates _ _ _ _ _ _ _ _ _ (c.in_ok-enter_values.ensures.makes g.P.Places.version)))
+    makes_same
+    (makes_then c.in_ok-found.ensures.tells.looks (makes_valued c.args.unit c.args.values.now (as_updates _ _ _ _ _ _ _ _ _ (c.in_ok-enter_values.ensures.makes g.P.Places.version))) refl
     (λ o k it allowed clean. record { within = tt; allowed = allowed; same = refl }))
 
 pub returns-clause-told : goal.returns-clause-told

@@ -23,8 +23,8 @@ counted o k = record o { next_unit = k.next }
 pub add_all-requires-clause-inside : goal.add_all-requires-clause-inside
 add_all-requires-clause-inside g c = c.requires.inside
 
-pub enter_each-requires-clause-inside : goal.enter_each-requires-clause-inside
-enter_each-requires-clause-inside g c = still g.P.Places.version (state g.S.Store c.args.conn.now) (state g.S.Store c.add_all.new.conn) c.requires.inside c.in_ok-add_all.ensures.makes.goes
+pub enter_each-requires : goal.enter_each-requires
+enter_each-requires g c = record { inside = still g.P.Places.version (state g.S.Store c.args.conn.now) (state g.S.Store c.add_all.new.conn) c.requires.inside c.in_ok-add_all.ensures.makes.goes }
 
 pub set_next_unit-requires-clause-inside : goal.set_next_unit-requires-clause-inside
 set_next_unit-requires-clause-inside g c =
@@ -35,13 +35,13 @@ set_next_unit-requires-clause-inside g c =
 
 pub returns-in_err-add_all-clause-makes : goal.returns-in_err-add_all-clause-makes
 returns-in_err-add_all-clause-makes g c =
-    let source = c.args.source.now in
-    let rows = c.args.rows.now in
+    let source = c.args.import.now.source.now in
+    let rows = c.args.import.now.rows.now in
     let made = c.in_err-add_all.ensures.makes in
     makes_passed _ c.from_residual.ensures made.cut (λ o k it may kept.
     let come = may.come in
     let few = come.few_boxes in
-    made.faults tt (ids k.forest) it.shown (subst (λ l. MayJoin l (ids k.forest)) (sym may.units) (may_join source rows c.args.next k come)) (kept_within k come.units (omega (arith, few)) come.days come.legible).places)
+    made.faults tt (ids k.forest) it.shown (subst (λ l. MayJoin l (ids k.forest)) (sym may.units) (may_join source rows c.args.import.now.next k come)) (kept_within k come.units (omega (arith, few)) come.days come.legible).places)
 
 pub returns-in_err-counts-clause-makes : goal.returns-in_err-counts-clause-makes
 returns-in_err-counts-clause-makes g c =
@@ -76,8 +76,8 @@ returns-clause-makes g c =
     let v = g.P.Places.version in
     let places = g.P.Places.represents in
     let same = g.met.P.Places.shows_same in
-    let source = c.args.source.now in
-    let rows = c.args.rows.now in
+    let source = c.args.import.now.source.now in
+    let rows = c.args.import.now.rows.now in
     let placed = c.in_ok-add_all.ensures.makes in
     let told = c.in_ok-counts.ensures.makes in
     let wrote = c.in_ok-set_next_unit.ensures in
@@ -85,16 +85,16 @@ returns-clause-makes g c =
       represents_updated = λ clean o k it may.
           let at_d = early d e _ wrote.leaves.goes.on.crash clean in
           let at_b = early b d _ told.goes.on.crash at_d in
-          let all = come_to_stand source rows c.args.next k may.come in
+          let all = come_to_stand source rows c.args.import.now.next k may.come in
           let t = entered source rows k in
           let only = placed.only at_b in
           let beside = told.only at_d in
           let stand : places b.now.trees (ids t.forest) =
           subst (places b.now.trees) (ap (λ l. added l (ids k.forest)) may.units ∙ all.ends)
-          (placed.represents_updated at_b tt (ids k.forest) it.shown (subst (λ l. MayJoin l (ids k.forest)) (sym may.units) (may_join source rows c.args.next k may.come))) in
+          (placed.represents_updated at_b tt (ids k.forest) it.shown (subst (λ l. MayJoin l (ids k.forest)) (sym may.units) (may_join source rows c.args.import.now.next k may.come))) in
           let first = described_kept a.now b.now (tables.link.tree ∷ []) only refl (placed.goes.schema at_b) v (counted o k) (counted o k) k k.next (only tables.office.tree refl refl ∙ it.catalogue.office) refl it.catalogue in
           let second = told.represents_updated at_d (counted o k) k first (may.come, may.known) in
-          let number = (c.in_ok-counts.ensures.counts at_d (counted o k) k first may.come may.known).1 in
+          let number = (c.in_ok-counts.ensures.counts at_d (counted o k) k first (may.come, may.known)).1 in
           let office = wrote.rows clean v (counted o k) second.office in
           record {
             catalogue = described_kept d.now e.now (tables.office.tree ∷ []) office.only refl (wrote.leaves.goes.schema clean) v (counted o k) (record o { next_unit = t.next }) (at_next k.next t) t.next
@@ -126,4 +126,4 @@ returns-clause-counts g c clean o k it may =
     let at_b = early b d _ told.goes.on.crash at_d in
     let only = placed.only at_b in
     let first = described_kept a.now b.now (tables.link.tree ∷ []) only refl (placed.goes.schema at_b) v (counted o k) (counted o k) k k.next (only tables.office.tree refl refl ∙ it.catalogue.office) refl it.catalogue in
-    (c.in_ok-counts.ensures.counts at_d (counted o k) k first may.come may.known).0
+    (c.in_ok-counts.ensures.counts at_d (counted o k) k first (may.come, may.known)).0

@@ -9,6 +9,7 @@ use Rattle.office_tables.proofs.Calls.{early, looks_then, still}
 use Rattle.refinement.proofs.Doings.{tells_full, tells_passed_later}
 use Rattle.csv_import.proofs.KnownUnits.{parent_at, told_at}
 use Rattle.csv_import.proofs.Planned.{IsPlanned, begins, ends_faulty, ends_well, goes_known, goes_new}
+use Rattle.csv_import.proofs.Tellings.{tells_so}
 use Rattle.csv_import.proofs.row_plan.plan.Goals as goal
 use Rattle.csv_import.proofs.row_plan.plan.Goals.{in-Known, in-Fits+in_ok-remember-in-Fits}
 
@@ -43,18 +44,13 @@ returns-in-Faulty g c =
     let item = c.row-item.result in
     let rest : drop i rows ≡ item ∷ drop (i + 1) rows = drop_more rows i item c.loop-row-test.true ∙ ap (λ (r : RowTold). r ∷ drop (i + 1) rows) (sym c.row-item.is) in
     record {
-      tells = record {
-        answers = λ clean o k it good source known.
-            let at_b = early b d _ told.looks.goes.on.crash clean in
-            let planned = subst (IsPlanned k.forest source (get_by_text c.loop-row.depths) c.loop-row.new rows) rest (c.loop-row.invariant.so_far at_b o k it good source known) in
-            let shown = subst (λ (db : Database). Represents g.P.Places.represents g.P.Places.version db o k) (sym (looks.same at_b)) it in
-            ends_faulty k.forest source (get_by_text c.loop-row.depths) c.loop-row.new rows (drop (i + 1) rows) item c.in-Faulty.cause planned
-            (sym c.in-Faulty.is ∙ (told.answers clean o k shown good source (told_at k source rows (get_by_text c.args.catalogued.now) i item c.loop-row-test.true (sym c.row-item.is) known.each)
-            (parent_at k source rows (get_by_text c.args.catalogued.now) i item c.loop-row-test.true (sym c.row-item.is) known.parents) planned.above planned.knows).0);
-        looks = looks_then a b d looks told.looks;
-        cut = tt;
-        faults = λ o k it may kept clean free. tt;
-      };
+      tells = tells_so (looks_then a b d looks told.looks) (λ clean o k it good source known.
+          let at_b = early b d _ told.looks.goes.on.crash clean in
+          let planned = subst (IsPlanned k.forest source (get_by_text c.loop-row.depths) c.loop-row.new rows) rest (c.loop-row.invariant.so_far at_b o k it good source known) in
+          let shown = subst (λ (db : Database). Represents g.P.Places.represents g.P.Places.version db o k) (sym (looks.same at_b)) it in
+          ends_faulty k.forest source (get_by_text c.loop-row.depths) c.loop-row.new rows (drop (i + 1) rows) item c.in-Faulty.cause planned
+          (sym c.in-Faulty.is ∙ (told.answers clean o k shown good source (told_at k source rows (get_by_text c.args.catalogued.now) i item c.loop-row-test.true (sym c.row-item.is) known.each)
+          (parent_at k source rows (get_by_text c.args.catalogued.now) i item c.loop-row-test.true (sym c.row-item.is) known.parents) planned.above planned.knows).0));
     }
 
 pub loop-row-preserved : goal.loop-row-preserved
@@ -99,12 +95,7 @@ returns g c =
     let rows = c.args.rows.now in
     let last = c.loop-row-test.false in
     record {
-      tells = record {
-        answers = λ clean o k it good source known.
-            ends_well k.forest source (get_by_text c.loop-row.depths) c.loop-row.new rows
-            (subst (IsPlanned k.forest source (get_by_text c.loop-row.depths) c.loop-row.new rows) (drop_all c.loop-row.row-index rows (omega (arith, last))) (c.loop-row.invariant.so_far clean o k it good source known));
-        looks = c.loop-row.invariant.looks;
-        cut = tt;
-        faults = λ o k it may kept clean free. tt;
-      };
+      tells = tells_so c.loop-row.invariant.looks (λ clean o k it good source known.
+          ends_well k.forest source (get_by_text c.loop-row.depths) c.loop-row.new rows
+          (subst (IsPlanned k.forest source (get_by_text c.loop-row.depths) c.loop-row.new rows) (drop_all c.loop-row.row-index rows (omega (arith, last))) (c.loop-row.invariant.so_far clean o k it good source known)));
     }

@@ -1,0 +1,43 @@
+-- An import before its rows are entered, and what it becomes.
+use Rattle.std.specs.Prelude.{List, Result, IfOk}
+use Rattle.std.specs.BTreeMap.{get_by_text}
+use Rattle.sqlite.specs.Effect.{Database}
+use Rattle.sqlite.specs.Held.{Held, state}
+use Rattle.sqlite.specs.State.{HasCleanDisk}
+use Rattle.sqlite_trees.specs.declared.store.Store as store
+use Rattle.tree_core.specs.declared.arrivals.Arrival.{Arrival}
+use Rattle.catalogue_core.specs.CatalogueMerge.{Catalogue}
+use Rattle.catalogue_statements.specs.declared.office.OfficeRow.{OfficeRow}
+use Rattle.office_tables.specs.declared.fault.StoreFault.{StoreFault}
+use Rattle.csv_import.specs.Arrivals.{BringUnits, IsReady}
+use Rattle.csv_import.specs.KnownUnits.{TellsUnits}
+use Rattle.csv_import.specs.RowEntry.{counts_of, entered}
+use Rattle.csv_import.specs.Turns.{AreToCome}
+use Rattle.csv_import.specs.declared.pending_import.Import.{Import}
+use Rattle.csv_import.specs.declared.row_entry.Counts.{Counts}
+
+-- the catalogue with the rows, or as it was if one of them cannot be placed
+abbrev pub imported : Import → Catalogue → Catalogue
+imported i c = entered i.source.now i.rows.now c
+
+-- how many of the rows change a unit, add one, and leave one as it was
+abbrev pub counted_in : Catalogue → Import → Counts
+counted_in c i = counts_of c.forest i.source.now i.rows.now
+
+-- the rows can be entered, and what is known of their units and of the next number is right
+abbrev pub IsPending : Import → Catalogue → Type 0
+IsPending i = IsReady i.source.now i.rows.now (get_by_text i.catalogued.now) i.next
+
+-- the same, and these are the units that the rows add
+abbrev pub Brings : Import → List Arrival → Catalogue → Type 0
+Brings i = BringUnits i.source.now i.rows.now (get_by_text i.catalogued.now) i.next
+
+-- the rows can be entered one after another, and what is known of their units is right
+abbrev pub AreNext : Import → Catalogue → Type 0
+AreNext i c = AreToCome i.source.now i.rows.now i.next c
+    × TellsUnits c i.source.now i.rows.now (get_by_text i.catalogued.now)
+
+-- over tables of a catalogue for which `may` holds, the result of a call that succeeds is as `answer` says
+abbrev pub Finds : {S X : Type 0} → store.Ghosts S → (Database → OfficeRow → Catalogue → Type 0) → (Catalogue → Type 0) → Held S → Held S → Result X StoreFault → (Catalogue → X → Type 0) → Type 0
+Finds g represents may before after r answer = HasCleanDisk (state g after) → (o : OfficeRow) (c : Catalogue)
+    → represents (state g before).now o c → may c → IfOk r (answer c)
