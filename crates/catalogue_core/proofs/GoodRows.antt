@@ -32,7 +32,7 @@ pub record IsShortRow (row : Row) : Type 0 where
   pub texts : length row.values.texts ≡ 25
   pub apart : distinct row.values.boxes ≡ row.values.boxes
 
-any_at : {X : Type 0} (p : X → Bool) (xs : List X) (i : ℕ) (x : X) → list_any p xs ≡ false → slice_get xs i ≡ Some x → p x ≡ false
+pub any_at : {X : Type 0} (p : X → Bool) (xs : List X) (i : ℕ) (x : X) → list_any p xs ≡ false → slice_get xs i ≡ Some x → p x ≡ false
 any_at p [] i x e h = absurd (cc)
 any_at p (y ∷ ys) zero x e h = subst (λ z. p z ≡ false) (let s : y ≡ x = cc in s) (or_parts (p y) (list_any p ys) e).0
 any_at p (y ∷ ys) (suc i) x e h = any_at p ys i x (or_parts (p y) (list_any p ys) e).1 h

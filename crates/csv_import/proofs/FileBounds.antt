@@ -1,8 +1,8 @@
 -- How many rows a file that was read has, and how many containers these name.
-use Rattle.std.proofs.Common.{◌≡◌, ◌≤◌, ◌<◌, ◌+◌, ◌*◌, ◌^◌, ◌⊎◌, inl, inr, ℕ, zero, suc, Bool, true, false, not, cond, List, [], ◌∷◌, ◌++◌, length, length-append, Option, Some, None, Ok, refl, sym, subst, arith}
+use Rattle.std.proofs.Common.{◌≡◌, ◌≤◌, ◌<◌, ◌+◌, ◌*◌, ◌^◌, ◌⊎◌, inl, inr, ℕ, suc, Bool, true, false, not, cond, List, [], ◌∷◌, ◌++◌, length, length-append, Option, Some, None, Ok, refl, sym, subst, arith}
 use Rattle.std.specs.Prelude.{◌==◌, count_by, filter, filter_map, nat_lt, slice_get}
-use Rattle.std.specs.List.{AllByRecursion, cons_option, enumerate_from, flat_map, list_any}
-use Rattle.std.proofs.lemmas.Bool.{ltb-false, or_parts}
+use Rattle.std.specs.List.{AllByRecursion, cons_option, enumerate_from, flat_map}
+use Rattle.std.proofs.lemmas.Bool.{ltb-false}
 use Rattle.std.proofs.lemmas.List.{length-map}
 use Rattle.std.proofs.lemmas.List.FromFn.{length-enumerate_from}
 use Rattle.std.proofs.lemmas.List.Sums.{length-filter}
@@ -20,6 +20,7 @@ use Rattle.atom_csv.specs.declared.column.Column.TheVariants as column
 use Rattle.atom_csv.specs.declared.file.File.{File}
 use Rattle.atom_csv.specs.declared.file.Row.{Row}
 use Rattle.catalogue_core.proofs.FileRows.{line_at, no_fault_cons, read_from, tells}
+use Rattle.catalogue_core.proofs.GoodRows.{any_at}
 use Rattle.csv_import.specs.CatalogueImport.{most_rows}
 use Rattle.csv_import.specs.RowEntry.{boxes_named}
 
@@ -54,11 +55,6 @@ length_boxes names locations kinds =
     let parts = length-slice_split (λ b. b == 124) names in
     let bars = counted_within (λ b. b == 124) names in
     omega (arith, once, named, made, numbered, told, parts, bars)
-
-any_at : {X : Type 0} (p : X → Bool) (xs : List X) (i : ℕ) (x : X) → list_any p xs ≡ false → slice_get xs i ≡ Some x → p x ≡ false
-any_at p [] i x e h = absurd (cc)
-any_at p (y ∷ ys) zero x e h = subst (λ z. p z ≡ false) (let s : y ≡ x = cc in s) (or_parts (p y) (list_any p ys) e).0
-any_at p (y ∷ ys) (suc i) x e h = any_at p ys i x (or_parts (p y) (list_any p ys) e).1 h
 
 name_column : slice_get columns 5 ≡ Some column.PhysicalObjectName
 unfolding columns
