@@ -1,5 +1,5 @@
 -- A container that is given to a reader, in the rows of the desk; and when it may be.
-use Rattle.std.proofs.Common.{◌≡◌, ℕ, Bool, true, false, cond, ◌||◌, nat_eq, List, [], ◌∷◌, Option, Some, None, Ok, Err, inl, inr, refl, sym, ap, subst, ◌∙◌, arith}
+use Rattle.std.proofs.Common.{◌≡◌, ℕ, Bool, true, false, cond, ◌||◌, nat_eq, List, [], ◌∷◌, Option, Some, None, Ok, inl, inr, refl, sym, ap, subst, ◌∙◌, arith}
 use Rattle.std.specs.Prelude.{ℤ, int_lt, is_some, option_and_then, option_map, unwrap_or}
 use Rattle.std.proofs.lemmas.Bool.{cases_Bool, eqb-true, false≢true}
 use Rattle.sqlite.specs.Effect.{Database}
@@ -45,7 +45,7 @@ use Rattle.refinement.specs.CommandSteps.{CarriesOutStep}
 use Rattle.refinement.specs.Representation.{RepresentsState}
 use Rattle.refinement.specs.Sitters.{sitter, sitter_of}
 use Rattle.refinement.proofs.CardsShown.{holder_shown}
-use Rattle.refinement.proofs.CommandSteps.{accepts, refuses}
+use Rattle.refinement.proofs.CommandSteps.{accepts}
 use Rattle.refinement.proofs.HoldingRows.{place_after}
 use Rattle.refinement.proofs.SeatsShown.{some_placed}
 use Rattle.desk_commands.specs.Issuance.{IsQueuedFor, asked_for, first_waiting}
@@ -153,8 +153,8 @@ module _ (places : Trees → Forest ℕ → Type 0) (version : Version) (s : Sta
   abbrev asked : Command
   asked = command.Issue c t
 
-  pub nothing_to_issue : (db : Database) → is_container s c ≡ false → CarriesOutStep places version s asked (Err UnknownContainer) db
-  nothing_to_issue db unknown = let why : refusal s asked ≡ Some UnknownContainer = rw unknown refl in refuses places version s asked db UnknownContainer why
+  pub nothing_to_issue : (why : Refusal) → why ≡ UnknownContainer → is_container s c ≡ false → refusal s asked ≡ Some why
+  nothing_to_issue why is unknown = let first : refusal s asked ≡ Some UnknownContainer = rw unknown refl in first ∙ ap Some (sym is)
 
   rows_after : IsSoundOffice s → (o : ℕ) (os : List ℕ) → s.queue c ≡ o ∷ os → is_desk (s.place c) ≡ true → order_rows (issued s c (o ∷ os)) ≡ with_state o 2 (order_rows s)
   rows_after sound o os is at_desk =

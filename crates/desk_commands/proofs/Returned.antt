@@ -1,5 +1,5 @@
 -- A container that comes back, in the rows of the desk.
-use Rattle.std.proofs.Common.{◌≡◌, ℕ, true, false, List, [], ◌∷◌, Option, Some, None, Ok, Err, refl, ap, ◌∙◌, arith}
+use Rattle.std.proofs.Common.{◌≡◌, ℕ, true, false, List, [], ◌∷◌, Option, Some, None, Ok, Err, refl, sym, ap, ◌∙◌, arith}
 use Rattle.std.specs.Prelude.{is_some, unwrap_or}
 use Rattle.sqlite.specs.Effect.{Database}
 use Rattle.sqlite.specs.Tree.{Trees}
@@ -9,6 +9,7 @@ use Rattle.tree_core.specs.Versions.{Version}
 use Rattle.desk_core.specs.DeskRows.{HoldingRow, OrderRow, with_state}
 use Rattle.desk_core.specs.declared.reader.Place.{Place}
 use Rattle.desk_core.specs.declared.reader.Place.TheVariants.{Shelf, Desk, Out}
+use Rattle.desk_core.specs.declared.refusal.Refusal.{Refusal}
 use Rattle.desk_core.specs.declared.refusal.Refusal.TheVariants.{NotIssued, UnknownContainer}
 use Rattle.desk_store.specs.Representation.{RepresentsDesk}
 use Rattle.desk_store.specs.declared.orders.OrderState.TheVariants as states
@@ -48,8 +49,8 @@ module _ (places : Trees → Forest ℕ → Type 0) (version : Version) (s : Sta
   abbrev asked : Command
   asked = command.Return c
 
-  pub unknown_container : (db : Database) → is_container s c ≡ false → CarriesOutStep places version s asked (Err UnknownContainer) db
-  unknown_container db unknown = let why : refusal s asked ≡ Some UnknownContainer = rw unknown refl in refuses places version s asked db UnknownContainer why
+  pub unknown_container : (why : Refusal) → why ≡ UnknownContainer → is_container s c ≡ false → refusal s asked ≡ Some why
+  unknown_container why is unknown = let first : refusal s asked ≡ Some UnknownContainer = rw unknown refl in first ∙ ap Some (sym is)
 
   pub not_issued : (db : Database) → is_container s c ≡ true → is_out s c ≡ false → CarriesOutStep places version s asked (Err NotIssued) db
   not_issued db known in_house = let why : refusal s asked ≡ Some NotIssued = rw (known, in_house) refl in refuses places version s asked db NotIssued why

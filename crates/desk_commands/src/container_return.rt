@@ -15,6 +15,7 @@ use desk_store::{OrderState, queue_head};
 use office_core::{Done, Refusal};
 use office_tables::StoreFault;
 use office_tables::value::NO_NUMBER;
+use replies::known_container;
 use sqlite::{Alter, Connection};
 use std::alloc::Global;
 
@@ -45,8 +46,10 @@ pub fn return_container<P: Places, S: Alter>(
     requires inside { InTransaction P.version (state S.Store conn.old) }
     ensures { Performs P.Places S.Store (λ _. ⊤) (command.Return container) conn.old conn.new result }
 {
-    let Some(head) = queue_head(alloc, conn, container)? else {
-        return Ok(Err(Refusal::UnknownContainer));
+    let found = queue_head(alloc, conn, container)?;
+    let head = match known_container(found) {
+        Ok(head) => head,
+        Err(why) => return Ok(Err(why)),
     };
     let Place::Out(order) = head.place else {
         return Ok(Err(Refusal::NotIssued));

@@ -25,6 +25,7 @@ use office_core::{Done, Refusal};
 use office_tables::StoreFault;
 use office_tables::value::NO_NUMBER;
 use refinement::is_open_to;
+use replies::known_container;
 use sqlite::{Alter, Connection};
 use std::alloc::Global;
 
@@ -121,8 +122,9 @@ pub fn issue<P: Places, S: Alter>(
     ensures { Performs P.Places S.Store (λ s. (today ≡ s.day) × (limits.now ≡ limits_of s))
         (command.Issue container ticket) conn.old conn.new result }
 {
-    let Some(head) = queue_head(alloc, conn, container)? else {
-        return Ok(Err(Refusal::UnknownContainer));
-    };
-    issue_known::<P, S>(alloc, conn, today, limits, container, ticket, head)
+    let found = queue_head(alloc, conn, container)?;
+    match known_container(found) {
+        Ok(head) => issue_known::<P, S>(alloc, conn, today, limits, container, ticket, head),
+        Err(why) => Ok(Err(why)),
+    }
 }

@@ -4,6 +4,7 @@
 mod cancellation;
 mod container_moves;
 mod container_return;
+mod emptiness;
 mod issuance;
 mod new_day;
 mod order_placement;

@@ -4,25 +4,18 @@ ghost use Rattle.std.specs.Prelude.{◌≡◌, false, int_lt, true};
 ghost use Rattle.std.specs.List.{list_any};
 ghost use Rattle.sqlite.specs.Held.{state};
 ghost use Rattle.office_core.specs.State.{containers, is_out};
-ghost use Rattle.office_core.specs.Words.{is_empty};
 ghost use Rattle.office_core.specs.declared.command.Command.TheVariants as command;
 ghost use Rattle.office_tables.specs.Step.{InTransaction};
 ghost use Rattle.refinement.specs.CommandSteps.{Performs};
 
+use crate::emptiness::are_none;
 use catalogue_store::Places;
-use desk_store::{Loan, issued, open_day};
+use desk_store::{issued, open_day};
 use isad_core::Day;
 use office_core::{Done, Refusal};
 use office_tables::StoreFault;
 use sqlite::{Alter, Connection};
 use std::alloc::Global;
-
-/// Whether there is no loan.
-fn are_none(loans: &[Loan]) -> bool
-    ensures { result ≡ is_empty loans.now }
-{
-    loans.is_empty()
-}
 
 /// Opens a day that is known to be later. Nothing is out.
 fn begin_day<P: Places, S: Alter>(

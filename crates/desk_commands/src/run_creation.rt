@@ -15,6 +15,7 @@ ghost use Rattle.refinement.specs.AccessConditions.{CanBeJudged, RepresentsWhole
 ghost use Rattle.desk_commands.specs.RunCreation.{due_of, has_numbers, taken_by};
 
 use crate::container_moves::move_all;
+use crate::emptiness::are_none;
 use catalogue_store::Places;
 use desk_core::{Limits, Place};
 use desk_store::{FirstOrder, candidates, record_run};
@@ -49,13 +50,6 @@ fn due<P: Places, S: Alter>(
         }
     }
     Ok(due)
-}
-
-/// Whether no order is due.
-fn are_none(due: &[FirstOrder]) -> bool
-    ensures { result ≡ is_empty due.now }
-{
-    due.is_empty()
 }
 
 /// Whether a table can keep the numbers of these orders.

@@ -9,6 +9,7 @@ ghost use Rattle.office_tables.specs.Step.{InTransaction};
 ghost use Rattle.refinement.specs.CommandSteps.{Performs};
 
 use crate::container_moves::move_all;
+use crate::emptiness::are_none;
 use catalogue_store::Places;
 use desk_core::{Place, pick_reshelve};
 use desk_store::at_desk;
@@ -17,13 +18,6 @@ use office_core::{Done, Refusal};
 use office_tables::StoreFault;
 use sqlite::{Alter, Connection};
 use std::alloc::Global;
-
-/// Whether there is no container.
-fn are_none(containers: &[u64]) -> bool
-    ensures { result ≡ is_empty containers.now }
-{
-    containers.is_empty()
-}
 
 /// Moves these containers back to the shelf. They are known to be those at the desk that nobody waits for.
 fn shelve<P: Places, S: Alter>(

@@ -30,7 +30,7 @@ use Rattle.state_encoding.proofs.NumberedRows.{in_rows}
 use Rattle.refinement.proofs.CardsShown.{card, card_shown}
 use Rattle.refinement.proofs.QueuesShown.{told_rows}
 use Rattle.desk_queries.specs.JsonValues.{card_data, live_data}
-use Rattle.desk_queries.proofs.Lists.{no_float}
+use Rattle.replies.proofs.Lists.{no_float}
 
 -- ---- none of it is a number with a fraction
 

@@ -1,7 +1,4 @@
-pub mod DayTexts
-pub mod Lists
 pub mod QueueTold
-pub mod ReplyWhole
 pub mod IssuedTold
 pub mod PermitsTold
 pub mod CardTold

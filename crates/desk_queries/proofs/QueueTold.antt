@@ -25,7 +25,7 @@ use Rattle.state_encoding.specs.OfficeRows.{tables}
 use Rattle.refinement.proofs.QueuesShown.{place_shown, told_queue, waits_in}
 use Rattle.refinement.proofs.StacksShown.{box_row, stacks_of}
 use Rattle.desk_queries.specs.JsonValues.{queue_data, waiting_data}
-use Rattle.desk_queries.proofs.Lists.{no_float}
+use Rattle.replies.proofs.Lists.{no_float}
 
 -- none of it is a number with a fraction
 pub queue_whole : (c : ℕ) (q : ContainerQueue) → has_float (queue_data c q) ≡ false

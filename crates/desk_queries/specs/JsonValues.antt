@@ -2,7 +2,7 @@
 use Rattle.std.specs.Prelude.{ℕ, [], ◌∷◌, cond, map, option_map, codes}
 use Rattle.serde_json.specs.Data.{Data, string}
 use Rattle.office_core.specs.Json.{count, date, list, or_null, fields}
-use Rattle.office_core.specs.Queries.{place_name}
+use Rattle.office_core.specs.Queries.{permit_json, place_name}
 use Rattle.office_core.specs.State.{order_out}
 use Rattle.desk_store.specs.declared.reader_summary.LiveOrder.{LiveOrder}
 use Rattle.desk_store.specs.declared.reader_summary.ReaderCard.{ReaderCard}
@@ -51,4 +51,4 @@ card_data card =
     ∷ [])
 
 abbrev pub permit_data : Permit → Data
-permit_data permit = fields ((codes "unit", count permit.unit) ∷ (codes "until", date permit.until) ∷ [])
+permit_data permit = permit_json (record { unit = permit.unit; until = permit.until })

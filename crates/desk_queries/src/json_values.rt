@@ -1,12 +1,13 @@
-//! Values in JSON, and their bytes.
+//! Lists in JSON, and their bytes.
 
 ghost use Rattle.std.specs.Prelude.{◌≡◌, false, map, IfOk};
 ghost use Rattle.serde_json.specs.View.{view};
 ghost use Rattle.serde_json.specs.Written.{compact_text, has_float};
-ghost use Rattle.office_core.specs.Json.{date, list};
+ghost use Rattle.office_core.specs.Json.{list};
 
-use isad_core::{Day, List};
-use serde_json::{Value, json};
+use isad_core::List;
+use replies::text_of;
+use serde_json::Value;
 use std::alloc::{AllocError, Global};
 
 /// A thing that can be written as JSON.
@@ -30,24 +31,6 @@ pub(crate) fn values_of<T: Told>(alloc: Global, things: &[T]) -> Result<Value, A
         values.push(thing.value(alloc)?)?;
     }
     Ok(Value::Array(values))
-}
-
-/// The date of a day, as a JSON string.
-pub(crate) fn day_value(alloc: Global, day: Day) -> Result<Value, AllocError>
-    ensures { IfOk result (λ v. view v ≡ date day) }
-{
-    let date = day.text();
-    let text = str::from_utf8(&date).unwrap();
-    json!(in alloc; text)
-}
-
-/// The bytes of a JSON value. It must not contain a number with a fraction.
-pub(crate) fn text_of(alloc: Global, value: &Value) -> Result<List<u8>, AllocError>
-    requires whole { has_float (view value.now) ≡ false }
-    ensures { IfOk result (λ text. text ≡ compact_text (view value.now)) }
-{
-    let text = value.to_string(alloc)?;
-    Ok(List(text.into_bytes()))
 }
 
 /// The bytes of the JSON array of these things. None of them may contain a number with a fraction.

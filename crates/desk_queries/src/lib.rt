@@ -1,5 +1,4 @@
-//! The questions of the desk over an office's tables, each within a transaction, and the replies to
-//! commands as JSON.
+//! The questions of the desk over an office's tables, each within a transaction.
 #![tactic(auto)]
 
 mod json_values;
@@ -7,12 +6,10 @@ mod loans;
 mod permits;
 mod queues;
 mod reader_card;
-mod replies;
 mod slips;
 
 pub use loans::issued_now;
 pub use permits::reader_permits;
 pub use queues::queue;
 pub use reader_card::reader_orders;
-pub use replies::json_of;
 pub use slips::run_slip;

@@ -5,11 +5,12 @@ ghost use Rattle.office_core.specs.declared.query.Query.TheVariants as query;
 ghost use Rattle.office_tables.specs.Step.{InTransaction};
 ghost use Rattle.refinement.specs.QueryAnswers.{Responds};
 
-use crate::json_values::{Told, day_value, list_text};
+use crate::json_values::{Told, list_text};
 use catalogue_store::Places;
 use desk_store::{Permit, is_registered, permits};
 use office_core::{Answer, Refusal};
 use office_tables::StoreFault;
+use replies::day_value;
 use serde_json::{Value, json};
 use sqlite::{Alter, Connection};
 use std::alloc::{AllocError, Global};

@@ -12,13 +12,14 @@ ghost use Rattle.office_tables.specs.Step.{InTransaction};
 ghost use Rattle.refinement.specs.QueryAnswers.{Responds};
 ghost use Rattle.desk_queries.specs.JsonValues.{queue_data};
 
-use crate::json_values::{Told, text_of, values_of};
+use crate::json_values::{Told, values_of};
 use catalogue_store::Places;
 use desk_core::Place;
 use desk_store::{ContainerQueue, WaitingOrder};
 use isad_core::List;
-use office_core::{Answer, Refusal};
+use office_core::Answer;
 use office_tables::StoreFault;
+use replies::{known_container, text_of};
 use serde_json::{Value, json};
 use sqlite::{Alter, Connection};
 use std::alloc::{AllocError, Global};
@@ -88,9 +89,11 @@ pub fn queue<P: Places, S: Alter>(
     requires inside { InTransaction P.version (state S.Store conn.old) }
     ensures { Responds P.Places S.Store (query.Queue container) conn.old conn.new result }
 {
-    let Some(found) = desk_store::queue(alloc, conn, container)? else {
-        return Ok(Answer::Unknown(Refusal::UnknownContainer));
+    let found = desk_store::queue(alloc, conn, container)?;
+    let queue = match known_container(found) {
+        Ok(queue) => queue,
+        Err(why) => return Ok(Answer::Unknown(why)),
     };
-    let text = queue_text(alloc, container, &found)?;
+    let text = queue_text(alloc, container, &queue)?;
     Ok(Answer::Json(text))
 }

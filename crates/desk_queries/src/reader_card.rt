@@ -10,12 +10,13 @@ ghost use Rattle.office_tables.specs.Step.{InTransaction};
 ghost use Rattle.refinement.specs.QueryAnswers.{Responds};
 ghost use Rattle.desk_queries.specs.JsonValues.{card_data};
 
-use crate::json_values::{Told, day_value, text_of, values_of};
+use crate::json_values::{Told, values_of};
 use catalogue_store::Places;
 use desk_store::{LiveOrder, ReaderCard, reader};
 use isad_core::{Day, List};
 use office_core::{Answer, Refusal};
 use office_tables::StoreFault;
+use replies::{day_value, text_of};
 use serde_json::{Value, json};
 use sqlite::{Alter, Connection};
 use std::alloc::{AllocError, Global};

@@ -26,9 +26,9 @@ use desk_commands::{
     cancel, fetch, issue, leave_seat, open, order, permit, register, renew_ticket, reshelve,
     return_container, revoke_permit, take_seat,
 };
-use desk_queries::json_of;
 use office_core::{Command, Done, Refusal, Reply};
 use office_tables::{StoreFault, begin};
+use replies::json_of;
 use sqlite::{Alter, Connection};
 use std::alloc::Global;
 

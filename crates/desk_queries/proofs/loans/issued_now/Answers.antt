@@ -10,7 +10,7 @@ use Rattle.serde_json.specs.Written.{compact_text}
 use Rattle.refinement.proofs.Answerings.{answers_by, desk_answers_passed}
 use Rattle.desk_queries.specs.JsonValues.{loan_data}
 use Rattle.desk_queries.proofs.IssuedTold.{issued_told}
-use Rattle.desk_queries.proofs.Lists.{no_float}
+use Rattle.replies.proofs.Lists.{no_float}
 use Rattle.desk_queries.proofs.loans.issued_now.Goals as goal
 
 pub issued-requires : goal.issued-requires

@@ -12,7 +12,7 @@ use Rattle.serde_json.specs.Written.{compact_text}
 use Rattle.refinement.proofs.CardsShown.{known_ticket}
 use Rattle.refinement.proofs.Answerings.{answers_by, answers_passed_later, desk_answers_passed, still_shown}
 use Rattle.desk_queries.specs.JsonValues.{permit_data}
-use Rattle.desk_queries.proofs.Lists.{no_float}
+use Rattle.replies.proofs.Lists.{no_float}
 use Rattle.desk_queries.proofs.PermitsTold.{has_ticket, no_ticket, permits_told}
 use Rattle.desk_queries.proofs.permits.reader_permits.Goals as goal
 

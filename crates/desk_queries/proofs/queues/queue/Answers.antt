@@ -7,6 +7,7 @@ use Rattle.office_core.specs.Queries.{known_json}
 use Rattle.office_core.specs.declared.query.Answer.TheVariants.{Json, Unknown}
 use Rattle.office_core.specs.declared.query.Query.TheVariants as query
 use Rattle.office_tables.proofs.Calls.{office_of}
+use Rattle.replies.proofs.UnknownContainers.{nothing_found}
 use Rattle.refinement.proofs.Answerings.{answers_by, answers_passed}
 use Rattle.refinement.proofs.StacksShown.{legible_stacks, shows_stacks, stacks_of}
 use Rattle.desk_queries.specs.JsonValues.{queue_data}
@@ -24,16 +25,18 @@ returns-in_err-found g c =
     answers_passed _ c.from_residual.ensures told.cut
     (λ s sound it. told.faults tt (stacks_of v s) (shows_stacks v s g.P.Places.represents a.now sound it) tt (legible_stacks v s sound))
 
-pub returns-in_default : goal.returns-in_default
-returns-in_default g c =
+pub returns-in-Err : goal.returns-in-Err
+returns-in-Err g c =
     let v = g.P.Places.version in
     let a = state g.S.Store c.args.conn.now in
     let b = state g.S.Store c.queue.new.conn in
     let told = c.in_ok-found.ensures.tells in
-    answers_by g.P.Places.represents v (query.Queue c.args.container) a b (Unknown UnknownContainer) told.looks
+    let none = nothing_found c.in_ok-found.found c.in-Err.why c.in-Err.ensures.refused in
+    answers_by g.P.Places.represents v (query.Queue c.args.container) a b (Unknown c.in-Err.why) told.looks
     (λ clean s sound it.
-    ap (λ (q : Option ContainerQueue). known_json UnknownContainer (option_map (queue_data c.args.container) q)) (sym c.in_default.is)
-    ∙ queue_answer v s sound c.args.container c.in_ok-found.field-0 (told.answers clean tt (stacks_of v s) (shows_stacks v s g.P.Places.represents a.now sound it)))
+    ap Unknown none.1
+    ∙ ap (λ (q : Option ContainerQueue). known_json UnknownContainer (option_map (queue_data c.args.container) q)) (sym none.0)
+    ∙ queue_answer v s sound c.args.container c.in_ok-found.found (told.answers clean tt (stacks_of v s) (shows_stacks v s g.P.Places.represents a.now sound it)))
 
 pub returns : goal.returns
 returns g c =
@@ -44,5 +47,5 @@ returns g c =
     answers_by g.P.Places.represents v (query.Queue c.args.container) a b (Json c.in_ok-text.text) told.looks
     (λ clean s sound it.
     ap Json c.in_ok-text.ensures
-    ∙ ap (λ (q : Option ContainerQueue). known_json UnknownContainer (option_map (queue_data c.args.container) q)) (sym c.in-Some.is)
-    ∙ queue_answer v s sound c.args.container c.in_ok-found.field-0 (told.answers clean tt (stacks_of v s) (shows_stacks v s g.P.Places.represents a.now sound it)))
+    ∙ ap (λ (q : Option ContainerQueue). known_json UnknownContainer (option_map (queue_data c.args.container) q)) (sym c.in-Ok.ensures.found)
+    ∙ queue_answer v s sound c.args.container c.in_ok-found.found (told.answers clean tt (stacks_of v s) (shows_stacks v s g.P.Places.represents a.now sound it)))

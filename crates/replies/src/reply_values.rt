@@ -2,36 +2,46 @@
 
 ghost use Rattle.std.specs.Prelude.{◌≡◌, [], ◌∷◌, codes, map, IfOk};
 ghost use Rattle.serde_json.specs.View.{view};
-ghost use Rattle.office_core.specs.Json.{count, date, done_json, fields, list, refusal_json, reply_json, reply_text};
+ghost use Rattle.office_core.specs.Json.{count, date, done_json, fields, list};
+ghost use Rattle.office_core.specs.Json.{refusal_json, remark_json, reply_json, reply_text};
 ghost use Rattle.office_core.specs.declared.done.Done.TheVariants as done;
 
-use crate::json_values::{Told, day_value, text_of, values_of};
+use crate::json_values::{day_value, text_of};
 use isad_core::{Day, List};
 use office_core::{Done, Refusal, Remark};
 use serde_json::{Value, json};
 use std::alloc::{AllocError, Global};
 
-impl Told for u64 {
-    ghost use Rattle.office_core.specs.Json.{count};
+/// The JSON array of these numbers.
+fn numbers_value(alloc: Global, numbers: &[u64]) -> Result<Value, AllocError>
+    ensures { IfOk result (λ v. view v ≡ list (map count numbers.now)) }
+{
+    let mut values = Vec::new(alloc);
+    for number in numbers {
+        values.push(Value::from(*number))?;
+    }
+    Ok(Value::Array(values))
+}
 
-    ghost told = { count };
-
-    fn value(&self, _alloc: Global) -> Result<Value, AllocError> {
-        Ok(Value::from(*self))
+/// The JSON object of a remark.
+fn remark_value(alloc: Global, remark: &Remark) -> Result<Value, AllocError>
+    ensures { IfOk result (λ v. view v ≡ remark_json remark.now) }
+{
+    match remark {
+        Remark::LevelTooHigh { row } => json!(in alloc; {"kind": 1_u32, "row": *row}),
+        Remark::LacksEssential { row } => json!(in alloc; {"kind": 2_u32, "row": *row}),
     }
 }
 
-impl Told for Remark {
-    ghost use Rattle.office_core.specs.Json.{remark_json};
-
-    ghost told = { remark_json };
-
-    fn value(&self, alloc: Global) -> Result<Value, AllocError> {
-        match self {
-            Remark::LevelTooHigh { row } => json!(in alloc; {"kind": 1_u32, "row": *row}),
-            Remark::LacksEssential { row } => json!(in alloc; {"kind": 2_u32, "row": *row}),
-        }
+/// The JSON array of these remarks.
+fn remarks_value(alloc: Global, remarks: &[Remark]) -> Result<Value, AllocError>
+    ensures { IfOk result (λ v. view v ≡ list (map remark_json remarks.now)) }
+{
+    let mut values = Vec::new(alloc);
+    for remark in remarks {
+        values.push(remark_value(alloc, remark)?)?;
     }
+    Ok(Value::Array(values))
 }
 
 /// A JSON object with a number under one key.
@@ -45,7 +55,7 @@ fn numbered(alloc: Global, key: &str, number: u64) -> Result<Value, AllocError>
 fn listed(alloc: Global, key: &str, numbers: &[u64]) -> Result<Value, AllocError>
     ensures { IfOk result (λ v. view v ≡ fields ((key.now, list (map count numbers.now)) ∷ [])) }
 {
-    let values = values_of(alloc, numbers)?;
+    let values = numbers_value(alloc, numbers)?;
     json!(in alloc; {key: values})
 }
 
@@ -68,7 +78,7 @@ fn imported(
 ) -> Result<Value, AllocError>
     ensures { IfOk result (λ v. view v ≡ done_json (done.Import changed new remarks.now same translations)) }
 {
-    let remarks = values_of(alloc, remarks)?;
+    let remarks = remarks_value(alloc, remarks)?;
     json!(in alloc; {
         "changed": changed,
         "new": new,

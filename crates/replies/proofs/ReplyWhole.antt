@@ -9,7 +9,7 @@ use Rattle.office_core.specs.declared.done.Done.{Done}
 use Rattle.office_core.specs.declared.done.Done.TheVariants as done
 use Rattle.office_core.specs.declared.done.Remark.{Remark}
 use Rattle.office_core.specs.declared.done.Remark.TheVariants.{LevelTooHigh, LacksEssential}
-use Rattle.desk_queries.proofs.Lists.{no_float}
+use Rattle.replies.proofs.Lists.{no_float}
 
 remark : (r : Remark) → has_float (remark_json r) ≡ false
 remark (LevelTooHigh row) = refl

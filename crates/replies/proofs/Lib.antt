@@ -1,0 +1,4 @@
+pub mod DayTexts
+pub mod Lists
+pub mod ReplyWhole
+pub mod UnknownContainers
