@@ -1,8 +1,11 @@
 -- An office over tables of any origin, against which there is no cause.
-use Rattle.std.proofs.Common.{◌≡◌, ◌≤◌, ℕ, None, IsTrue, inl, inr, arith, refl, sym, subst}
+use Rattle.std.proofs.Common.{◌≡◌, ◌≤◌, ◌∙◌, ℕ, List, Err, None, IsTrue, inl, inr, arith, refl, sym, subst}
+use Rattle.std.proofs.lemmas.Bool.{both_ways, cases_Bool}
 use Rattle.sqlite.specs.Effect.{Database}
 use Rattle.sqlite.specs.State as store
-use Rattle.sqlite.specs.State.{IsLive}
+use Rattle.sqlite.specs.Order.{Row}
+use Rattle.sqlite.specs.State.{Executes, ExecutesIn, HasCleanDisk, IsLive, IsNotRun, Shows, Survives}
+use Rattle.sqlite.specs.declared.error.Error.{Error}
 use Rattle.sqlite.specs.Tree.{Trees}
 use Rattle.tree_core.specs.Forest.{Forest}
 use Rattle.tree_core.specs.Versions.{Version}
@@ -14,6 +17,7 @@ use Rattle.adoption.specs.SoundTables.{AreSoundTables}
 use Rattle.adoption.specs.Tables.{SoundTablesRepresentTheirState}
 use Rattle.adoption.specs.OrderedTables.{StandInOrder}
 use Rattle.office_tables.specs.Faults.{BlamesDisk, HasCause}
+use Rattle.office_tables.specs.Transactions.{IsStopped}
 use Rattle.office_tables.specs.declared.fault.StoreFault.{StoreFault}
 use Rattle.office_tables.specs.declared.fault.StoreFault.TheVariants as cause
 use Rattle.office.specs.Adoption.{HasAdoptCause, IsAdopted, refusal_of, state_in}
@@ -67,3 +71,40 @@ blames_outside before old new after counts counts_after opened cause.Disk blames
   | inr shut ↦ absurd cc
 ]
 blames_outside before old new after counts counts_after opened cause.Schema blames = tt
+
+-- ---- a connection that is found open or not, after the tables were judged
+
+-- a text that could not be prepared is one that was not run
+pub not_prepared : (sql : List ℕ) (params : Row) (old new : store.State) (e : Error) → IsNotRun old new sql params e → Executes sql params old new (Err e)
+unfolding ExecutesIn
+not_prepared sql params old new e h = inl h
+
+pub still_before : (a b d : store.State) → IsAsBefore a b → Shows b d b.now b.committed b.in_transaction → IsAsBefore a d
+still_before a b d same it = record {
+  was_open = λ opened. same.was_open it.was_open;
+  now = λ opened. it.now_is ∙ same.now it.was_open;
+  committed = λ opened. it.committed_is ∙ same.committed it.was_open;
+  ended = it.mode ∙ same.ended;
+}
+
+pub stopped_before : (a b d : store.State) → IsAsBefore a b → (IsTrue b.is_open → b.now ≡ b.committed) → IsStopped b d → IsAsBefore a d
+stopped_before a b d same settled (inl still) = still_before a b d same still.0
+stopped_before a b d same settled (inr back) = record {
+  was_open = λ opened. same.was_open (back.was_open opened);
+  now = λ opened. (back.undone opened).0 ∙ sym (settled (back.was_open opened)) ∙ same.now (back.was_open opened);
+  committed = λ opened. (back.undone opened).1 ∙ same.committed (back.was_open opened);
+  ended = back.autocommit;
+}
+
+-- the cause of a fault after a call that committed nothing is one of both together
+pub caused_later : (a b d : store.State) → Survives a b (λ _. ⊥) → b.faults ≤ d.faults → HasCleanDisk b → (f : StoreFault) → HasCause b d f → HasCause a d f
+caused_later a b d crash counts clean cause.Memory why = tt
+caused_later a b d crash counts clean cause.Disk (inl more) = inl (omega (arith, more, crash.counts, counts))
+caused_later a b d crash counts clean cause.Disk (inr shut) = elim (cases_Bool a.is_open) [
+  | inl was ↦ elim (crash.closes clean was) [
+    | inl still ↦ absurd (both_ways _ shut still)
+    | inr more ↦ inl (omega (arith, more, crash.counts, counts))
+  ]
+  | inr none ↦ inr none
+]
+caused_later a b d crash counts clean cause.Schema why = why

@@ -18,7 +18,7 @@ ghost use Rattle.office.specs.OfficeCall.{HasBusyCause, MayFind, TakesStep};
 ghost use Rattle.office.specs.InitialSettings.{founded};
 ghost use Rattle.office.specs.Migration.{MayFindSpans};
 ghost use Rattle.office.specs.NewOffice.{HasOpenCause};
-ghost use Rattle.office.specs.IdleOffice.{IsAsBefore, IsIn, is_clean, is_shown, is_still_open};
+ghost use Rattle.office.specs.IdleOffice.{IsAsBefore, IsAtRest, IsIn, is_clean, is_shown, is_still_open};
 ghost use Rattle.office.specs.Runs.{IsCall, answered, applied};
 ghost use Rattle.refinement.specs.Representation.{RepresentsState};
 ghost use Rattle.nested_sets.specs.Representation.{RepresentsSpanRows};
@@ -126,6 +126,7 @@ impl<P: Places, S: Alter> Office<P, S> {
         ensures cause { HasCleanDisk (state S.Store self.new)
             → (s : State) → IsSoundOffice s → IsIn P.represents P.version s (state S.Store self.old)
             → IfErr result (HasBusyCause (state S.Store self.old) (state S.Store self.new)) }
+        ensures rested { HasCleanDisk (state S.Store self.old) → IsAtRest P.version (state S.Store self.old) }
         ensures crash { Survives (state S.Store self.old) (state S.Store self.new)
             (MayFind P.represents P.version command.now (state S.Store self.old)) }
         ensures call { IsCall (is_shown S.Store P.represents P.version) (is_clean S.Store) (is_still_open S.Store)
@@ -148,6 +149,7 @@ impl<P: Places, S: Alter> Office<P, S> {
         ensures cause { HasCleanDisk (state S.Store self.new)
             → (s : State) → IsSoundOffice s → IsIn P.represents P.version s (state S.Store self.old)
             → IfErr result (HasBusyCause (state S.Store self.old) (state S.Store self.new)) }
+        ensures rested { HasCleanDisk (state S.Store self.old) → IsAtRest P.version (state S.Store self.old) }
         ensures crash { Survives (state S.Store self.old) (state S.Store self.new) (λ _. ⊥) }
         ensures call { IsCall (is_shown S.Store P.represents P.version) (is_clean S.Store) (is_still_open S.Store)
             self.old self.new (answered query result) }
@@ -211,8 +213,8 @@ impl<S: Alter> Office<LinkPlaces, S> {
 }
 
 impl<P: CheckedPlaces, S: Alter> Office<P, S> {
-    /// Opens an office over tables of any origin, if they are a sound office's. Otherwise the connection is given back
-    /// with the fault. The tables are unchanged in either case.
+    /// Opens an office over tables of any origin, if they are a sound office's. Its connection is open. Otherwise the
+    /// connection is given back with the fault. The tables are unchanged in either case.
     pub fn adopt(
         alloc: Global,
         conn: Connection<S>,
@@ -227,6 +229,8 @@ impl<P: CheckedPlaces, S: Alter> Office<P, S> {
         ensures represents { IfOk result (λ office. HasCleanDisk (state S.Store office)
             → StandInOrder (state S.Store conn).now
             → IsIn P.represents P.version (state_in P.version (state S.Store conn).now.trees) (state S.Store office)) }
+        ensures kept { IfOk result (λ office. HasCleanDisk (state S.Store office)
+            → IsTrue (state S.Store office).is_open) }
         ensures back { IfErr result (λ e. HasCleanDisk (state S.Store e.1)
             → IsAsBefore (state S.Store conn) (state S.Store e.1)) }
         ensures cause { IfErr result (λ e. HasCleanDisk (state S.Store e.1)

@@ -1,11 +1,12 @@
 use Rattle.std.proofs.Common.{[], ◌∷◌, rules, subst, sym}
 use Rattle.std.specs.Prelude.{IfOk}
 use Rattle.sqlite.specs.Held.{state}
+use Rattle.sqlite.specs.State.{HasCleanDisk}
 use Rattle.office_core.proofs.Texts.{always_sound_office}
 use Rattle.office_core.specs.declared.machine.Reply.{Reply}
 use Rattle.office_tables.proofs.Calls.{early}
 use Rattle.office.specs.OfficeCall.{TakesStep}
-use Rattle.office.specs.IdleOffice.{IsIn}
+use Rattle.office.specs.IdleOffice.{IsAtRest, IsIn}
 use Rattle.office.proofs.Machines.{applied_call}
 use Rattle.office.proofs.offices.Office.apply.Goals as goal
 use Rattle.office.proofs.offices.Office.apply.Goals.{in-Ok, in-Err}
@@ -33,3 +34,7 @@ returns-clause-call g c =
     (early (state g.S.Store c.self.inside.conn) (state g.S.Store c.apply_to.new.conn) _ does.crash) does.was_open does.kept does.steps
     (λ s sound. always_sound_office s (c.args.command.now ∷ []) (named.days, tt) (named.texts, tt) sound) does.busy does.bytes in
     search (rules, call)
+
+pub returns-clause-rested : goal.returns-clause-rested
+returns-clause-rested g c =
+    subst (λ h. HasCleanDisk (state g.S.Store h) → IsAtRest g.P.Places.version (state g.S.Store h)) c.self.view_is c.self.invariant.rests

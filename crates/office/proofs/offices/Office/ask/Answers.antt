@@ -1,6 +1,8 @@
-use Rattle.std.proofs.Common.{rules}
+use Rattle.std.proofs.Common.{rules, subst}
 use Rattle.sqlite.specs.Held.{state}
+use Rattle.sqlite.specs.State.{HasCleanDisk}
 use Rattle.office_tables.proofs.Calls.{early}
+use Rattle.office.specs.IdleOffice.{IsAtRest}
 use Rattle.office.proofs.Machines.{answered_call}
 use Rattle.office.proofs.offices.Office.ask.Goals as goal
 
@@ -10,3 +12,7 @@ returns-clause-call g c =
     let call = answered_call g.S.Store g.P.Places.represents g.P.Places.version c.self.inside.conn c.ask_in.new.conn c.args.query c.ask_in.result
     (early (state g.S.Store c.self.inside.conn) (state g.S.Store c.ask_in.new.conn) _ told.crash) told.answers told.same in
     search (rules, call)
+
+pub returns-clause-rested : goal.returns-clause-rested
+returns-clause-rested g c =
+    subst (λ h. HasCleanDisk (state g.S.Store h) → IsAtRest g.P.Places.version (state g.S.Store h)) c.self.view_is c.self.invariant.rests
