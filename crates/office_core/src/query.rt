@@ -1,12 +1,9 @@
 //! The questions to the office, and their answers.
 
-ghost use Rattle.std.specs.Prelude.{◌≡◌};
-ghost use Rattle.office_core.specs.Queries.{is_public as is_public_question};
-
 use desk_core::Refusal;
 use isad_core::List;
 
-/// A question. It changes nothing. `is_public` tells the questions of the public.
+/// A question. It changes nothing. The first three are the public's.
 #[derive(Debug, Clone, Copy, PartialEq, Eq)]
 pub enum Query {
     /// The units at the top.
@@ -25,15 +22,6 @@ pub enum Query {
     IssuedNow,
     /// The permits of a ticket.
     ReaderPermits { ticket: u64 },
-}
-
-impl Query {
-    /// Whether it is one of the public's. All others are the desk's.
-    pub fn is_public(self) -> bool
-        ensures { result ≡ is_public_question self }
-    {
-        matches!(self, Query::Fonds | Query::Aid { .. } | Query::Page { .. })
-    }
 }
 
 /// An answer.
