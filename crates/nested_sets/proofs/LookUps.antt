@@ -1,5 +1,5 @@
 -- How a look-up of one step or several ends, by how its steps ended.
-use Rattle.std.proofs.Common.{◌≡◌, Ok, Err, Result, IfOk, IfErr, refl, sym, subst}
+use Rattle.std.proofs.Common.{◌≡◌, Ok, Err, Result, IfOk, IfErr, OnErr, refl, sym, subst}
 use Rattle.std.specs.Prelude.{IsErr, IsErrAnd}
 use Rattle.sqlite_trees.specs.declared.store.Store as store
 use Rattle.sqlite.specs.Held.{Held, state}
@@ -22,6 +22,13 @@ use Rattle.nested_sets.proofs.CallLasts.{reads_last}
 -- this fault is handed on
 abbrev pub Hands : {X : Type 0} → Result X StoreFault → StoreFault → Type 0
 Hands r e = IsErr r × IsErrAnd r (λ f. f ≡ e)
+
+-- what holds of the fault that is handed on
+pub if_handed : {X : Type 0} (r : Result X StoreFault) (e : StoreFault) (P : StoreFault → Type 0) → Hands r e → P e → IfErr r P
+if_handed r e P handed so = subst (λ (q : Result _ StoreFault). IfErr q P) (sym (same_fault r e handed.0 handed.1)) so
+
+pub on_handed : {X : Type 0} (r : Result X StoreFault) (e : StoreFault) (P : Type 0) → Hands r e → P → OnErr r P
+on_handed r e P handed so = subst (λ (q : Result _ StoreFault). OnErr q P) (sym (same_fault r e handed.0 handed.1)) so
 
 module _ {S X M : Type 0} {g : store.Ghosts S} {holds : State → M → Type 0} {before after : Held S} {orderly kept : M → Type 0} {answer : M → X → Type 0} where
   -- all its steps went well
@@ -56,6 +63,17 @@ module _ {S X M : Type 0} {g : store.Ghosts S} {holds : State → M → Type 0} 
   looks_known e handed is looked never =
       looks_not e handed (cut_after (state g before) (state g after) looked.goes.on) (λ clean. subst (Spares IsSame (state g before) (state g after)) (sym is) (spares_known (state g before) (state g after) looked clean))
       (λ m held k clean free. absurd (never clean m held k))
+
+  -- it passes on the fault of a look-up, its first step
+  pub looks_passed : {Y N : Type 0} {e : StoreFault} {r : Result X StoreFault} {shows : State → N → Type 0} {sorted low : N → Type 0} {found : N → Y → Type 0} → Hands r e → LooksUp g shows before after (Err e) sorted low found
+      → ((m : M) → holds (state g before) m → kept m → HasCleanDisk (state g after) → IsUnlimited (state g before) → HasCause (state g before) (state g after) e) → LooksUp g holds before after r orderly kept answer
+  looks_passed {e = e} handed failed why = looks_not e handed failed.reads.cut failed.reads.spares why
+
+  -- of a look-up after others
+  pub looks_passed_later : {Y N : Type 0} {e : StoreFault} {r : Result X StoreFault} {mid : Held S} {shows : State → N → Type 0} {sorted low : N → Type 0} {found : N → Y → Type 0} → Hands r e → LeavesUnchanged (state g before) (state g mid)
+      → LooksUp g shows mid after (Err e) sorted low found
+      → (HasCleanDisk (state g mid) → (m : M) → holds (state g before) m → kept m → HasCleanDisk (state g after) → IsUnlimited (state g mid) → HasCause (state g mid) (state g after) e) → LooksUp g holds before after r orderly kept answer
+  looks_passed_later {e = e} handed looked failed why = looks_cut e handed looked failed.reads.cut failed.reads.spares why
 
   -- the result of its last step is its own
   pub looks_last : {r : Result X StoreFault} {b : State} → LeavesUnchanged (state g before) b → Reads b (state g after) r
