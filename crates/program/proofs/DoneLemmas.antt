@@ -4,9 +4,11 @@ use Rattle.sqlite.specs.Files.{file_state}
 use Rattle.sqlite.specs.Recovery.{Image}
 use Rattle.sqlite_disk.specs.declared.Disk.{Ghosts}
 use Rattle.office_tables.proofs.Calls.{early}
+use Rattle.program.proofs.CrashLemmas.{kept_open, left_only}
 use Rattle.program.proofs.HeadlineLemmas.{held_so}
 use Rattle.program.specs.ClosedFiles.{HoldState}
-use Rattle.program.specs.Stores.{WhatWasBroughtOverIsHeld, WhatWasMadeIsHeld, WhatWasSaidIsHeld, WhatWasServedIsHeld, WhatWasTakenInIsHeld}
+use Rattle.program.specs.KeptOffices.{AreTablesAfter}
+use Rattle.program.specs.Stores.{WhatWasBroughtOverIsHeld, WhatWasMadeIsHeld, WhatWasNotMadeIsLeft, WhatWasSaidIsHeld, WhatWasServedIsHeld, WhatWasTakenInIsHeld}
 
 module _ {D : Type 0} (g : Ghosts D) (image : Image) where
   pub made : WhatWasMadeIsHeld g image
@@ -25,16 +27,30 @@ module _ {D : Type 0} (g : Ghosts D) (image : Image) where
   pub said : WhatWasSaidIsHeld g image
   said reader reader_after out out_after end files it honest s holds sound =
       let clean = it.closed.clean honest in
-      let (t, shown, talked) = it.session clean s (sound, (it.opened (it.intact clean)).left s holds) in
-      let held : IsTrue (file_state it.after).is_open → HoldState g files t = λ opened. held_so g image it.after files t it.closed honest (shown.1 opened) opened in
-      (t, talked.0, λ either. elim either as (λ _. HoldState g files t) [ inl leaves ↦ held (talked.1 leaves) | inr opened ↦ held opened ])
+      let found = it.opened (it.intact clean) in
+      let (t, kept, talked) = it.session clean s (kept_open it.office s found.kept (sound, found.left s holds)) in
+      let held : IsTrue (file_state it.after).is_open → HoldState g files t = λ opened. held_so g image it.after files t it.closed honest (kept.shown.1 opened) opened in (
+        t,
+        talked.0,
+        λ either. elim either as (λ _. HoldState g files t) [ inl leaves ↦ held (talked.1 leaves) | inr opened ↦ held opened ],
+        λ shut. left_only g it.after files (AreTablesAfter t) it.closed honest shut (kept.crash shut),
+      )
 
   pub served : WhatWasServedIsHeld g image
   served connections all files it honest s holds sound =
       let clean = it.closed.clean honest in
-      let (t, shown, served) = it.sessions.sessions clean s (sound, (it.opened (it.intact clean)).left s holds) in
-      let held : IsTrue (file_state it.after).is_open → HoldState g files t = λ opened. held_so g image it.after files t it.closed honest (shown.1 opened) opened in
-      (t, served.0, λ either. elim either as (λ _. HoldState g files t) [ inl leaves ↦ held (served.1 leaves) | inr opened ↦ held opened ])
+      let found = it.opened (it.intact clean) in
+      let (t, kept, served) = it.sessions.sessions clean s (kept_open it.office s found.kept (sound, found.left s holds)) in
+      let held : IsTrue (file_state it.after).is_open → HoldState g files t = λ opened. held_so g image it.after files t it.closed honest (kept.shown.1 opened) opened in (
+        t,
+        served.0,
+        λ either. elim either as (λ _. HoldState g files t) [ inl leaves ↦ held (served.1 leaves) | inr opened ↦ held opened ],
+        λ shut. left_only g it.after files (AreTablesAfter t) it.closed honest shut (kept.crash shut),
+      )
+
+  pub not_made : WhatWasNotMadeIsLeft g image
+  not_made founding fault files it honest shut =
+      left_only g it.after files _ it.closed honest shut (it.crash.crash (it.closed.clean honest))
 
   pub brought_over : WhatWasBroughtOverIsHeld g image
   brought_over files it honest =

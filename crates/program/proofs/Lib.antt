@@ -1,5 +1,6 @@
 pub mod Calls
 pub mod ClosedLemmas
+pub mod CrashLemmas
 pub mod DoneLemmas
 pub mod HeadlineLemmas
 pub mod Ordered

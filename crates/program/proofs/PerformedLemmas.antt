@@ -142,14 +142,14 @@ module _ {S D : Type 0} (g : Ghosts D) (image : Image) where
   not_opened_no : (out out_after : Stream) (outcome : StoreOutcome S D g) (f : Fault) → OfWords f → NotOpened g image out out_after outcome f → ⊥
   not_opened_no out out_after outcome f of why = no_office_no outcome f of why.0
 
-  not_made_no : (outcome : StoreOutcome S D g) (f : Fault) → OfWords f → IsClosedAnd outcome (IsNotMade g image f) → ⊥
-  not_made_no (Untouched start) f of why = why
-  not_made_no (Unopened failed) f of why = why
-  not_made_no (Closed files) f of why = opening_no why.why f of why.told
+  not_made_no : (founding : Founding) (outcome : StoreOutcome S D g) (f : Fault) → OfWords f → IsClosedAnd outcome (IsNotMade g image founding f) → ⊥
+  not_made_no founding (Untouched start) f of why = why
+  not_made_no founding (Unopened failed) f of why = why
+  not_made_no founding (Closed files) f of why = opening_no why.why f of why.told
 
-  init_no : (outcome : StoreOutcome S D g) (f : Fault) → OfWords f → InitFails g image outcome f → ⊥
-  init_no outcome f of (inl why) = unopened_no outcome f of why
-  init_no outcome f of (inr why) = not_made_no outcome f of why
+  init_no : (founding : Founding) (outcome : StoreOutcome S D g) (f : Fault) → OfWords f → InitFails g image founding outcome f → ⊥
+  init_no founding outcome f of (inl why) = unopened_no outcome f of why
+  init_no founding outcome f of (inr why) = not_made_no founding outcome f of why
 
   talk_no : (reader reader_after out out_after : Stream) (outcome : StoreOutcome S D g) (f : Fault) → OfWords f → TalkFails g image reader reader_after out out_after outcome f → ⊥
   talk_no reader reader_after out out_after outcome f of (inl why) = not_opened_no out out_after outcome f of why.1
@@ -177,7 +177,7 @@ module _ {S D : Type 0} (g : Ghosts D) (image : Image) where
 
   none_of_words : (task : Task) (reader reader_after out out_after : Stream) (outcome : StoreOutcome S D g) (f : Fault) → OfWords f → FailsWith g image task reader reader_after out out_after outcome f → ⊥
   none_of_words (Preview country repo path) reader reader_after out out_after outcome f of why = preview_no country repo path reader reader_after out out_after f of why.1
-  none_of_words (Init path founding) reader reader_after out out_after outcome f of why = init_no outcome f of why.0
+  none_of_words (Init path founding) reader reader_after out out_after outcome f of why = init_no founding outcome f of why.0
   none_of_words (Trial founding) reader reader_after out out_after outcome f of why = trial_no founding reader reader_after out out_after f of why.1
   none_of_words (Import path source file) reader reader_after out out_after outcome f of why = import_no source out out_after outcome f of why.1
   none_of_words (Talk path) reader reader_after out out_after outcome f of why = talk_no reader reader_after out out_after outcome f of why

@@ -10,6 +10,10 @@ pub failed_so : (new fault old : Bool) → new ≡ (fault || old) → old ≡ fa
 failed_so new true old is none = is
 failed_so new false old is none = is ∙ none
 
+-- the calls on what was not called before
+pub calls_of : (now before most : ℕ) → now ≤ before + most → before ≡ 0 → now ≤ most
+calls_of now before most within none = omega (arith, within, none)
+
 -- after so many connections, one more
 pub and_one : {M : Type 0} (represents : M → State → Type 0) (is_intact is_open : M → Type 0) (n : ℕ) (told told_mid told_after : Option History) (first mid last : M)
     → Serves represents is_intact is_open n told told_mid first mid true → (is_intact last → is_intact mid)
@@ -41,6 +45,20 @@ and_none {M} represents is_intact is_open n most told told_mid told_after first 
       whole = λ all. absurd cc;
       sessions = subst (λ (m : M). Through represents is_intact first m (λ s t. (are : AreSessions so_far.connections s t) × (SessionsLeaveOpen (is_open first) so_far.connections s t are → is_open m))) (sym same) so_far.sessions;
     }
+
+-- what was served by a machine, as its office is seen
+pub seen_as : {M N : Type 0} {RM : M → State → Type 0} {IM OM : M → Type 0} {most : ℕ} {told told_after : Option History} {old new : M} {all : Bool}
+    (R : N → State → Type 0) (I O : N → Type 0) (a b : N) (it : Serves RM IM OM most told told_after old new all)
+    → Through R I a b (λ s t. (are : AreSessions it.connections s t) × (SessionsLeaveOpen (O a) it.connections s t are → O b))
+    → Serves R I O most told told_after a b all
+seen_as R I O a b it sessions = record {
+  connections = it.connections;
+  heard = it.heard;
+  tells = it.tells;
+  few = it.few;
+  whole = it.whole;
+  sessions = sessions;
+}
 
 -- nobody was served on a port of which nothing is known
 pub unserved : {M : Type 0} (represents : M → State → Type 0) (is_intact is_open : M → Type 0) (most : ℕ) (office : M)

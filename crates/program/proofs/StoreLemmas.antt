@@ -12,11 +12,9 @@ use Rattle.sqlite_disk.specs.declared.Disk.{Ghosts}
 use Rattle.sqlite_disk.specs.declared.Files.{Files}
 use Rattle.sqlite_store.specs.declared.store.FileStore.{FileStore}
 use Rattle.isad_core.specs.Texts.{Bytes}
-use Rattle.tree_core.specs.Versions.{Spans}
-use Rattle.nested_sets.specs.Representation.{RepresentsSpanRows}
 use Rattle.office_core.specs.Rules.{Reply}
 use Rattle.office.specs.InitialSettings.{Founding}
-use Rattle.office.specs.IdleOffice.{is_clean, is_shown, is_still_open}
+use Rattle.office.specs.IdleOffice.{is_clean, is_still_open}
 use Rattle.office.specs.declared.faults.OpenFault.{OpenFault}
 use Rattle.http_desk.specs.Exchanges.{Talks}
 use Rattle.http_desk.specs.Streams.{Stream}
@@ -26,6 +24,7 @@ use Rattle.program.specs.OpenedFiles.{AreHeld}
 use Rattle.program.specs.Outcomes.{IsClosedAnd}
 use Rattle.program.specs.CommandEffects.{CheckDone, CheckFails, Does, EndsWell, FailsWith, ImportDone, ImportFails, InitFails, JudgmentFails, JudgmentPrinted, Listens, MigrateFails, ReplyFails, ReplyPrinted, ServeDone, ServeFails, ServerFails, TalkDone, TalkFails, ended_by}
 use Rattle.program.specs.Connections.{Serves}
+use Rattle.program.specs.KeptOffices.{IsKept}
 use Rattle.program.specs.Stores.{HasServed, HasTakenIn, IsMade, IsOpened, IsTalkedWith}
 use Rattle.program.specs.Streams.{AgreesWithCalls}
 use Rattle.program.specs.declared.faults.Break.{Break}
@@ -63,7 +62,7 @@ module _ {S D : Type 0} (g : Ghosts D) (image : Image) where
     module _ (reader reader_after out out_after : Stream) (office after : Held (FileStore D g)) (opened : IsOpened g image office)
         (intact : HasCleanDisk (file_state after) → HasCleanDisk (file_state office)) (left_so : HasLeft after files) where
       talked_with : (end : Ended) → AgreesWithCalls reader reader_after out out_after end
-          → Talks (is_shown (over_files {g = g}) RepresentsSpanRows Spans) (is_clean (over_files {g = g})) (is_still_open (over_files {g = g})) reader.bytes reader_after.bytes out.bytes out_after.bytes office end after
+          → Talks (IsKept (over_files {g = g})) (is_clean (over_files {g = g})) (is_still_open (over_files {g = g})) reader.bytes reader_after.bytes out.bytes out_after.bytes office end after
           → IsTalkedWith g image reader reader_after out out_after end files
       talked_with end agrees (read, written, gone, told, through) =
           let it : IsTalkedWith g image reader reader_after out out_after end files = record {
@@ -82,13 +81,13 @@ module _ {S D : Type 0} (g : Ghosts D) (image : Image) where
           it
 
       pub talk_done : (r : Result (Unit {0}) Fault)
-          → OnOk r ((end : Ended) × EndsWell end × AgreesWithCalls reader reader_after out out_after end × Talks (is_shown (over_files {g = g}) RepresentsSpanRows Spans) (is_clean (over_files {g = g})) (is_still_open (over_files {g = g})) reader.bytes reader_after.bytes out.bytes out_after.bytes office end after)
+          → OnOk r ((end : Ended) × EndsWell end × AgreesWithCalls reader reader_after out out_after end × Talks (IsKept (over_files {g = g})) (is_clean (over_files {g = g})) (is_still_open (over_files {g = g})) reader.bytes reader_after.bytes out.bytes out_after.bytes office end after)
           → OnOk r (TalkDone g image reader reader_after out out_after closed)
       talk_done (Ok u) (end, well, agrees, talks) = (end, well, talked_with end agrees talks)
       talk_done (Err f) done = tt
 
       pub talk_broken : (r : Result (Unit {0}) Fault)
-          → IfErr r (λ f. (broken : Break) × (f ≡ Session broken) × AgreesWithCalls reader reader_after out out_after (ended_by broken) × Talks (is_shown (over_files {g = g}) RepresentsSpanRows Spans) (is_clean (over_files {g = g})) (is_still_open (over_files {g = g})) reader.bytes reader_after.bytes out.bytes out_after.bytes office (ended_by broken) after)
+          → IfErr r (λ f. (broken : Break) × (f ≡ Session broken) × AgreesWithCalls reader reader_after out out_after (ended_by broken) × Talks (IsKept (over_files {g = g})) (is_clean (over_files {g = g})) (is_still_open (over_files {g = g})) reader.bytes reader_after.bytes out.bytes out_after.bytes office (ended_by broken) after)
           → IfErr r (TalkFails g image reader reader_after out out_after closed)
       talk_broken (Ok u) why = tt
       talk_broken (Err f) (broken, is_so, agrees, talks) = inr (broken, is_so, talked_with (ended_by broken) agrees talks)
@@ -104,20 +103,20 @@ module _ {S D : Type 0} (g : Ghosts D) (image : Image) where
 
     module _ (out out_after : Stream) (port connections : ℕ) (office after : Held (FileStore D g)) (opened : IsOpened g image office)
         (intact : HasCleanDisk (file_state after) → HasCleanDisk (file_state office)) (left_so : HasLeft after files) where
-      served : (all : Bool) → Serves (is_shown (over_files {g = g}) RepresentsSpanRows Spans) (is_clean (over_files {g = g})) (is_still_open (over_files {g = g})) connections None None office after all
+      served : (all : Bool) → Serves (IsKept (over_files {g = g})) (is_clean (over_files {g = g})) (is_still_open (over_files {g = g})) connections None None office after all
           → HasServed g image connections all files
       served all sessions =
           let it : HasServed g image connections all files = record { office = office; after = after; opened = opened; intact = intact; sessions = sessions; closed = left_so } in
           it
 
       pub serve_done : (r : Result (Unit {0}) Fault)
-          → OnOk r (Listens port out out_after × Serves (is_shown (over_files {g = g}) RepresentsSpanRows Spans) (is_clean (over_files {g = g})) (is_still_open (over_files {g = g})) connections None None office after true)
+          → OnOk r (Listens port out out_after × Serves (IsKept (over_files {g = g})) (is_clean (over_files {g = g})) (is_still_open (over_files {g = g})) connections None None office after true)
           → OnOk r (ServeDone g image port connections out out_after closed)
       serve_done (Ok u) (listens, sessions) = (served true sessions, listens)
       serve_done (Err f) done = tt
 
       pub serve_failed : (r : Result (Unit {0}) Fault)
-          → IfErr r (λ f. ServerFails port out out_after f × Serves (is_shown (over_files {g = g}) RepresentsSpanRows Spans) (is_clean (over_files {g = g})) (is_still_open (over_files {g = g})) connections None None office after false)
+          → IfErr r (λ f. ServerFails port out out_after f × Serves (IsKept (over_files {g = g})) (is_clean (over_files {g = g})) (is_still_open (over_files {g = g})) connections None None office after false)
           → IfErr r (ServeFails g image port connections out out_after closed)
       serve_failed (Ok u) why = tt
       serve_failed (Err f) (why, sessions) = inr (served false sessions, why)
@@ -141,7 +140,7 @@ module _ {S D : Type 0} (g : Ghosts D) (image : Image) where
   init_done outcome task path founding reader out (Err f) is made = tt
 
   -- an `init`, an import and a migration that fail are tasks that fail
-  pub init_as_task : (outcome : StoreOutcome S D g) (task : Task) (path : Bytes) (founding : Founding) (reader out : Stream) (r : Result (Unit {0}) Fault) → task ≡ Init path founding → IfErr r (InitFails g image outcome)
+  pub init_as_task : (outcome : StoreOutcome S D g) (task : Task) (path : Bytes) (founding : Founding) (reader out : Stream) (r : Result (Unit {0}) Fault) → task ≡ Init path founding → IfErr r (InitFails g image founding outcome)
       → IfErr r (FailsWith g image task reader reader out out outcome)
   init_as_task outcome task path founding reader out (Ok u) is why = tt
   init_as_task outcome task path founding reader out (Err f) is why = subst (λ t. FailsWith g image t reader reader out out outcome f) (sym is) (why, (refl, refl))

@@ -212,8 +212,8 @@ module _ {S D : Type 0} (g : Ghosts D) (image : Image) where
       IsClosedAnd outcome (IsMade g image founding) × DoesNothing reader reader_after out out_after
 
   -- no office was made
-  abbrev pub InitFails : StoreOutcome S D g → Fault → Type 0
-  InitFails outcome fault = MakesNone g image outcome fault
+  abbrev pub InitFails : Founding → StoreOutcome S D g → Fault → Type 0
+  InitFails founding outcome fault = MakesNone g image outcome founding fault
 
   -- the file of an import could not be read, and nothing was printed
   abbrev pub NotRead : Stream → Stream → StoreOutcome S D g → Fault → Type 0
@@ -310,7 +310,7 @@ module _ {S D : Type 0} (g : Ghosts D) (image : Image) where
   FailsWith (Preview country repo path) reader reader_after out out_after outcome fault =
       IsUntouched outcome × PreviewFails country repo path reader reader_after out out_after fault
   FailsWith (Init path founding) reader reader_after out out_after outcome fault =
-      InitFails outcome fault × DoesNothing reader reader_after out out_after
+      InitFails founding outcome fault × DoesNothing reader reader_after out out_after
   FailsWith (Trial founding) reader reader_after out out_after outcome fault =
       IsUntouched outcome × TrialFails founding reader reader_after out out_after fault
   FailsWith (Import path source file) reader reader_after out out_after outcome fault =

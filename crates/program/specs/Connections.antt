@@ -1,5 +1,5 @@
 -- Connections that were served, one after the other.
-use Rattle.std.specs.Prelude.{◌≡◌, ◌≢◌, ◌≤◌, ◌+◌, ℕ, Bool, true, false, List, [], ◌∷◌, length, Option, Some, None}
+use Rattle.std.specs.Prelude.{◌≡◌, ◌≢◌, ◌≤◌, ◌+◌, ◌*◌, ℕ, Bool, true, false, List, [], ◌∷◌, length, Option, Some, None}
 use Rattle.std.specs.List.{AllByRecursion}
 use Rattle.std.specs.Io.KnownBytes.{Appends, Consumes}
 use Rattle.std.specs.Net.Addr.{ipv4_octets}
@@ -8,10 +8,10 @@ use Rattle.std.specs.declared.net.socket_addr.SocketAddr.{SocketAddr}
 use Rattle.std.specs.declared.net.socket_addr.SocketAddr.TheVariants.{V4, V6}
 use Rattle.isad_core.specs.Texts.{Bytes}
 use Rattle.office_core.specs.State.{State}
-use Rattle.http_desk.specs.StreamFaults.{TellsBound, is_read_fault, is_write_fault}
+use Rattle.http_desk.specs.StreamFaults.{IsFlushed, TellsBound, is_read_fault, is_write_fault}
 use Rattle.http_desk.specs.AcceptedMessages.{LeavesOpen}
-use Rattle.http_desk.specs.Session.{Session}
-use Rattle.http_desk.specs.Streams.{Stream}
+use Rattle.http_desk.specs.Session.{Session, most_answers}
+use Rattle.http_desk.specs.Streams.{Stream, most_reads}
 use Rattle.http_desk.specs.Exchanges.{AtEndIf, Keeps, Through}
 use Rattle.http_desk.specs.declared.session_end.Ended.{Ended}
 use Rattle.http_desk.specs.declared.session_end.Ended.TheVariants.{Bound}
@@ -54,7 +54,8 @@ pub record Connection : Type 0 where
   pub writer : Stream
 
 -- The input is what its reader gave, and the output what its writer took. The end of the session agrees with the calls
--- on both.
+-- on both: all that was written was flushed, unless a write fault or a bound is told, and no more reads were made than
+-- the messages of a session may take.
 pub record IsHeard (it : Connection) : Type 0 where
   pub read : Consumes it.left it.reader.bytes it.input
   pub written : Appends it.held it.writer.bytes it.output
@@ -63,6 +64,8 @@ pub record IsHeard (it : Connection) : Type 0 where
   pub write_fault : it.writer.failed ≡ is_write_fault (Ends it.end)
   pub bound : it.reader.interrupted ≡ false → it.writer.interrupted ≡ false → it.end ≢ Bound
   pub used_up : TellsBound it.reader it.writer (Ends it.end)
+  pub flushed : IsFlushed it.writer (Ends it.end)
+  pub calls : it.reader.calls ≤ most_answers * most_reads
 
 -- what is known of a port after one more connection, and after a list of connections, the last first
 abbrev pub after_one : Option History → Connection → Option History

@@ -4,6 +4,7 @@ pub mod ClosedFiles
 pub mod FailedOpenings
 pub mod Faults
 pub mod Headline
+pub mod KeptOffices
 pub mod NextRuns
 pub mod OpenedFiles
 pub mod Outcomes

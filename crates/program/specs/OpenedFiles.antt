@@ -31,14 +31,15 @@ abbrev pub HoldsOffice : Image → State → Type 0
 HoldsOffice image s =
     (tables : Trees) × HoldsDatabase image tables × RepresentsState RepresentsSpanRows Spans (record { schema = schema Spans; trees = tables }) s
 
--- The file's tables are those of a sound office, their rows have ascending whole numbers, and the connection has them
--- while it is open. The office is in the state in which the tables were left. Whoever wrote them, it is in the state
--- that their rows describe. While the connection is open, that state is sound.
+-- The file's tables are those of a sound office, and their rows have ascending whole numbers. The connection is open,
+-- and has these tables. The office is in the state in which the tables were left. Whoever wrote them, it is in the state
+-- that their rows describe, and that state is sound.
 pub record IsFound (image : Image) (at : store.State) : Type 0 where
   pub found : Database
   pub held : AreHeld image found.trees
   pub ordered : StandInOrder found
   pub verdict : IsVerdict Spans found verdict.Sound
+  pub kept : IsTrue at.is_open
   pub same : IsTrue at.is_open → at.now ≡ found
   pub left : (s : State) → HoldsOffice image s → IsIn RepresentsSpanRows Spans s at
   pub represents : IsIn RepresentsSpanRows Spans (state_in Spans found.trees) at

@@ -3,7 +3,7 @@
 -- name. What is stated of an office has the premise that its disk has returned what was written. A disk that did so to
 -- the end also did so before (`intact`, and the first field of `crash`). `crash` describes what the files may hold if a
 -- failure of the disk had shut the office.
-use Rattle.std.specs.Prelude.{◌≡◌, ◌⊎◌, ℕ, Bool, IsOk, IsTrue, Ok, None, Some}
+use Rattle.std.specs.Prelude.{◌≡◌, ◌⊎◌, ℕ, Bool, false, IsOk, IsTrue, Ok, None, Some}
 use Rattle.std.specs.Io.KnownBytes.{Appends, Consumes}
 use Rattle.sqlite.specs.Files.{file_state, over_files}
 use Rattle.sqlite.specs.Held.{Held}
@@ -25,7 +25,7 @@ use Rattle.office.specs.Adoption.{HasAdoptCause, state_in}
 use Rattle.office.specs.NewOffice.{HasOpenCause}
 use Rattle.office.specs.OfficeCall.{MayFind, TakesStep}
 use Rattle.office.specs.Migration.{IsMigrated, MayFindMigrated}
-use Rattle.office.specs.IdleOffice.{IsAsBefore, IsIn, is_clean, is_shown, is_still_open}
+use Rattle.office.specs.IdleOffice.{IsAsBefore, IsIn, is_clean, is_still_open}
 use Rattle.office.specs.declared.faults.OpenFault.{OpenFault}
 use Rattle.http_desk.specs.AcceptedMessages.{LeavesOpen}
 use Rattle.http_desk.specs.Session.{Session}
@@ -33,9 +33,10 @@ use Rattle.http_desk.specs.Exchanges.{Keeps}
 use Rattle.http_desk.specs.Streams.{Stream}
 use Rattle.http_desk.specs.declared.session_end.Ended.{Ended}
 use Rattle.office_tables.specs.Schema.{no_schema}
-use Rattle.program.specs.ClosedFiles.{HasLeft, HaveCleanDisk, HoldState, WasJudgedAsFound}
+use Rattle.program.specs.ClosedFiles.{HasLeft, HaveCleanDisk, HoldState, LeaveOnly, WasJudgedAsFound}
 use Rattle.program.specs.Busy.{IsBusyFor}
 use Rattle.program.specs.Faults.{fault_of_opening}
+use Rattle.program.specs.KeptOffices.{AreTablesAfter, AreTablesOf, IsKept}
 use Rattle.program.specs.OpenedFiles.{HoldsOffice, IsFound, IsStore}
 use Rattle.program.specs.Outcomes.{IsClosedAnd, IsUnopened}
 use Rattle.program.specs.Connections.{AreSessions, Serves, SessionsLeaveOpen}
@@ -48,8 +49,9 @@ module _ {D : Type 0} (g : Ghosts D) (image : Image) where
   abbrev pub IsOpened : Held (FileStore D g) → Type 0
   IsOpened office = HasCleanDisk (file_state office) → IsFound image (file_state office)
 
+  -- it is in this state, and so it is after a failure of the disk, or after one command more
   abbrev is_kept : Held (FileStore D g) → State → Type 0
-  is_kept = is_shown (over_files {g = g}) RepresentsSpanRows Spans
+  is_kept = IsKept (over_files {g = g})
 
   -- A new office was made, and was in the state in which it begins; its connection was open. These are its files.
   pub record IsMade (founding : Founding) (files : Files D) : Type 0 where
@@ -59,8 +61,9 @@ module _ {D : Type 0} (g : Ghosts D) (image : Image) where
     pub kept : HasCleanDisk (file_state office) → IsTrue (file_state office).is_open
     pub left : HasLeft office files
 
-  -- No office was made in a store, for this reason. These are the files of the store, which are deleted afterwards.
-  pub record IsNotMade (fault : Fault) (files : Files D) : Type 0 where
+  -- No office was made in a store, for this reason. A crash finds no office, or the new one. These are the files of the
+  -- store, which are deleted afterwards.
+  pub record IsNotMade (founding : Founding) (fault : Fault) (files : Files D) : Type 0 where
     pub found : Held (FileStore D g)
     pub after : Held (FileStore D g)
     pub is_store : IsStore g image found
@@ -69,11 +72,12 @@ module _ {D : Type 0} (g : Ghosts D) (image : Image) where
     pub cause : (file_state found).now.schema ≡ no_schema → HasCleanDisk (file_state after)
         → HasOpenCause (file_state found) (file_state after) why
     pub back : HasCleanDisk (file_state after) → IsAsBefore (file_state found) (file_state after)
+    pub crash : Survives (file_state found) (file_state after) (AreTablesOf (founded founding))
     pub closed : HasLeft after files
 
   -- no office was made: the store could not be opened, or no office could be made in it
-  abbrev pub MakesNone : {S : Type 0} → StoreOutcome S D g → Fault → Type 0
-  MakesNone outcome fault = IsUnopened image outcome fault ⊎ IsClosedAnd outcome (IsNotMade fault)
+  abbrev pub MakesNone : {S : Type 0} → StoreOutcome S D g → Founding → Fault → Type 0
+  MakesNone outcome founding fault = IsUnopened image outcome fault ⊎ IsClosedAnd outcome (IsNotMade founding fault)
 
   -- no office was opened: the store could not be opened; or an office could not be opened on its tables, and it was
   -- closed as it was found
@@ -82,7 +86,8 @@ module _ {D : Type 0} (g : Ghosts D) (image : Image) where
       ⊎ ((why : OpenFault) × (fault ≡ fault_of_opening why) × IsClosedAnd outcome (WasJudgedAsFound g image (Some why)))
 
   -- A session with an office that was opened. What was read is its input, what was written is its output, and its end
-  -- agrees with how the calls on its reader and writer went. These are the office's files.
+  -- agrees with how the calls on its reader and writer went. If a failure of the disk has shut the office, a crash finds
+  -- it as the session left it, or after one command more. These are the office's files.
   pub record IsTalkedWith (reader reader_after out out_after : Stream) (end : Ended) (files : Files D) : Type 0 where
     pub office : Held (FileStore D g)
     pub after : Held (FileStore D g)
@@ -128,7 +133,8 @@ module _ {D : Type 0} (g : Ghosts D) (image : Image) where
     pub closed : HasLeft after files
 
   -- An office that was opened served this number of connections, one session after the other; or at most this number,
-  -- if not all could be taken. These are its files.
+  -- if not all could be taken. After a failure of the disk, a crash finds it as the sessions left it, or after one
+  -- command more. These are its files.
   pub record HasServed (connections : ℕ) (all : Bool) (files : Files D) : Type 0 where
     pub office : Held (FileStore D g)
     pub after : Held (FileStore D g)
@@ -175,7 +181,8 @@ module _ {D : Type 0} (g : Ghosts D) (image : Image) where
       → (s : State) → HoldsOffice image s → IsSoundOffice s → HoldState g files (step s (Import source it.file)).0
 
   -- After a session the office is open if the last message was a command that was accepted. After another message, a
-  -- failure of the disk may have shut it.
+  -- failure of the disk may have shut it. Then a crash leaves only the office as the session left it, or after one
+  -- command more: the one that was carried out when the disk failed.
   abbrev pub WhatWasSaidIsHeld : Type 0
   WhatWasSaidIsHeld =
       (reader reader_after out out_after : Stream) (end : Ended) (files : Files D)
@@ -184,6 +191,7 @@ module _ {D : Type 0} (g : Ghosts D) (image : Image) where
       → (t : State) × (session : Session s it.input it.output end t)
       × (LeavesOpen (IsTrue (file_state it.office).is_open) session ⊎ IsTrue (file_state it.after).is_open
       → HoldState g files t)
+      × ((file_state it.after).is_open ≡ false → LeaveOnly g files (AreTablesAfter t))
 
   -- the same for connections
   abbrev pub WhatWasServedIsHeld : Type 0
@@ -193,6 +201,15 @@ module _ {D : Type 0} (g : Ghosts D) (image : Image) where
       → (t : State) × (are : AreSessions it.sessions.connections s t)
       × (SessionsLeaveOpen (IsTrue (file_state it.office).is_open) it.sessions.connections s t are
       ⊎ IsTrue (file_state it.after).is_open → HoldState g files t)
+      × ((file_state it.after).is_open ≡ false → LeaveOnly g files (AreTablesAfter t))
+
+  -- Where no office was made, and a failure of the disk has shut the store, a crash leaves only a store without tables,
+  -- or the new office.
+  abbrev pub WhatWasNotMadeIsLeft : Type 0
+  WhatWasNotMadeIsLeft =
+      (founding : Founding) (fault : Fault) (files : Files D) (it : IsNotMade founding fault files)
+      → HaveCleanDisk g files → (file_state it.after).is_open ≡ false
+      → LeaveOnly g files (λ db. (file_state it.found).may_leave db ⊎ AreTablesOf (founded founding) db)
 
   abbrev pub WhatWasBroughtOverIsHeld : Type 0
   WhatWasBroughtOverIsHeld =

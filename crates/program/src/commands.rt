@@ -10,6 +10,7 @@ ghost use Rattle.program.specs.Outcomes.{IsClosedAnd};
 ghost use Rattle.program.specs.Stores.{IsMade};
 ghost use Rattle.program.specs.Streams.{Prints};
 
+use crate::durable_office::DurableOffice;
 use crate::faults::Fault;
 use crate::files::{Outcome, StoreOutcome, close, find};
 use crate::imports::{take_in, tell_reply};
@@ -39,7 +40,7 @@ fn init<S: Start>(
 ) -> (Result<(), Fault>, Outcome<S>)
     ensures done { OnOk result.0 (IsClosedAnd result.1
         (IsMade ⟦<FileFrom<S> as Disk>⟧ (image_at S.Start) settings)) }
-    ensures fault { IfErr result.0 (InitFails ⟦<FileFrom<S> as Disk>⟧ (image_at S.Start) result.1) }
+    ensures fault { IfErr result.0 (InitFails ⟦<FileFrom<S> as Disk>⟧ (image_at S.Start) settings result.1) }
 {
     match make_office(rt, store, settings, start) {
         Ok(office) => (Ok(()), StoreOutcome::Closed(close_office(office))),
@@ -92,11 +93,12 @@ fn talk<S: Start, R: Read, W: Write>(
     ensures fault { IfErr result.0 (TalkFails ⟦<FileFrom<S> as Disk>⟧ (image_at S.Start)
         reader.old reader.new out.old out.new result.1) }
 {
-    let mut office = match open_office(rt, alloc, store, start) {
-        Ok(office) => office,
+    let mut kept = match open_office(rt, alloc, store, start) {
+        Ok(office) => DurableOffice { office },
         Err((fault, outcome)) => return (Err(fault), outcome),
     };
-    let talked = talk_with(alloc, &mut office, reader, out);
+    let talked = talk_with(alloc, &mut kept, reader, out);
+    let DurableOffice { office } = kept;
     (talked, StoreOutcome::Closed(close_office(office)))
 }
 
@@ -156,11 +158,12 @@ fn serve_store<S: Start, W: Write>(
     ensures fault { IfErr result.0 (ServeFails ⟦<FileFrom<S> as Disk>⟧ (image_at S.Start) port connections
         out.old out.new result.1) }
 {
-    let mut office = match open_office(rt, alloc, store, start) {
-        Ok(office) => office,
+    let mut kept = match open_office(rt, alloc, store, start) {
+        Ok(office) => DurableOffice { office },
         Err((fault, outcome)) => return (Err(fault), outcome),
     };
-    let served = serve_on_port(rt, alloc, port, connections, &mut office, out);
+    let served = serve_on_port(rt, alloc, port, connections, &mut kept, out);
+    let DurableOffice { office } = kept;
     (served, StoreOutcome::Closed(close_office(office)))
 }
 

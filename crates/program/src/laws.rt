@@ -8,8 +8,8 @@ ghost use Rattle.program.specs.ClosedFiles.{ACheckChangesNothing};
 ghost use Rattle.program.specs.Headline.{TheHeadlineInAFile, TheHeadlineInMemory, TheHeadlineOfATrial};
 ghost use Rattle.program.specs.NextRuns.{BeginsAsBroughtOver, BeginsAsFound, BeginsAsMade, GoesOn};
 ghost use Rattle.program.specs.OpenedFiles.{IsInTheStateThatWasLeft};
-ghost use Rattle.program.specs.Stores.{WhatWasBroughtOverIsHeld, WhatWasMadeIsHeld, WhatWasSaidIsHeld};
-ghost use Rattle.program.specs.Stores.{WhatWasServedIsHeld, WhatWasTakenInIsHeld};
+ghost use Rattle.program.specs.Stores.{WhatWasBroughtOverIsHeld, WhatWasMadeIsHeld, WhatWasNotMadeIsLeft};
+ghost use Rattle.program.specs.Stores.{WhatWasSaidIsHeld, WhatWasServedIsHeld, WhatWasTakenInIsHeld};
 
 use memory_disk::MemoryDisk;
 use sqlite::{FileFrom, Start};
@@ -43,10 +43,12 @@ pub fn a_check_changes_nothing<S: Start>()
 {}
 
 /// After `init`, the file holds the new office. After an import that was accepted, a session, some connections or a
-/// migration, it holds the office in the state that this led to from the state that the file held before. After a
-/// session or connections it does so unless a failure of the disk had shut the office.
+/// migration, it holds the office in the state that this led to from the state that the file held before. If a failure
+/// of the disk had shut the office in a session or connections, a crash leaves only that state, or the state after one
+/// command more; and if it had shut a store in which no office was made, only no office, or the new one.
 pub fn what_was_done_is_in_the_file<S: Start>()
     ensures made { WhatWasMadeIsHeld ⟦<FileFrom<S> as Disk>⟧ (image_at S.Start) }
+    ensures not_made { WhatWasNotMadeIsLeft ⟦<FileFrom<S> as Disk>⟧ (image_at S.Start) }
     ensures taken_in { WhatWasTakenInIsHeld ⟦<FileFrom<S> as Disk>⟧ (image_at S.Start) }
     ensures said { WhatWasSaidIsHeld ⟦<FileFrom<S> as Disk>⟧ (image_at S.Start) }
     ensures served { WhatWasServedIsHeld ⟦<FileFrom<S> as Disk>⟧ (image_at S.Start) }

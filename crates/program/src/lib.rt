@@ -2,6 +2,7 @@
 #![tactic(auto)]
 
 pub mod commands;
+pub mod durable_office;
 pub mod faults;
 pub mod files;
 pub mod imports;

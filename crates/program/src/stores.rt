@@ -56,7 +56,7 @@ pub fn make_office<S: Start>(
     ensures founded { IfOk result (λ office. HasCleanDisk (file_state office)
         → IsIn RepresentsSpanRows Spans (founded settings) (file_state office)) }
     ensures kept { IfOk result (λ office. HasCleanDisk (file_state office) → IsTrue (file_state office).is_open) }
-    ensures fault { IfErr result (λ e. MakesNone ⟦<FileFrom<S> as Disk>⟧ (image_at S.Start) e.1 e.0) }
+    ensures fault { IfErr result (λ e. MakesNone ⟦<FileFrom<S> as Disk>⟧ (image_at S.Start) e.1 settings e.0) }
 {
     let conn = match make(rt, store.as_str(), start) {
         Ok(conn) => conn,

@@ -1,4 +1,9 @@
 use Rattle.std.proofs.Common.{inl, refl}
+use Rattle.std.proofs.lemmas.Result.{IfErr-weaker, on_ok_weaker}
+use Rattle.sqlite.specs.Files.{over_files}
+use Rattle.office.specs.IdleOffice.{is_clean, is_still_open}
+use Rattle.program.specs.KeptOffices.{IsKept}
+use Rattle.program.proofs.ServedLemmas.{seen_as}
 use Rattle.program.proofs.StoreLemmas.{serve_done, serve_failed}
 use Rattle.program.proofs.commands.serve_store.Goals as goal
 
@@ -7,10 +12,18 @@ returns-in-Err-clause-fault g c = inl (c.in-Err.ensures.fault, refl)
 
 pub returns-clause-done : goal.returns-clause-done
 returns-clause-done g c =
-    serve_done _ _ c.args.start c.close_office.result c.args.out.now c.serve_on_port-served.new.out c.args.port c.args.connections c.in-Ok.office c.serve_on_port-served.new.office c.in-Ok.ensures.found
-    c.serve_on_port-served.ensures.intact c.close_office.ensures c.serve_on_port-served.result c.serve_on_port-served.ensures.done
+    let served = c.serve_on_port-served in
+    let office = c.in-Ok.office in
+    let after = served.new.office.office in
+    serve_done _ _ c.args.start c.close_office.result c.args.out.now served.new.out c.args.port c.args.connections office after c.in-Ok.ensures.found
+    served.ensures.intact c.close_office.ensures served.result
+    (on_ok_weaker served.result (λ (listens, it). (listens, seen_as (IsKept over_files) (is_clean over_files) (is_still_open over_files) office after it it.sessions)) served.ensures.done)
 
 pub returns-clause-fault : goal.returns-clause-fault
 returns-clause-fault g c =
-    serve_failed _ _ c.args.start c.close_office.result c.args.out.now c.serve_on_port-served.new.out c.args.port c.args.connections c.in-Ok.office c.serve_on_port-served.new.office c.in-Ok.ensures.found
-    c.serve_on_port-served.ensures.intact c.close_office.ensures c.serve_on_port-served.result c.serve_on_port-served.ensures.fault
+    let served = c.serve_on_port-served in
+    let office = c.in-Ok.office in
+    let after = served.new.office.office in
+    serve_failed _ _ c.args.start c.close_office.result c.args.out.now served.new.out c.args.port c.args.connections office after c.in-Ok.ensures.found
+    served.ensures.intact c.close_office.ensures served.result
+    (IfErr-weaker served.result _ _ (λ f (why, it). (why, seen_as (IsKept over_files) (is_clean over_files) (is_still_open over_files) office after it it.sessions)) served.ensures.fault)

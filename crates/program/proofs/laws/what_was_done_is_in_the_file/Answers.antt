@@ -15,3 +15,6 @@ returns-clause-served g c = done.served _ _
 
 pub returns-clause-brought_over : goal.returns-clause-brought_over
 returns-clause-brought_over g c = done.brought_over _ _
+
+pub returns-clause-not_made : goal.returns-clause-not_made
+returns-clause-not_made g c = done.not_made _ _

@@ -2,7 +2,7 @@ use Rattle.std.proofs.Common.{ap, refl, subst}
 use Rattle.std.specs.Io.KnownBytes.{Appends, Consumes}
 use Rattle.http_desk.specs.declared.session_end.Next.TheVariants.{Ends}
 use Rattle.program.specs.Connections.{Connection, IsHeard}
-use Rattle.program.proofs.ServedLemmas.{failed_so}
+use Rattle.program.proofs.ServedLemmas.{calls_of, failed_so}
 use Rattle.program.proofs.server.answer.Goals as goal
 
 pub returns-clause-intact : goal.returns-clause-intact
@@ -29,5 +29,7 @@ returns-clause-answered g c =
       write_fault = failed_so _ _ _ ends.writes c.new-sink.ensures.uncalled.none_failed;
       bound = λ p q e. (ends.turns p q).2 (ap Ends e);
       used_up = ends.used_up;
+      flushed = ends.flushed c.new-sink.ensures.uncalled.none_waits;
+      calls = calls_of _ _ _ ends.calls.1 c.new-source.ensures.uncalled.none_made;
     } in
     (it, refl, refl, heard, c.leave.ensures, through)

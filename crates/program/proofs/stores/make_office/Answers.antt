@@ -12,6 +12,7 @@ returns-in-Err-create-clause-fault g c = inr (
       told = c.from.ensures;
       cause = c.in-Err-create.ensures.cause;
       back = c.in-Err-create.ensures.back;
+      crash = c.in-Err-create.ensures.crash_back;
       closed = c.close-files.ensures (λ clean. (c.in-Err-create.ensures.back clean).ended);
     }
     )

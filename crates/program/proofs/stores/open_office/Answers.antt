@@ -18,6 +18,7 @@ returns-in-Ok-adopt-clause-found g c clean =
       held = held;
       ordered = ordered;
       verdict = opened.sound;
+      kept = c.in-Ok-adopt.ensures.kept clean;
       same = opened.same;
       left = opens_so _ found.now (file_state c.in-Ok-adopt.office) held opened.sound opened.same;
       represents = c.in-Ok-adopt.ensures.represents clean ordered;
