@@ -108,7 +108,8 @@ fn judge<P: Places, S: Alter>(
     pass::<P, S>(alloc, conn, today, done)
 }
 
-/// Imports a file that was read, or refuses it if one of its rows cannot be placed or there is no room for the new ones.
+/// Imports a file that was read, or refuses it if one of its rows cannot be placed or there is no room for the new
+/// ones.
 fn import_read<P: Places, S: Alter>(
     alloc: Global,
     conn: &mut Connection<S>,

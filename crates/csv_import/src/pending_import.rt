@@ -8,7 +8,7 @@ use crate::legacy::ByLegacy;
 use atom_csv::Row;
 use isad_core::Text;
 
-/// The rows of a file from a source, which can all be placed.
+/// The rows of a file from a source, which are to be entered.
 #[derive(Clone, Copy)]
 pub(crate) struct Import<'a> {
     pub(crate) source: &'a Text,

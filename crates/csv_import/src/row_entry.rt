@@ -174,7 +174,8 @@ fn enter_each<P: Places, S: Alter>(
     ensures makes { Updates S.Store (RepresentsEntering P.version) (λ _. ⊤) conn.old conn.new result
         (AreNext import.now) (imported import.now) described_trees }
     ensures counts { Finds S.Store (RepresentsEntering P.version) (AreNext import.now) conn.old conn.new result
-        (λ c counts. (counts ≡ counted_in c import.now) × (import.now.next + counts.new ≡ (imported import.now c).next)) }
+        (λ c counts. (counts ≡ counted_in c import.now)
+        × (import.now.next + counts.new ≡ (imported import.now c).next)) }
     ensures few { IfOk result (λ counts. counts.new ≤ length import.now.rows.now) }
 {
     let mut counts = Counts {

@@ -41,7 +41,8 @@ fn judge_apart<P: CheckedPlaces, S: Alter>(
     verdict
 }
 
-/// Fails if a failure of the disk has shut the connection: no statement can be prepared on it then. None is run.
+/// Fails if a failure of the disk has shut the connection: no statement can be prepared on it then. It may also lack
+/// memory. None is run.
 fn confirm_open<S: Alter>(conn: &mut Connection<S>) -> Result<(), StoreFault>
     ensures open { HasCleanDisk (state S.Store conn.new)
         → OnOk result (Shows (state S.Store conn.old) (state S.Store conn.new) (state S.Store conn.old).now
