@@ -13,8 +13,9 @@ fail. What these let through is tried by all worked rows, and then by all laws. 
 the change counts. The libraries are those in crates/*/out/rlib of --over, or of this checkout, as `rt check` and
 `rt ci` leave them.
 
-A line says for each rule that it is `refused`, with the rows or lemmas that fail; `LET THROUGH`; `unreadable`, if the
-wrong text does not parse; `not applied`, if the old text does not occur once in its file; or `no verdict`. With --log
+A line says for each rule that it is `refused`, with the rows or lemmas that fail; `refused elsewhere`, if its record names
+a row that lets it through; `LET THROUGH`; `unreadable`, if the wrong text does not parse; `not applied`, if the old text
+does not occur once in its file; or `no verdict`. With --log
 these lines are added to FILE, and rules that are refused in FILE are skipped. --jobs checks run at once, each of
 --cases rules. The last line has the counts; the script ends with 1 if a rule was not refused.
 
@@ -23,6 +24,7 @@ the row, the law or the day that is named there, and counts them. With --covered
 definitions some rule changes; with CRATE it lists those of the crate that none changes."""
 
 import argparse
+import hashlib
 import itertools
 import os
 import re
@@ -68,12 +70,19 @@ def lacking(record):
     return ""
 
 
+def key_of(record):
+    """What tells a rule from all others, and from itself with another text."""
+    parts = record.folder, record.file, record.old, record.new, record.refused_by
+    return hashlib.sha256("\n".join(parts).encode()).hexdigest()[:16]
+
+
 class Rule:
     """A wrong rule, the modules that must refuse it, and its verdict."""
 
     def __init__(self, modules, record):
         file = path_of(record)
         self.label, self.module, self.verdict, self.why = record.name, modules.of_path(file), "", ""
+        self.key = key_of(record)
         self.named, _, self.row = record.refused_by.partition(" ")
         self.crate = over(record)
         self.why = lacking(record)
@@ -146,9 +155,8 @@ def all_laws(modules, crate):
 
 
 def breaks(row, fails):
-    """Whether a row fails, or a lemma that is no row."""
-    names = [it.rpartition(".")[2] for it in fails]
-    return f"row_{row}" in names or not all(it.startswith("row_") for it in names)
+    """Whether a row fails, or a lemma on which the rows stand."""
+    return f"Rows.row_{row}" in fails or not all(it.startswith("Rows.") for it in fails)
 
 
 class Run:
@@ -210,7 +218,8 @@ class Run:
         elif errors and self.what == "beside" and rule.row and not breaks(rule.row, fails):
             rule.verdict, rule.why = "LET THROUGH", f"but for other rows: {', '.join(dict.fromkeys(fails))}"
         elif errors:
-            rule.verdict, rule.why = "refused", ", ".join(dict.fromkeys(fails)) or errors[0][3][:200]
+            rule.verdict = "refused elsewhere" if rule.row and self.what != "beside" else "refused"
+            rule.why = ", ".join(dict.fromkeys(fails)) or errors[0][3][:200]
         else:
             rule.verdict, rule.why = "LET THROUGH", f"{len(asked)} modules were asked"
         self.say(rule)
@@ -219,7 +228,7 @@ class Run:
         print(rule.line(), flush=True)
         if self.given.log:
             with open(self.given.log, "a", encoding="utf-8") as out:
-                out.write(rule.line() + "\n")
+                out.write(f"{rule.line()} | {rule.key}\n")
 
 
 def written(words=()):
@@ -233,12 +242,12 @@ def written(words=()):
 
 
 def not_refused_before(rules, log):
-    """The rules that an earlier run has not seen refused."""
+    """The rules that an earlier run has not seen refused with the same texts."""
     done = set()
     if log and os.path.isfile(log):
         lines = [it.split(" | ") for it in open(log, encoding="utf-8")]
-        done = {it[1] for it in lines if it[0] == "refused"}
-    return [it for it in rules if it.name not in done]
+        done = {it[-1].strip() for it in lines if it[0] == "refused"}
+    return [it for it in rules if key_of(it) not in done]
 
 
 # ---- rules that the prover does not try
@@ -261,7 +270,7 @@ def is_there(record, named_days):
         return kind == "day" and name in named_days
     function, _, row = record.refused_by.partition(" ")
     if row:
-        return row in row_lemmas.rows(function)[1]
+        return row_lemmas.rows(function)[1].count(row) == 1
     crate, *path = function.split("::")
     return Path(TOP, "crates", crate, "proofs", *path).is_dir()
 

@@ -33,7 +33,7 @@ use std::alloc::Global;
 use std::io::{Read, Write};
 
 /// How many messages of a session are answered at most.
-pub(crate) const ANSWERS: u32 = 10_000;
+pub const ANSWERS: u32 = 10_000;
 
 /// What comes next: `next` if all of the answer was sent, and otherwise the end of the session.
 fn after(sent: Sent, next: Next) -> Next
