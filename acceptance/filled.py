@@ -85,7 +85,7 @@ GET /desk/runs/{MOST_RUNS}
 | GB 0999 [-] Maps
 |   Container {MOST_CONTAINERS}: Last
 """,
-    "units": f"""with seats 200 daily 1 hands 1 run 100
+    "units": f"""with seats {HIGHEST["seats"]} daily 1 hands 1 run {HIGHEST["run"]}
 {ANN}{one(f"{MOST_UNITS},Plans,Published,Box 1")}{NEW}{LENT}{one(f"{MOST_UNITS + 1},Maps,Published,")}{FULL}\
 POST /desk/import/a
 | legacyId,title,publicationStatus,physicalObjectName
@@ -99,7 +99,7 @@ POST /desk/remove {{"unit":{MOST_UNITS}}}
 200
 | GB 0999 [-] Maps
 """,
-    "numbers": f"""with seats 1 daily 50 hands 1 run 100
+    "numbers": f"""with seats 1 daily {HIGHEST["daily"]} hands 1 run {HIGHEST["run"]}
 {ANN}{one("1,Plans,Published,Box 1")}{NEW}{one("2,Maps,Published,")}{NEW}{LENT}{one("3,Deeds,Published,")}{FULL}\
 POST /desk/import/a
 | legacyId,title,publicationStatus,physicalObjectName

@@ -17,6 +17,7 @@ import sys
 import client
 import days
 import plain
+from plain.limits import LONGEST_BODY, LONGEST_HEAD
 
 MOST = 40
 METHODS = ["GET", "POST", "HEAD", "PUT", "OPTIONS", "get", "G!T"]
@@ -84,7 +85,7 @@ class Input:
             return []
         right = [f"Content-Length: {size}"]
         other = [[f"content-length:00{size}"], [*right, f"CONTENT-LENGTH:\t0{size} "]]
-        wrong = [*["8388609", "99999999999999999999"] * 2, f"{size}, {size}", f"+{size}", "", "x", f"{size} 0"]
+        wrong = [*[f"{LONGEST_BODY + 1}", "99999999999999999999"] * 2, f"{size}, {size}", f"+{size}", "", "x", f"{size} 0"]
         if self.ends_it(0.06):
             return [*self.one_of([[], [], [], right]), f"Content-Length: {self.one_of(wrong)}"]
         return self.one_of(other) if self.happens(0.2) else right
@@ -105,7 +106,7 @@ class Input:
     def ending(self):
         """What comes after the last request: mostly nothing."""
         half = b"POST / HTTP/1.1\r\nHost: x\r\nContent-Length: 9\r\n\r\nx"
-        return self.one_of([b"\r\n", b"\r", b"GET /", half, b"x" * 16_384]) if self.happens(0.3) else b""
+        return self.one_of([b"\r\n", b"\r", b"GET /", half, b"x" * LONGEST_HEAD]) if self.happens(0.3) else b""
 
 
 def is_held(program, seed):

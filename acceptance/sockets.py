@@ -25,6 +25,7 @@ import time
 
 import client
 from client import HOST, Reply
+from plain.limits import LONGEST_BODY
 
 PATIENCE = 10
 LATE = 5
@@ -143,7 +144,7 @@ class Tests:
     def not_lost(self):
         """An answer that closes, to a client that has sent much more than is read."""
         with self.server(6) as server:
-            for more in (0, 1, 100_000, 4_000_000, 8_388_608):
+            for more in (0, 1, 100_000, 4_000_000, LONGEST_BODY):
                 answer, rest = BROKEN, b""
                 with Talk(server.connected()) as it:
                     with contextlib.suppress(ConnectionError):

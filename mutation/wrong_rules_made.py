@@ -8,8 +8,9 @@ from records import Record
 
 TOP = Path(__file__).resolve().parents[1]
 LIMITS = [
-    "most_units", "most_unit_numbers", "most_deep", "most_bytes", "most_containers", "most_seats", "most_daily", "most_hands",
-    "most_run_size", "most_tickets", "most_permits", "most_orders", "most_runs",
+    "most_units", "most_unit_numbers", "most_deep", "most_bytes", "most_rows", "most_source_bytes", "most_containers",
+    "most_name_bytes", "most_seats", "most_daily", "most_hands", "most_run_size", "most_tickets", "most_permits", "most_orders",
+    "most_runs", "most_connections",
 ]  # fmt: skip
 # the members of each form, and the row that has a body of that form
 MEMBERS = {

@@ -12,8 +12,8 @@ MOST_TICKETS, MOST_ORDERS, MOST_RUNS, MOST_PERMITS = 1_000_000, 10_000_000, 1_00
 # its settings, which `init` checks
 HIGHEST = dict(seats=200, daily=50, hands=10, run=100)
 
-# a file; its header is row 1
-LAST_ROW, MOST_BYTES = 20_001, 65_535
+# a file and its source; the header is row 1
+LAST_ROW, MOST_BYTES, LONGEST_SOURCE = 20_001, 65_535, 64
 
 # a connection
 LONGEST_HEAD, MOST_FIELDS, LONGEST_BODY = 16_384, 64, 8_388_608

@@ -4,7 +4,7 @@ use Rattle.std.specs.List.{list_any}
 use Rattle.std.specs.Option.{option_map_or}
 use Rattle.std.specs.Str.{bytes_eq, is_utf8, str_eq_ignore_ascii_case}
 use Rattle.csv.specs.Reading.{default_config, records, strip_bom}
-use Rattle.isad_core.specs.Limits.{most_bytes}
+use Rattle.isad_core.specs.Limits.{most_bytes, most_rows}
 use Rattle.isad_core.specs.Texts.{Bytes}
 use Rattle.atom_csv.specs.Columns.{columns, name_of}
 use Rattle.atom_csv.specs.Causes.{number_of}
@@ -86,11 +86,11 @@ abbrev pub has_slug_alone : Fields → Fields → Bool
 has_slug_alone header fields = not (is_empty (value column.QubitParentSlug header fields))
     && is_empty (value column.ParentId header fields)
 
--- rows 2 to 20,001 are accepted; later ones are too late
+-- the header is row 1, and as many rows as a file may have follow it; later ones are too late
 abbrev pub is_late : ℕ → Bool
-is_late row = nat_lt 20001 row
+is_late row = nat_lt (most_rows + 1) row
 
--- a field that is read is longer than 65,535 bytes
+-- a field that is read is longer than a text may be
 abbrev pub is_long : Fields → Fields → Bool
 is_long header fields = list_any (λ k. nat_lt most_bytes (length (value k header fields))) columns
 

@@ -12,10 +12,10 @@ use crate::header::Header;
 use crate::trim::trimmed;
 use csv::StringRecord;
 use isad_core::Text;
-use isad_core::limits::MOST_BYTES;
+use isad_core::limits::{MOST_BYTES, MOST_ROWS};
 
-// The last row that is accepted.
-const LAST_ROW: u32 = 20_001;
+// The last row that is accepted. The header is row 1.
+const LAST_ROW: u32 = MOST_ROWS + 1;
 
 /// What is found in a record.
 #[derive(Clone, Copy)]

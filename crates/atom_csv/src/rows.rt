@@ -93,6 +93,7 @@ impl Rows {
     ghost use Rattle.std.specs.Prelude.{◌≡◌, ◌≤◌, ◌<◌, ◌++◌, ◌∷◌, ◌+◌, []};
     ghost use Rattle.std.specs.Prelude.{OnOk, IfErr, Err, length};
     ghost use Rattle.std.specs.Prelude as std_list;
+    ghost use Rattle.isad_core.specs.Limits.{most_rows};
     ghost use Rattle.atom_csv.specs.Fields.{Fields, fields_in};
     ghost use Rattle.atom_csv.specs.FileContents.{below};
     ghost use Rattle.atom_csv.specs.ReadProgress.{IsBad, Tells};
@@ -120,7 +121,7 @@ impl Rows {
     ) -> Result<(), FileFault>
         requires fits { self.old.translations < number }
         ensures fits { OnOk result (self.new.translations ≤ number) }
-        ensures early { OnOk result (number ≤ 20001) }
+        ensures early { OnOk result (number ≤ most_rows + 1) }
         ensures told { OnOk result ((above : std_list.List Fields) → number ≡ length above + 2
             → Tells header.now above self.old → Tells header.now (above ++ fields_in row.now ∷ []) self.new) }
         ensures bad { IfErr result (λ e. IsBad e (λ at cause. (above later : std_list.List Fields)

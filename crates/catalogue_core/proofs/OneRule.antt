@@ -11,7 +11,7 @@ use Rattle.catalogue_core.specs.Units.{Unit, is_closed}
 use Rattle.catalogue_core.specs.ContainerContents.{paths_below}
 use Rattle.catalogue_core.specs.Pages.{before_last}
 use Rattle.catalogue_core.specs.PublicForest.{PublicUnit, public_unit, public_of, stub_of}
-use Rattle.catalogue_core.specs.OneRule.{is_told, told_whole, told_as_stub, is_public, is_closed_alone, TellsWhatIsOpen, StubsWhatIsClosed}
+use Rattle.catalogue_core.specs.OneRule.{is_told, told_whole, told_as_stub, is_open_to_public, is_closed_alone, TellsWhatIsOpen, StubsWhatIsClosed}
 use Rattle.catalogue_core.proofs.PublishedUnits.{before_last-push, last_of-push}
 use Rattle.std.proofs.Math.Bool.{or-false}
 
@@ -41,7 +41,7 @@ module _ (day : ℤ) where
   abbrev is_shut : List Unit → Bool
   is_shut w = list_any D w || list_any C w
 
-  pub public_is : (way : List Unit) → is_public day way ≡ not (is_shut way)
+  pub public_is : (way : List Unit) → is_open_to_public day way ≡ not (is_shut way)
   public_is way = ap (λ b. not (list_any D way || (list_any C way && not b))) (none_open way) ∙ and_true (list_any D way) (list_any C way)
     where
       and_true : (a b : Bool) → not (a || (b && true)) ≡ not (a || b)
@@ -137,13 +137,13 @@ module _ (day : ℤ) where
       ∙ (ap (λ l. not (list_any D w || D u) && (not (list_any C l) && list_any C (w ++ u ∷ []))) (before_last-push w u)
       ∙ ap (λ b. not (list_any D w || D u) && (not (list_any C w) && b)) (pushed C w u))
 
-  whole : (w : List Unit) (u : Unit) → is_shut w ≡ false → D u ≡ false → filter is_told (public_unit (u, C u) ∷ []) ≡ filter_map told_whole (filter (is_public day) ((w ++ u ∷ []) ∷ []))
+  whole : (w : List Unit) (u : Unit) → is_shut w ≡ false → D u ≡ false → filter is_told (public_unit (u, C u) ∷ []) ≡ filter_map told_whole (filter (is_open_to_public day) ((w ++ u ∷ []) ∷ []))
   whole w u h n = elim (cases_Bool (C u)) [
     | inl k ↦
-        let no : is_public day (w ++ u ∷ []) ≡ false = public_is (w ++ u ∷ []) ∙ ap not (shut_by_closure w u k) in
+        let no : is_open_to_public day (w ++ u ∷ []) ≡ false = public_is (w ++ u ∷ []) ∙ ap not (shut_by_closure w u k) in
         rw (k, no, stub_is u true k) refl
     | inr k ↦
-        let yes : is_public day (w ++ u ∷ []) ≡ true = public_is (w ++ u ∷ []) ∙ ap not (still_open w u h n k) in
+        let yes : is_open_to_public day (w ++ u ∷ []) ≡ true = public_is (w ++ u ∷ []) ∙ ap not (still_open w u h n k) in
         rw (k, yes, last_of-push w u) refl
   ]
 
@@ -158,7 +158,7 @@ module _ (day : ℤ) where
 
 pub tells_what_is_open : TellsWhatIsOpen
 tells_what_is_open day f =
-    chosen day (is_public day) is_told told_whole
+    chosen day (is_open_to_public day) is_told told_whole
     (λ w u h. public_is day (w ++ u ∷ []) ∙ ap not (shut_on day w u h))
     (λ w u d. public_is day (w ++ u ∷ []) ∙ ap not (shut_by_draft day w u d))
     (whole day) [] f refl

@@ -30,8 +30,8 @@ abbrev pub told_as_stub : List Unit → Option PublicUnit
 told_as_stub way = option_map (λ (unit : Unit). stub_of unit unit.until) (last_of way)
 
 -- the path does not withhold its last unit from the public
-abbrev pub is_public : ℤ → List Unit → Bool
-is_public day way = not (is_withheld_from (λ _. false) day way)
+abbrev pub is_open_to_public : ℤ → List Unit → Bool
+is_open_to_public day way = not (is_withheld_from (λ _. false) day way)
 
 -- only the closure of the last unit itself withholds it
 abbrev pub is_closed_alone : ℤ → List Unit → Bool
@@ -43,7 +43,7 @@ is_closed_alone day way =
 -- walk order.
 abbrev pub TellsWhatIsOpen : Type 0
 TellsWhatIsOpen = (day : ℤ) (f : Forest Unit) →
-    filter is_told (nodes (public_of day f)) ≡ filter_map told_whole (filter (is_public day) (paths f))
+    filter is_told (nodes (public_of day f)) ≡ filter_map told_whole (filter (is_open_to_public day) (paths f))
 
 -- The stubs are those of exactly the units that only their own closure withholds, in walk order.
 abbrev pub StubsWhatIsClosed : Type 0
@@ -61,7 +61,7 @@ number_and_name box = (box.0, box.1)
 abbrev pub PagesTellTheHousing : Type 0
 PagesTellTheHousing = (press : Press) (day : ℤ) (f : Forest Unit) (u : ℕ) (shown : Page) →
     HasDistinctIds (each (λ (unit : Unit). unit.id) f) →
-    page_of press u (public_of day f) ≡ Some shown → is_public day (path (has_id u) f) ≡ true →
+    page_of press u (public_of day f) ≡ Some shown → is_open_to_public day (path (has_id u) f) ≡ true →
     map number_and_name shown.boxes ≡ numbered_boxes (box_number press.containers) (housed (path (has_id u) f))
 
 -- The number of a container, as shown on pages and in finding aids, is its place among the containers, counted from 1.

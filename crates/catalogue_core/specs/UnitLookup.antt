@@ -5,8 +5,8 @@ use Rattle.tree_core.specs.Forest.{Forest, nodes, has}
 use Rattle.catalogue_core.specs.Units.{Unit, has_id}
 
 -- the number of a unit of the forest that passes the test, or none if no unit does
-abbrev pub Finds : (Unit → Bool) → Forest Unit → Option ℕ → Type 0
-Finds is f found = MatchOption found (has is f ≡ false) (λ id. list_any (λ u. is u && has_id id u) (nodes f) ≡ true)
+abbrev pub FindsUnit : (Unit → Bool) → Forest Unit → Option ℕ → Type 0
+FindsUnit is f found = MatchOption found (has is f ≡ false) (λ id. list_any (λ u. is u && has_id id u) (nodes f) ≡ true)
 
 -- the unit with this number exists
 abbrev pub has_unit : Forest Unit → ℕ → Bool

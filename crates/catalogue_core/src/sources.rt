@@ -4,6 +4,8 @@ ghost use Rattle.std.specs.Prelude.{◌≡◌};
 ghost use Rattle.std.specs.List.{list_all};
 ghost use Rattle.catalogue_core.specs.Sources.{is_source as is_source_name, is_source_letter as may_stand};
 
+use isad_core::limits::MOST_SOURCE_BYTES;
+
 /// Whether it is an ASCII letter, a digit, a dot, an underscore or a hyphen.
 fn is_source_letter(b: u8) -> bool
     ensures { result ≡ may_stand b }
@@ -23,9 +25,9 @@ fn are_source_letters(name: &str) -> bool
     name.bytes().all(|b| is_source_letter(b))
 }
 
-/// Whether a name may be a source's: 1 to 64 such letters.
+/// Whether a name may be a source's: such letters, at least one, and no more than it may have.
 pub fn is_source(name: &str) -> bool
     ensures { result ≡ is_source_name name.now }
 {
-    1 <= name.len() && name.len() <= 64 && are_source_letters(name)
+    1 <= name.len() && name.len() <= MOST_SOURCE_BYTES && are_source_letters(name)
 }

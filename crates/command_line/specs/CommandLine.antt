@@ -4,6 +4,7 @@ use Rattle.clap.specs.Walk.{Rule, Text}
 use Rattle.clap.specs.Simple.{App, Shape, new_rule, new_shape, with_subcommand}
 use Rattle.clap.specs.declared.builder.value_parser.ValueParser.{ValueParser}
 use Rattle.clap.specs.declared.builder.value_parser.ValueParser.TheVariants.{Signed}
+use Rattle.isad_core.specs.Limits.{most_connections}
 
 -- `--name <VALUE>`, which is required
 abbrev pub wanted : Text → Rule
@@ -85,7 +86,7 @@ talk_command = store_command (codes "talk")
 abbrev pub serve_command : Shape
 serve_command =
     command (codes "serve")
-    (store_option ∷ wanted_within (codes "port") 1 65535 ∷ wanted_within (codes "connections") 1 10000 ∷ [])
+    (store_option ∷ wanted_within (codes "port") 1 65535 ∷ wanted_within (codes "connections") 1 most_connections ∷ [])
 
 -- `check --store F`
 abbrev pub check_command : Shape

@@ -5,6 +5,7 @@ use Rattle.clap.specs.Lexer.{without_minus}
 use Rattle.clap.specs.Values.{IsSignedIn}
 use Rattle.clap.specs.Walk.{Row, Text, first_of, one_of}
 use Rattle.isad_core.specs.Days.{day_of}
+use Rattle.isad_core.specs.Limits.{most_connections}
 
 -- the value of an option in the matches
 abbrev pub IsValue : List Row → Text → Text → Type 0
@@ -54,7 +55,7 @@ pub record HasImport (rows : List Row) : Type 0 where
 pub record HasServer (rows : List Row) : Type 0 where
   pub store : HasText rows (codes "store")
   pub port : HasNumberWithin 1 65535 rows (codes "port")
-  pub connections : HasNumberWithin 1 10000 rows (codes "connections")
+  pub connections : HasNumberWithin 1 most_connections rows (codes "connections")
 
 -- what the named command needs is there
 pub data HasNeeds (name : Text) (rows : List Row) : Type 0 where

@@ -3,6 +3,7 @@ ghost use Rattle.std.specs.Prelude.{◌≡◌, IfOk, codes, false};
 ghost use Rattle.clap.specs.Walk.{rule_of};
 ghost use Rattle.clap.specs.Simple.{app_of, shape_of};
 ghost use Rattle.clap.specs.declared.builder.command.Command.TheViews.{out-Command};
+ghost use Rattle.isad_core.specs.Limits.{most_connections};
 ghost use Rattle.command_line.specs.CommandLine.{check_command, import_command, init_command, migrate_command};
 ghost use Rattle.command_line.specs.CommandLine.{preview_command, serve_command, store_command, talk_command};
 ghost use Rattle.command_line.specs.CommandLine.{trial_command, bare_program, program, optional_file, store_option};
@@ -11,6 +12,7 @@ ghost use Rattle.command_line.specs.CommandLine.{wanted, wanted_file, wanted_num
 ghost use Rattle.command_line.specs.CommandLine.{care_commands, new_commands, with_commands, work_commands};
 
 use clap::{Arg, Command, value_parser};
+use isad_core::limits::MOST_CONNECTIONS;
 use std::alloc::{AllocError, Global};
 
 // The text at the end of the program's help.
@@ -48,9 +50,9 @@ fn port<'a>(alloc: Global) -> Arg<'a>
     ).range(1..))
 }
 
-// `--connections <NUMBER>`, a number from 1 to 10000, which is required.
+// `--connections <NUMBER>`, a number from 1 to as many as a server takes, which is required.
 fn connections<'a>(alloc: Global) -> Arg<'a>
-    ensures rule { rule_of result ≡ wanted_within (codes "connections") 1 10000 }
+    ensures rule { rule_of result ≡ wanted_within (codes "connections") 1 most_connections }
     ensures local { result.global ≡ false }
 {
     option(
@@ -59,7 +61,7 @@ fn connections<'a>(alloc: Global) -> Arg<'a>
         "NUMBER",
         "Connections to serve before the program ends, 1 to 10000",
     )
-    .value_parser(value_parser!(u32).range(1..=10_000))
+    .value_parser(value_parser!(u32).range(1..=i64::from(MOST_CONNECTIONS)))
 }
 
 // `--store <STORE>`, which is required.

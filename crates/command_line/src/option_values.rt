@@ -2,6 +2,7 @@
 ghost use Rattle.std.specs.Prelude.{◌≡◌, ◌≤◌, IfOk, codes};
 ghost use Rattle.clap.specs.Matches.{found_of};
 ghost use Rattle.clap.specs.Walk.{first_of, rows_of};
+ghost use Rattle.isad_core.specs.Limits.{most_connections};
 ghost use Rattle.command_line.specs.OptionValues.{HasNumber, HasNumberWithin, HasText, IsDay, IsNumber, IsValue};
 
 use clap::ArgMatches;
@@ -55,12 +56,12 @@ pub fn port(found: &ArgMatches) -> u16
     found.get_one("port").unwrap()
 }
 
-/// The number of connections, which is 1 to 10000.
+/// The number of connections, which is 1 or more, and no more than a server takes.
 pub fn connections(found: &ArgMatches) -> u32
-    requires { HasNumberWithin 1 10000 (rows_of (found_of found.now)) (codes "connections") }
+    requires { HasNumberWithin 1 most_connections (rows_of (found_of found.now)) (codes "connections") }
     ensures value { IsNumber (rows_of (found_of found.now)) (codes "connections") result }
     ensures least { 1 ≤ result }
-    ensures most { result ≤ 10000 }
+    ensures most { result ≤ most_connections }
 {
     found.get_one("connections").unwrap()
 }

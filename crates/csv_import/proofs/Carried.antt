@@ -47,7 +47,7 @@ use Rattle.refinement.proofs.Doings.{accepted, does_then, is_refused, refused}
 use Rattle.refinement.proofs.Frames.{desk_kept}
 use Rattle.refinement.proofs.Tellings.{looked_crash}
 use Rattle.csv_import.specs.Arrivals.{IsReady}
-use Rattle.csv_import.specs.PendingImport.{Finds}
+use Rattle.csv_import.specs.PendingImport.{ReadsCatalogue}
 use Rattle.csv_import.specs.RowEntry.{RepresentsEntering, RepresentsLegible, counts_of, entered}
 use Rattle.csv_import.specs.RowPlan.{plan_of}
 use Rattle.csv_import.specs.CatalogueImport.{CanBePlaced, FitsIn, HasNumbered, has_room, judged, next_with_room, told_of}
@@ -126,7 +126,7 @@ IsFitting today source file numbers next s = (today ≡ s.day) × (is_source sou
 abbrev Entered : {S : Type 0} → kept_in.Ghosts S → (Trees → Forest ℕ → Type 0) → Version → Bytes → (Bytes → Option ℕ) → ℕ → Held S → Held S → Outcome → List Row → Type 0
 Entered g places version source numbers next before after outcome rows =
     Updates g (RepresentsLegible places version) (λ _. ⊤) before after (let r : Result Outcome StoreFault = Ok outcome in r) (IsReady source rows numbers next) (entered source rows) catalogue_trees
-    × Finds g (RepresentsLegible places version) (IsReady source rows numbers next) before after (let r : Result Outcome StoreFault = Ok outcome in r)
+    × ReadsCatalogue g (RepresentsLegible places version) (IsReady source rows numbers next) before after (let r : Result Outcome StoreFault = Ok outcome in r)
     (λ c made. (made.counts ≡ counts_of c.forest source rows) × (map Some made.units.items ≡ map (λ row. number_there (entered source rows c) source row.legacy) rows))
 
 module _ {S : Type 0} (g : kept_in.Ghosts S) (places : Trees → Forest ℕ → Type 0) (version : Version) (today : ℤ) (source bytes : Bytes) (file : File) (read : file_of bytes ≡ Ok file) (numbers : Bytes → Option ℕ) (next : ℕ) (held mid after_it : Held S) (r : Result Reply StoreFault) (outcome : Outcome) where
@@ -202,7 +202,7 @@ module _ {S : Type 0} (g : kept_in.Ghosts S) (places : Trees → Forest ℕ → 
 -- the same, where the rows are told otherwise
 pub imports : {S : Type 0} {g : kept_in.Ghosts S} {places : Trees → Forest ℕ → Type 0} {version : Version} {today : ℤ} {source bytes : Bytes} {file : File} (read : file_of bytes ≡ Ok file) {numbers : Bytes → Option ℕ} {next : ℕ} {held mid after_it : Held S} {r : Result Reply StoreFault} {outcome : Outcome} {rows : List Row} → rows ≡ file.rows
     → Updates g (RepresentsLegible places version) (λ _. ⊤) held mid (let r : Result Outcome StoreFault = Ok outcome in r) (IsReady source rows numbers next) (entered source rows) catalogue_trees
-    → Finds g (RepresentsLegible places version) (IsReady source rows numbers next) held mid (let r : Result Outcome StoreFault = Ok outcome in r)
+    → ReadsCatalogue g (RepresentsLegible places version) (IsReady source rows numbers next) held mid (let r : Result Outcome StoreFault = Ok outcome in r)
     (λ c made. (made.counts ≡ counts_of c.forest source rows) × (map Some made.units.items ≡ map (λ row. number_there (entered source rows c) source row.legacy) rows))
     → Answers g (RepresentsWhole places version) (HasNumbered source file outcome.units.items) mid after_it r (λ _. ⊤) (λ _ s reply. HasNumbered source file outcome.units.items s → today ≡ s.day → reply ≡ judged s (told_of source file outcome.counts s))
     → CarriesOut places version (IsFitting today source file numbers next) (command.Import source bytes) (state g held) (state g after_it) r

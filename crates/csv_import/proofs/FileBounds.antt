@@ -8,7 +8,7 @@ use Rattle.std.proofs.lemmas.List.FromFn.{length-enumerate_from}
 use Rattle.std.proofs.lemmas.List.Sums.{length-filter}
 use Rattle.std.proofs.lemmas.List.Splits.{length-slice_split}
 use Rattle.isad_core.specs.Boxes.{distinct, is_same}
-use Rattle.isad_core.specs.Limits.{most_bytes}
+use Rattle.isad_core.specs.Limits.{most_bytes, most_rows}
 use Rattle.isad_core.specs.Texts.{Bytes}
 use Rattle.isad_core.specs.declared.values.BoxKey.{BoxKey}
 use Rattle.atom_csv.specs.Columns.{columns}
@@ -21,7 +21,6 @@ use Rattle.atom_csv.specs.declared.file.File.{File}
 use Rattle.atom_csv.specs.declared.file.Row.{Row}
 use Rattle.catalogue_core.proofs.FileRows.{line_at, no_fault_cons, read_from, tells}
 use Rattle.catalogue_core.proofs.GoodRows.{any_at}
-use Rattle.csv_import.specs.CatalogueImport.{most_rows}
 use Rattle.csv_import.specs.RowEntry.{boxes_named}
 
 -- ---- one row
@@ -74,7 +73,7 @@ few_boxes header fields n short =
 
 -- there is none, or they and the records above are so few
 abbrev AreFewBelow : List Fields → List Row → Type 0
-AreFewBelow above rows = (length rows ≡ 0) ⊎ (length rows + length above ≤ 20000)
+AreFewBelow above rows = (length rows ≡ 0) ⊎ (length rows + length above ≤ most_rows)
 
 -- what is known of the rows below these records
 record AreBoundedBelow (above : List Fields) (rows : List Row) : Type 0 where
@@ -98,7 +97,7 @@ bounded_below header above (fields ∷ rest) none =
     fewer (inl none_there) = inl none_there
     fewer (inr few) = inr (omega (arith, few, longer))
 
-    one_more : (row : Row) → length above + 2 ≤ 20001 → AreFewBelow (above ++ fields ∷ []) later → AreFewBelow above (row ∷ later)
+    one_more : (row : Row) → length above + 2 ≤ most_rows + 1 → AreFewBelow (above ++ fields ∷ []) later → AreFewBelow above (row ∷ later)
     one_more row early (inl none_there) = inr (omega (arith, early, none_there))
     one_more row early (inr few) = inr (omega (arith, few, longer))
 
@@ -107,13 +106,13 @@ bounded_below header above (fields ∷ rest) none =
     at (Some row) e below =
         let it = tells header (line_at above fields) row (no_fault_cons header above fields rest none).0 e in
         record {
-          few = one_more row (ltb-false 20001 (row_number (line_at above fields)) it.late) below.few;
+          few = one_more row (ltb-false (most_rows + 1) (row_number (line_at above fields)) it.late) below.few;
           boxes = (subst HasFewBoxes (sym it.is) (few_boxes header fields (row_number (line_at above fields)) it.long), below.boxes);
         }
 
 -- ---- the file
 
-few_at_top : (rows : List Row) → AreFewBelow [] rows → length rows ≤ 20000
+few_at_top : (rows : List Row) → AreFewBelow [] rows → length rows ≤ most_rows
 few_at_top rows (inl none_there) = omega (arith, none_there)
 few_at_top rows (inr few) = omega (arith, few)
 

@@ -7,7 +7,7 @@ use Rattle.isad_core.specs.Texts.{Bytes}
 use Rattle.atom_csv.specs.declared.file.Row.{Row}
 use Rattle.tree_core.specs.Forest.{has, has_place, nodes, path}
 use Rattle.catalogue_core.specs.Descriptions.{AreWhole, with_values}
-use Rattle.catalogue_core.specs.UnitLookup.{Finds}
+use Rattle.catalogue_core.specs.UnitLookup.{FindsUnit}
 use Rattle.catalogue_core.specs.GoodCatalogues.{AreGoodUnits}
 use Rattle.catalogue_core.specs.GoodRows.{IsGoodRow}
 use Rattle.catalogue_core.specs.CatalogueMerge.{Catalogue, box_number, cause_at, new_unit}
@@ -76,7 +76,7 @@ none_passes : (p q : Unit → Bool) (us : List Unit) → AllByRecursion (λ u. p
 none_passes p q [] h e = e
 none_passes p q (u ∷ us) h e = none_passes p q us h.1 (sym (ap (λ (b : Bool). (b && q u) || list_any (λ u. p u && q u) us) h.0) ∙ e)
 
-pub finds_number : (c : Catalogue) (source legacy : Bytes) (found : Option ℕ) → AreGoodUnits c → Finds (is_from source legacy) c.forest found → found ≡ number_there c source legacy
+pub finds_number : (c : Catalogue) (source legacy : Bytes) (found : Option ℕ) → AreGoodUnits c → FindsUnit (is_from source legacy) c.forest found → found ≡ number_there c source legacy
 finds_number c source legacy None good h = sym (ap (option_map (λ (u : Unit). u.id)) (find_none (is_from source legacy) (nodes c.forest) h))
 finds_number c source legacy (Some id) good h = at (find (is_from source legacy) (nodes c.forest)) refl
   where

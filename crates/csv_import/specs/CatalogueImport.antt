@@ -19,10 +19,6 @@ use Rattle.csv_import.specs.RowPlan.{new_of}
 use Rattle.csv_import.specs.Remarks.{HasEntered}
 use Rattle.csv_import.specs.declared.row_entry.Counts.{Counts}
 
--- the most rows of a file
-abbrev pub most_rows : ℕ
-most_rows = 20000
-
 -- an office may have this many more units, each with a number of its own
 abbrev pub has_room : ℕ → Catalogue → Bool
 has_room new c = nat_le (size c.forest + new) most_units && nat_le (c.next + new) (most_unit_numbers + 1)
@@ -41,7 +37,7 @@ pub record FitsIn (source : Bytes) (file : File) (s : State) : Type 0 where
   pub faults : faults_below s.catalogue.forest source [] (new_of s.catalogue.forest source file.rows) ≡ []
   pub room : has_room (length (new_of s.catalogue.forest source file.rows)) s.catalogue ≡ true
 
--- the outcome of a file whose rows were entered, and which led to this state
+-- the outcome of a file whose rows were entered; their entry led to this state
 abbrev pub told_of : Bytes → File → Counts → State → Done
 told_of source file counts s = done.Import counts.changed counts.new (remarks s.catalogue.forest source file.rows) counts.same file.translations
 

@@ -3,7 +3,7 @@
 ghost use Rattle.std.specs.Prelude.{◌≡◌, ◌+◌, ◌≤◌, ◌&&◌, true, length, nat_le, nat_lt, Ok, IfOk, IfSome, ⊤};
 ghost use Rattle.std.specs.List.{AllByRecursion};
 ghost use Rattle.sqlite.specs.Held.{state};
-ghost use Rattle.isad_core.specs.Limits.{IsNumber, most_containers, most_unit_numbers, most_units};
+ghost use Rattle.isad_core.specs.Limits.{IsNumber, most_containers, most_rows, most_unit_numbers, most_units};
 ghost use Rattle.isad_core.specs.Texts.{Bytes};
 ghost use Rattle.atom_csv.specs.FileContents.{file_of};
 ghost use Rattle.catalogue_core.specs.Sources.{is_source};
@@ -14,7 +14,7 @@ ghost use Rattle.catalogue_statements.specs.Settings.{AreLegibleSettings};
 ghost use Rattle.catalogue_statements.specs.Representation.{RepresentsSettings};
 ghost use Rattle.refinement.specs.CommandSteps.{Performs};
 ghost use Rattle.refinement.specs.AccessConditions.{RepresentsWhole};
-ghost use Rattle.csv_import.specs.CatalogueImport.{HasNumbered, judged, most_rows, told_of};
+ghost use Rattle.csv_import.specs.CatalogueImport.{HasNumbered, judged, told_of};
 ghost use Rattle.csv_import.specs.CatalogueImport as spec;
 
 use crate::numbers::known_units;
@@ -34,7 +34,7 @@ use refinement::pass;
 use sqlite::{Alter, Connection};
 use std::alloc::Global;
 
-/// Whether `new` more units fit beside so many, each with a number of its own from `next` on.
+/// Whether `new` more units fit besides so many, each with a number of its own from `next` on.
 fn has_space(units: u64, next: u64, new: u64) -> bool
     ensures { result ≡ (nat_le (units + new) most_units && nat_le (next + new) (most_unit_numbers + 1)) }
 {

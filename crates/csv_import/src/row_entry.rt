@@ -18,7 +18,7 @@ ghost use Rattle.catalogue_statements.specs.declared.office.OfficeRow.{OfficeRow
 ghost use Rattle.catalogue_store.specs.Arrivals.{IsNumbered};
 ghost use Rattle.office_tables.specs.Calls.{Updates};
 ghost use Rattle.office_tables.specs.Step.{InTransaction};
-ghost use Rattle.csv_import.specs.PendingImport.{AreNext, Brings, Finds, IsPending, counted_in, imported};
+ghost use Rattle.csv_import.specs.PendingImport.{AreNext, Brings, ReadsCatalogue, IsPending, counted_in, imported};
 ghost use Rattle.csv_import.specs.RowEntry.{RepresentsEntering, RepresentsLegible, entered};
 ghost use Rattle.csv_import.specs.KnownUnits.{units_from};
 ghost use Rattle.csv_import.specs.Turns.{IsTurnOf, MayChange, MayCome, counted, entry_of};
@@ -134,7 +134,7 @@ fn enter_row<P: Places, S: Alter>(
     requires small { IsNumber next }
     ensures makes { Updates S.Store (RepresentsEntering P.version) (λ _. ⊤) conn.old conn.new result
         (IsTurnOf source.now row.now number next) (entered source.now (row.now ∷ [])) described_trees }
-    ensures told { Finds S.Store (RepresentsEntering P.version) (IsTurnOf source.now row.now number next) conn.old
+    ensures told { ReadsCatalogue S.Store (RepresentsEntering P.version) (IsTurnOf source.now row.now number next) conn.old
         conn.new result (λ c entry. entry ≡ entry_of (unit_of c.forest source.now row.now) row.now.values) }
 {
     match number {
@@ -173,7 +173,7 @@ fn enter_each<P: Places, S: Alter>(
     requires inside { InTransaction P.version (state S.Store conn.old) }
     ensures makes { Updates S.Store (RepresentsEntering P.version) (λ _. ⊤) conn.old conn.new result
         (AreNext import.now) (imported import.now) described_trees }
-    ensures counts { Finds S.Store (RepresentsEntering P.version) (AreNext import.now) conn.old conn.new result
+    ensures counts { ReadsCatalogue S.Store (RepresentsEntering P.version) (AreNext import.now) conn.old conn.new result
         (λ c counts. (counts ≡ counted_in c import.now)
         × (import.now.next + counts.new ≡ (imported import.now c).next)) }
     ensures few { IfOk result (λ counts. counts.new ≤ length import.now.rows.now) }
@@ -231,7 +231,7 @@ fn enter_with_places<P: Places, S: Alter>(
     requires numbered { AllByRecursion IsNumbered arrivals.now }
     ensures makes { Updates S.Store (RepresentsNumbered P.represents P.version) (λ _. ⊤) conn.old conn.new result
         (Brings import.now arrivals.now) (imported import.now) catalogue_trees }
-    ensures counts { Finds S.Store (RepresentsNumbered P.represents P.version) (Brings import.now arrivals.now)
+    ensures counts { ReadsCatalogue S.Store (RepresentsNumbered P.represents P.version) (Brings import.now arrivals.now)
         conn.old conn.new result (λ c counts. counts ≡ counted_in c import.now) }
 {
     P::add_all(alloc, conn, arrivals)?;
@@ -249,7 +249,7 @@ pub(crate) fn enter_rows<P: Places, S: Alter>(
     requires inside { InTransaction P.version (state S.Store conn.old) }
     ensures makes { Updates S.Store (RepresentsLegible P.represents P.version) (λ _. ⊤) conn.old conn.new result
         (IsPending import.now) (imported import.now) catalogue_trees }
-    ensures finds { Finds S.Store (RepresentsLegible P.represents P.version) (IsPending import.now) conn.old conn.new
+    ensures finds { ReadsCatalogue S.Store (RepresentsLegible P.represents P.version) (IsPending import.now) conn.old conn.new
         result (λ c made. (made.counts ≡ counted_in c import.now) × (map Some made.units.items
         ≡ map (λ row. number_there (imported import.now c) import.now.source.now row.legacy) import.now.rows.now)) }
     ensures small { IfOk result (λ made. AllByRecursion IsNumber made.units.items) }

@@ -10,12 +10,11 @@ ghost use Rattle.refinement.specs.CommandSteps.{Performs};
 
 use crate::container_moves::hand_over;
 use catalogue_store::Places;
-use desk_core::Place;
+use desk_core::{Place, known_container};
 use desk_store::{OrderState, queue_head};
 use office_core::{Done, Refusal};
 use office_tables::StoreFault;
 use office_tables::value::NO_NUMBER;
-use replies::known_container;
 use sqlite::{Alter, Connection};
 use std::alloc::Global;
 

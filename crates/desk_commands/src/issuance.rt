@@ -18,14 +18,13 @@ ghost use Rattle.desk_commands.specs.Issuance.{IsQueuedFor, asked_for};
 
 use crate::container_moves::hand_over;
 use catalogue_store::Places;
-use desk_core::{AtDesk, Limits, Place, Reader, may_issue};
+use desk_core::{AtDesk, Limits, Place, Reader, known_container, may_issue};
 use desk_store::{OrderState, QueueHead, WaitingOrder, queue_head, ticket_holder};
 use isad_core::Day;
 use office_core::{Done, Refusal};
 use office_tables::StoreFault;
 use office_tables::value::NO_NUMBER;
 use refinement::is_open_to;
-use replies::known_container;
 use sqlite::{Alter, Connection};
 use std::alloc::Global;
 

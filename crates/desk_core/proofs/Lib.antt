@@ -12,3 +12,4 @@ pub mod FitOrders
 pub mod FitHoldings
 pub mod FitRuns
 pub mod Tallies
+pub mod UnknownContainers

@@ -1,8 +1,8 @@
 -- The facts that the desk checks before an order, an issue, taking a seat and leaving a seat, in order.
 use Rattle.std.specs.Prelude.{ℕ, Bool, nat_le, nat_lt, List, [], ◌∷◌, Option, is_none}
 use Rattle.isad_core.specs.Limits.{most_orders}
-use Rattle.desk_core.specs.declared.refusal.Refusal.TheVariants.{UnknownTicket, UnknownContainer, TicketExpired, NotAvailable, AlreadyOrdered, DailyLimit, NoSeatFree, AlreadySeated, NotSeated, HoldsContainers, NotAtDesk, NotFirst, HandsFull, Full}
-use Rattle.desk_core.specs.Refusals.{Check, when, unless}
+use Rattle.desk_core.specs.declared.refusal.Refusal.TheVariants.{UnknownTicket, TicketExpired, NotAvailable, AlreadyOrdered, DailyLimit, NoSeatFree, AlreadySeated, NotSeated, HoldsContainers, NotAtDesk, NotFirst, HandsFull, Full}
+use Rattle.desk_core.specs.Refusals.{Check, known_container, when, unless}
 
 -- ---- a ticket orders a container
 
@@ -39,7 +39,7 @@ pub record IssueFacts : Type 0 where
 
 abbrev pub issue_checks : IssueFacts → List Check
 issue_checks i =
-    unless i.known UnknownContainer
+    known_container i.known
     ∷ unless i.at_desk NotAtDesk
     ∷ unless i.first NotFirst
     ∷ when i.expired TicketExpired

@@ -77,6 +77,10 @@ abbrev pub unless : Bool → Refusal → Check
 unless true refusal = None
 unless false refusal = Some refusal
 
+-- the container is known
+abbrev pub known_container : Bool → Check
+known_container known = unless known UnknownContainer
+
 -- A command goes through its checks in order. The first that holds is the refusal; if none holds, the command is
 -- carried out.
 abbrev pub first_that_holds : List Check → Option Refusal

@@ -7,7 +7,7 @@ ghost use Rattle.desk_core.specs.Decisions.{issue_facts};
 ghost use Rattle.desk_core.specs.Refusals.{first_that_holds};
 
 use crate::reader::{Limits, Place, Reader};
-use crate::refusal::Refusal;
+use crate::refusal::{Refusal, known_container};
 use isad_core::Day;
 
 /// What decides an issue, besides the reader.
@@ -33,9 +33,7 @@ pub fn may_issue(
         ≡ first_that_holds (issue_checks
         (issue_facts (option_copied container.entry) ticket (option_copied reader.entry) today limits.now)) }
 {
-    let Some(container) = container else {
-        return Err(Refusal::UnknownContainer);
-    };
+    let container = known_container(container)?;
     if container.place != Place::Desk {
         return Err(Refusal::NotAtDesk);
     }

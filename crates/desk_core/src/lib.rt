@@ -16,7 +16,7 @@ pub use issue::{AtDesk, may_issue};
 pub use names::is_name;
 pub use order::{Ask, may_order};
 pub use reader::{Limits, Place, Reader};
-pub use refusal::Refusal;
+pub use refusal::{Refusal, known_container};
 pub use run::{Candidate, pick_reshelve, pick_run};
 pub use seat::{may_leave, may_sit};
 pub use slip::slip_text;

@@ -5,6 +5,7 @@ ghost use Rattle.std.specs.List.{list_all};
 ghost use Rattle.desk_core.specs.Names.{is_name as is_reader_name};
 
 use isad_core::is_blank;
+use isad_core::limits::MOST_NAME_BYTES;
 
 /// Whether a text has no control characters.
 fn is_printable(text: &str) -> bool
@@ -13,9 +14,9 @@ fn is_printable(text: &str) -> bool
     text.bytes().all(|b| b >= b' ' && b != 127)
 }
 
-/// Whether a name may be a reader's: 1 to 100 bytes, not blank, without control characters.
+/// Whether a name may be a reader's: not too long, not blank, without control characters.
 pub fn is_name(name: &str) -> bool
     ensures { result ≡ is_reader_name name.now }
 {
-    1 <= name.len() && name.len() <= 100 && !is_blank(name) && is_printable(name)
+    1 <= name.len() && name.len() <= MOST_NAME_BYTES && !is_blank(name) && is_printable(name)
 }

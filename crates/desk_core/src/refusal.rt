@@ -1,6 +1,7 @@
 //! Why a command or a query is refused.
-ghost use Rattle.std.specs.Prelude.{◌≡◌};
-ghost use Rattle.desk_core.specs.Refusals.{name_of, number_of};
+ghost use Rattle.std.specs.Prelude.{◌≡◌, [], ◌∷◌, Some, IfOk, is_some};
+ghost use Rattle.std.specs.Result.{result_err};
+ghost use Rattle.desk_core.specs.Refusals.{first_that_holds, known_container as checks_container, name_of, number_of};
 
 /// A refusal. The variants are in the order of their numbers.
 #[derive(Debug, Clone, Copy, PartialEq, Eq)]
@@ -135,4 +136,12 @@ impl Refusal {
             Refusal::NoPermit => "NoPermit",
         }
     }
+}
+
+/// What was found of a container. A container of which nothing was found is not known.
+pub fn known_container<T>(found: Option<T>) -> Result<T, Refusal>
+    ensures refused { result_err result ≡ first_that_holds (checks_container (is_some found) ∷ []) }
+    ensures found { IfOk result (λ it. found ≡ Some it) }
+{
+    found.ok_or(Refusal::UnknownContainer)
 }

@@ -14,12 +14,12 @@ ghost use Rattle.desk_queries.specs.JsonValues.{queue_data};
 
 use crate::json_values::{Told, values_of};
 use catalogue_store::Places;
-use desk_core::Place;
+use desk_core::{Place, known_container};
 use desk_store::{ContainerQueue, WaitingOrder};
 use isad_core::List;
 use office_core::Answer;
 use office_tables::StoreFault;
-use replies::{known_container, text_of};
+use replies::text_of;
 use serde_json::{Value, json};
 use sqlite::{Alter, Connection};
 use std::alloc::{AllocError, Global};

@@ -1,6 +1,6 @@
 -- The limits of an office. `src/limits.rt` has their numbers.
 use Rattle.std.specs.Prelude.{ℕ, ℤ, ◌<◌, ◌^◌}
-use Rattle.isad_core.specs.declared.limits.TheConstants.{MOST_UNITS, MOST_UNIT_NUMBERS, MOST_DEEP, MOST_BYTES, MOST_CONTAINERS, MOST_SEATS, MOST_DAILY, MOST_HANDS, MOST_RUN_SIZE, MOST_TICKETS, MOST_PERMITS, MOST_ORDERS, MOST_RUNS, FIRST_DAY, LAST_DAY}
+use Rattle.isad_core.specs.declared.limits.TheConstants.{MOST_UNITS, MOST_UNIT_NUMBERS, MOST_DEEP, MOST_BYTES, MOST_ROWS, MOST_SOURCE_BYTES, MOST_CONTAINERS, MOST_NAME_BYTES, MOST_SEATS, MOST_DAILY, MOST_HANDS, MOST_RUN_SIZE, MOST_TICKETS, MOST_PERMITS, MOST_ORDERS, MOST_RUNS, MOST_CONNECTIONS, FIRST_DAY, LAST_DAY}
 
 -- ---- the catalogue
 
@@ -18,6 +18,14 @@ most_deep = MOST_DEEP
 -- the most bytes of a text in a file
 abbrev pub most_bytes : ℕ
 most_bytes = MOST_BYTES
+
+-- the most rows of a file below its header
+abbrev pub most_rows : ℕ
+most_rows = MOST_ROWS
+
+-- the most bytes of the name of a source
+abbrev pub most_source_bytes : ℕ
+most_source_bytes = MOST_SOURCE_BYTES
 
 abbrev pub most_containers : ℕ
 most_containers = MOST_CONTAINERS
@@ -42,6 +50,10 @@ most_run_size = MOST_RUN_SIZE
 
 -- ---- the desk
 
+-- the most bytes of a reader's name
+abbrev pub most_name_bytes : ℕ
+most_name_bytes = MOST_NAME_BYTES
+
 abbrev pub most_tickets : ℕ
 most_tickets = MOST_TICKETS
 
@@ -56,6 +68,12 @@ most_orders = MOST_ORDERS
 -- the most runs that are ever made
 abbrev pub most_runs : ℕ
 most_runs = MOST_RUNS
+
+-- ---- a server
+
+-- the most connections that it takes before it ends
+abbrev pub most_connections : ℕ
+most_connections = MOST_CONNECTIONS
 
 -- ---- numbers
 

@@ -16,7 +16,7 @@ use Rattle.office_core.specs.Fullness.{HasItsLimits, HasItsSettings, IsFullExact
 
 pub its_limits : HasItsLimits
 unfolding day_text
-its_limits = record { units = refl; unit_numbers = refl; containers = refl; seats = refl; daily = refl; hands = refl; run_size = refl; tickets = refl; orders = refl; runs = refl; permits = refl; deep = refl; bytes = refl; last_row = refl; late_row = refl; first_day = refl; last_day = refl }
+its_limits = record { units = refl; unit_numbers = refl; containers = refl; seats = refl; daily = refl; hands = refl; run_size = refl; tickets = refl; orders = refl; runs = refl; permits = refl; deep = refl; bytes = refl; name_bytes = refl; source_bytes = refl; connections = refl; rows = refl; last_row = refl; late_row = refl; first_day = refl; last_day = refl }
 
 -- ---- settings
 

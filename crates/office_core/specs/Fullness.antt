@@ -1,7 +1,7 @@
 -- The limits of an office in numbers, and that a command is refused (23) exactly if there is no more room.
 use Rattle.std.specs.Prelude.{◌≡◌, ℕ, ℤ, ◌+◌, ◌<◌, ◌≤◌, true, false, nat_le, length, None, Some, codes}
 use Rattle.isad_core.specs.Days.{day_text}
-use Rattle.isad_core.specs.Limits.{first_day, last_day, most_units, most_unit_numbers, most_deep, most_bytes, most_containers, most_seats, most_daily, most_hands, most_run_size, most_tickets, most_permits, most_orders, most_runs}
+use Rattle.isad_core.specs.Limits.{first_day, last_day, most_units, most_unit_numbers, most_deep, most_bytes, most_rows, most_source_bytes, most_containers, most_name_bytes, most_seats, most_daily, most_hands, most_run_size, most_tickets, most_permits, most_orders, most_runs, most_connections}
 use Rattle.isad_core.specs.Texts.{Bytes}
 use Rattle.atom_csv.specs.FileContents.{is_late}
 use Rattle.tree_core.specs.Forest.{size}
@@ -32,7 +32,11 @@ pub record HasItsLimits : Type 0 where
   pub permits : most_permits ≡ 100
   pub deep : most_deep ≡ 64
   pub bytes : most_bytes ≡ 65535
-  -- 20,000 rows after the header, which is row 1
+  pub name_bytes : most_name_bytes ≡ 100
+  pub source_bytes : most_source_bytes ≡ 64
+  pub connections : most_connections ≡ 10000
+  pub rows : most_rows ≡ 20000
+  -- the header is row 1
   pub last_row : is_late 20001 ≡ false
   pub late_row : is_late 20002 ≡ true
   pub first_day : day_text first_day ≡ codes "1900-01-01"

@@ -146,7 +146,9 @@ desk_answer s (query.RunSlip n) = run_answer s n (numbered s.runs n)
 desk_answer s query.IssuedNow = Json (compact_text (list (filter_map (issued_json s) (containers s))))
 desk_answer s (query.ReaderPermits t) =
     known_json UnknownTicket (option_map (λ reader. list (map permit_json (s.permits t))) (numbered s.readers t))
-desk_answer s _ = Unknown UnknownUnit
+desk_answer s query.Fonds = Unknown UnknownUnit
+desk_answer s (query.Aid u) = Unknown UnknownUnit
+desk_answer s (query.Page u) = Unknown UnknownUnit
 
 -- ---- all of them
 

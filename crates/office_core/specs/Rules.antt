@@ -6,11 +6,11 @@ use Rattle.isad_core.specs.Texts.{Bytes}
 use Rattle.tree_core.specs.Forest.{branch, has_place}
 use Rattle.desk_core.specs.Checks.{order_checks, issue_checks, take_seat_checks, leave_seat_checks}
 pub use Rattle.desk_core.specs.Names.{is_name}
-use Rattle.desk_core.specs.Refusals.{Check, when, unless, first_that_holds}
+use Rattle.desk_core.specs.Refusals.{Check, known_container, when, unless, first_that_holds}
 use Rattle.desk_core.specs.declared.reader.Place.{Place}
 use Rattle.desk_core.specs.declared.reader.Place.TheVariants.{Shelf, Desk, Out}
 use Rattle.desk_core.specs.declared.refusal.Refusal.{Refusal}
-use Rattle.desk_core.specs.declared.refusal.Refusal.TheVariants.{UnknownUnit, UnknownTicket, UnknownContainer, UnknownOrder, OrderNotWaiting, NotIssued, DayNotLater, StillIssued, IntoItself, WithReader, Full, NothingToMove, TooDeep, BadName, NoPermit}
+use Rattle.desk_core.specs.declared.refusal.Refusal.TheVariants.{UnknownUnit, UnknownTicket, UnknownOrder, OrderNotWaiting, NotIssued, DayNotLater, StillIssued, IntoItself, WithReader, Full, NothingToMove, TooDeep, BadName, NoPermit}
 use Rattle.catalogue_core.specs.Units.{has_id}
 use Rattle.catalogue_core.specs.Moves.{with_moved, without_branch, is_into_itself, depth_after}
 use Rattle.catalogue_core.specs.Statuses.{with_closure, with_status, chosen}
@@ -202,7 +202,7 @@ checks s (command.Issue c t) =
       available = opens s t c;
     })
 checks s (command.Return c) =
-    unless (is_container s c) UnknownContainer
+    known_container (is_container s c)
     ∷ unless (is_out s c) NotIssued
     ∷ []
 checks s (command.Permit t u until) =

@@ -24,6 +24,17 @@ use Rattle.office_core.specs.declared.query.Answer.TheVariants.{Text}
 use Rattle.office_core.specs.State.{State, Settings, start}
 use Rattle.office_core.specs.Queries.{answer, is_public, press, public_forest}
 
+-- three questions are the public's, and five are the desk's
+pub record DividesQuestions : Type 0 where
+  pub fonds : is_public query.Fonds ≡ true
+  pub aid : (u : ℕ) → is_public (query.Aid u) ≡ true
+  pub page : (u : ℕ) → is_public (query.Page u) ≡ true
+  pub reader_orders : (t : ℕ) → is_public (query.ReaderOrders t) ≡ false
+  pub queue : (c : ℕ) → is_public (query.Queue c) ≡ false
+  pub run_slip : (n : ℕ) → is_public (query.RunSlip n) ≡ false
+  pub issued_now : is_public query.IssuedNow ≡ false
+  pub reader_permits : (t : ℕ) → is_public (query.ReaderPermits t) ≡ false
+
 -- the public parts of two offices are the same: the country and repository codes, the day, what the public may know of
 -- the forest, and the numbers of the containers in it
 pub record SamePublic (s t : State) : Type 0 where

@@ -10,7 +10,7 @@ ghost use Rattle.office_core.specs.SoundDesk.{IsSoundDesk};
 ghost use Rattle.isad_core.specs.Days.{IsDayNumber};
 ghost use Rattle.office_core.specs.Soundness.{AreGoodDays, AreGoodSettings, IsSound, NamesDays};
 ghost use Rattle.office_core.specs.ImportLaws.{ImportsBringTheNew, ImportsKeepTheCatalogue};
-ghost use Rattle.office_core.specs.Secrecy.{SamePublic, AnswersAlike, published_part};
+ghost use Rattle.office_core.specs.Secrecy.{DividesQuestions, SamePublic, AnswersAlike, published_part};
 ghost use Rattle.office_core.specs.Secrecy.{ShowsOnlyPublished, ShowsAllPublished};
 ghost use Rattle.office_core.specs.Laws.{OutApart, GoesOn, IssuesTheFirst, OpenToHolders};
 ghost use Rattle.office_core.specs.Laws.{ImportsAgain};
@@ -62,9 +62,11 @@ pub fn told_by_number()
     ensures { (s : State) (asked : Command) → NamesWhatCame s (step s asked).0 asked (step s asked).1 }
 {}
 
-/// Two offices whose public parts are equal give equal answers to the public's questions.
+/// Two offices whose public parts are equal give equal answers to the public's questions. The public asks for the list
+/// of fonds, a finding aid and a page; all other questions are the desk's.
 pub fn nothing_leaks()
-    ensures { (s t : State) → SamePublic s t → AnswersAlike s t }
+    ensures alike { (s t : State) → SamePublic s t → AnswersAlike s t }
+    ensures questions { DividesQuestions }
 {}
 
 /// An answer to one of the public's questions is printed from published units only: heads, lines and containers.

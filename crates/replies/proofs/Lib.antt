@@ -1,4 +1,3 @@
 pub mod DayTexts
 pub mod Lists
 pub mod ReplyWhole
-pub mod UnknownContainers

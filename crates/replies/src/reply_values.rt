@@ -45,14 +45,14 @@ fn remarks_value(alloc: Global, remarks: &[Remark]) -> Result<Value, AllocError>
 }
 
 /// A JSON object with a number under one key.
-fn numbered(alloc: Global, key: &str, number: u64) -> Result<Value, AllocError>
+fn number_object(alloc: Global, key: &str, number: u64) -> Result<Value, AllocError>
     ensures { IfOk result (λ v. view v ≡ fields ((key.now, count number) ∷ [])) }
 {
     json!(in alloc; {key: number})
 }
 
 /// A JSON object with a list of numbers under one key.
-fn listed(alloc: Global, key: &str, numbers: &[u64]) -> Result<Value, AllocError>
+fn list_object(alloc: Global, key: &str, numbers: &[u64]) -> Result<Value, AllocError>
     ensures { IfOk result (λ v. view v ≡ fields ((key.now, list (map count numbers.now)) ∷ [])) }
 {
     let values = numbers_value(alloc, numbers)?;
@@ -60,7 +60,7 @@ fn listed(alloc: Global, key: &str, numbers: &[u64]) -> Result<Value, AllocError
 }
 
 /// A JSON object with a day under the key `day`.
-fn opened(alloc: Global, day: Day) -> Result<Value, AllocError>
+fn day_object(alloc: Global, day: Day) -> Result<Value, AllocError>
     ensures { IfOk result (λ v. view v ≡ fields ((codes "day", date day) ∷ [])) }
 {
     let day = day_value(alloc, day)?;
@@ -68,7 +68,7 @@ fn opened(alloc: Global, day: Day) -> Result<Value, AllocError>
 }
 
 /// The reply to an import of a file.
-fn imported(
+fn import_value(
     alloc: Global,
     changed: u64,
     new: u64,
@@ -89,7 +89,7 @@ fn imported(
 }
 
 /// The reply to a command that granted a permit.
-fn permitted(alloc: Global, ticket: u64, unit: u64, until: Day) -> Result<Value, AllocError>
+fn permit_value(alloc: Global, ticket: u64, unit: u64, until: Day) -> Result<Value, AllocError>
     ensures { IfOk result (λ v. view v ≡ done_json (done.Permit ticket unit until)) }
 {
     let until = day_value(alloc, until)?;
@@ -101,14 +101,14 @@ fn done_value(alloc: Global, done: &Done) -> Result<Value, AllocError>
     ensures { IfOk result (λ v. view v ≡ done_json done.now) }
 {
     match done {
-        Done::OpenDay { day } => opened(alloc, *day),
+        Done::OpenDay { day } => day_object(alloc, *day),
         Done::Import {
             changed,
             new,
             remarks,
             same,
             translations,
-        } => imported(
+        } => import_value(
             alloc,
             *changed,
             *new,
@@ -116,26 +116,26 @@ fn done_value(alloc: Global, done: &Done) -> Result<Value, AllocError>
             *same,
             *translations,
         ),
-        Done::SetStatus { units } => numbered(alloc, "units", *units),
-        Done::SetClosure { unit } => numbered(alloc, "unit", *unit),
-        Done::Move { unit } => numbered(alloc, "unit", *unit),
-        Done::Remove { units } => numbered(alloc, "units", *units),
-        Done::Register { ticket } => numbered(alloc, "ticket", *ticket),
-        Done::Renew { ticket } => numbered(alloc, "ticket", *ticket),
-        Done::TakeSeat { seat } => numbered(alloc, "seat", u64::from(*seat)),
-        Done::LeaveSeat { seat } => numbered(alloc, "seat", u64::from(*seat)),
-        Done::Order { order } => numbered(alloc, "order", *order),
-        Done::Cancel { order } => numbered(alloc, "order", *order),
+        Done::SetStatus { units } => number_object(alloc, "units", *units),
+        Done::SetClosure { unit } => number_object(alloc, "unit", *unit),
+        Done::Move { unit } => number_object(alloc, "unit", *unit),
+        Done::Remove { units } => number_object(alloc, "units", *units),
+        Done::Register { ticket } => number_object(alloc, "ticket", *ticket),
+        Done::Renew { ticket } => number_object(alloc, "ticket", *ticket),
+        Done::TakeSeat { seat } => number_object(alloc, "seat", u64::from(*seat)),
+        Done::LeaveSeat { seat } => number_object(alloc, "seat", u64::from(*seat)),
+        Done::Order { order } => number_object(alloc, "order", *order),
+        Done::Cancel { order } => number_object(alloc, "order", *order),
         Done::Run { run, taken } => json!(in alloc; {"run": *run, "taken": *taken}),
-        Done::Reshelve { containers } => listed(alloc, "containers", containers.as_slice()),
-        Done::Issue { order } => numbered(alloc, "order", *order),
-        Done::Return { order } => numbered(alloc, "order", *order),
+        Done::Reshelve { containers } => list_object(alloc, "containers", containers.as_slice()),
+        Done::Issue { order } => number_object(alloc, "order", *order),
+        Done::Return { order } => number_object(alloc, "order", *order),
         Done::Permit {
             ticket,
             unit,
             until,
-        } => permitted(alloc, *ticket, *unit, *until),
-        Done::Revoke { unit } => numbered(alloc, "unit", *unit),
+        } => permit_value(alloc, *ticket, *unit, *until),
+        Done::Revoke { unit } => number_object(alloc, "unit", *unit),
     }
 }
 

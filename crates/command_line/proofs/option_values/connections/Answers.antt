@@ -5,15 +5,16 @@ use Rattle.clap.proofs.CallerReads.{signed_reads}
 use Rattle.clap.proofs.WalkLemmas.{one_text-rows}
 use Rattle.clap.specs.Lexer.{without_minus}
 use Rattle.clap.specs.Matches.{found_of}
+use Rattle.isad_core.specs.Limits.{most_connections}
 use Rattle.command_line.proofs.Bounded.{bounded}
 use Rattle.command_line.proofs.option_values.connections.Goals as goal
 
 -- what was read is a number
-read : (c : goal.After-get_one) → (n : ℕ) × (c.get_one.result ≡ Some n) × (1 ≤ n) × (n ≤ 10000)
+read : (c : goal.After-get_one) → (n : ℕ) × (c.get_one.result ≡ Some n) × (1 ≤ n) × (n ≤ most_connections)
 read c =
     let (text, one, inside) = c.requires in
     let asked = one_text-rows (found_of c.args.found.now) (codes "connections") ∙ one in
-    signed_reads _ (λ bs r. ParsesUnsigned 32 10 bs r × ExplainsUnsignedError 10 bs r × HasUnsignedDigitsIfOk bs r) 32 1 10000 text c.get_one.result
+    signed_reads _ (λ bs r. ParsesUnsigned 32 10 bs r × ExplainsUnsignedError 10 bs r × HasUnsignedDigitsIfOk bs r) 32 1 most_connections text c.get_one.result
     (c.get_one.ensures.value (without_minus text) asked) (λ u x g. g.0) (omega arith) inside
 
 pub unwrap-requires : goal.unwrap-requires
@@ -31,15 +32,15 @@ returns-clause-least c =
     let (text, one, inside) = c.requires in
     let asked = one_text-rows (found_of c.args.found.now) (codes "connections") ∙ one in
     let read =
-    signed_reads _ (λ bs r. ParsesUnsigned 32 10 bs r × ExplainsUnsignedError 10 bs r × HasUnsignedDigitsIfOk bs r) 32 1 10000 text c.get_one.result
+    signed_reads _ (λ bs r. ParsesUnsigned 32 10 bs r × ExplainsUnsignedError 10 bs r × HasUnsignedDigitsIfOk bs r) 32 1 most_connections text c.get_one.result
     (c.get_one.ensures.value (without_minus text) asked) (λ u x g. g.0) (omega arith) inside in
-    (bounded 1 10000 _ _ c.unwrap.ensures read).0
+    (bounded 1 most_connections _ _ c.unwrap.ensures read).0
 
 pub returns-clause-most : goal.returns-clause-most
 returns-clause-most c =
     let (text, one, inside) = c.requires in
     let asked = one_text-rows (found_of c.args.found.now) (codes "connections") ∙ one in
     let read =
-    signed_reads _ (λ bs r. ParsesUnsigned 32 10 bs r × ExplainsUnsignedError 10 bs r × HasUnsignedDigitsIfOk bs r) 32 1 10000 text c.get_one.result
+    signed_reads _ (λ bs r. ParsesUnsigned 32 10 bs r × ExplainsUnsignedError 10 bs r × HasUnsignedDigitsIfOk bs r) 32 1 most_connections text c.get_one.result
     (c.get_one.ensures.value (without_minus text) asked) (λ u x g. g.0) (omega arith) inside in
-    (bounded 1 10000 _ _ c.unwrap.ensures read).1
+    (bounded 1 most_connections _ _ c.unwrap.ensures read).1

@@ -3,7 +3,7 @@ use Rattle.sqlite.specs.Held.{state}
 use Rattle.desk_store.specs.Stacks.{IsHeaded, box_with}
 use Rattle.desk_store.specs.declared.queue_heads.QueueHead.{QueueHead}
 use Rattle.office_tables.proofs.Calls.{office_of}
-use Rattle.replies.proofs.UnknownContainers.{nothing_found}
+use Rattle.desk_core.proofs.UnknownContainers.{nothing_found}
 use Rattle.refinement.proofs.Doings.{does_pass, does_then, is_refused}
 use Rattle.refinement.proofs.StacksShown.{legible_stacks, shows_stacks, stacks_of}
 use Rattle.desk_commands.proofs.HeadTold.{none_queued, queued_at}

@@ -7,7 +7,7 @@ use Rattle.office_core.specs.Queries.{known_json}
 use Rattle.office_core.specs.declared.query.Answer.TheVariants.{Json, Unknown}
 use Rattle.office_core.specs.declared.query.Query.TheVariants as query
 use Rattle.office_tables.proofs.Calls.{office_of}
-use Rattle.replies.proofs.UnknownContainers.{nothing_found}
+use Rattle.desk_core.proofs.UnknownContainers.{nothing_found}
 use Rattle.refinement.proofs.Answerings.{answers_by, answers_passed}
 use Rattle.refinement.proofs.StacksShown.{legible_stacks, shows_stacks, stacks_of}
 use Rattle.desk_queries.specs.JsonValues.{queue_data}
