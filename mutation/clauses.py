@@ -324,6 +324,13 @@ def keyed(counted):
     return found
 
 
+def stays(lines, there, is_clause):
+    """Whether something of the kind of these lines still stands. What is required and what is ensured may have one label."""
+    if not is_clause:
+        return bool(there)
+    return any(text.partition(" ")[0] == other.partition(" ")[0] for _, _, text in lines for _, _, other in there)
+
+
 def cited_above(lost, more, above):
     """Takes out the clauses that cite a record with more fields in place of another; how many."""
     taken = 0
@@ -358,7 +365,8 @@ def main():
         kind, why = names.reasons.get((crate, key), ("", ""))
         is_clause = lines[0][0] not in ("specs", "importable")
         enough = len(lines) if is_clause else 1
-        if kind == "gone" and (crate, key) not in there or kind == "changed" and len(stands[crate, key]) >= enough:
+        is_gone = kind == "gone" and not stays(lines, there[crate, key], is_clause)
+        if is_gone or kind == "changed" and len(stands[crate, key]) >= enough:
             explained += len(lines)
             for it in lines if given.why else []:
                 print(f"{kind} {crate} | {key} | {' | '.join(it)}\n    {why}")

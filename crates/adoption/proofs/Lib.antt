@@ -1,4 +1,5 @@
 pub mod Lookings
+pub mod JudgmentEnds
 pub mod DeskChecked
 pub mod catalogue
 pub mod tables

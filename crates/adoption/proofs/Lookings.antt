@@ -3,16 +3,11 @@ use Rattle.std.proofs.Common.{Result, Ok, Err}
 use Rattle.sqlite.specs.State.{State}
 use Rattle.office_tables.specs.Step.{LeavesUnchanged}
 use Rattle.office_tables.specs.declared.fault.StoreFault.{StoreFault}
-use Rattle.office_tables.proofs.Calls.{cut_after, cut_then, looks_then}
+use Rattle.office_tables.proofs.Calls.{cut_then, looks_then}
 use Rattle.adoption.specs.ReadOnlyCalls.{Looks}
 
 pub looked_well : {X : Type 0} (a b : State) (x : X) → LeavesUnchanged a b → Looks a b (Ok x)
 looked_well a b x one = record { crash = one.goes.on.crash; looks = one; cut = tt }
-
--- whatever the call makes of what it was told
-pub looked_only : {X : Type 0} (a b : State) (r : Result X StoreFault) → LeavesUnchanged a b → Looks a b r
-looked_only a b (Ok x) one = looked_well a b x one
-looked_only a b (Err e) one = record { crash = one.goes.on.crash; looks = tt; cut = cut_after a b one.goes.on }
 
 pub looked_then : {X : Type 0} (a b c : State) (r : Result X StoreFault) → LeavesUnchanged a b → Looks b c r → Looks a c r
 looked_then a b c (Ok x) one two = looked_well a c x (looks_then a b c one two.looks)

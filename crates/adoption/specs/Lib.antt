@@ -1,4 +1,5 @@
 pub mod ReadOnlyCalls
+pub mod Judgments
 pub mod DeskCheck
 pub mod OrderedTables
 pub mod SoundTables

@@ -1,17 +1,15 @@
 //! The office's own row.
 
-ghost use Rattle.std.specs.Prelude.{◌≡◌, false, true, Some, IfErr, IfOk, IsTrue};
+ghost use Rattle.std.specs.Prelude.{◌≡◌, false, true, Some, ⊤, IsTrue};
 ghost use Rattle.std.specs.List.{list_all};
 ghost use Rattle.std.specs.Option.{option_map_or};
 ghost use Rattle.sqlite.specs.Held.{state};
 ghost use Rattle.sqlite.specs.Value.{owned};
-ghost use Rattle.sqlite.specs.State.{HasCleanDisk};
 ghost use Rattle.isad_core.specs.Words.{is_between};
 ghost use Rattle.office_core.specs.Soundness.{is_country as is_country_code, is_repository as is_repository_code};
 ghost use Rattle.office_tables.specs.Cells.{text_in};
-ghost use Rattle.adoption.specs.ReadOnlyCalls.{Looks};
-ghost use Rattle.office_tables.specs.Faults.{BlamesDisk, FaultsHaveCause};
 ghost use Rattle.office_tables.specs.Step.{InTransaction};
+ghost use Rattle.adoption.specs.Judgments.{Judges};
 ghost use Rattle.adoption.specs.OwnRows.{are_good_numbers, are_good_texts, numbers_said, numbers_told};
 ghost use Rattle.adoption.specs.OwnRows.{own_from as own_of_numbers, own_judged, own_row_of};
 ghost use Rattle.adoption.specs.OrderedTables.{StandInOrder};
@@ -193,14 +191,8 @@ pub(crate) fn own_row<P: Places, S: Alter>(
     conn: &mut Connection<S>,
 ) -> Result<Option<OwnRow>, StoreFault>
     requires inside { InTransaction P.version (state S.Store conn.old) }
-    ensures reads { Looks (state S.Store conn.old) (state S.Store conn.new) result }
-    ensures tells { HasCleanDisk (state S.Store conn.new) → StandInOrder (state S.Store conn.old).now
-        → IfOk result (λ found. found ≡ own_row_of P.version (state S.Store conn.old).now.trees) }
-    ensures opened { HasCleanDisk (state S.Store conn.new)
-        → IfOk result (λ _. IsTrue (state S.Store conn.old).is_open) }
-    ensures disk { HasCleanDisk (state S.Store conn.new)
-        → IfErr result (BlamesDisk (state S.Store conn.old) (state S.Store conn.new)) }
-    ensures faults { FaultsHaveCause (state S.Store conn.old) (state S.Store conn.new) result }
+    ensures { Judges S.Store conn.old conn.new result (λ _. ⊤) (λ s found. IsTrue s.is_open
+        × (StandInOrder s.now → found ≡ own_row_of P.version s.now.trees)) }
 {
     let all = gather(
         conn,

@@ -1,14 +1,11 @@
 //! Judging tables of any origin.
 
-ghost use Rattle.std.specs.Prelude.{◌≡◌, IfErr, IfOk, IsTrue, None, Some};
+ghost use Rattle.std.specs.Prelude.{◌≡◌};
 ghost use Rattle.sqlite.specs.Held.{state};
-ghost use Rattle.sqlite.specs.State.{HasCleanDisk};
 ghost use Rattle.state_encoding.specs.CellCauses.{cell_cause};
-ghost use Rattle.adoption.specs.ReadOnlyCalls.{Looks};
-ghost use Rattle.office_tables.specs.Faults.{BlamesDisk, FaultsHaveCause, IsUnlimited};
+ghost use Rattle.office_tables.specs.Faults.{IsUnlimited};
 ghost use Rattle.office_tables.specs.Step.{InTransaction};
-ghost use Rattle.adoption.specs.DeskCheck.{catalogue_cell_cause};
-ghost use Rattle.adoption.specs.OwnRows.{own_row_of};
+ghost use Rattle.adoption.specs.Judgments.{HasGoodCatalogue, HasTransaction, Judges};
 ghost use Rattle.adoption.specs.Verdicts.{IsVerdict};
 ghost use Rattle.adoption.specs.OrderedTables.{StandInOrder};
 
@@ -30,18 +27,8 @@ fn desk_cause<P: CheckedPlaces, S: Alter>(
     own: &OwnRow,
 ) -> Result<Option<u8>, StoreFault>
     requires inside { InTransaction P.version (state S.Store conn.old) }
-    ensures reads { Looks (state S.Store conn.old) (state S.Store conn.new) result }
-    ensures tells { HasCleanDisk (state S.Store conn.new) → IsTrue (state S.Store conn.old).is_open
-        → StandInOrder (state S.Store conn.old).now
-        → own_row_of P.version (state S.Store conn.old).now.trees ≡ Some own.now
-        → catalogue_cell_cause P.version (state S.Store conn.old).now.trees ≡ None
-        → IfOk result (λ cause. cause ≡ cell_cause P.version (state S.Store conn.old).now.trees) }
-    ensures disk { HasCleanDisk (state S.Store conn.new)
-        → IfErr result (BlamesDisk (state S.Store conn.old) (state S.Store conn.new)) }
-    ensures faults { IsTrue (state S.Store conn.old).is_open → StandInOrder (state S.Store conn.old).now
-        → own_row_of P.version (state S.Store conn.old).now.trees ≡ Some own.now
-        → catalogue_cell_cause P.version (state S.Store conn.old).now.trees ≡ None
-        → FaultsHaveCause (state S.Store conn.old) (state S.Store conn.new) result }
+    ensures { Judges S.Store conn.old conn.new result (HasGoodCatalogue P.version own.now)
+        (λ s cause. HasGoodCatalogue P.version own.now s → cause ≡ cell_cause P.version s.now.trees) }
 {
     if let Some(defect) = load_check_desk(alloc, conn, &own.limits, own.today)? {
         return Ok(Some(defect.cause()));
@@ -58,13 +45,8 @@ fn least_cause<P: CheckedPlaces, S: Alter>(
     conn: &mut Connection<S>,
 ) -> Result<Option<u8>, StoreFault>
     requires inside { InTransaction P.version (state S.Store conn.old) }
-    ensures reads { Looks (state S.Store conn.old) (state S.Store conn.new) result }
-    ensures tells { HasCleanDisk (state S.Store conn.new) → StandInOrder (state S.Store conn.old).now
-        → IfOk result (λ cause. cause ≡ cell_cause P.version (state S.Store conn.old).now.trees) }
-    ensures disk { HasCleanDisk (state S.Store conn.new)
-        → IfErr result (BlamesDisk (state S.Store conn.old) (state S.Store conn.new)) }
-    ensures faults { StandInOrder (state S.Store conn.old).now
-        → FaultsHaveCause (state S.Store conn.old) (state S.Store conn.new) result }
+    ensures { Judges S.Store conn.old conn.new result (λ s. StandInOrder s.now)
+        (λ s cause. StandInOrder s.now → cause ≡ cell_cause P.version s.now.trees) }
 {
     let Some(own) = own_row::<P, S>(conn)? else {
         return Ok(Some(1));
@@ -81,15 +63,9 @@ pub fn judge<P: CheckedPlaces, S: Alter>(
     alloc: Global,
     conn: &mut Connection<S>,
 ) -> Result<Verdict, StoreFault>
-    requires inside { HasCleanDisk (state S.Store conn.old) → IsTrue (state S.Store conn.old).in_transaction }
+    requires inside { HasTransaction (state S.Store conn.old) }
     requires unlimited { IsUnlimited (state S.Store conn.old) }
-    ensures reads { Looks (state S.Store conn.old) (state S.Store conn.new) result }
-    ensures tells { HasCleanDisk (state S.Store conn.new)
-        → IfOk result (IsVerdict P.version (state S.Store conn.old).now) }
-    ensures disk { HasCleanDisk (state S.Store conn.new)
-        → IfErr result (BlamesDisk (state S.Store conn.old) (state S.Store conn.new)) }
-    ensures faults { StandInOrder (state S.Store conn.old).now
-        → FaultsHaveCause (state S.Store conn.old) (state S.Store conn.new) result }
+    ensures { Judges S.Store conn.old conn.new result (λ s. StandInOrder s.now) (λ s. IsVerdict P.version s.now) }
 {
     if let Some(verdict) = judge_version::<P, S>(conn)? {
         return Ok(verdict);

@@ -1,10 +1,9 @@
 //! The version of tables.
 
-ghost use Rattle.std.specs.Prelude.{◌≡◌, IfOk, IsTrue};
+ghost use Rattle.std.specs.Prelude.{◌≡◌, ⊤};
 ghost use Rattle.sqlite.specs.Held.{state};
-ghost use Rattle.sqlite.specs.State.{HasCleanDisk};
-ghost use Rattle.adoption.specs.ReadOnlyCalls.{Looks};
-ghost use Rattle.office_tables.specs.Faults.{FaultsHaveCause, IsUnlimited};
+ghost use Rattle.office_tables.specs.Faults.{IsUnlimited};
+ghost use Rattle.adoption.specs.Judgments.{HasTransaction, Judges};
 ghost use Rattle.adoption.specs.Verdicts.{IsVersionVerdict, verdict_of_version};
 ghost use Rattle.adoption.specs.Versions.{AreVersions};
 
@@ -16,12 +15,9 @@ use sqlite::{Alter, Connection, Row};
 
 /// The rows of the table `office`, with their version only, or none if the table cannot be read.
 fn versions<S: Alter>(conn: &mut Connection<S>) -> Result<Option<Vec<Row>>, StoreFault>
-    requires inside { HasCleanDisk (state S.Store conn.old) → IsTrue (state S.Store conn.old).in_transaction }
+    requires inside { HasTransaction (state S.Store conn.old) }
     requires unlimited { IsUnlimited (state S.Store conn.old) }
-    ensures reads { Looks (state S.Store conn.old) (state S.Store conn.new) result }
-    ensures tells { HasCleanDisk (state S.Store conn.new)
-        → IfOk result (AreVersions (state S.Store conn.old).now) }
-    ensures faults { FaultsHaveCause (state S.Store conn.old) (state S.Store conn.new) result }
+    ensures { Judges S.Store conn.old conn.new result (λ _. ⊤) (λ s. AreVersions s.now) }
 {
     match conn.query_all("SELECT version FROM office", &[]) {
         Ok(rows) => Ok(Some(rows)),
@@ -48,12 +44,9 @@ fn other_version(own: u64, told: Option<u64>) -> Option<Verdict>
 pub(crate) fn judge_version<P: Places, S: Alter>(
     conn: &mut Connection<S>,
 ) -> Result<Option<Verdict>, StoreFault>
-    requires inside { HasCleanDisk (state S.Store conn.old) → IsTrue (state S.Store conn.old).in_transaction }
+    requires inside { HasTransaction (state S.Store conn.old) }
     requires unlimited { IsUnlimited (state S.Store conn.old) }
-    ensures reads { Looks (state S.Store conn.old) (state S.Store conn.new) result }
-    ensures tells { HasCleanDisk (state S.Store conn.new)
-        → IfOk result (IsVersionVerdict P.version (state S.Store conn.old).now) }
-    ensures faults { FaultsHaveCause (state S.Store conn.old) (state S.Store conn.new) result }
+    ensures { Judges S.Store conn.old conn.new result (λ _. ⊤) (λ s. IsVersionVerdict P.version s.now) }
 {
     let Some(rows) = versions(conn)? else {
         return Ok(Some(Verdict::NoOffice));

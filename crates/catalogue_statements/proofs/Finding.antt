@@ -9,13 +9,13 @@ use Rattle.sqlite_rules.specs.Lists.{Has}
 use Rattle.sqlite_rules.proofs.ListLemmas.{some_has, some_from, has_filtered, has_kept}
 use Rattle.tree_core.specs.Forest.{Forest, nodes}
 use Rattle.catalogue_core.specs.Units.{Unit, has_id}
-use Rattle.catalogue_core.specs.UnitLookup.{Finds}
+use Rattle.catalogue_core.specs.UnitLookup.{FindsUnit}
 use Rattle.office_tables.proofs.Rows.{had}
 
 pub itself : (n : ℕ) → nat_eq n n ≡ true
 itself n = grind (arith, nat_tests)
 
-pub finds_first : (is : Unit → Bool) (f : Forest Unit) (units ys : List Unit) → IsPermutation (nodes f) units → IsPermutation (filter is units) ys → Finds is f (slice_get (map (λ (u : Unit). u.id) ys) 0)
+pub finds_first : (is : Unit → Bool) (f : Forest Unit) (units ys : List Unit) → IsPermutation (nodes f) units → IsPermutation (filter is units) ys → FindsUnit is f (slice_get (map (λ (u : Unit). u.id) ys) 0)
 finds_first is f units [] all some = elim (cases_Bool (list_any is (nodes f))) [
   | inr none ↦ none
   | inl there ↦ absurd (

@@ -5,13 +5,12 @@ ghost use Rattle.sqlite.specs.Held.{state};
 ghost use Rattle.sqlite.specs.State.{HasCleanDisk};
 ghost use Rattle.tree_core.specs.Versions.{Version};
 ghost use Rattle.isad_core.specs.Limits.{IsNumber};
-ghost use Rattle.office_tables.specs.Query.{Reads};
 ghost use Rattle.office_tables.specs.ChangeStatement.{Leaves};
 ghost use Rattle.office_tables.specs.RowCounts.{capped};
-ghost use Rattle.office_tables.specs.Faults.{FaultsHaveCause};
 ghost use Rattle.office_tables.specs.Schema as tables;
-ghost use Rattle.office_tables.specs.Step.{InOffice, Holds, HasRows, OnlyTouches};
+ghost use Rattle.office_tables.specs.Step.{InOffice, Holds, HasRows};
 ghost use Rattle.office_tables.specs.TableStatements.{LooksUp};
+ghost use Rattle.catalogue_statements.specs.CallClauses.{ChangesOnly, FailsWithCause, OnlyReads};
 ghost use Rattle.catalogue_statements.specs.Rows.{container_row, office_row as row_of_office, unit_row};
 ghost use Rattle.catalogue_statements.specs.Settings.{AreLegibleSettings};
 ghost use Rattle.catalogue_statements.specs.Representation.{RepresentsOffice};
@@ -53,11 +52,9 @@ pub fn set_next_unit<S: Alter>(conn: &mut Connection<S>, next: u64) -> Result<()
         → (version : Version) (o : OfficeRow) → RepresentsOffice version (state S.Store conn.old).now.trees o
         → OnOk result (HasRows tables.office.tree (row_of_office version (record o { next_unit = next }) ∷ [])
         (state S.Store conn.old).now (state S.Store conn.new).now) }
-    ensures only { HasCleanDisk (state S.Store conn.new)
-        → OnOk result (OnlyTouches (tables.office.tree ∷ []) (state S.Store conn.old).now
-        (state S.Store conn.new).now) }
+    ensures only { ChangesOnly S.Store (tables.office.tree ∷ []) conn.old conn.new result }
     ensures faults { (version : Version) (o : OfficeRow) → RepresentsOffice version (state S.Store conn.old).now.trees o
-        → FaultsHaveCause (state S.Store conn.old) (state S.Store conn.new) result }
+        → FailsWithCause S.Store conn.old conn.new result }
 {
     change(
         conn,
@@ -72,13 +69,13 @@ pub fn office_rows<S: Alter>(
     conn: &mut Connection<S>,
 ) -> Result<Vec<OfficeRow>, StoreFault>
     requires inside { InOffice (state S.Store conn.old) }
-    ensures reads { Reads (state S.Store conn.old) (state S.Store conn.new) result }
+    ensures reads { OnlyReads S.Store conn.old conn.new result }
     ensures rows { HasCleanDisk (state S.Store conn.new)
         → (version : Version) (o : OfficeRow) → RepresentsOffice version (state S.Store conn.old).now.trees o
         → IfOk result (λ found. found.items ≡ o ∷ []) }
     ensures faults { (version : Version) (o : OfficeRow) → RepresentsOffice version (state S.Store conn.old).now.trees o
         → AreLegibleSettings o
-        → FaultsHaveCause (state S.Store conn.old) (state S.Store conn.new) result }
+        → FailsWithCause S.Store conn.old conn.new result }
 {
     find(
         alloc,

@@ -9,7 +9,7 @@ ghost use Rattle.isad_core.specs.Limits.{IsNumber};
 ghost use Rattle.tree_core.specs.Forest.{Empty};
 ghost use Rattle.office_tables.specs.Calls.{RepresentsAlone, StoreAnswers};
 ghost use Rattle.office_tables.specs.Creation.{IsMaking, LeavesMaking};
-ghost use Rattle.catalogue_core.specs.UnitLookup.{Finds};
+ghost use Rattle.catalogue_core.specs.UnitLookup.{FindsUnit};
 ghost use Rattle.office_tables.specs.Schema.{desk_schema, desk_tables};
 ghost use Rattle.catalogue_statements.specs.Representation.{Represents, RepresentsUnits};
 ghost use Rattle.office_tables.specs.Step.{InOffice};
@@ -56,7 +56,7 @@ pub fn known<S: Alter>(
 ) -> Result<Option<u64>, StoreFault>
     requires inside { InOffice (state S.Store conn.old) }
     ensures tells { StoreAnswers S.Store (RepresentsAlone RepresentsUnits) (λ _. ⊤) conn.old conn.new result (λ _. ⊤)
-        (λ _ f. Finds (is_from source.now legacy.now) f) }
+        (λ _ f. FindsUnit (is_from source.now legacy.now) f) }
 {
     let found = units_from(alloc, conn, source, legacy)?;
     Ok(found.first().copied())

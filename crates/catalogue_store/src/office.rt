@@ -6,9 +6,9 @@ ghost use Rattle.sqlite.specs.State.{HasCleanDisk};
 ghost use Rattle.isad_core.specs.Limits.{IsNumber};
 ghost use Rattle.office_tables.specs.Calls.{StoreAnswers};
 ghost use Rattle.office_tables.specs.ChangeStatement.{Leaves};
-ghost use Rattle.office_tables.specs.Faults.{FaultsHaveCause};
 ghost use Rattle.office_tables.specs.Schema as tables;
 ghost use Rattle.office_tables.specs.Step.{InTransaction, PutsRow};
+ghost use Rattle.catalogue_statements.specs.CallClauses.{FailsWithCause};
 ghost use Rattle.catalogue_statements.specs.Rows.{office_row as row_of_office};
 ghost use Rattle.catalogue_statements.specs.Settings.{AreLegibleSettings};
 ghost use Rattle.catalogue_statements.specs.Representation.{RepresentsSettings};
@@ -36,7 +36,7 @@ pub fn insert_office<P: Places, S: Alter>(
         (state S.Store conn.new).now) }
     ensures faults { InTransaction P.version (state S.Store conn.old)
         → (state S.Store conn.old).now.trees tables.office.tree ≡ []
-        → FaultsHaveCause (state S.Store conn.old) (state S.Store conn.new) result }
+        → FailsWithCause S.Store conn.old conn.new result }
 {
     let version = P::number();
     // An open connection's rows keep the rules of its tables.

@@ -13,12 +13,11 @@ ghost use Rattle.isad_core.specs.declared.values.Values.{«Values» as Descripti
 ghost use Rattle.catalogue_core.specs.Bounds.{IsKept};
 ghost use Rattle.catalogue_core.specs.Descriptions.{KnowsItsContainers};
 ghost use Rattle.catalogue_core.specs.CatalogueMerge.{box_number};
-ghost use Rattle.office_tables.specs.Query.{Reads};
 ghost use Rattle.office_tables.specs.Calls.{StoreAnswers};
-ghost use Rattle.office_tables.specs.Faults.{FaultsHaveCause};
 ghost use Rattle.office_tables.specs.RowNumbers.{HoldsNumbered};
 ghost use Rattle.office_tables.specs.Schema as tables;
 ghost use Rattle.office_tables.specs.Step.{InOffice};
+ghost use Rattle.catalogue_statements.specs.CallClauses.{FailsWithCause, OnlyReads};
 ghost use Rattle.catalogue_statements.specs.Rows.{HousingRow, housing_row};
 ghost use Rattle.catalogue_statements.specs.Representation.{RepresentsContainers, element_cells, housing_cells};
 ghost use Rattle.catalogue_statements.specs.Representation.{element_number as number_of_place};
@@ -113,14 +112,14 @@ fn containers_of<S: Alter>(
 ) -> Result<List<u64>, StoreFault>
     requires inside { InOffice (state S.Store conn.old) }
     requires small { IsNumber unit }
-    ensures reads { Reads (state S.Store conn.old) (state S.Store conn.new) result }
+    ensures reads { OnlyReads S.Store conn.old conn.new result }
     ensures numbers { HasCleanDisk (state S.Store conn.new) → (xs : List HousingRow)
         → HoldsNumbered tables.housing housing_row (state S.Store conn.old) xs
         → (boxes : List BoxKey) (values : Description)
         → IsPermutation (housing_cells boxes values) (containers_among unit xs)
         → IfOk result (λ numbers. numbers ≡ map (box_number boxes) values.boxes) }
     ensures faults { (xs : List HousingRow) → HoldsNumbered tables.housing housing_row (state S.Store conn.old) xs
-        → FaultsHaveCause (state S.Store conn.old) (state S.Store conn.new) result }
+        → FailsWithCause S.Store conn.old conn.new result }
 {
     let found = housings_of(alloc, conn, unit)?;
     Ok(numbers_in(alloc, &found)?)
@@ -133,14 +132,14 @@ fn container_of<S: Alter>(
     number: u64,
 ) -> Result<BoxKey, StoreFault>
     requires inside { InOffice (state S.Store conn.old) }
-    ensures reads { Reads (state S.Store conn.old) (state S.Store conn.new) result }
+    ensures reads { OnlyReads S.Store conn.old conn.new result }
     ensures key { HasCleanDisk (state S.Store conn.new) → (boxes : List BoxKey)
         → RepresentsContainers (state S.Store conn.old).now.trees boxes → (b : BoxKey) → number ≡ box_number boxes b
         → IfOk result (λ key. key ≡ b) }
     ensures faults { (boxes : List BoxKey) → RepresentsContainers (state S.Store conn.old).now.trees boxes
         → AllByRecursion IsLegibleBox boxes → length boxes < 2 ^ 62 → (b : BoxKey)
         → list_any (is_same_box b) boxes ≡ true → number ≡ box_number boxes b
-        → FaultsHaveCause (state S.Store conn.old) (state S.Store conn.new) result }
+        → FailsWithCause S.Store conn.old conn.new result }
 {
     if number >= NO_NUMBER {
         return Err(StoreFault::Schema);
@@ -159,14 +158,14 @@ fn boxes_of<S: Alter>(
     numbers: &[u64],
 ) -> Result<List<BoxKey>, StoreFault>
     requires inside { InOffice (state S.Store conn.old) }
-    ensures reads { Reads (state S.Store conn.old) (state S.Store conn.new) result }
+    ensures reads { OnlyReads S.Store conn.old conn.new result }
     ensures boxes { HasCleanDisk (state S.Store conn.new) → (boxes : List BoxKey)
         → RepresentsContainers (state S.Store conn.old).now.trees boxes → (bs : List BoxKey)
         → numbers.now ≡ map (box_number boxes) bs → IfOk result (λ keys. keys ≡ bs) }
     ensures faults { (boxes : List BoxKey) → RepresentsContainers (state S.Store conn.old).now.trees boxes
         → AllByRecursion IsLegibleBox boxes → length boxes < 2 ^ 62 → (bs : List BoxKey)
         → list_all (λ b. list_any (is_same_box b) boxes) bs ≡ true → numbers.now ≡ map (box_number boxes) bs
-        → FaultsHaveCause (state S.Store conn.old) (state S.Store conn.new) result }
+        → FailsWithCause S.Store conn.old conn.new result }
 {
     let mut keys = List::new(alloc);
     for number in numbers {

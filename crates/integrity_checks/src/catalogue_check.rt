@@ -1,10 +1,7 @@
 //! The check of the catalogue's tables.
 
-ghost use Rattle.std.specs.Prelude.{◌≡◌, IfOk};
+ghost use Rattle.std.specs.Prelude.{◌≡◌};
 ghost use Rattle.sqlite.specs.Held.{state};
-ghost use Rattle.sqlite.specs.State.{HasCleanDisk};
-ghost use Rattle.office_tables.specs.Query.{Reads};
-ghost use Rattle.office_tables.specs.Faults.{FaultsHaveCause};
 ghost use Rattle.office_tables.specs.Step.{InOffice, InTransaction};
 ghost use Rattle.row_decoding.specs.Examinations.{Examines};
 ghost use Rattle.integrity_checks.specs.CatalogueChecks.{catalogue_defect};
@@ -55,10 +52,7 @@ pub fn load_check<P: CheckedPlaces, S: Alter>(
     next: u64,
 ) -> Result<Option<CatalogueDefect>, StoreFault>
     requires inside { InTransaction P.version (state S.Store conn.old) }
-    ensures reads { Reads (state S.Store conn.old) (state S.Store conn.new) result }
-    ensures tells { HasCleanDisk (state S.Store conn.new)
-        → IfOk result (λ told. told ≡ catalogue_defect P.version next (state S.Store conn.old).now.trees) }
-    ensures faults { FaultsHaveCause (state S.Store conn.old) (state S.Store conn.new) result }
+    ensures { Examines S.Store conn.old conn.new result (λ db told. told ≡ catalogue_defect P.version next db) }
 {
     let Some(placed) = P::check(alloc, conn)? else {
         return Ok(Some(CatalogueDefect::Places));

@@ -1,10 +1,7 @@
 //! The check of the reading room's tables.
 
-ghost use Rattle.std.specs.Prelude.{◌≡◌, IfOk, map};
+ghost use Rattle.std.specs.Prelude.{◌≡◌, map};
 ghost use Rattle.sqlite.specs.Held.{state};
-ghost use Rattle.sqlite.specs.State.{HasCleanDisk};
-ghost use Rattle.office_tables.specs.Query.{Reads};
-ghost use Rattle.office_tables.specs.Faults.{FaultsHaveCause};
 ghost use Rattle.office_tables.specs.Step.{InOffice};
 ghost use Rattle.row_decoding.specs.Examinations.{Examines};
 ghost use Rattle.integrity_checks.specs.DeskChecks.{defect_of_past, defect_of_orders, desk_defect};
@@ -89,10 +86,7 @@ pub fn load_check_desk<S: Alter>(
     today: Day,
 ) -> Result<Option<DeskDefect>, StoreFault>
     requires inside { InOffice (state S.Store conn.old) }
-    ensures reads { Reads (state S.Store conn.old) (state S.Store conn.new) result }
-    ensures tells { HasCleanDisk (state S.Store conn.new)
-        → IfOk result (λ told. told ≡ desk_defect limits.now today (state S.Store conn.old).now.trees) }
-    ensures faults { FaultsHaveCause (state S.Store conn.old) (state S.Store conn.new) result }
+    ensures { Examines S.Store conn.old conn.new result (λ db told. told ≡ desk_defect limits.now today db) }
 {
     let Some(readers) = registered(conn)? else {
         return Ok(Some(DeskDefect::Readers));

@@ -1,5 +1,5 @@
 -- How a look-up of one step or several ends, by how its steps ended.
-use Rattle.std.proofs.Common.{◌≡◌, Ok, Err, Result, IfOk, IfErr, OnErr, refl, sym, subst}
+use Rattle.std.proofs.Common.{◌≡◌, Ok, Err, Result, IfOk, IfErr, refl, sym, subst}
 use Rattle.std.specs.Prelude.{IsErr, IsErrAnd}
 use Rattle.sqlite_trees.specs.declared.store.Store as store
 use Rattle.sqlite.specs.Held.{Held, state}
@@ -26,9 +26,6 @@ Hands r e = IsErr r × IsErrAnd r (λ f. f ≡ e)
 -- what holds of the fault that is handed on
 pub if_handed : {X : Type 0} (r : Result X StoreFault) (e : StoreFault) (P : StoreFault → Type 0) → Hands r e → P e → IfErr r P
 if_handed r e P handed so = subst (λ (q : Result _ StoreFault). IfErr q P) (sym (same_fault r e handed.0 handed.1)) so
-
-pub on_handed : {X : Type 0} (r : Result X StoreFault) (e : StoreFault) (P : Type 0) → Hands r e → P → OnErr r P
-on_handed r e P handed so = subst (λ (q : Result _ StoreFault). OnErr q P) (sym (same_fault r e handed.0 handed.1)) so
 
 module _ {S X M : Type 0} {g : store.Ghosts S} {holds : State → M → Type 0} {before after : Held S} {orderly kept : M → Type 0} {answer : M → X → Type 0} where
   -- all its steps went well

@@ -13,7 +13,7 @@ use Rattle.sqlite.specs.State.{State, IsLive}
 use Rattle.sqlite_sql.specs.declared.ops.BinaryOp.TheVariants.{Compare}
 use Rattle.sqlite_sql.specs.declared.ops.CompareOp.TheVariants.{Eq}
 use Rattle.sqlite_tied.specs.Compute.{everything}
-use Rattle.tree_core.specs.Versions.{Version, Links, Spans}
+use Rattle.tree_core.specs.Versions.{Links, Spans}
 use Rattle.office_tables.specs.ChangeStatement.{Ran}
 use Rattle.office_tables.specs.Faults.{IsUnlimited, HasCause}
 use Rattle.office_tables.specs.StatementMeaning.{Means}
@@ -22,19 +22,13 @@ use Rattle.office_tables.specs.Step.{HasRows, OnlyTouches}
 use Rattle.office_tables.specs.declared.fault.StoreFault.{StoreFault}
 use Rattle.catalogue_statements.specs.Rows.{office_row}
 use Rattle.catalogue_statements.specs.declared.office.OfficeRow.{OfficeRow}
+use Rattle.nested_sets.specs.Migration.{VersionedRow, in_version_2, versioned_cells}
 use Rattle.office_tables.proofs.Casts.{cast_int, cast_null}
 use Rattle.office_tables.proofs.Queries.{choosing}
 use Rattle.office_tables.proofs.statements.LeafOf.{office_kept}
 use Rattle.office_tables.proofs.statements.OnlyOf.{update_only}
 use Rattle.office_tables.proofs.statements.UpdateOf.{update_leaves, update_faults}
 use Rattle.office_tables.proofs.Tests.{only, same_number}
-
--- what a row of the table tells: the version, and the rest
-abbrev Telling : Type 0
-Telling = Version × OfficeRow
-
-abbrev telling_row : Telling → Row
-telling_row x = office_row x.0 x.1
 
 abbrev pub set_version_text : List ℕ
 set_version_text = codes "UPDATE office SET version = ?1 WHERE one = 1"
@@ -57,26 +51,23 @@ module _ (old new : State) (has : old.now.schema ≡ schema Spans) (r : Result U
   set_version_only = update_only Spans 7 office refl set_version_text _ (Int (pos 2) ∷ []) old new has set_version_means r ran
 
   module _ (o : OfficeRow) (stored : old.now.trees office.tree ≡ office_row Links o ∷ []) where
-    abbrev one : List Telling
+    abbrev one : List VersionedRow
     one = (Links, o) ∷ []
 
-    abbrev changed : Telling → Telling
-    changed x = (Spans, x.1)
+    abbrev source : VersionedRow → Row
+    source x = Int (pos 1) ∷ versioned_cells (in_version_2 x)
 
-    abbrev source : Telling → Row
-    source x = Int (pos 1) ∷ telling_row (changed x)
-
-    casts : (x : Telling) → cast_row office (drop 1 (source x)) ≡ telling_row (changed x)
+    casts : (x : VersionedRow) → cast_row office (drop 1 (source x)) ≡ versioned_cells (in_version_2 x)
     casts x =
         rw (cast_int (pos 1), cast_null, cast_int (pos 2), cast_int (pos x.1.seats), cast_int (pos x.1.daily), cast_int (pos x.1.hands), cast_int (pos x.1.run_size), cast_int x.1.day, cast_int (pos x.1.next_unit)) refl
 
     pub set_version_leaves : OnOk r (HasRows office.tree (office_row Spans o ∷ []) old.now new.now)
     set_version_leaves =
-        update_leaves Spans 7 office refl set_version_text the_one set_version_columns (Int (pos 2) ∷ []) set_version_means old new has telling_row (λ _. pos 1) (λ _. refl) one stored (tt, tt)
-        (λ _. true) (λ _. only (same_number 1 1)) source (λ _. refl) (λ _. refl) changed (λ _. refl) (λ x _ _. casts x) r ran
+        update_leaves Spans 7 office refl set_version_text the_one set_version_columns (Int (pos 2) ∷ []) set_version_means old new has versioned_cells (λ _. pos 1) (λ _. refl) one stored (tt, tt)
+        (λ _. true) (λ _. only (same_number 1 1)) source (λ _. refl) (λ _. refl) in_version_2 (λ _. refl) (λ x _ _. casts x) r ran
 
     pub set_version_faults : IsUnlimited old → IsLive old → IfErr r (HasCause old new)
     set_version_faults free live =
-        update_faults Spans 7 office refl set_version_text the_one set_version_columns (Int (pos 2) ∷ []) set_version_means old new has telling_row (λ _. pos 1) (λ _. refl) one stored (tt, tt)
-        (λ _. true) (λ _. only (same_number 1 1)) source (λ _. refl) (λ _. refl) changed (λ _. refl) (λ x _ _. casts x)
+        update_faults Spans 7 office refl set_version_text the_one set_version_columns (Int (pos 2) ∷ []) set_version_means old new has versioned_cells (λ _. pos 1) (λ _. refl) one stored (tt, tt)
+        (λ _. true) (λ _. only (same_number 1 1)) source (λ _. refl) (λ _. refl) in_version_2 (λ _. refl) (λ x _ _. casts x)
         (λ _. false) (office_kept Spans) (λ x p h. absurd (let k : false ≡ true = h in cc)) (λ _. refl) (λ _. refl) (λ _. refl) refl free live r ran

@@ -15,7 +15,7 @@ ghost use Rattle.office.specs.Sight.{misdated, misnamed};
 ghost use Rattle.refinement.specs.CommandSteps.{CarriesOut, CarriesOutStep};
 ghost use Rattle.refinement.specs.Representation.{RepresentsState, office_of};
 
-use crate::names::{names_days_and_texts, refused_by_day, refused_by_name};
+use crate::names::{refused_by_day, refused_by_name};
 use crate::office_row::{limits_in, own_row};
 use crate::transactions::settle;
 use catalogue_commands::{change_closure, change_status, move_to, remove_unit};
@@ -96,6 +96,7 @@ fn carry_out<P: Places, S: Alter>(
 ) -> Result<Result<Done, Refusal>, StoreFault>
     requires inside { InTransaction P.version (state S.Store conn.old) }
     requires named { misnamed command.now ≡ None }
+    requires texts { NamesTexts command.now }
     ensures { CarriesOut P.represents P.version (λ _. ⊤) command.now (state S.Store conn.old) (state S.Store conn.new)
         result }
 {
@@ -103,7 +104,6 @@ fn carry_out<P: Places, S: Alter>(
     if let Some(why) = refused_by_day(row.day, command) {
         return Ok(Err(why));
     }
-    names_days_and_texts(command);
     perform::<P, S>(alloc, conn, &row, command)
 }
 
@@ -125,6 +125,7 @@ fn reply_to<P: Places, S: Alter>(
 ) -> Result<Reply, StoreFault>
     requires inside { InTransaction P.version (state S.Store conn.old) }
     requires named { misnamed command.now ≡ None }
+    requires texts { NamesTexts command.now }
     ensures steps { HasCleanDisk (state S.Store conn.new)
         → (s : State) → IsSoundOffice s → RepresentsState P.represents P.version (state S.Store conn.old).now s
         → IfOk result (λ reply.
@@ -148,6 +149,7 @@ pub(crate) fn apply_to<P: Places, S: Alter>(
     command: &Command,
 ) -> Result<Reply, StoreFault>
     requires office { IsOffice P.version (state S.Store conn.old) }
+    requires texts { NamesTexts command.now }
     ensures office { IsOffice P.version (state S.Store conn.new) }
     ensures steps { HasCleanDisk (state S.Store conn.new)
         → (s : State) → IsSoundOffice s → IsIn P.represents P.version s (state S.Store conn.old)

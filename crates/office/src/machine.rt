@@ -15,6 +15,9 @@ impl<P: Places, S: Alter> Machine for Office<P, S> {
 
     ghost is_open = { is_still_open S.Store };
 
+    // Only what is known of the store tells what a crash finds.
+    ghost recovers = { λ office asked s. ⊥ };
+
     fn apply(&mut self, alloc: Global, command: Command) -> Result<Reply, Busy> {
         Office::apply(self, alloc, &command)
     }

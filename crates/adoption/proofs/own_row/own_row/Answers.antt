@@ -4,6 +4,7 @@ use Rattle.office_tables.proofs.Calls.{early}
 use Rattle.office_tables.proofs.Errors.{keeps}
 use Rattle.office_tables.proofs.Gatherings.{stop_cause}
 use Rattle.office_tables.proofs.RowReads.{asks_in}
+use Rattle.adoption.proofs.JudgmentEnds.{judged, passes_of}
 use Rattle.adoption.proofs.OwnRowLemmas.{own_text, own_command, own_means, own_cause, scanned_office, own_plain, office_risen, judged_one, judged_not_one}
 use Rattle.adoption.proofs.own_row.own_row.Goals as goal
 
@@ -12,55 +13,36 @@ gather-requires-clause-ours g c =
     let v = g.P.Places.version in
     asks_in v own_text 0 own_command (state g.S.Store c.args.conn.now) (own_means v) c.requires.inside
 
-pub returns-in_err-all-clause-disk : goal.returns-in_err-all-clause-disk
-returns-in_err-all-clause-disk g c clean =
-    let why = (c.in_err-all.ensures.reads.spares clean).disk in
-    search (rules, why)
-
-pub returns-in_err-all-clause-faults : goal.returns-in_err-all-clause-faults
-returns-in_err-all-clause-faults g c clean free =
+pub returns-in_err-all : goal.returns-in_err-all
+returns-in_err-all g c =
     let old = state g.S.Store c.args.conn.now in
     let new = state g.S.Store c.gather.new.conn in
-    let at = c.requires.inside (early old new _ c.in_err-all.ensures.reads.crash clean) in
-    let why = stop_cause own_text old new c.in_err-all.field-0.0 (own_cause old new g.P.Places.version at.0 free) (c.in_err-all.ensures.stops clean) in
-    search (rules, why)
+    let stopped = c.in_err-all.ensures in
+    passes_of c.in_err-all.field-0.0 c.from_residual.ensures stopped.reads.cut (λ clean. (stopped.reads.spares clean).disk) (λ known clean free.
+    let at = c.requires.inside (early old new _ stopped.reads.crash clean) in
+    stop_cause own_text old new c.in_err-all.field-0.0 (own_cause old new g.P.Places.version at.0 free) (stopped.stops clean))
 
-pub returns-then-all-ne1-clause-tells : goal.returns-then-all-ne1-clause-tells
-returns-then-all-ne1-clause-tells g c clean ordered =
+pub returns-then-all-ne1 : goal.returns-then-all-ne1
+returns-then-all-ne1 g c = judged c.in_ok-all.ensures.reads.looks (λ clean.
     let v = g.P.Places.version in
     let old = state g.S.Store c.args.conn.now in
     let new = state g.S.Store c.gather.new.conn in
-    let before = early old new _ c.in_ok-all.ensures.reads.crash clean in
-    let at = c.requires.inside before in
+    let at = c.requires.inside (early old new _ c.in_ok-all.ensures.reads.crash clean) in
     let all = c.in_ok-all.ensures.gathers clean in
-    let got = scanned_office old new all.rows v at.0 all.shown in
-    let same = keeps own_text [] old new all.rows (own_plain v old at.0) all.shown in
-    let risen = office_risen v old.now at.0 ordered in
-    judged_not_one v got.0 all.rows c.in_ok-all.all.count c.in_ok-all.all.told got.2 all.holds (old.now.trees 14) got.1 risen c.if-all-ne1.true
+    let got = scanned_office old new all.rows v at.0 all.shown in (
+      (keeps own_text [] old new all.rows (own_plain v old at.0) all.shown).0.was_open,
+      λ ordered. judged_not_one v got.0 all.rows c.in_ok-all.all.count c.in_ok-all.all.told got.2 all.holds (old.now.trees 14) got.1 (office_risen v old.now at.0 ordered) c.if-all-ne1.true,
+    ))
 
-pub returns-clause-tells : goal.returns-clause-tells
-returns-clause-tells g c clean _ =
+pub returns : goal.returns
+returns g c = judged c.in_ok-all.ensures.reads.looks (λ clean.
     let v = g.P.Places.version in
     let old = state g.S.Store c.args.conn.now in
     let new = state g.S.Store c.gather.new.conn in
     let at = c.requires.inside (early old new _ c.in_ok-all.ensures.reads.crash clean) in
     let all = c.in_ok-all.ensures.gathers clean in
     let got = scanned_office old new all.rows v at.0 all.shown in
-    let one = judged_one v got.0 all.rows c.in_ok-all.all.count c.in_ok-all.all.told got.2 all.holds (old.now.trees 14) got.1 c.if-all-ne1.false in
-    search (rules, one)
-
-pub returns-then-all-ne1-clause-opened : goal.returns-then-all-ne1-clause-opened
-returns-then-all-ne1-clause-opened g c clean =
-    let old = state g.S.Store c.args.conn.now in
-    let new = state g.S.Store c.gather.new.conn in
-    let at = c.requires.inside (early old new _ c.in_ok-all.ensures.reads.crash clean) in
-    let all = c.in_ok-all.ensures.gathers clean in
-    (keeps own_text [] old new all.rows (own_plain g.P.Places.version old at.0) all.shown).0.was_open
-
-pub returns-clause-opened : goal.returns-clause-opened
-returns-clause-opened g c clean =
-    let old = state g.S.Store c.args.conn.now in
-    let new = state g.S.Store c.gather.new.conn in
-    let at = c.requires.inside (early old new _ c.in_ok-all.ensures.reads.crash clean) in
-    let all = c.in_ok-all.ensures.gathers clean in
-    (keeps own_text [] old new all.rows (own_plain g.P.Places.version old at.0) all.shown).0.was_open
+    let one = judged_one v got.0 all.rows c.in_ok-all.all.count c.in_ok-all.all.told got.2 all.holds (old.now.trees 14) got.1 c.if-all-ne1.false in (
+      (keeps own_text [] old new all.rows (own_plain v old at.0) all.shown).0.was_open,
+      λ _. search (rules, one),
+    ))

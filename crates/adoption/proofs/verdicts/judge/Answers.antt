@@ -1,75 +1,73 @@
-use Rattle.std.proofs.Common.{◌≡◌, rules, sym, ap, subst, ◌∙◌}
+use Rattle.std.proofs.Common.{◌≡◌, sym, ap, subst, ◌∙◌}
 use Rattle.sqlite.specs.Effect.{Database}
 use Rattle.sqlite.specs.Held.{state}
 use Rattle.state_encoding.specs.CellCauses.{cell_cause}
-use Rattle.office_tables.proofs.Calls.{early, looks_then, cut_then}
-use Rattle.office_tables.proofs.WriteCauses.{disk_then}
+use Rattle.office_tables.proofs.Calls.{looks_then}
 use Rattle.row_decoding.proofs.ReadCalls.{before}
-use Rattle.refinement.proofs.DiskBlames.{blames_caused}
 use Rattle.adoption.specs.Verdicts.{IsVersionVerdict}
 use Rattle.adoption.specs.OrderedTables.{StandInOrder}
-use Rattle.adoption.specs.declared.verdict.Verdict.TheVariants.{Sound, Unsound}
-use Rattle.adoption.proofs.Lookings.{looked_well}
+use Rattle.adoption.proofs.JudgmentEnds.{is_full, judged, passes, passes_later, still_in_order}
 use Rattle.adoption.proofs.verdicts.judge.Goals as goal
 
-pub returns-in_err-verdict-clause-disk : goal.returns-in_err-verdict-clause-disk
-returns-in_err-verdict-clause-disk g c clean =
-    let told = c.in_err-verdict.ensures in
-    let why = blames_caused (state g.S.Store c.args.conn.now) (state g.S.Store c.judge_version.new.conn) c.in_err-verdict.field-0.0 (told.faults clean c.requires.unlimited) in
-    search (rules, why)
+pub returns-in_err-verdict : goal.returns-in_err-verdict
+returns-in_err-verdict g c = passes c.from_residual.ensures c.in_err-verdict.ensures (λ _. tt)
 
-pub returns-in_err-cause-clause-disk : goal.returns-in_err-cause-clause-disk
-returns-in_err-cause-clause-disk g c clean =
-    let mid = state g.S.Store c.judge_version.new.conn in
-    let new = state g.S.Store c.least_cause.new.conn in
-    let told = c.in_err-cause.ensures in
-    let why = disk_then (state g.S.Store c.args.conn.now) mid new c.in_ok-verdict.ensures.reads.looks.goes.on (early mid new _ told.reads.crash clean) c.in_err-cause.field-0.0 (told.disk clean) in
-    search (rules, why)
+pub returns-in-Some : goal.returns-in-Some
+returns-in-Some g c =
+    let v = g.P.Places.version in
+    let one = c.in_ok-verdict.ensures in
+    judged one.reads.looks (λ clean. subst (IsVersionVerdict v (state g.S.Store c.args.conn.now).now) c.in-Some.is (one.answers clean))
 
-pub returns-in_err-cause-clause-reads : goal.returns-in_err-cause-clause-reads
-returns-in_err-cause-clause-reads g c =
-    let cut = cut_then (state g.S.Store c.args.conn.now) (state g.S.Store c.judge_version.new.conn) (state g.S.Store c.least_cause.new.conn)
-    c.in_ok-verdict.ensures.reads.looks.goes.on c.in_err-cause.ensures.reads.cut in
-    record { crash = cut.crash; looks = search rules; cut = search (rules, cut) }
+pub returns-in_err-are_ours : goal.returns-in_err-are_ours
+returns-in_err-are_ours g c = is_full c.from_residual-in_err-are_ours.ensures c.in_err-are_ours.ensures.memory c.in_ok-verdict.ensures.reads.looks
 
-pub returns-in-Some-2-clause-reads : goal.returns-in-Some-2-clause-reads
-returns-in-Some-2-clause-reads g c =
-    let old = state g.S.Store c.args.conn.now in
-    let new = state g.S.Store c.least_cause.new.conn in
-    looked_well old new (Unsound c.in-Some-2.cause) (looks_then old (state g.S.Store c.judge_version.new.conn) new c.in_ok-verdict.ensures.reads.looks c.in_ok-cause.ensures.reads.looks)
+pub returns-then-not-branch : goal.returns-then-not-branch
+returns-then-not-branch g c =
+    let v = g.P.Places.version in
+    let one = c.in_ok-verdict.ensures in
+    judged one.reads.looks (λ clean. record {
+      version_is = subst (IsVersionVerdict v (state g.S.Store c.args.conn.now).now) c.in_default.is (one.answers clean);
+      schema_is_not = λ is.
+          let yes = c.in_ok-are_ours.ensures.tells.1 (ap (λ (db : Database). db.schema) (one.reads.looks.same clean) ∙ is) in
+          let no = c.if-not-branch.true in
+          absurd (cc);
+    })
 
-pub returns-in-Some-2-clause-tells : goal.returns-in-Some-2-clause-tells
-returns-in-Some-2-clause-tells g c clean =
+pub returns-in_err-cause : goal.returns-in_err-cause
+returns-in_err-cause g c =
+    let looked = c.in_ok-verdict.ensures.reads.looks in
+    passes_later c.from_residual-in_err-cause.ensures looked c.in_err-cause.ensures (still_in_order looked)
+
+pub returns-in-Some-2 : goal.returns-in-Some-2
+returns-in-Some-2 g c =
     let v = g.P.Places.version in
     let old = state g.S.Store c.args.conn.now in
-    let mid = state g.S.Store c.judge_version.new.conn in
-    let clean_mid = before mid (state g.S.Store c.least_cause.new.conn) c.in_ok-cause.ensures.reads.looks clean in
-    let same = c.in_ok-verdict.ensures.reads.looks.same clean_mid in
-    let told = subst (λ (db : Database). StandInOrder db → c.in_ok-cause.field-0 ≡ cell_cause v db.trees) same (c.in_ok-cause.ensures.tells clean) in (
+    let one = c.in_ok-verdict.ensures in
+    let two = c.in_ok-cause.ensures in
+    judged (looks_then _ _ _ one.reads.looks two.reads.looks) (λ clean.
+    let clean_mid = before _ _ two.reads.looks clean in
+    let same = one.reads.looks.same clean_mid in
+    let told = subst (λ (db : Database). StandInOrder db → c.in_ok-cause.field-0 ≡ cell_cause v db.trees) same (two.answers clean) in (
       record {
-        version_is = subst (IsVersionVerdict v old.now) c.in_default.is (c.in_ok-verdict.ensures.tells clean_mid);
+        version_is = subst (IsVersionVerdict v old.now) c.in_default.is (one.answers clean_mid);
         schema_is = ap (λ (db : Database). db.schema) (sym same) ∙ c.in_ok-are_ours.ensures.tells.0 c.if-not-branch.false;
       },
       λ ordered. sym (told ordered) ∙ c.in-Some-2.is,
-    )
+    ))
 
-pub returns-in-None-clause-reads : goal.returns-in-None-clause-reads
-returns-in-None-clause-reads g c =
-    let old = state g.S.Store c.args.conn.now in
-    let new = state g.S.Store c.least_cause.new.conn in
-    looked_well old new Sound (looks_then old (state g.S.Store c.judge_version.new.conn) new c.in_ok-verdict.ensures.reads.looks c.in_ok-cause.ensures.reads.looks)
-
-pub returns-in-None-clause-tells : goal.returns-in-None-clause-tells
-returns-in-None-clause-tells g c clean =
+pub returns-in-None : goal.returns-in-None
+returns-in-None g c =
     let v = g.P.Places.version in
     let old = state g.S.Store c.args.conn.now in
-    let mid = state g.S.Store c.judge_version.new.conn in
-    let clean_mid = before mid (state g.S.Store c.least_cause.new.conn) c.in_ok-cause.ensures.reads.looks clean in
-    let same = c.in_ok-verdict.ensures.reads.looks.same clean_mid in
-    let told = subst (λ (db : Database). StandInOrder db → c.in_ok-cause.field-0 ≡ cell_cause v db.trees) same (c.in_ok-cause.ensures.tells clean) in (
+    let one = c.in_ok-verdict.ensures in
+    let two = c.in_ok-cause.ensures in
+    judged (looks_then _ _ _ one.reads.looks two.reads.looks) (λ clean.
+    let clean_mid = before _ _ two.reads.looks clean in
+    let same = one.reads.looks.same clean_mid in
+    let told = subst (λ (db : Database). StandInOrder db → c.in_ok-cause.field-0 ≡ cell_cause v db.trees) same (two.answers clean) in (
       record {
-        version_is = subst (IsVersionVerdict v old.now) c.in_default.is (c.in_ok-verdict.ensures.tells clean_mid);
+        version_is = subst (IsVersionVerdict v old.now) c.in_default.is (one.answers clean_mid);
         schema_is = ap (λ (db : Database). db.schema) (sym same) ∙ c.in_ok-are_ours.ensures.tells.0 c.if-not-branch.false;
       },
       λ ordered. sym (told ordered) ∙ c.in-None.is,
-    )
+    ))

@@ -28,7 +28,7 @@ returns-in-Some-clause-adds g c clean xs at =
 pub returns-in-Some-clause-faults : goal.returns-in-Some-clause-faults
 returns-in-Some-clause-faults g c known xs at none clean free =
     let none_yet = subst (λ k. list_any (λ (e : ElementRow). nat_eq c.args.unit e.unit && nat_eq k e.k) xs ≡ false) (sym c.element_number.ensures.number) none in
-    c.insert_element.ensures.faults known xs at none_yet clean free
+    c.insert_element.ensures.faults xs at.rows (known, none_yet) clean free
 
 pub returns-in-Some-clause-spares : goal.returns-in-Some-clause-spares
 returns-in-Some-clause-spares g c clean = c.insert_element.ensures.leaves.spares clean

@@ -45,7 +45,7 @@ returns-clause-faults g c known boxes xs at small place_free number_free clean f
     let kept = c.in_ok-number.ensures.only before in
     let here = unit_still a.now.trees b.now.trees unit (kept tables.unit.tree refl refl) known in
     let none = subst (λ n. list_any (λ (h : HousingRow). nat_eq unit h.unit && nat_eq n h.container) xs ≡ false) (sym is.0) number_free in
-    c.insert_housing.ensures.faults here xs (still_numbered housing_row (a.now.trees tables.housing.tree) (b.now.trees tables.housing.tree) xs (kept tables.housing.tree refl refl) at.rows) place_free none clean (still_unlimited a b went.on free))
+    c.insert_housing.ensures.faults xs (still_numbered housing_row (a.now.trees tables.housing.tree) (b.now.trees tables.housing.tree) xs (kept tables.housing.tree refl refl) at.rows) (here, place_free, none) clean (still_unlimited a b went.on free))
 
 pub returns-in_err-number-clause-spares : goal.returns-in_err-number-clause-spares
 returns-in_err-number-clause-spares g c clean =

@@ -1,5 +1,5 @@
 use Rattle.office_tables.specs.Schema as tables
-use Rattle.std.proofs.Common.{arith, ◌≡◌, ◌+◌, ◌++◌, ◌∷◌, [], ℕ, List, length, slice_get, sym, ap, subst, ◌∙◌, None, Some}
+use Rattle.std.proofs.Common.{arith, ◌≡◌, ◌+◌, ◌++◌, ◌∷◌, [], ℕ, length, sym, ap, subst, ◌∙◌, None, Some}
 use Rattle.std.proofs.lemmas.Result.{IfOk-weaker}
 use Rattle.sqlite.specs.Effect.{Database}
 use Rattle.sqlite.specs.Held.{state}
@@ -28,10 +28,10 @@ returns-in_default-clause-numbers g c clean boxes at apart =
     if_ok_by c.add_container.result (Goes b d) result
     (λ last.
     let before = early b d _ last.on.crash clean in
-    let got = c.in_ok-found.ensures.answers before (counted_from 1 boxes) at tt in
+    let got = c.in_ok-number.ensures.answers before (counted_from 1 boxes) at tt in
     let none : number_in boxes key ≡ None =
-    sym (number_read boxes key got.0 got.1) ∙ sym (c.copied.ensures ∙ c.first.ensures.value ∙ ap (λ (l : List ℕ). slice_get l 0) (c.deref.ensures.value ∙ got.2)) ∙ c.in_default.is in
-    let there : RepresentsContainers b.now.trees boxes = ap (λ (db : Database). db.trees tables.container.tree) (c.in_ok-found.ensures.reads.looks.same before) ∙ at in
+    sym (number_read boxes key got.0 got.1) ∙ sym got.2 ∙ c.in_default.is in
+    let there : RepresentsContainers b.now.trees boxes = ap (λ (db : Database). db.trees tables.container.tree) (c.in_ok-number.ensures.reads.looks.same before) ∙ at in
     let all : boxes ++ key ∷ [] ≡ with_boxes boxes (key ∷ []) = sym (with_new boxes key apart (unknown_unnumbered boxes key none)) in
     IfOk-weaker c.add_container.result (λ n. (n ≡ length boxes + 1) × RepresentsContainers d.now.trees (boxes ++ key ∷ [])) result
     (λ n it. (it.0 ∙ box_number_new boxes key apart none, subst (RepresentsContainers d.now.trees) all it.1))
@@ -42,10 +42,10 @@ pub returns-clause-numbers : goal.returns-clause-numbers
 returns-clause-numbers g c clean boxes at apart =
     let b = state g.S.Store c.container_number.new.conn in
     let key = c.args.key.now in
-    let got = c.in_ok-found.ensures.answers clean (counted_from 1 boxes) at tt in
+    let got = c.in_ok-number.ensures.answers clean (counted_from 1 boxes) at tt in
     let some : number_in boxes key ≡ Some c.in-Some.number =
-    sym (number_read boxes key got.0 got.1) ∙ sym (c.copied.ensures ∙ c.first.ensures.value ∙ ap (λ (l : List ℕ). slice_get l 0) (c.deref.ensures.value ∙ got.2)) ∙ c.in-Some.is in
-    let there : RepresentsContainers b.now.trees boxes = ap (λ (db : Database). db.trees tables.container.tree) (c.in_ok-found.ensures.reads.looks.same clean) ∙ at in
+    sym (number_read boxes key got.0 got.1) ∙ sym got.2 ∙ c.in-Some.is in
+    let there : RepresentsContainers b.now.trees boxes = ap (λ (db : Database). db.trees tables.container.tree) (c.in_ok-number.ensures.reads.looks.same clean) ∙ at in
     (box_number_known boxes key c.in-Some.number apart some, subst (RepresentsContainers b.now.trees) (sym (with_known boxes key apart (known_numbered boxes key c.in-Some.number some))) there)
 
 pub returns-in_default-clause-faults : goal.returns-in_default-clause-faults
@@ -54,20 +54,20 @@ returns-in_default-clause-faults g c boxes at small clean free =
     let b = state g.S.Store c.container_number.new.conn in
     let d = state g.S.Store c.add_container.new.conn in
     let key = c.args.key.now in
-    let looked = c.in_ok-found.ensures.reads.looks in
+    let looked = c.in_ok-number.ensures.reads.looks in
     last_cause a b d looked.goes.on c.add_container.result c.add_container.ensures.cut clean (λ before.
-    let got = c.in_ok-found.ensures.answers before (counted_from 1 boxes) at tt in
+    let got = c.in_ok-number.ensures.answers before (counted_from 1 boxes) at tt in
     let none : number_in boxes key ≡ None =
-    sym (number_read boxes key got.0 got.1) ∙ sym (c.copied.ensures ∙ c.first.ensures.value ∙ ap (λ (l : List ℕ). slice_get l 0) (c.deref.ensures.value ∙ got.2)) ∙ c.in_default.is in
+    sym (number_read boxes key got.0 got.1) ∙ sym got.2 ∙ c.in_default.is in
     let there : RepresentsContainers b.now.trees boxes = ap (λ (db : Database). db.trees tables.container.tree) (looked.same before) ∙ at in
     c.add_container.ensures.faults boxes there (unknown_unnumbered boxes key none) clean (still_unlimited a b looked.goes.on free))
 
 pub returns-then-number-ge-NO_NUMBER-clause-faults : goal.returns-then-number-ge-NO_NUMBER-clause-faults
 returns-then-number-ge-NO_NUMBER-clause-faults g c boxes at small clean free =
     let key = c.args.key.now in
-    let got = c.in_ok-found.ensures.answers clean (counted_from 1 boxes) at tt in
+    let got = c.in_ok-number.ensures.answers clean (counted_from 1 boxes) at tt in
     let some : number_in boxes key ≡ Some c.in-Some.number =
-    sym (number_read boxes key got.0 got.1) ∙ sym (c.copied.ensures ∙ c.first.ensures.value ∙ ap (λ (l : List ℕ). slice_get l 0) (c.deref.ensures.value ∙ got.2)) ∙ c.in-Some.is in
+    sym (number_read boxes key got.0 got.1) ∙ sym got.2 ∙ c.in-Some.is in
     absurd (omega (arith, small, number_within boxes key c.in-Some.number some))
 
 pub returns-in_default-clause-spares : goal.returns-in_default-clause-spares
@@ -75,7 +75,7 @@ returns-in_default-clause-spares g c clean =
     let a = state g.S.Store c.args.conn.now in
     let b = state g.S.Store c.container_number.new.conn in
     let d = state g.S.Store c.add_container.new.conn in
-    last_spares a b d c.in_ok-found.ensures.reads.looks c.add_container.result c.add_container.ensures.cut clean (c.add_container.ensures.spares clean)
+    last_spares a b d c.in_ok-number.ensures.reads.looks c.add_container.result c.add_container.ensures.cut clean (c.add_container.ensures.spares clean)
 
 pub returns-then-number-ge-NO_NUMBER-clause-spares : goal.returns-then-number-ge-NO_NUMBER-clause-spares
-returns-then-number-ge-NO_NUMBER-clause-spares g c clean = spares_known (state g.S.Store c.args.conn.now) (state g.S.Store c.container_number.new.conn) c.in_ok-found.ensures.reads.looks clean
+returns-then-number-ge-NO_NUMBER-clause-spares g c clean = spares_known (state g.S.Store c.args.conn.now) (state g.S.Store c.container_number.new.conn) c.in_ok-number.ensures.reads.looks clean

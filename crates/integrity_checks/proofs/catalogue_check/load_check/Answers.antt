@@ -4,9 +4,7 @@ use Rattle.sqlite.specs.Held.{state}
 use Rattle.catalogue_core.specs.CatalogueRows.{places_said}
 use Rattle.catalogue_core.specs.Moves.{height as height_of}
 use Rattle.office_tables.proofs.Calls.{looks_then}
-use Rattle.row_decoding.specs.Examinations.{Examines}
 use Rattle.row_decoding.specs.TableRows.{places_in}
-use Rattle.integrity_checks.specs.CatalogueChecks.{catalogue_defect}
 use Rattle.integrity_checks.specs.PlaceChecks.{AreUnitsPlaced}
 use Rattle.integrity_checks.specs.declared.checked_places.Placed.{Placed}
 use Rattle.integrity_checks.proofs.CatalogueDefects.{bad_places, bad_units, good_units, units_are_read}
@@ -14,23 +12,15 @@ use Rattle.integrity_checks.proofs.ExaminationEnds.{earlier, examined, examined_
 use Rattle.integrity_checks.proofs.catalogue_check.load_check.Goals as goal
 
 pub returns-in_err-placed : goal.returns-in_err-placed
-returns-in_err-placed g c =
-    let it : Examines g.S.Store c.args.conn.now c.check.new.conn _ (λ db told. told ≡ catalogue_defect g.P.Places.version c.args.next db) =
-    passes c.from_residual.ensures c.in_err-placed.ensures in
-    record { reads = it.reads; tells = it.answers; faults = it.faults }
+returns-in_err-placed g c = passes c.from_residual.ensures c.in_err-placed.ensures
 
 pub returns-in_default : goal.returns-in_default
 returns-in_default g c =
     let one = c.in_ok-placed.ensures in
-    let it : Examines g.S.Store c.args.conn.now c.check.new.conn _ (λ db told. told ≡ catalogue_defect g.P.Places.version c.args.next db) =
-    examined one.reads.looks (λ clean. bad_places g.P.Places.version (state g.S.Store c.args.conn.now).now.trees c.args.next (sym (one.answers clean).defect ∙ ap (λ (o : Option Placed). is_none o) c.in_default.is)) in
-    record { reads = it.reads; tells = it.answers; faults = it.faults }
+    examined one.reads.looks (λ clean. bad_places g.P.Places.version (state g.S.Store c.args.conn.now).now.trees c.args.next (sym (one.answers clean).defect ∙ ap (λ (o : Option Placed). is_none o) c.in_default.is))
 
 pub returns-in_err-units_are_good : goal.returns-in_err-units_are_good
-returns-in_err-units_are_good g c =
-    let it : Examines g.S.Store c.args.conn.now c.units_are_good.new.conn _ (λ db told. told ≡ catalogue_defect g.P.Places.version c.args.next db) =
-    passes_later c.from_residual-in_err-units_are_good.ensures c.in_ok-placed.ensures.reads.looks c.in_err-units_are_good.ensures in
-    record { reads = it.reads; tells = it.answers; faults = it.faults }
+returns-in_err-units_are_good g c = passes_later c.from_residual-in_err-units_are_good.ensures c.in_ok-placed.ensures.reads.looks c.in_err-units_are_good.ensures
 
 pub returns-then-not-branch : goal.returns-then-not-branch
 returns-then-not-branch g c =
@@ -38,13 +28,11 @@ returns-then-not-branch g c =
     let db = (state g.S.Store c.args.conn.now).now.trees in
     let one = c.in_ok-placed.ensures in
     let two = c.in_ok-units_are_good.ensures in
-    let it : Examines g.S.Store c.args.conn.now c.units_are_good.new.conn _ (λ db told. told ≡ catalogue_defect g.P.Places.version c.args.next db) =
     examined (looks_then _ _ _ one.reads.looks two.reads.looks) (λ clean.
     let told = one.answers (earlier two clean) in
     let units = subst (λ (o : Option Placed). IfSome o (λ (p : Placed). AreUnitsPlaced (places_in v db) p.units.items)) c.in-Some.is told.units in
     let deep = subst (λ (o : Option Placed). IfSome o (λ (p : Placed). p.height ≡ height_of (places_said (places_in v db)))) c.in-Some.is told.height in
-    bad_units v db c.args.next (sym told.defect ∙ ap (λ (o : Option Placed). is_none o) c.in-Some.is) (sym (still one.reads.looks two clean v units deep) ∙ c.if-not-branch.true)) in
-    record { reads = it.reads; tells = it.answers; faults = it.faults }
+    bad_units v db c.args.next (sym told.defect ∙ ap (λ (o : Option Placed). is_none o) c.in-Some.is) (sym (still one.reads.looks two clean v units deep) ∙ c.if-not-branch.true))
 
 pub returns : goal.returns
 returns g c =
@@ -52,11 +40,9 @@ returns g c =
     let db = (state g.S.Store c.args.conn.now).now.trees in
     let one = c.in_ok-placed.ensures in
     let two = c.in_ok-units_are_good.ensures in
-    let it : Examines g.S.Store c.args.conn.now c.check_contents.new.conn _ (λ db told. told ≡ catalogue_defect g.P.Places.version c.args.next db) =
     examined_last (looks_then _ _ _ one.reads.looks two.reads.looks) c.check_contents.ensures (λ clean told follows.
     let placed = one.answers (earlier two clean) in
     let units = subst (λ (o : Option Placed). IfSome o (λ (p : Placed). AreUnitsPlaced (places_in v db) p.units.items)) c.in-Some.is placed.units in
     let deep = subst (λ (o : Option Placed). IfSome o (λ (p : Placed). p.height ≡ height_of (places_said (places_in v db)))) c.in-Some.is placed.height in
     let fine = sym (still one.reads.looks two clean v units deep) ∙ c.if-not-branch.false in
-    follows v (units_are_read v db c.args.next fine) ∙ good_units v db c.args.next (sym placed.defect ∙ ap (λ (o : Option Placed). is_none o) c.in-Some.is) fine) in
-    record { reads = it.reads; tells = it.answers; faults = it.faults }
+    follows v (units_are_read v db c.args.next fine) ∙ good_units v db c.args.next (sym placed.defect ∙ ap (λ (o : Option Placed). is_none o) c.in-Some.is) fine)

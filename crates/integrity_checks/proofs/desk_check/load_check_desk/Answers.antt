@@ -1,42 +1,31 @@
 use Rattle.std.proofs.Common.{◌≡◌, Some, sym, ◌∙◌}
 use Rattle.sqlite.specs.Held.{state}
 use Rattle.office_tables.proofs.Calls.{looks_then}
-use Rattle.row_decoding.specs.Examinations.{Examines}
-use Rattle.integrity_checks.specs.DeskChecks.{around_in, desk_defect}
+use Rattle.integrity_checks.specs.DeskChecks.{around_in}
 use Rattle.integrity_checks.specs.ReaderRows.{number_registered}
 use Rattle.integrity_checks.proofs.DeskDefects.{bad_readers, defect_of_cards}
 use Rattle.integrity_checks.proofs.ExaminationEnds.{earlier, examined, examined_last, passes, passes_later, still}
 use Rattle.integrity_checks.proofs.desk_check.load_check_desk.Goals as goal
 
 pub returns-in_err-readers : goal.returns-in_err-readers
-returns-in_err-readers g c =
-    let it : Examines g.S.Store c.args.conn.now c.registered.new.conn _ (λ db told. told ≡ desk_defect c.args.limits.now c.args.today db) =
-    passes c.from_residual.ensures c.in_err-readers.ensures in
-    record { reads = it.reads; tells = it.answers; faults = it.faults }
+returns-in_err-readers g c = passes c.from_residual.ensures c.in_err-readers.ensures
 
 pub returns-in_default : goal.returns-in_default
 returns-in_default g c =
     let one = c.in_ok-readers.ensures in
     let db = (state g.S.Store c.args.conn.now).now.trees in
-    let it : Examines g.S.Store c.args.conn.now c.registered.new.conn _ (λ db told. told ≡ desk_defect c.args.limits.now c.args.today db) =
-    examined one.reads.looks (λ clean. bad_readers (around_in c.args.limits.now c.args.today db) db (sym (one.answers clean) ∙ c.in_default.is)) in
-    record { reads = it.reads; tells = it.answers; faults = it.faults }
+    examined one.reads.looks (λ clean. bad_readers (around_in c.args.limits.now c.args.today db) db (sym (one.answers clean) ∙ c.in_default.is))
 
 pub returns-in_err-around : goal.returns-in_err-around
-returns-in_err-around g c =
-    let it : Examines g.S.Store c.args.conn.now c.surroundings.new.conn _ (λ db told. told ≡ desk_defect c.args.limits.now c.args.today db) =
-    passes_later c.from_residual-in_err-around.ensures c.in_ok-readers.ensures.reads.looks c.in_err-around.ensures in
-    record { reads = it.reads; tells = it.answers; faults = it.faults }
+returns-in_err-around g c = passes_later c.from_residual-in_err-around.ensures c.in_ok-readers.ensures.reads.looks c.in_err-around.ensures
 
 pub returns : goal.returns
 returns g c =
     let one = c.in_ok-readers.ensures in
     let two = c.in_ok-around.ensures in
-    let it : Examines g.S.Store c.args.conn.now c.check_cards.new.conn _ (λ db told. told ≡ desk_defect c.args.limits.now c.args.today db) =
     examined_last (looks_then _ _ _ one.reads.looks two.reads.looks) c.check_cards.ensures (λ clean told follows.
     let db = (state g.S.Store c.args.conn.now).now.trees in
     let readers = c.in-Some.readers in
     let a = around_in c.args.limits.now c.args.today db in
     let count : number_registered db ≡ Some readers = sym (one.answers (earlier two clean)) ∙ c.in-Some.is in
-    follows a (still one.reads.looks two clean count) ∙ defect_of_cards a db readers count) in
-    record { reads = it.reads; tells = it.answers; faults = it.faults }
+    follows a (still one.reads.looks two clean count) ∙ defect_of_cards a db readers count)

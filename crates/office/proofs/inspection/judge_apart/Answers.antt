@@ -16,7 +16,7 @@ returns-clause-tells g c clean =
     let judged = state g.S.Store c.judge-verdict.new.conn in
     let clean_judged = early judged (state g.S.Store c.take_back.new.conn) _ c.take_back.ensures.crash clean in
     let clean_begun = early begun judged _ c.judge-verdict.ensures.reads.crash clean_judged in
-    subst (λ (db : Database). IfOk c.judge-verdict.result (IsVerdict g.P.Places.version db)) (c.in_ok-begin.ensures.begun clean_begun).now_is (c.judge-verdict.ensures.tells clean_judged)
+    subst (λ (db : Database). IfOk c.judge-verdict.result (IsVerdict g.P.Places.version db)) (c.in_ok-begin.ensures.begun clean_begun).now_is (c.judge-verdict.ensures.answers clean_judged)
 
 pub returns-in_err-begin-clause-disk : goal.returns-in_err-begin-clause-disk
 returns-in_err-begin-clause-disk g c clean =

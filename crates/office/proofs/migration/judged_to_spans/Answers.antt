@@ -27,12 +27,12 @@ returns-in_err-to_spans-clause-cause g c clean opened =
     let new = state g.S.Store c.to_spans.new.conn in
     let reads = c.in_ok-verdict.ensures.reads in
     let clean_mid = early mid new _ c.in_err-to_spans.ensures.cut.crash clean in
-    let its_state = shows_its_state old.now c.in_ok-verdict.verdict (sym c.refusal.ensures ∙ c.in_default.is) (c.in_ok-verdict.ensures.tells clean_mid) (c.schema.ensures.live opened).0 in
+    let its_state = shows_its_state old.now c.in_ok-verdict.verdict (sym c.refusal.ensures ∙ c.in_default.is) (c.in_ok-verdict.ensures.answers clean_mid) (c.schema.ensures.live opened).0 in
     told_as c.from_residual-in_err-to_spans.result _ (HasAdoptCause Links old new) c.from_residual-in_err-to_spans.ensures.1
     (cause_of_call old mid new _ (c.in_err-to_spans.ensures.disk clean)
     (λ ordered.
     let shown = subst (λ (db : Database). RepresentsState RepresentsLinkRows Links db (state_in Links old.now.trees)) (sym (reads.looks.same clean_mid)) (its_state ordered).represents in
-    c.in_err-to_spans.ensures.faults (state_in Links old.now.trees) (its_state ordered).sound shown clean (reads.crash.limit ∙ c.requires.unlimited))
+    c.in_err-to_spans.ensures.faults (state_in Links old.now.trees) shown (its_state ordered).sound clean (reads.crash.limit ∙ c.requires.unlimited))
     reads.crash.counts (reads.looks.goes.on.within clean_mid).opened)
 
 pub returns-clause-same : goal.returns-clause-same
@@ -42,6 +42,6 @@ returns-clause-same g c clean opened =
     let new = state g.S.Store c.to_spans.new.conn in
     let clean_mid = early mid new _ c.in_ok-to_spans.ensures.goes.crash clean in
     let same = c.in_ok-verdict.ensures.reads.looks.same clean_mid in
-    migrated old.now c.in_ok-verdict.verdict (sym c.refusal.ensures ∙ c.in_default.is) (c.in_ok-verdict.ensures.tells clean_mid) (c.schema.ensures.live opened).0 new.now
+    migrated old.now c.in_ok-verdict.verdict (sym c.refusal.ensures ∙ c.in_default.is) (c.in_ok-verdict.ensures.answers clean_mid) (c.schema.ensures.live opened).0 new.now
     (λ s shown. c.in_ok-to_spans.ensures.represents clean s (subst (λ (db : Database). RepresentsState RepresentsLinkRows Links db s) (sym same) shown))
     (subst (λ (db : Database). OnlyTouches (tables.office.tree ∷ tables.link.tree ∷ []) db new.now) same (c.in_ok-to_spans.ensures.only clean))

@@ -12,14 +12,21 @@ use Rattle.refinement.specs.Representation.{RepresentsState, office_of}
 use Rattle.refinement.proofs.Frames.{desk_kept}
 use Rattle.office.proofs.migration.to_spans.Goals as goal
 
-pub returns-clause-represents : goal.returns-clause-represents
-returns-clause-represents g c clean s shown =
+pub returns : goal.returns
+returns g c =
     let a = state g.S.Store c.args.conn.now in
     let b = state g.S.Store c.migrate.new.conn in
     let touched = tables.office.tree ∷ tables.link.tree ∷ [] in
-    on_ok_both c.migrate.result (OnlyTouches touched a.now b.now) (Represents RepresentsSpanRows Spans b.now (office_of s) s.catalogue) (RepresentsState RepresentsSpanRows Spans b.now s)
-    (λ only catalogue. record { catalogue = catalogue; desk = desk_kept a.now b.now touched only (rows.tables Links s).desk refl shown.desk; texts = shown.texts })
-    (c.migrate.ensures.only clean) (c.migrate.ensures.represents clean (office_of s) s.catalogue shown.catalogue)
-
-pub returns-clause-faults : goal.returns-clause-faults
-returns-clause-faults g c s sound shown = c.migrate.ensures.faults (office_of s) s.catalogue shown.catalogue (office_kept s sound)
+    let it = c.migrate.ensures in
+    record {
+      represents = λ clean s shown.
+          on_ok_both c.migrate.result (OnlyTouches touched a.now b.now) (Represents RepresentsSpanRows Spans b.now (office_of s) s.catalogue) (RepresentsState RepresentsSpanRows Spans b.now s)
+          (λ only catalogue. record { catalogue = catalogue; desk = desk_kept a.now b.now touched only (rows.tables Links s).desk refl shown.desk; texts = shown.texts })
+          (it.only clean) (it.represents clean (office_of s, s.catalogue) shown.catalogue);
+      only = it.only;
+      inside = it.inside;
+      goes = it.goes;
+      cut = it.cut;
+      disk = it.disk;
+      faults = λ s shown sound. it.faults (office_of s, s.catalogue) shown.catalogue (office_kept s sound);
+    }

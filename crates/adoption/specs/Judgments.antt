@@ -1,0 +1,41 @@
+-- What a call gives that judges tables of any origin.
+use Rattle.std.specs.Prelude.{◌≡◌, Some, None, Result, IfErr, IfOk, IsTrue}
+use Rattle.sqlite_trees.specs.declared.store.Store as store
+use Rattle.sqlite.specs.Held.{Held, state}
+use Rattle.sqlite.specs.State.{State, HasCleanDisk}
+use Rattle.tree_core.specs.Versions.{Version}
+use Rattle.office_tables.specs.Faults.{BlamesDisk, FaultsHaveCause}
+use Rattle.office_tables.specs.declared.fault.StoreFault.{StoreFault}
+use Rattle.adoption.specs.Causes.{HasNoEarlierCause}
+use Rattle.adoption.specs.DeskCheck.{catalogue_cell_cause}
+use Rattle.adoption.specs.OrderedTables.{StandInOrder}
+use Rattle.adoption.specs.OwnRows.{own_row_of}
+use Rattle.adoption.specs.ReadOnlyCalls.{Looks}
+use Rattle.adoption.specs.declared.own_row.OwnRow.{OwnRow}
+
+-- The call changes nothing, and answers this of the tables. It blames the disk for its own failures only; if the tables
+-- are `kept`, every fault has a cause.
+pub record Judges {S X : Type 0} (g : store.Ghosts S) (before after : Held S) (r : Result X StoreFault) (kept : State → Type 0) (answer : State → X → Type 0) : Type 0 where
+  pub reads : Looks (state g before) (state g after) r
+  pub answers : HasCleanDisk (state g after) → IfOk r (answer (state g before))
+  pub disk : HasCleanDisk (state g after) → IfErr r (BlamesDisk (state g before) (state g after))
+  pub faults : kept (state g before) → FaultsHaveCause (state g before) (state g after) r
+
+-- while the disk is clean, a transaction is open, whatever the tables are
+abbrev pub HasTransaction : State → Type 0
+HasTransaction s = HasCleanDisk s → IsTrue s.in_transaction
+
+-- ---- what is known of tables before a part of them is judged
+
+-- the rows of the open connection stand in order, and none of the causes 1 to 9 holds
+pub record HasNoCauseBeforeTheDay (version : Version) (s : State) : Type 0 where
+  pub opened : IsTrue s.is_open
+  pub ordered : StandInOrder s.now
+  pub none : HasNoEarlierCause version s.now.trees
+
+-- the rows of the open connection stand in order, this is the office's own row, and none of the causes 1 to 5 holds
+pub record HasGoodCatalogue (version : Version) (own : OwnRow) (s : State) : Type 0 where
+  pub opened : IsTrue s.is_open
+  pub ordered : StandInOrder s.now
+  pub own_row : own_row_of version s.now.trees ≡ Some own
+  pub catalogue : catalogue_cell_cause version s.now.trees ≡ None
