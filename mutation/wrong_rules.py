@@ -52,6 +52,7 @@ LAWS_OF = {
     "state_encoding": ["catalogue_core", "desk_core", "office_core", "state_encoding"],
     "http_messages": ["http_messages"],
     "http_desk": ["http_messages", "http_desk"],
+    "program_tests": ["program"],
     "model_tests": ["isad_core", "tree_core", "atom_csv", "desk_core", "http_messages", "http_desk"],
 }
 OF_CAUSES = re.compile(r"state_encoding|office_tables|/(Desk|Catalogue)Causes\.antt")

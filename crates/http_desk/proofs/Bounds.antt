@@ -1,10 +1,11 @@
 -- Sessions that a bound ended in a text.
-use Rattle.std.proofs.Common.{◌≡◌, ◌≤◌, ◌+◌, ℕ, [], ◌++◌, length, take, drop, refl, sym, ap, ◌∙◌, subst, true, false, Bool, append_assoc, inl, inr, Option}
+use Rattle.std.proofs.Common.{◌≡◌, ◌≤◌, ◌+◌, ℕ, List, [], ◌++◌, length, take, drop, refl, sym, ap, ◌∙◌, subst, true, false, Bool, append_assoc, inl, inr, Option}
 use Rattle.std.specs.Prelude.{◌||◌, nat_eq, Result, Ok, Err, IfOk, OnErr, MatchResult}
 use Rattle.std.specs.Io.KnownBytes.{Consumes, Appends}
 use Rattle.std.proofs.KnownBytes.{Consumes-nil, Consumes-trans, Appends-trans}
 use Rattle.isad_core.specs.Texts.{Bytes}
 use Rattle.office_core.specs.State.{State}
+use Rattle.office_core.specs.declared.command.Command.{Command}
 use Rattle.http_desk.specs.declared.session_end.Ended.TheVariants.{Closed, Bound}
 use Rattle.http_desk.specs.declared.session_end.Next.{Next}
 use Rattle.http_desk.specs.declared.session_end.Next.TheVariants.{Ends}
@@ -58,7 +59,7 @@ begun_bounded number s t u read written buffer more out writer b g =
       bounded,
     )
 
-module _ {M : Type 0} (represents : M → State → Type 0) (is_intact is_open : M → Type 0) where
+module _ {M : Type 0} (represents : M → State → Type 0) (is_intact is_open : M → Type 0) (recovers : M → List Command → State → Type 0) where
   -- a fixed answer broke off
   pub refused_to_bound : (number : ℕ) (old new : M) (input before : Bytes) (last : Last) (bare : Bool) (status : Status) (a b : Option Bytes) (next : Next) (writer : Stream)
       → Refused a b bare status next → TellsWriteBound (refusal bare (error status)) writer next → Stands input last → before ≡ continue_if (leave_of last)
@@ -95,7 +96,7 @@ module _ {M : Type 0} (represents : M → State → Type 0) (is_intact is_open :
       let (front, is_front, appended) = sent_front sent (after_answer closing) a b text (after_no_bound closing) (sym ends ∙ bound) sends in
       let message : Message = record { request = request; body = take n (drop size items) } in
       let rest = drop (size + n) items in
-      let begins = message_at represents is_intact is_open items size n request rest h within e refl in (
+      let begins = message_at represents is_intact is_open recovers items size n request rest h within e refl in (
         front,
         appended,
         λ i s shown.
@@ -147,7 +148,7 @@ module _ {M : Type 0} (represents : M → State → Type 0) (is_intact is_open :
 
   -- a bound in the place of a message is one of the session
   pub carried_to_bound : (a b b2 c d : Option Bytes) (writer : Stream) (start now new : M) (number : ℕ) (buffer : Bytes)
-      → (is_intact new → is_intact now) → Carried represents is_intact is_open a b c d start now number buffer → ExchangeBounded represents is_intact number b b2 d writer now buffer new
+      → (is_intact new → is_intact now) → Carried represents is_intact is_open recovers a b c d start now number buffer → ExchangeBounded represents is_intact number b b2 d writer now buffer new
       → (read : Bytes) × (written : Bytes) × Consumes a b2 read × Appends c writer.bytes written × Through represents is_intact start new (λ s t. SessionBounded s read written t writer)
   carried_to_bound a b b2 c d writer start now new number buffer before (read, written, consumed, appended, intact, through) (read2, written2, consumed2, appended2, through2) = (
     read ++ read2,

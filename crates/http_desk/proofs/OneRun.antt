@@ -101,10 +101,15 @@ module _ {M : Type 0} (represents : M → State → Type 0) (is_intact is_open :
       let (t, shown, all) = all_happen visits old new are intact s is in
       (t, shown, one_run s t visits all.0 named sound, all)
 
-  pub make_visits : MakeVisits represents is_intact is_open
-  make_visits = record {
-    talk = λ left left_after held held_after old new end (read, written, consumed, appended, through) intact open_.
-        (read, written, consumed, appended, record { intact = intact; was_open = open_; happens = through });
+  pub make_visits : (recovers : M → List Command → State → Type 0) → MakeVisits represents is_intact is_open recovers
+  make_visits recovers = record {
+    talk = λ left left_after held held_after old new end (read, written, consumed, appended, through) intact open_. (
+      read,
+      written,
+      consumed,
+      appended,
+      record { intact = intact; was_open = open_; happens = λ i s is. let (t, shown, kept) = through i s is in (t, shown, (kept.0, kept.1)) },
+    );
     apply = λ old new command reply intact open_ kept step. record {
       intact = intact;
       was_open = open_;

@@ -7,10 +7,12 @@ use Rattle.std.proofs.KnownBytes.{Consumes-nil, Consumes-trans, Appends-nil, App
 use Rattle.std.proofs.lemmas.Bool.Decides.{nat_tests}
 use Rattle.isad_core.specs.Texts.{Bytes}
 use Rattle.office_core.specs.State.{State}
+use Rattle.office_core.specs.declared.command.Command.{Command}
 use Rattle.http_desk.specs.declared.session_end.Ended.{Ended}
 use Rattle.http_desk.specs.declared.session_end.Next.{Next}
 use Rattle.http_desk.specs.declared.session_end.Next.TheVariants.{Goes, Ends}
 use Rattle.http_desk.specs.AcceptedMessages.{IsAccepted, AllLeaveOpen}
+use Rattle.http_desk.specs.BusyMessages.{StaysFound}
 use Rattle.http_desk.specs.Messages.{Message, Cuts}
 use Rattle.http_desk.specs.Session.{most_answers, StaysOpen, message_text, state_after, text_after_all, state_after_all}
 use Rattle.http_desk.specs.Exchanges.{GoesOn, Turn, Through, Exchange, Keeps, Talks}
@@ -40,12 +42,12 @@ pub record Begun (number : ℕ) (s : State) (read written : Bytes) (t : State) (
   pub says : written ≡ text_after_all s messages
   pub leaves : t ≡ state_after_all s messages
 
--- the same; an office that they leave open is open then
-abbrev BegunOpen : Type 0 → Type 0 → ℕ → State → Bytes → Bytes → State → Bytes → Type 0
-BegunOpen was now number s read written t rest = (begun : Begun number s read written t rest) × (AllLeaveOpen was s begun.messages → now)
+-- the same; an office that they leave open is open then, and what a crash found before, it finds then
+abbrev BegunOpen : Type 0 → Type 0 → (had has : List Command → State → Type 0) → ℕ → State → Bytes → Bytes → State → Bytes → Type 0
+BegunOpen was now had has number s read written t rest = (begun : Begun number s read written t rest) × (AllLeaveOpen was s begun.messages → now) × StaysFound had has s t
 
-begun_none : (was : Type 0) (s : State) (buffer : Bytes) → buffer ≡ [] → BegunOpen was was 1 s [] [] s buffer
-begun_none was s buffer e = (record { messages = []; cut = sym e; stay = tt; few = omega arith; count = refl; says = refl; leaves = refl }, λ stays. stays)
+begun_none : (was : Type 0) (had : List Command → State → Type 0) (s : State) (buffer : Bytes) → buffer ≡ [] → BegunOpen was was had had 1 s [] [] s buffer
+begun_none was had s buffer e = (record { messages = []; cut = sym e; stay = tt; few = omega arith; count = refl; says = refl; leaves = refl }, (λ stays. stays), (λ asked before. before))
 
 open_is : (a b : Bool) → (a || b) ≡ false → a ≡ false
 open_is true b e = cc
@@ -58,9 +60,9 @@ not_last false b e = e
 still_few : (n number : ℕ) → n < most_answers → suc n ≡ number → nat_eq number most_answers ≡ false → suc n < most_answers
 still_few n number few e h = grind (arith, nat_tests)
 
-begun_on : (was now : Type 0) (number : ℕ) (s t u : State) (read written buffer more out rest : Bytes) → Begun number s read written t buffer
-    → (goes : GoesOn number t (buffer ++ more) out u rest) → (IsAccepted t goes.message → now) → BegunOpen was now (number + 1) s (read ++ more) (written ++ out) u rest
-begun_on was now number s t u read written buffer more out rest b g kept =
+begun_on : (was now : Type 0) (had mid has : List Command → State → Type 0) (number : ℕ) (s t u : State) (read written buffer more out rest : Bytes) → Begun number s read written t buffer → StaysFound had mid s t
+    → (goes : GoesOn number t (buffer ++ more) out u rest) → (IsAccepted t goes.message → now) → StaysFound mid has t u → BegunOpen was now had has (number + 1) s (read ++ more) (written ++ out) u rest
+begun_on was now had mid has number s t u read written buffer more out rest b first g kept second =
     let before = state_after_all s b.messages in
     let one : out ≡ message_text false before g.message = g.says ∙ ap (λ x. message_text false x g.message) b.leaves in
     let len = length-append b.messages (g.message ∷ []) in
@@ -74,14 +76,16 @@ begun_on was now number s t u read written buffer more out rest b g kept =
         says = (λ i. b.says i ++ one i) ∙ ap (λ l. text_after_all s b.messages ++ l) (sym (append-nil (message_text false before g.message))) ∙ sym (text_append b.messages (g.message ∷ []) s);
         leaves = g.leaves ∙ ap (λ x. state_after x g.message) b.leaves ∙ sym (state_append b.messages g.message s);
       },
-      λ h. kept (subst (λ x. IsAccepted x g.message) (sym b.leaves) (last_accepted b.messages g.message s was h)),
+      (λ h. kept (subst (λ x. IsAccepted x g.message) (sym b.leaves) (last_accepted b.messages g.message s was h))),
+      (λ asked before. second asked (first asked before)),
     )
 
-begun_ends : (was between now : Type 0) (number : ℕ) (s t u : State) (read written buffer more out : Bytes) (end : Ended) → (b : Begun number s read written t buffer)
-    → (AllLeaveOpen was s b.messages → between) → LastTurn between now number t (buffer ++ more) out end u → Keeps was now s (read ++ more) (written ++ out) end u
-begun_ends was between now number s t u read written buffer more out end b stays g =
-    let there : LastTurn between now number (state_after_all s b.messages) (buffer ++ more) out end u = subst (λ x. LastTurn between now number x (buffer ++ more) out end u) b.leaves g in
-    let (stops, kept) = subst (λ n. LastTurn between now n (state_after_all s b.messages) (buffer ++ more) out end u) (sym b.count) there in (
+begun_ends : (was between now : Type 0) (had mid has : List Command → State → Type 0) (number : ℕ) (s t u : State) (read written buffer more out : Bytes) (end : Ended) → (b : Begun number s read written t buffer)
+    → (AllLeaveOpen was s b.messages → between) → StaysFound had mid s t → LastTurn between now mid has number t (buffer ++ more) out end u → Keeps was now had has s (read ++ more) (written ++ out) end u
+begun_ends was between now had mid has number s t u read written buffer more out end b stays first g =
+    let carried : StaysFound had mid s (state_after_all s b.messages) = subst (λ x. StaysFound had mid s x) b.leaves first in
+    let there : LastTurn between now mid has number (state_after_all s b.messages) (buffer ++ more) out end u = subst (λ x. LastTurn between now mid has number x (buffer ++ more) out end u) b.leaves g in
+    let (stops, kept, found) = subst (λ n. LastTurn between now mid has n (state_after_all s b.messages) (buffer ++ more) out end u) (sym b.count) there in (
       record {
         messages = b.messages;
         rest = buffer ++ more;
@@ -92,25 +96,26 @@ begun_ends was between now number s t u read written buffer more out end b stays
         stops = stops;
         says = ap (λ l. l ++ out) b.says;
       },
-      λ h. kept (last_open (AllLeaveOpen was s b.messages) between stays (state_after_all s b.messages) stops.last h),
+      (λ h. kept (last_open (AllLeaveOpen was s b.messages) between stays (state_after_all s b.messages) stops.last h)),
+      (λ asked before. found asked (carried asked before)),
     )
 
 pub not_over : (s t : State) (read written buffer : Bytes) → Begun (most_answers + 1) s read written t buffer → ⊥
 not_over s t read written buffer b = omega (arith, b.few, b.count)
 
-module _ {M : Type 0} (represents : M → State → Type 0) (is_intact is_open : M → Type 0) where
+module _ {M : Type 0} (represents : M → State → Type 0) (is_intact is_open : M → Type 0) (recovers : M → List Command → State → Type 0) where
   -- what was read and written so far
   abbrev pub Carried : Option Bytes → Option Bytes → Option Bytes → Option Bytes → M → M → ℕ → Bytes → Type 0
   Carried a b c d start now number buffer =
       (read : Bytes) × (written : Bytes) × Consumes a b read × Appends c d written
       × (is_intact now → is_intact start)
-      × Through represents is_intact start now (λ s t. BegunOpen (is_open start) (is_open now) number s read written t buffer)
+      × Through represents is_intact start now (λ s t. BegunOpen (is_open start) (is_open now) (recovers start) (recovers now) number s read written t buffer)
 
   pub carried_none : (a c : Option Bytes) (start : M) (buffer : Bytes) → buffer ≡ [] → Carried a a c c start start 1 buffer
-  carried_none a c start buffer e = ([], [], Consumes-nil a, Appends-nil c, (λ i. i), λ i s h. (s, h, begun_none (is_open start) s buffer e))
+  carried_none a c start buffer e = ([], [], Consumes-nil a, Appends-nil c, (λ i. i), λ i s h. (s, h, begun_none (is_open start) (recovers start) s buffer e))
 
   pub carried_on : (a b b2 c d d2 : Option Bytes) (start now new : M) (number : ℕ) (buffer rest : Bytes) (next : Next)
-      → next ≡ Goes → (is_intact new → is_intact now) → Carried a b c d start now number buffer → Exchange represents is_intact is_open number b b2 d d2 now buffer next new rest
+      → next ≡ Goes → (is_intact new → is_intact now) → Carried a b c d start now number buffer → Exchange represents is_intact is_open recovers number b b2 d d2 now buffer next new rest
       → Carried a b2 c d2 start new (number + 1) rest
   carried_on a b b2 c d d2 start now new number buffer rest next e before (read, written, consumed, appended, intact, through) (read2, written2, consumed2, appended2, through2) = (
     read ++ read2,
@@ -121,13 +126,13 @@ module _ {M : Type 0} (represents : M → State → Type 0) (is_intact is_open :
     λ i s h.
         let (t, shown, begun) = through (before i) s h in
         let (u, shown2, turn) = through2 i t shown in
-        let (goes, kept) = subst (λ n. Turn (is_open now) (is_open new) number t (buffer ++ read2) n written2 u rest) e turn in
-        (u, shown2, begun_on (is_open start) (is_open new) number s t u read written buffer read2 written2 rest begun.0 goes kept),
+        let (goes, kept, found) = subst (λ n. Turn (is_open now) (is_open new) (recovers now) (recovers new) number t (buffer ++ read2) n written2 u rest) e turn in
+        (u, shown2, begun_on (is_open start) (is_open new) (recovers start) (recovers now) (recovers new) number s t u read written buffer read2 written2 rest begun.0 begun.2 goes kept found),
   )
 
   pub carried_to_end : (a b b2 c d d2 : Option Bytes) (start now new : M) (number : ℕ) (buffer rest : Bytes) (next : Next) (end : Ended)
-      → next ≡ Ends end → (is_intact new → is_intact now) → Carried a b c d start now number buffer → Exchange represents is_intact is_open number b b2 d d2 now buffer next new rest
-      → Talks represents is_intact is_open a b2 c d2 start end new
+      → next ≡ Ends end → (is_intact new → is_intact now) → Carried a b c d start now number buffer → Exchange represents is_intact is_open recovers number b b2 d d2 now buffer next new rest
+      → Talks represents is_intact is_open recovers a b2 c d2 start end new
   carried_to_end a b b2 c d d2 start now new number buffer rest next end e before (read, written, consumed, appended, intact, through) (read2, written2, consumed2, appended2, through2) = (
     read ++ read2,
     written ++ written2,
@@ -136,11 +141,11 @@ module _ {M : Type 0} (represents : M → State → Type 0) (is_intact is_open :
     λ i s h.
         let (t, shown, begun) = through (before i) s h in
         let (u, shown2, turn) = through2 i t shown in
-        let stops : LastTurn (is_open now) (is_open new) number t (buffer ++ read2) written2 end u = subst (λ n. Turn (is_open now) (is_open new) number t (buffer ++ read2) n written2 u rest) e turn in
-        (u, shown2, begun_ends (is_open start) (is_open now) (is_open new) number s t u read written buffer read2 written2 end begun.0 begun.1 stops),
+        let stops : LastTurn (is_open now) (is_open new) (recovers now) (recovers new) number t (buffer ++ read2) written2 end u = subst (λ n. Turn (is_open now) (is_open new) (recovers now) (recovers new) number t (buffer ++ read2) n written2 u rest) e turn in
+        (u, shown2, begun_ends (is_open start) (is_open now) (is_open new) (recovers start) (recovers now) (recovers new) number s t u read written buffer read2 written2 end begun.0 begun.1 begun.2 stops),
   )
 
   -- no more messages are answered than may be
-  pub carried_over : (a b c d : Option Bytes) (start now : M) (buffer : Bytes) (end : Ended) → Carried a b c d start now (most_answers + 1) buffer → Talks represents is_intact is_open a b c d start end now
+  pub carried_over : (a b c d : Option Bytes) (start now : M) (buffer : Bytes) (end : Ended) → Carried a b c d start now (most_answers + 1) buffer → Talks represents is_intact is_open recovers a b c d start end now
   carried_over a b c d start now buffer end (read, written, consumed, appended, intact, through) =
       (read, written, consumed, appended, λ i s h. let (t, shown, begun) = through i s h in absurd (not_over s t read written buffer begun.0))

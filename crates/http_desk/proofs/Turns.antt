@@ -1,11 +1,12 @@
 -- Lemmas on one message's place.
-use Rattle.std.proofs.Common.{◌≡◌, ◌<◌, ◌≤◌, ◌+◌, ◌⊎◌, inl, inr, ℕ, [], ◌++◌, length, take, drop, refl, sym, ap, ◌∙◌, subst, arith, true, false, Bool, codes, append_assoc, Option, length-take, length-drop, length-append, take-append-drop, drop-drop}
+use Rattle.std.proofs.Common.{◌≡◌, ◌<◌, ◌≤◌, ◌+◌, ◌⊎◌, inl, inr, ℕ, List, [], ◌++◌, length, take, drop, refl, sym, ap, ◌∙◌, subst, arith, true, false, Bool, codes, append_assoc, Option, length-take, length-drop, length-append, take-append-drop, drop-drop}
 use Rattle.std.specs.Prelude.{◌||◌, nat_eq, Result, Ok, Err, IfOk, OnOk, OnErr, MatchResult}
 use Rattle.std.specs.Io.KnownBytes.{Appends}
 use Rattle.std.proofs.KnownBytes.{Consumes-nil}
 use Rattle.std.proofs.lemmas.List.{take-append-le, drop-append-le}
 use Rattle.isad_core.specs.Texts.{Bytes}
 use Rattle.office_core.specs.State.{State}
+use Rattle.office_core.specs.declared.command.Command.{Command}
 use Rattle.http_desk.specs.declared.session_end.Ended.{Ended}
 use Rattle.http_desk.specs.declared.session_end.Ended.TheVariants.{Closed, Cut, ReadFault, Bound}
 use Rattle.http_desk.specs.declared.session_end.Next.{Next}
@@ -20,6 +21,7 @@ use Rattle.http_messages.specs.Heads.{Request, Verdict, Accepted, Judges, is_hea
 use Rattle.http_messages.specs.Answers.{Answer, error, answer_text, answered}
 use Rattle.http_desk.specs.Messages.{longest_head, HasHead, Message, Begins, Last, Nothing, HeadCut, BodyCut, Answers, Fails, Stands, MayFail, IsBlank, IsHeadCut}
 use Rattle.http_desk.specs.AcceptedMessages.{IsAccepted, LastLeavesOpen}
+use Rattle.http_desk.specs.BusyMessages.{AnswersTo, IsBusyWith, StaysFound, StaysFoundOrBusy}
 use Rattle.http_desk.specs.Session.{most_answers, IsFront, Stops, IsClosing, closes, continue_if, refusal, message_text, state_after, last_text, state_after_last}
 use Rattle.http_desk.specs.AnswerOutput.{Sends}
 use Rattle.http_desk.specs.Exchanges.{Turn, Through, Exchange, Refused, Replies, after_sending}
@@ -65,30 +67,30 @@ pub front_after : (before front full : Bytes) → IsFront front full → IsFront
 front_after before front full (rest, e) = (rest, ap (λ l. before ++ l) e ∙ sym (append_assoc before front rest))
 
 -- the answer that closes was sent, or broken off
-pub closed_turn : (was now : Type 0) (number : ℕ) (s : State) (input before full written rest : Bytes) (new : State) (last : Last) (sent : Sent)
+pub closed_turn : (was now : Type 0) (had has : List Command → State → Type 0) (number : ℕ) (s : State) (input before full written rest : Bytes) (new : State) (last : Last) (sent : Sent)
     → Stands input last → IsClosing number last → before ++ full ≡ last_text number s last → new ≡ state_after_last s last → IsWritten sent full written → (LastLeavesOpen was s last → now)
-    → Turn was now number s input (after_sending sent (Ends Closed)) (before ++ written) new rest
+    → StaysFoundOrBusy had has (IsBusyWith input last) s new → Turn was now had has number s input (after_sending sent (Ends Closed)) (before ++ written) new rest
 unfolding IsWritten
-closed_turn was now number s input before full written rest new last All x c e n w k =
-    (record { last = last; stands = x; ends = c; written = ap (λ l. before ++ l) w ∙ e; leaves = n }, k)
-closed_turn was now number s input before full written rest new last Failed x c e n w k =
-    (record { last = last; stands = x; ends = tt; written = subst (IsFront (before ++ written)) e (front_after before written full w); leaves = n }, k)
-closed_turn was now number s input before full written rest new last OutOfTurns x c e n w k =
-    (record { last = last; stands = x; ends = tt; written = subst (IsFront (before ++ written)) e (front_after before written full w); leaves = n }, k)
+closed_turn was now had has number s input before full written rest new last All x c e n w k f =
+    (record { last = last; stands = x; ends = c; written = ap (λ l. before ++ l) w ∙ e; leaves = n }, k, f)
+closed_turn was now had has number s input before full written rest new last Failed x c e n w k f =
+    (record { last = last; stands = x; ends = tt; written = subst (IsFront (before ++ written)) e (front_after before written full w); leaves = n }, k, f)
+closed_turn was now had has number s input before full written rest new last OutOfTurns x c e n w k f =
+    (record { last = last; stands = x; ends = tt; written = subst (IsFront (before ++ written)) e (front_after before written full w); leaves = n }, k, f)
 
 -- the answer that leaves the connection open was sent, or broken off
-pub open_turn : (was now : Type 0) (number : ℕ) (s : State) (input before full written rest : Bytes) (new : State) (m : Message) (sent : Sent)
+pub open_turn : (was now : Type 0) (had has : List Command → State → Type 0) (number : ℕ) (s : State) (input before full written rest : Bytes) (new : State) (m : Message) (sent : Sent)
     → Begins input m rest → closes number m ≡ false → before ++ full ≡ message_text false s m → new ≡ state_after s m → IsWritten sent full written → (IsAccepted s m → now)
-    → Turn was now number s input (after_sending sent Goes) (before ++ written) new rest
+    → StaysFound had has s new → Turn was now had has number s input (after_sending sent Goes) (before ++ written) new rest
 unfolding IsWritten
-open_turn was now number s input before full written rest new m All x c e n w k =
-    (record { message = m; begins = x; stays = c; says = ap (λ l. before ++ l) w ∙ e; leaves = n }, k)
-open_turn was now number s input before full written rest new m Failed x c e n w k =
+open_turn was now had has number s input before full written rest new m All x c e n w k f =
+    (record { message = m; begins = x; stays = c; says = ap (λ l. before ++ l) w ∙ e; leaves = n }, k, f)
+open_turn was now had has number s input before full written rest new m Failed x c e n w k f =
     let all : before ++ full ≡ last_text number s (Answers m) = e ∙ ap (λ b. message_text b s m) (sym c) in
-    (record { last = Answers m; stands = (rest, x); ends = tt; written = subst (IsFront (before ++ written)) all (front_after before written full w); leaves = n }, k)
-open_turn was now number s input before full written rest new m OutOfTurns x c e n w k =
+    (record { last = Answers m; stands = (rest, x); ends = tt; written = subst (IsFront (before ++ written)) all (front_after before written full w); leaves = n }, k, λ asked h. inl (f asked h))
+open_turn was now had has number s input before full written rest new m OutOfTurns x c e n w k f =
     let all : before ++ full ≡ last_text number s (Answers m) = e ∙ ap (λ b. message_text b s m) (sym c) in
-    (record { last = Answers m; stands = (rest, x); ends = tt; written = subst (IsFront (before ++ written)) all (front_after before written full w); leaves = n }, k)
+    (record { last = Answers m; stands = (rest, x); ends = tt; written = subst (IsFront (before ++ written)) all (front_after before written full w); leaves = n }, k, λ asked h. inl (f asked h))
 
 -- ---- places where the office is left alone
 
@@ -108,7 +110,7 @@ pub left_back : {A E : Type 0} (made : Result A E) (lent back rest : Bytes) → 
 left_back (Ok x) lent back rest left same = same ∙ left
 left_back (Err why) lent back rest left same = left
 
-module _ {M : Type 0} (represents : M → State → Type 0) (is_intact is_open : M → Type 0) where
+module _ {M : Type 0} (represents : M → State → Type 0) (is_intact is_open : M → Type 0) (recovers : M → List Command → State → Type 0) where
   -- what stands last changes nothing in the office
   abbrev pub AloneAt : ℕ → Last → Bytes → Type 0
   AloneAt number last text = (s : State) → (text ≡ last_text number s last) × (s ≡ state_after_last s last)
@@ -117,16 +119,17 @@ module _ {M : Type 0} (represents : M → State → Type 0) (is_intact is_open :
   pub refused : (number : ℕ) (old new : M) (input before rest : Bytes) (last : Last) (bare : Bool) (status : Status) (a b : Option Bytes) (next : Next)
       → Refused a b bare status next → Stands input last → IsClosing number last → AloneAt number last (before ++ refusal bare (error status))
       → (is_intact new → (s : State) → represents old s → represents new s) → ((s : State) → LastLeavesOpen (is_open old) s last → is_open new)
-      → (written : Bytes) × Appends a b written × Through represents is_intact old new (λ s t. Turn (is_open old) (is_open new) number s input next (before ++ written) t rest)
-  refused number old new input before rest last bare status a b next (sent, sends, e) x c alone kept stays =
+      → (is_intact new → (s : State) → represents old s → StaysFoundOrBusy (recovers old) (recovers new) (IsBusyWith input last) s s)
+      → (written : Bytes) × Appends a b written × Through represents is_intact old new (λ s t. Turn (is_open old) (is_open new) (recovers old) (recovers new) number s input next (before ++ written) t rest)
+  refused number old new input before rest last bare status a b next (sent, sends, e) x c alone kept stays found =
       let (written, appended, is) = written_of a b (refusal bare (error status)) sent sends in (
         written,
         appended,
         λ i s h. (
           s,
           kept i s h,
-          subst (λ n. Turn (is_open old) (is_open new) number s input n (before ++ written) s rest) (sym e)
-              (closed_turn (is_open old) (is_open new) number s input before (refusal bare (error status)) written rest s last sent x c (alone s).0 (alone s).1 is (stays s)),
+          subst (λ n. Turn (is_open old) (is_open new) (recovers old) (recovers new) number s input n (before ++ written) s rest) (sym e)
+              (closed_turn (is_open old) (is_open new) (recovers old) (recovers new) number s input before (refusal bare (error status)) written rest s last sent x c (alone s).0 (alone s).1 is (stays s) (found i s h)),
         ),
       )
 
@@ -153,8 +156,9 @@ module _ {M : Type 0} (represents : M → State → Type 0) (is_intact is_open :
       → Sends a b (answer_text bare true told) sent
       → (is_intact new → (s : State) → represents old s → represents new (answered s request (body_at items size n)).1 × (told ≡ (answered s request (body_at items size n)).0))
       → (request.method ≡ codes "POST" → is_intact new → told.status ≡ Fine → is_open new)
-      → (written : Bytes) × Appends a b written × Through represents is_intact old new (λ s t. Turn (is_open old) (is_open new) number s items next (continue_if request.waits ++ written) t rest)
-  acted_closing number old new items size n request told bare rest a b sent next h within e r is_bare closing ends sends answers kept =
+      → (is_intact new → (s : State) → represents old s → StaysFound (recovers old) (recovers new) s (answered s request (body_at items size n)).1)
+      → (written : Bytes) × Appends a b written × Through represents is_intact old new (λ s t. Turn (is_open old) (is_open new) (recovers old) (recovers new) number s items next (continue_if request.waits ++ written) t rest)
+  acted_closing number old new items size n request told bare rest a b sent next h within e r is_bare closing ends sends answers kept found =
       let (written, appended, is) = written_of a b (answer_text bare true told) sent sends in
       let message : Message = record { request = request; body = body_at items size n } in
       let begins = message_at items size n request rest h within e r in (
@@ -166,9 +170,9 @@ module _ {M : Type 0} (represents : M → State → Type 0) (is_intact is_open :
             λ j. continue_if request.waits ++ answer_text (is_bare j) (sym closing j) (told_is j) in (
               state_after s message,
               shown_after,
-              subst (λ x. Turn (is_open old) (is_open new) number s items x (continue_if request.waits ++ written) (state_after s message) rest) (sym ends)
-                  (closed_turn (is_open old) (is_open new) number s items (continue_if request.waits) (answer_text bare true told) written rest (state_after s message) (Answers message) sent
-                  (rest, begins) closing says refl is (λ accepted. kept accepted.0 i (ap (λ (x : Answer). x.status) told_is ∙ accepted.1))),
+              subst (λ x. Turn (is_open old) (is_open new) (recovers old) (recovers new) number s items x (continue_if request.waits ++ written) (state_after s message) rest) (sym ends)
+                  (closed_turn (is_open old) (is_open new) (recovers old) (recovers new) number s items (continue_if request.waits) (answer_text bare true told) written rest (state_after s message) (Answers message) sent
+                  (rest, begins) closing says refl is (λ accepted. kept accepted.0 i (ap (λ (x : Answer). x.status) told_is ∙ accepted.1)) (λ asked before. inl (found i s shown asked before))),
             ),
       )
 
@@ -178,8 +182,9 @@ module _ {M : Type 0} (represents : M → State → Type 0) (is_intact is_open :
       → Sends a b (answer_text bare false told) sent
       → (is_intact new → (s : State) → represents old s → represents new (answered s request (body_at items size n)).1 × (told ≡ (answered s request (body_at items size n)).0))
       → (request.method ≡ codes "POST" → is_intact new → told.status ≡ Fine → is_open new)
-      → (written : Bytes) × Appends a b written × Through represents is_intact old new (λ s t. Turn (is_open old) (is_open new) number s items next (continue_if request.waits ++ written) t rest)
-  acted_open number old new items size n request told bare rest a b sent next h within e r is_bare closing ends sends answers kept =
+      → (is_intact new → (s : State) → represents old s → StaysFound (recovers old) (recovers new) s (answered s request (body_at items size n)).1)
+      → (written : Bytes) × Appends a b written × Through represents is_intact old new (λ s t. Turn (is_open old) (is_open new) (recovers old) (recovers new) number s items next (continue_if request.waits ++ written) t rest)
+  acted_open number old new items size n request told bare rest a b sent next h within e r is_bare closing ends sends answers kept found =
       let (written, appended, is) = written_of a b (answer_text bare false told) sent sends in
       let message : Message = record { request = request; body = body_at items size n } in
       let begins = message_at items size n request rest h within e r in (
@@ -191,9 +196,9 @@ module _ {M : Type 0} (represents : M → State → Type 0) (is_intact is_open :
             λ j. continue_if request.waits ++ answer_text (is_bare j) false (told_is j) in (
               state_after s message,
               shown_after,
-              subst (λ x. Turn (is_open old) (is_open new) number s items x (continue_if request.waits ++ written) (state_after s message) rest) (sym ends)
-                  (open_turn (is_open old) (is_open new) number s items (continue_if request.waits) (answer_text bare false told) written rest (state_after s message) message sent begins closing says refl is
-                  (λ accepted. kept accepted.0 i (ap (λ (x : Answer). x.status) told_is ∙ accepted.1))),
+              subst (λ x. Turn (is_open old) (is_open new) (recovers old) (recovers new) number s items x (continue_if request.waits ++ written) (state_after s message) rest) (sym ends)
+                  (open_turn (is_open old) (is_open new) (recovers old) (recovers new) number s items (continue_if request.waits) (answer_text bare false told) written rest (state_after s message) message sent begins closing says refl is
+                  (λ accepted. kept accepted.0 i (ap (λ (x : Answer). x.status) told_is ∙ accepted.1)) (found i s shown)),
             ),
       )
 
@@ -203,11 +208,12 @@ module _ {M : Type 0} (represents : M → State → Type 0) (is_intact is_open :
       → bare ≡ is_head request.method → (request.closes || nat_eq number most_answers) ≡ closing → Replies a b closing (answer_text bare closing told) next
       → (is_intact new → (s : State) → represents old s → represents new (answered s request (body_at items size n)).1 × (told ≡ (answered s request (body_at items size n)).0))
       → (request.method ≡ codes "POST" → is_intact new → told.status ≡ Fine → is_open new)
-      → (written : Bytes) × Appends a b written × Through represents is_intact old new (λ s t. Turn (is_open old) (is_open new) number s items next (continue_if request.waits ++ written) t rest)
-  acted number old new items size n request told bare rest a b true next h within e r is_bare closes (sent, sends, ends) answers kept =
-      acted_closing number old new items size n request told bare rest a b sent next h within e r is_bare closes ends sends answers kept
-  acted number old new items size n request told bare rest a b false next h within e r is_bare closes (sent, sends, ends) answers kept =
-      acted_open number old new items size n request told bare rest a b sent next h within e r is_bare closes ends sends answers kept
+      → (is_intact new → (s : State) → represents old s → StaysFound (recovers old) (recovers new) s (answered s request (body_at items size n)).1)
+      → (written : Bytes) × Appends a b written × Through represents is_intact old new (λ s t. Turn (is_open old) (is_open new) (recovers old) (recovers new) number s items next (continue_if request.waits ++ written) t rest)
+  acted number old new items size n request told bare rest a b true next h within e r is_bare closes (sent, sends, ends) answers kept found =
+      acted_closing number old new items size n request told bare rest a b sent next h within e r is_bare closes ends sends answers kept found
+  acted number old new items size n request told bare rest a b false next h within e r is_bare closes (sent, sends, ends) answers kept found =
+      acted_open number old new items size n request told bare rest a b sent next h within e r is_bare closes ends sends answers kept found
 
   -- what the office answered was sent, or that it is busy
   pub answered_at : {A E : Type 0} (answer : A → Answer) (number : ℕ) (old new : M) (items : Bytes) (size n : ℕ) (request : Request) (made : Result A E) (bare : Bool) (rest : Bytes) (a b : Option Bytes) (closing : Bool) (next : Next)
@@ -217,16 +223,23 @@ module _ {M : Type 0} (represents : M → State → Type 0) (is_intact is_open :
       → IfOk made (λ x. is_intact new → (s : State) → represents old s → represents new (answered s request (body_at items size n)).1 × (answer x ≡ (answered s request (body_at items size n)).0))
       → OnErr made (is_intact new → (s : State) → represents old s → represents new s)
       → (request.method ≡ codes "POST" → IfOk made (λ x. is_intact new → (answer x).status ≡ Fine → is_open new))
-      → (written : Bytes) × Appends a b written × Through represents is_intact old new (λ s t. Turn (is_open old) (is_open new) number s items next (continue_if request.waits ++ written) t rest)
-  answered_at answer number old new items size n request (Ok x) bare rest a b closing next h within e r is_bare closes sent answers busy kept =
-      acted number old new items size n request (answer x) bare rest a b closing next h within e r is_bare closes sent answers kept
-  answered_at answer number old new items size n request (Err why) bare rest a b closing next h within e r is_bare closes sent answers busy kept =
+      → IfOk made (λ x. is_intact new → (s : State) → represents old s → StaysFound (recovers old) (recovers new) s (answered s request (body_at items size n)).1)
+      → OnErr made (is_intact new → (s : State) → represents old s → StaysFoundOrBusy (recovers old) (recovers new) (AnswersTo (λ x. answered x request (body_at items size n))) s s)
+      → (written : Bytes) × Appends a b written × Through represents is_intact old new (λ s t. Turn (is_open old) (is_open new) (recovers old) (recovers new) number s items next (continue_if request.waits ++ written) t rest)
+  answered_at answer number old new items size n request (Ok x) bare rest a b closing next h within e r is_bare closes sent answers busy kept found doubt =
+      acted number old new items size n request (answer x) bare rest a b closing next h within e r is_bare closes sent answers kept found
+  answered_at answer number old new items size n request (Err why) bare rest a b closing next h within e r is_bare closes sent answers busy kept found doubt =
+      let begins = message_at items size n request (drop (size + n) items) h within e refl in
       refused number old new items (continue_if request.waits) rest (Fails request.waits false) false Busy a b next sent (may_fail_after items (take size items) (drop size items) request h) tt (λ s. (refl, refl)) busy (λ s never. absurd never)
+      (λ i s shown asked before. elim (doubt i s shown asked before) [
+        | inl still ↦ inl still
+        | inr (command, answers, more) ↦ inr (command, (record { request = request; body = body_at items size n }, drop (size + n) items, begins, answers), more)
+      ])
 
   -- the leave to send a body was broken off
   pub leave_broken : (number : ℕ) (office : M) (items block more : Bytes) (request : Request) (a b c : Option Bytes) (sent : Sent) (next result : Next)
       → (sent ≡ All → ⊥) → result ≡ after_sending sent next → HasHead items block (Accepted request) more → Sends b c (continue_if request.waits) sent
-      → Exchange represents is_intact is_open number a a b c office items result office items
+      → Exchange represents is_intact is_open recovers number a a b c office items result office items
   leave_broken number office items block more request a b c All next result n e h s = absurd (n refl)
   leave_broken number office items block more request a b c Failed next result n e h (front, (others, f), s) =
       let there : HasHead (items ++ []) block (Accepted request) (more ++ []) = head_more items block (Accepted request) more [] h in (
@@ -237,7 +250,7 @@ module _ {M : Type 0} (represents : M → State → Type 0) (is_intact is_open :
         λ i x shown. (
           x,
           shown,
-          subst (λ r. Turn (is_open office) (is_open office) number x (items ++ []) r front x items) (sym e) (
+          subst (λ r. Turn (is_open office) (is_open office) (recovers office) (recovers office) number x (items ++ []) r front x items) (sym e) (
             record {
               last = Fails request.waits false;
               stands = may_fail_after (items ++ []) block (more ++ []) request there;
@@ -245,7 +258,8 @@ module _ {M : Type 0} (represents : M → State → Type 0) (is_intact is_open :
               written = (others ++ refusal false (error Busy), ap (λ l. l ++ refusal false (error Busy)) f ∙ append_assoc front others (refusal false (error Busy)));
               leaves = refl;
             },
-            λ never. absurd never,
+            (λ never. absurd never),
+            (λ asked before. inl before),
           ),
         ),
       )
@@ -258,7 +272,7 @@ module _ {M : Type 0} (represents : M → State → Type 0) (is_intact is_open :
         λ i x shown. (
           x,
           shown,
-          subst (λ r. Turn (is_open office) (is_open office) number x (items ++ []) r front x items) (sym e) (
+          subst (λ r. Turn (is_open office) (is_open office) (recovers office) (recovers office) number x (items ++ []) r front x items) (sym e) (
             record {
               last = Fails request.waits false;
               stands = may_fail_after (items ++ []) block (more ++ []) request there;
@@ -266,7 +280,8 @@ module _ {M : Type 0} (represents : M → State → Type 0) (is_intact is_open :
               written = (others ++ refusal false (error Busy), ap (λ l. l ++ refusal false (error Busy)) f ∙ append_assoc front others (refusal false (error Busy)));
               leaves = refl;
             },
-            λ never. absurd never,
+            (λ never. absurd never),
+            (λ asked before. inl before),
           ),
         ),
       )
@@ -286,25 +301,26 @@ head_grown items new got size v h e a =
     subst (λ i. HasHead i (take size new) v (drop size new)) (sym e) three
 
 -- the last place; an office that it leaves open is open then
-abbrev pub LastTurn : Type 0 → Type 0 → ℕ → State → Bytes → Bytes → Ended → State → Type 0
-LastTurn was now number s input out end new = (stops : Stops number s input out end new) × (LastLeavesOpen was s stops.last → now)
+abbrev pub LastTurn : Type 0 → Type 0 → (had has : List Command → State → Type 0) → ℕ → State → Bytes → Bytes → Ended → State → Type 0
+LastTurn was now had has number s input out end new =
+    (stops : Stops number s input out end new) × (LastLeavesOpen was s stops.last → now) × StaysFoundOrBusy had has (IsBusyWith input stops.last) s new
 
 -- the input stops inside a body
-pub stops_in_body : (was : Type 0) (number : ℕ) (s : State) (items new got : Bytes) (size : ℕ) (r : Request) (end : Ended) → size ≤ length items → new ≡ items ++ got → length new < size + body_length r
-    → HasHead items (take size items) (Accepted r) (drop size items) → ((end ≡ Cut) ⊎ (end ≡ ReadFault)) → LastTurn was was number s (items ++ got) (continue_if r.waits) end s
-stops_in_body was number s items new got size r end h e l a which =
+pub stops_in_body : (was : Type 0) (had : List Command → State → Type 0) (number : ℕ) (s : State) (items new got : Bytes) (size : ℕ) (r : Request) (end : Ended) → size ≤ length items → new ≡ items ++ got → length new < size + body_length r
+    → HasHead items (take size items) (Accepted r) (drop size items) → ((end ≡ Cut) ⊎ (end ≡ ReadFault)) → LastTurn was was had had number s (items ++ got) (continue_if r.waits) end s
+stops_in_body was had number s items new got size r end h e l a which =
     let len : length new ≡ length items + length got = ap length e ∙ length-append items got in
     let stands : Stands (items ++ got) (BodyCut r) = (take size items, drop size items ++ got, head_more items (take size items) (Accepted r) (drop size items) got a, omega (arith, length-append (drop size items) got, length-drop size items)) in
-    elim which as (λ w. LastTurn was was number s (items ++ got) (continue_if r.waits) end s) [
-      | inl f ↦ subst (λ x. LastTurn was was number s (items ++ got) (continue_if r.waits) x s) (sym f) (record { last = BodyCut r; stands = stands; ends = tt; written = refl; leaves = refl }, λ stays. stays)
-      | inr f ↦ subst (λ x. LastTurn was was number s (items ++ got) (continue_if r.waits) x s) (sym f) (record { last = BodyCut r; stands = stands; ends = inr tt; written = refl; leaves = refl }, λ stays. stays)
+    elim which as (λ w. LastTurn was was had had number s (items ++ got) (continue_if r.waits) end s) [
+      | inl f ↦ subst (λ x. LastTurn was was had had number s (items ++ got) (continue_if r.waits) x s) (sym f) (record { last = BodyCut r; stands = stands; ends = tt; written = refl; leaves = refl }, (λ stays. stays), (λ asked before. inl before))
+      | inr f ↦ subst (λ x. LastTurn was was had had number s (items ++ got) (continue_if r.waits) x s) (sym f) (record { last = BodyCut r; stands = stands; ends = inr tt; written = refl; leaves = refl }, (λ stays. stays), (λ asked before. inl before))
     ]
 
 -- the input stops before a head or inside it
-pub stops_early : (was : Type 0) (number : ℕ) (s : State) (input : Bytes) → (IsBlank input ⊎ IsHeadCut input) → LastTurn was was number s input [] ReadFault s
-stops_early was number s input (inl h) = (record { last = Nothing; stands = h; ends = inl refl; written = refl; leaves = refl }, λ stays. stays)
-stops_early was number s input (inr h) = (record { last = HeadCut; stands = h; ends = inr tt; written = refl; leaves = refl }, λ stays. stays)
+pub stops_early : (was : Type 0) (had : List Command → State → Type 0) (number : ℕ) (s : State) (input : Bytes) → (IsBlank input ⊎ IsHeadCut input) → LastTurn was was had had number s input [] ReadFault s
+stops_early was had number s input (inl h) = (record { last = Nothing; stands = h; ends = inl refl; written = refl; leaves = refl }, (λ stays. stays), (λ asked before. inl before))
+stops_early was had number s input (inr h) = (record { last = HeadCut; stands = h; ends = inr tt; written = refl; leaves = refl }, (λ stays. stays), (λ asked before. inl before))
 
 -- a bound, where a head may have asked for leave
-pub bound_here : (was : Type 0) (number : ℕ) (s : State) (input : Bytes) (leave : Bool) → MayFail input leave false → LastTurn was was number s input (continue_if leave) Bound s
-bound_here was number s input leave m = (record { last = Fails leave false; stands = m; ends = tt; written = (refusal false (error Busy), refl); leaves = refl }, λ never. absurd never)
+pub bound_here : (was : Type 0) (had : List Command → State → Type 0) (number : ℕ) (s : State) (input : Bytes) (leave : Bool) → MayFail input leave false → LastTurn was was had had number s input (continue_if leave) Bound s
+bound_here was had number s input leave m = (record { last = Fails leave false; stands = m; ends = tt; written = (refusal false (error Busy), refl); leaves = refl }, (λ never. absurd never), (λ asked before. inl before))

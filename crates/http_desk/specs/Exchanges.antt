@@ -1,8 +1,9 @@
 -- What the parts of a session's code promise for the place of one message.
-use Rattle.std.specs.Prelude.{◌≡◌, ℕ, ◌++◌, Bool, true, false, Option, IfSome}
+use Rattle.std.specs.Prelude.{◌≡◌, ℕ, ◌++◌, Bool, true, false, List, Option, IfSome}
 use Rattle.std.specs.Io.KnownBytes.{Consumes, Appends, IsAtEnd}
 use Rattle.isad_core.specs.Texts.{Bytes}
 use Rattle.office_core.specs.State.{State}
+use Rattle.office_core.specs.declared.command.Command.{Command}
 use Rattle.http_desk.specs.declared.session_end.Ended.{Ended}
 use Rattle.http_desk.specs.declared.session_end.Ended.TheVariants.{End, Closed, Cut, ReadFault, WriteFault, Bound}
 use Rattle.http_desk.specs.declared.session_end.Next.{Next}
@@ -13,6 +14,7 @@ use Rattle.http_messages.specs.declared.status.Status.{Status}
 use Rattle.http_messages.specs.Answers.{error}
 use Rattle.http_desk.specs.AnswerOutput.{Sends}
 use Rattle.http_desk.specs.AcceptedMessages.{IsAccepted, LastLeavesOpen, LeavesOpen}
+use Rattle.http_desk.specs.BusyMessages.{IsBusyWith, StaysFound, StaysFoundOrBusy, WasBusyWith}
 use Rattle.http_desk.specs.Messages.{Message, Begins}
 use Rattle.http_desk.specs.Session.{closes, message_text, state_after, refusal, Stops, Session}
 use Rattle.http_desk.specs.Laws.{HasEnded}
@@ -27,36 +29,46 @@ pub record GoesOn (number : ℕ) (s : State) (input out : Bytes) (new : State) (
   pub says : out ≡ message_text false s message
   pub leaves : new ≡ state_after s message
 
--- what happens in the place of one message; an office that it leaves open is open afterwards
-abbrev pub Turn : Type 0 → Type 0 → ℕ → State → Bytes → Next → Bytes → State → Bytes → Type 0
-Turn was_open is_open number s input Goes out new rest =
-    (goes : GoesOn number s input out new rest) × (IsAccepted s goes.message → is_open)
-Turn was_open is_open number s input (Ends end) out new rest =
+-- What happens in the place of one message. An office that it leaves open is open afterwards. What a crash found
+-- before, it finds afterwards, or that after one command more, with which the office was busy.
+abbrev pub Turn : Type 0 → Type 0 → (found finds : List Command → State → Type 0) → ℕ → State → Bytes → Next → Bytes
+    → State → Bytes → Type 0
+Turn was_open is_open found finds number s input Goes out new rest =
+    (goes : GoesOn number s input out new rest) × (IsAccepted s goes.message → is_open) × StaysFound found finds s new
+Turn was_open is_open found finds number s input (Ends end) out new rest =
     (stops : Stops number s input out end new) × (LastLeavesOpen was_open s stops.last → is_open)
+    × StaysFoundOrBusy found finds (IsBusyWith input stops.last) s new
 
 -- `P` relates the states of two offices, if the store has returned what was written
 abbrev pub Through : {M : Type 0} → (M → State → Type 0) → (M → Type 0) → M → M → (State → State → Type 0) → Type 0
 Through represents is_intact old new P = is_intact new → (s : State) → represents old s → (t : State) × represents new t × P s t
 
 -- the bytes of a buffer, those that a reader then gave, and those that were written are the place of one message
-abbrev pub Exchange : {M : Type 0} → (M → State → Type 0) → (M → Type 0) → (M → Type 0) → ℕ → Option Bytes
-    → Option Bytes → Option Bytes → Option Bytes → M → Bytes → Next → M → Bytes → Type 0
-Exchange represents is_intact is_open number left left_after held held_after old buffer next new rest =
+abbrev pub Exchange : {M : Type 0} → (M → State → Type 0) → (M → Type 0) → (M → Type 0)
+    → (M → List Command → State → Type 0) → ℕ → Option Bytes → Option Bytes → Option Bytes → Option Bytes
+    → M → Bytes → Next → M → Bytes → Type 0
+Exchange represents is_intact is_open recovers number left left_after held held_after old buffer next new rest =
     (read : Bytes) × (written : Bytes) × Consumes left left_after read × Appends held held_after written
     × Through represents is_intact old new
-    (λ s t. Turn (is_open old) (is_open new) number s (buffer ++ read) next written t rest)
+    (λ s t. Turn (is_open old) (is_open new) (recovers old) (recovers new)
+    number s (buffer ++ read) next written t rest)
 
--- a session; an office that it leaves open is open afterwards
-abbrev pub Keeps : Type 0 → Type 0 → State → Bytes → Bytes → Ended → State → Type 0
-Keeps was_open is_open s input output end new =
+-- A session. An office that it leaves open is open afterwards. What a crash found before it, it finds afterwards, or
+-- that after one command more, with which the office was busy.
+abbrev pub Keeps : Type 0 → Type 0 → (found finds : List Command → State → Type 0) → State → Bytes → Bytes → Ended
+    → State → Type 0
+Keeps was_open is_open found finds s input output end new =
     (session : Session s input output end new) × (LeavesOpen was_open session → is_open)
+    × StaysFoundOrBusy found finds (WasBusyWith session) s new
 
 -- what was read and what was written are a session
-abbrev pub Talks : {M : Type 0} → (M → State → Type 0) → (M → Type 0) → (M → Type 0) → Option Bytes → Option Bytes
-    → Option Bytes → Option Bytes → M → Ended → M → Type 0
-Talks represents is_intact is_open left left_after held held_after old end new =
+abbrev pub Talks : {M : Type 0} → (M → State → Type 0) → (M → Type 0) → (M → Type 0)
+    → (M → List Command → State → Type 0) → Option Bytes → Option Bytes → Option Bytes → Option Bytes
+    → M → Ended → M → Type 0
+Talks represents is_intact is_open recovers left left_after held held_after old end new =
     (read : Bytes) × (written : Bytes) × Consumes left left_after read × Appends held held_after written
-    × Through represents is_intact old new (λ s t. Keeps (is_open old) (is_open new) s read written end t)
+    × Through represents is_intact old new
+    (λ s t. Keeps (is_open old) (is_open new) (recovers old) (recovers new) s read written end t)
 
 -- the input has ended, if the session ends so
 abbrev pub AtEndIf : Option Bytes → Next → Type 0
@@ -93,11 +105,12 @@ Replies held held_after closing text next = (sent : Sent) × Sends held held_aft
     × (next ≡ after_sending sent (after_answer closing))
 
 -- a session of the whole input that a reader had, unless a fault broke it off
-abbrev pub TalksWhole : {M : Type 0} → (M → State → Type 0) → (M → Type 0) → (M → Type 0) → Option Bytes → Option Bytes
-    → Option Bytes → M → Ended → M → Type 0
-TalksWhole represents is_intact is_open remaining held held_after old end new =
+abbrev pub TalksWhole : {M : Type 0} → (M → State → Type 0) → (M → Type 0) → (M → Type 0)
+    → (M → List Command → State → Type 0) → Option Bytes → Option Bytes → Option Bytes → M → Ended → M → Type 0
+TalksWhole represents is_intact is_open recovers remaining held held_after old end new =
     IfSome remaining (λ input. HasEnded end → (written : Bytes) × Appends held held_after written
-    × Through represents is_intact old new (λ s t. Keeps (is_open old) (is_open new) s input written end t))
+    × Through represents is_intact old new
+    (λ s t. Keeps (is_open old) (is_open new) (recovers old) (recovers new) s input written end t))
 
 -- What comes next agrees with how the calls on the writer went: after an answer the input has not ended.
 pub record WritesAsCalled (writer writer_after : Stream) (next : Next) : Type 0 where

@@ -33,9 +33,11 @@ SessionsRunTheMachine =
 -- ---- what makes a visit
 
 -- What `talk` promises for a peer, `apply` for a command and `ask` for a question makes a visit, for each outcome.
-pub record MakeVisits {M : Type 0} (represents : M → State → Type 0) (is_intact is_open : M → Type 0) : Type 0 where
+pub record MakeVisits {M : Type 0} (represents : M → State → Type 0) (is_intact is_open : M → Type 0)
+    (recovers : M → List Command → State → Type 0) : Type 0 where
   pub talk : (left left_after held held_after : Option Bytes) (old new : M) (end : Ended)
-      → Talks represents is_intact is_open left left_after held held_after old end new → (is_intact new → is_intact old)
+      → Talks represents is_intact is_open recovers left left_after held held_after old end new
+      → (is_intact new → is_intact old)
       → (is_intact new → is_open new → is_open old)
       → (read written : Bytes) × Consumes left left_after read × Appends held held_after written
       × IsVisited represents is_intact is_open old new (ByHttp read written end)

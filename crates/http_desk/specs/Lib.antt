@@ -1,6 +1,7 @@
 pub mod Messages
 pub mod Session
 pub mod AcceptedMessages
+pub mod BusyMessages
 pub mod Laws
 pub mod Streams
 pub mod AnswerOutput

@@ -74,7 +74,7 @@ fn of_told(told: Answer) -> Answered
 
 /// Carries out a command, and takes no memory once the office has answered.
 fn done<M: Machine>(alloc: Global, office: &mut M, command: Command) -> Result<Answered, Busy>
-    ensures { AnswersAs M.represents M.is_intact M.is_open office.old office.new
+    ensures { AnswersAs M.represents M.is_intact M.is_open M.recovers office.old office.new
         (λ s. spec.done s command) ⊤ result }
 {
     match office.apply(alloc, command) {
@@ -85,7 +85,7 @@ fn done<M: Machine>(alloc: Global, office: &mut M, command: Command) -> Result<A
 
 /// Answers a question, and takes no memory once the office has answered.
 fn asked<M: Machine>(alloc: Global, office: &mut M, query: Query) -> Result<Answered, Busy>
-    ensures { AnswersAs M.represents M.is_intact M.is_open office.old office.new
+    ensures { AnswersAs M.represents M.is_intact M.is_open M.recovers office.old office.new
         (λ s. (spec.of_told (answer s query), s)) ⊥ result }
 {
     match office.ask(alloc, query) {
@@ -100,7 +100,7 @@ fn done_if_read<M: Machine>(
     office: &mut M,
     command: Option<Command>,
 ) -> Result<Answered, Busy>
-    ensures { AnswersAs M.represents M.is_intact M.is_open office.old office.new
+    ensures { AnswersAs M.represents M.is_intact M.is_open M.recovers office.old office.new
         (λ s. spec.done_if_read s command) ⊤ result }
 {
     match command {
@@ -138,7 +138,7 @@ fn carried_out<M: Machine>(
     body: Vec<u8>,
     route: Route<'_>,
 ) -> Result<Answered, Busy>
-    ensures { AnswersAs M.represents M.is_intact M.is_open office.old office.new
+    ensures { AnswersAs M.represents M.is_intact M.is_open M.recovers office.old office.new
         (λ s. spec.carried_out s body.items (route_in route.entry))
         (routes.is_post (route_in route.entry) ≡ true) result }
 {
@@ -167,7 +167,7 @@ fn by_route<M: Machine>(
     route: Route<'_>,
 ) -> Result<Answered, Busy>
     requires { IsWithin (length block.now) head.method }
-    ensures { AnswersAs M.represents M.is_intact M.is_open office.old office.new
+    ensures { AnswersAs M.represents M.is_intact M.is_open M.recovers office.old office.new
         (λ s. spec.by_route s (request_in block.now head) body.items (Some (route_in route.entry)))
         ((request_in block.now head).method ≡ codes "POST") result }
 {
@@ -191,7 +191,7 @@ fn respond<M: Machine>(
 ) -> Result<Answered, Busy>
     requires method { IsWithin (length block.now) head.method }
     requires target { IsWithin (length block.now) head.target }
-    ensures { AnswersAs M.represents M.is_intact M.is_open office.old office.new
+    ensures { AnswersAs M.represents M.is_intact M.is_open M.recovers office.old office.new
         (λ s. spec.answered s (request_in block.now head) body.items)
         ((request_in block.now head).method ≡ codes "POST") result }
 {
@@ -212,7 +212,7 @@ fn answer_first<M: Machine>(
     requires whole { size + unwrap_or head.length 0 ≤ length buffer.old.items }
     requires method { IsWithin (length (take size buffer.old.items)) head.method }
     requires target { IsWithin (length (take size buffer.old.items)) head.target }
-    ensures machine { AnswersAs M.represents M.is_intact M.is_open office.old office.new
+    ensures machine { AnswersAs M.represents M.is_intact M.is_open M.recovers office.old office.new
         (λ s. spec.answered s (request_in (take size buffer.old.items) head)
         (take (unwrap_or head.length 0) (drop size buffer.old.items)))
         ((request_in (take size buffer.old.items) head).method ≡ codes "POST") result }
@@ -263,7 +263,7 @@ pub fn prepare<'b, M: Machine>(
     requires whole { size + unwrap_or head.length 0 ≤ length buffer.old.items }
     requires method { IsWithin (length (take size buffer.old.items)) head.method }
     requires target { IsWithin (length (take size buffer.old.items)) head.target }
-    ensures machine { AnswersAs M.represents M.is_intact M.is_open office.old office.new
+    ensures machine { AnswersAs M.represents M.is_intact M.is_open M.recovers office.old office.new
         (λ s. spec.answered s (request_in (take size buffer.old.items) head)
         (take (unwrap_or head.length 0) (drop size buffer.old.items)))
         ((request_in (take size buffer.old.items) head).method ≡ codes "POST") result.answered }

@@ -148,7 +148,8 @@ fn act<W: Write, M: Machine>(
         (Accepted (request_in (take size buffer.old.items) head)) (drop size buffer.old.items) }
     ensures turn { (written : Bytes) × Appends writer.old.bytes writer.new.bytes written
         × Through M.represents M.is_intact office.old office.new (λ s t.
-        Turn (M.is_open office.old) (M.is_open office.new) number s buffer.old.items result
+        Turn (M.is_open office.old) (M.is_open office.new) (M.recovers office.old) (M.recovers office.new)
+        number s buffer.old.items result
         (continue_if head.waits ++ written) t buffer.new.items) }
     ensures store { StaysFailed M.is_intact M.is_open office.old office.new }
     ensures stream { WritesAsCalled writer.old writer.new result }
@@ -185,7 +186,7 @@ fn receive<R: Read, W: Write, M: Machine>(
     requires target { IsWithin (length (take size buffer.old.items)) head.target }
     requires accepted { HasHead buffer.old.items (take size buffer.old.items)
         (Accepted (request_in (take size buffer.old.items) head)) (drop size buffer.old.items) }
-    ensures turn { Exchange M.represents M.is_intact M.is_open number reader.old.bytes reader.new.bytes
+    ensures turn { Exchange M.represents M.is_intact M.is_open M.recovers number reader.old.bytes reader.new.bytes
         writer.old.bytes writer.new.bytes office.old buffer.old.items result office.new buffer.new.items }
     ensures store { StaysFailed M.is_intact M.is_open office.old office.new }
     ensures streams { EndsAsCalled TakesTurns reader.old reader.new writer.old writer.new result }
@@ -217,7 +218,7 @@ pub fn exchange<R: Read, W: Write, M: Machine>(
     buffer: &mut Vec<u8>,
     number: u32,
 ) -> Next
-    ensures turn { Exchange M.represents M.is_intact M.is_open number reader.old.bytes reader.new.bytes
+    ensures turn { Exchange M.represents M.is_intact M.is_open M.recovers number reader.old.bytes reader.new.bytes
         writer.old.bytes writer.new.bytes office.old buffer.old.items result office.new buffer.new.items }
     ensures store { StaysFailed M.is_intact M.is_open office.old office.new }
     ensures streams { EndsAsCalled (TakesCalls most_reads) reader.old reader.new writer.old writer.new result }
@@ -249,7 +250,7 @@ fn talk_with<R: Read, W: Write, M: Machine>(
     writer: &mut Sink<'_, W>,
     office: &mut M,
 ) -> Ended
-    ensures session { Talks M.represents M.is_intact M.is_open reader.old.bytes reader.new.bytes
+    ensures session { Talks M.represents M.is_intact M.is_open M.recovers reader.old.bytes reader.new.bytes
         writer.old.bytes writer.new.bytes office.old result office.new }
     ensures store { StaysFailed M.is_intact M.is_open office.old office.new }
     ensures streams { EndsAsCalled (TakesCalls (most_answers * most_reads)) reader.old reader.new
@@ -275,10 +276,10 @@ pub fn talk<R: Read, W: Write, M: Machine>(
     writer: &mut Sink<'_, W>,
     office: &mut M,
 ) -> Ended
-    ensures session { Talks M.represents M.is_intact M.is_open reader.old.bytes reader.new.bytes
+    ensures session { Talks M.represents M.is_intact M.is_open M.recovers reader.old.bytes reader.new.bytes
         writer.old.bytes writer.new.bytes office.old result office.new }
     // If the reader's bytes are known, and no fault broke the session off, it is a session of all of them.
-    ensures whole { TalksWhole M.represents M.is_intact M.is_open reader.old.bytes
+    ensures whole { TalksWhole M.represents M.is_intact M.is_open M.recovers reader.old.bytes
         writer.old.bytes writer.new.bytes office.old result office.new }
     ensures store { StaysFailed M.is_intact M.is_open office.old office.new }
     // All that was written was flushed, unless a fault of the writer or a bound ends the session. If no such call had

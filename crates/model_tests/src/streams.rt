@@ -79,6 +79,8 @@ impl Machine for Counter {
 
     ghost is_open = { λ office. Prim.Unit {0} };
 
+    ghost recovers = { λ office asked s. ⊥ };
+
     fn apply(&mut self, alloc: Global, _command: Command) -> Result<Reply, Busy> {
         self.tickets = self.tickets.wrapping_add(1);
         registration(alloc, self.tickets)
@@ -101,6 +103,8 @@ impl Machine for Noting {
     ghost is_intact = { λ office. Prim.Unit {0} };
 
     ghost is_open = { λ office. Prim.Unit {0} };
+
+    ghost recovers = { λ office asked s. ⊥ };
 
     fn apply(&mut self, alloc: Global, _command: Command) -> Result<Reply, Busy> {
         let reply = registration(alloc, 1)?;
@@ -395,6 +399,8 @@ impl Machine for Long {
 
     ghost is_open = { λ office. Prim.Unit {0} };
 
+    ghost recovers = { λ office asked s. ⊥ };
+
     fn apply(&mut self, alloc: Global, _command: Command) -> Result<Reply, Busy> {
         registration(alloc, 1)
     }
@@ -447,6 +453,8 @@ impl Machine for Tally {
     ghost is_intact = { λ office. Prim.Unit {0} };
 
     ghost is_open = { λ office. Prim.Unit {0} };
+
+    ghost recovers = { λ office asked s. ⊥ };
 
     fn apply(&mut self, alloc: Global, command: Command) -> Result<Reply, Busy> {
         let kind = kind_of(&command);

@@ -1,9 +1,10 @@
 //! An office that takes commands and questions, one after the other.
-ghost use Rattle.std.specs.Prelude.{◌≡◌, IfOk, IsOk, OnErr};
+ghost use Rattle.std.specs.Prelude.{◌≡◌, ◌∷◌, IfOk, IsOk, List, OnErr};
 ghost use Rattle.office_core.specs.State.{State};
 ghost use Rattle.office_core.specs.Rules.{step};
 ghost use Rattle.office_core.specs.Json.{reply_text};
 ghost use Rattle.office_core.specs.Queries.{answer};
+ghost use Rattle.office_core.specs.declared.command.Command.{Command};
 
 use crate::{Answer, Command, Done, Query, Refusal};
 use isad_core::List;
@@ -38,8 +39,11 @@ pub trait Machine {
     /// What it stores can be seen: no failure of the disk has shut its store.
     ghost is_open: { Self → Type 0 };
 
+    /// If a failure of the disk has shut its store, a crash finds this state, or that after one of these commands.
+    ghost recovers: { Self → List Command → State → Type 0 };
+
     /// Carries out one command. After an accepted command the office is open; an office that was shut stays shut. On
-    /// `Busy` the state is unchanged.
+    /// `Busy` the state is unchanged, but a crash may find the state after this command.
     fn apply(&mut self, alloc: Global, command: Command) -> Result<Reply, Busy>
         ensures intact { is_intact self.new → is_intact self.old }
         ensures was_open { is_intact self.new → is_open self.new → is_open self.old }
@@ -48,14 +52,20 @@ pub trait Machine {
             represents self.new (step s command).0 × (reply.done ≡ (step s command).1)
             × (reply.json ≡ reply_text (step s command).1)) }
         ensures busy { OnErr result (is_intact self.new → (s : State) → represents self.old s
-            → represents self.new s) };
+            → represents self.new s) }
+        ensures found { IfOk result (λ reply. is_intact self.new → (s : State) → represents self.old s →
+            (asked : List Command) → recovers self.old asked s → recovers self.new asked (step s command).0) }
+        ensures doubt { OnErr result (is_intact self.new → (s : State) → represents self.old s →
+            (asked : List Command) → recovers self.old asked s → recovers self.new (command ∷ asked) s) };
 
-    /// Answers one question. The state is unchanged, also on `Busy`.
+    /// Answers one question. The state is unchanged, also on `Busy`, and so is what a crash may find.
     fn ask(&mut self, alloc: Global, query: Query) -> Result<Answer, Busy>
         ensures intact { is_intact self.new → is_intact self.old }
         ensures was_open { is_intact self.new → is_open self.new → is_open self.old }
         ensures answer { IfOk result (λ told. is_intact self.new → (s : State) → represents self.old s →
             represents self.new s × (told ≡ answer s query)) }
         ensures busy { OnErr result (is_intact self.new → (s : State) → represents self.old s
-            → represents self.new s) };
+            → represents self.new s) }
+        ensures found { is_intact self.new → (s : State) → represents self.old s →
+            (asked : List Command) → recovers self.old asked s → recovers self.new asked s };
 }

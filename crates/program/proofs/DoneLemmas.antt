@@ -1,12 +1,14 @@
 -- What the files hold once a command is done.
-use Rattle.std.proofs.Common.{IsTrue, inl, inr, refl}
+use Rattle.std.proofs.Common.{IsTrue, [], ◌∷◌, inl, inr, refl}
 use Rattle.sqlite.specs.Files.{file_state}
 use Rattle.sqlite.specs.Recovery.{Image}
 use Rattle.sqlite_disk.specs.declared.Disk.{Ghosts}
 use Rattle.office_tables.proofs.Calls.{early}
-use Rattle.program.proofs.CrashLemmas.{kept_open, left_only}
+use Rattle.program.proofs.CrashLemmas.{found_such, left_only, open_so}
 use Rattle.program.proofs.HeadlineLemmas.{held_so}
 use Rattle.program.specs.ClosedFiles.{HoldState}
+use Rattle.http_desk.specs.BusyMessages.{WasBusyWith}
+use Rattle.program.specs.Connections.{WereBusyWith}
 use Rattle.program.specs.KeptOffices.{AreTablesAfter}
 use Rattle.program.specs.Stores.{WhatWasBroughtOverIsHeld, WhatWasMadeIsHeld, WhatWasNotMadeIsLeft, WhatWasSaidIsHeld, WhatWasServedIsHeld, WhatWasTakenInIsHeld}
 
@@ -28,24 +30,30 @@ module _ {D : Type 0} (g : Ghosts D) (image : Image) where
   said reader reader_after out out_after end files it honest s holds sound =
       let clean = it.closed.clean honest in
       let found = it.opened (it.intact clean) in
-      let (t, kept, talked) = it.session clean s (kept_open it.office s found.kept (sound, found.left s holds)) in
-      let held : IsTrue (file_state it.after).is_open → HoldState g files t = λ opened. held_so g image it.after files t it.closed honest (kept.shown.1 opened) opened in (
+      let (t, kept, talked) = it.session clean s (sound, found.left s holds) in
+      let held : IsTrue (file_state it.after).is_open → HoldState g files t = λ opened. held_so g image it.after files t it.closed honest (kept.1 opened) opened in (
         t,
         talked.0,
         λ either. elim either as (λ _. HoldState g files t) [ inl leaves ↦ held (talked.1 leaves) | inr opened ↦ held opened ],
-        λ shut. left_only g it.after files (AreTablesAfter t) it.closed honest shut (kept.crash shut),
+        λ shut. left_only g it.after files (AreTablesAfter (WasBusyWith talked.0) t) it.closed honest shut (λ db may. elim (talked.2 [] (open_so it.office s found.kept)) [
+          | inl still ↦ found_such (WasBusyWith talked.0) [] tt t db (still shut db may)
+          | inr (command, busy, after) ↦ found_such (WasBusyWith talked.0) (command ∷ []) (busy, tt) t db (after shut db may)
+        ]),
       )
 
   pub served : WhatWasServedIsHeld g image
-  served connections all files it honest s holds sound =
+  served connections all told told_after files it honest s holds sound =
       let clean = it.closed.clean honest in
       let found = it.opened (it.intact clean) in
-      let (t, kept, served) = it.sessions.sessions clean s (kept_open it.office s found.kept (sound, found.left s holds)) in
-      let held : IsTrue (file_state it.after).is_open → HoldState g files t = λ opened. held_so g image it.after files t it.closed honest (kept.shown.1 opened) opened in (
+      let (t, kept, served) = it.sessions.sessions clean s (sound, found.left s holds) in
+      let held : IsTrue (file_state it.after).is_open → HoldState g files t = λ opened. held_so g image it.after files t it.closed honest (kept.1 opened) opened in (
         t,
         served.0,
         λ either. elim either as (λ _. HoldState g files t) [ inl leaves ↦ held (served.1 leaves) | inr opened ↦ held opened ],
-        λ shut. left_only g it.after files (AreTablesAfter t) it.closed honest shut (kept.crash shut),
+        λ shut.
+            let (more, busy, after) = served.2 [] (open_so it.office s found.kept) in
+            let Busy = WereBusyWith it.sessions.connections s t served.0 in
+            left_only g it.after files (AreTablesAfter Busy t) it.closed honest shut (λ db may. found_such Busy more busy t db (after shut db may)),
       )
 
   pub not_made : WhatWasNotMadeIsLeft g image

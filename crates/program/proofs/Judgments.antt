@@ -8,7 +8,8 @@ use Rattle.office.specs.declared.faults.OpenFault.TheVariants as opening
 use Rattle.office_core.specs.Json.{reply_text}
 use Rattle.office_core.specs.Rules.{Reply}
 use Rattle.office_core.specs.declared.done.Done.{Done}
-use Rattle.program.specs.CommandEffects.{JudgmentFails, ReplyFails, ServerFails, line_feed}
+use Rattle.program.specs.CommandEffects.{JudgmentFails, ListeningFails, ReplyFails, line_feed}
+use Rattle.program.specs.Connections.{History, after_listening}
 use Rattle.program.specs.Streams.{Prints, PrintsPart}
 use Rattle.program.specs.declared.faults.Fault.{Fault}
 use Rattle.program.specs.declared.faults.Fault.TheVariants.{File, Memory, NotSound}
@@ -48,6 +49,7 @@ told_unsound judged why cause line out out_after some unsound is told =
     subst (λ j. JudgmentFails j out out_after NotSound) (sym (some ∙ ap Some unsound)) (subst (λ l. Prints l out out_after) is told)
 
 -- a server had no memory for its line
-pub no_memory : {X : Type 0} (port : ℕ) (out : Stream) (r : Result X Fault) → IsErrAnd r (λ f. f ≡ Memory) → IfErr r (ServerFails port out out)
-no_memory port out (Ok x) is = tt
-no_memory port out (Err f) is = subst (ServerFails port out out) (sym is) refl
+pub no_memory : {X : Type 0} (number : ℕ) (out : Stream) (told told_after : Option History) (r : Result X Fault) → IsErrAnd r (λ f. f ≡ Memory) → told_after ≡ after_listening told number
+    → IfErr r (ListeningFails number out out told told_after)
+no_memory number out told told_after (Ok x) is bound = tt
+no_memory number out told told_after (Err f) is bound = subst (ListeningFails number out out told told_after) (sym is) (refl, bound)

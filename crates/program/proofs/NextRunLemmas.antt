@@ -25,7 +25,6 @@ use Rattle.office_core.specs.declared.command.Command.TheVariants.{Import}
 use Rattle.office_tables.proofs.Calls.{early}
 use Rattle.refinement.specs.Representation.{RepresentsState}
 use Rattle.http_desk.proofs.Meanings.{runs_the_machine}
-use Rattle.program.proofs.CrashLemmas.{kept_open}
 use Rattle.program.proofs.HeadlineLemmas.{shows}
 use Rattle.program.specs.ClosedFiles.{HasLeft}
 use Rattle.program.specs.Connections.{AreSessions, Connection}
@@ -103,15 +102,15 @@ module _ {D : Type 0} (g : Ghosts D) (image : Image) where
   goes files next s was (Talks reader reader_after out out_after end it) copied found =
       let clean = copied.was_clean in
       let opened = it.opened (it.intact clean) in
-      let (t, kept, talked) = it.session clean s (kept_open it.office s opened.kept (was.sound, finds image _ s opened was)) in
+      let (t, kept, talked) = it.session clean s (was.sound, finds image _ s opened was) in
       let (commands, done) = runs_the_machine s t it.input it.output end talked.0 in
-      (commands, t, (talked.0, done), done.leaves, holds_next it.after files next it.closed copied found t (kept.shown.1 copied.was_open) kept.shown.0)
-  goes files next s was (Serves connections all it) copied found =
+      (commands, t, (talked.0, done), done.leaves, holds_next it.after files next it.closed copied found t (kept.1 copied.was_open) kept.0)
+  goes files next s was (Serves connections all told told_after it) copied found =
       let clean = copied.was_clean in
       let opened = it.opened (it.intact clean) in
-      let (t, kept, served) = it.sessions.sessions clean s (kept_open it.office s opened.kept (was.sound, finds image _ s opened was)) in
+      let (t, kept, served) = it.sessions.sessions clean s (was.sound, finds image _ s opened was) in
       let (commands, bring, leaves) = bring_all s t it.sessions.connections served.0 in
-      (commands, t, bring, leaves, holds_next it.after files next it.closed copied found t (kept.shown.1 copied.was_open) kept.shown.0)
+      (commands, t, bring, leaves, holds_next it.after files next it.closed copied found t (kept.1 copied.was_open) kept.0)
   goes files next s was (Judges judged it) copied found =
       let clean = copied.was_clean in
       let before = early (file_state it.found) (file_state it.after) _ it.crash clean in

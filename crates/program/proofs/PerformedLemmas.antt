@@ -16,7 +16,8 @@ use Rattle.command_line.specs.CommandLine.{program}
 use Rattle.office.specs.declared.faults.OpenFault.{OpenFault}
 use Rattle.office.specs.declared.faults.OpenFault.TheVariants as opening
 use Rattle.program.specs.Faults.{RefusesFile, fault_of_file, fault_of_opening, fault_of_reading, fault_of_words, message_of, status_of}
-use Rattle.program.specs.CommandEffects.{ComplaintFails, Fails, FailsWith, ImportFails, InitFails, IsBusy, IsDone, JudgmentFails, LineFails, MigrateFails, NotOpened, IsPerformed, PreviewFails, Reads, ReadsPart, ReplyFails, ServerFails, TalkFails, Tells, TrialFails, complaint_of, previewed}
+use Rattle.program.specs.CommandEffects.{Channels, ComplaintFails, Fails, FailsWith, ImportFails, InitFails, IsBusy, IsDone, JudgmentFails, LineFails, ListeningFails, MigrateFails, NotOpened, IsPerformed, PreviewFails, Reads, ReadsPart, ReplyFails, ServeFails, TalkFails, Tells, TrialFails, complaint_of, previewed}
+use Rattle.program.specs.Connections.{History}
 use Rattle.program.specs.FailedOpenings.{reason_of}
 use Rattle.program.specs.Outcomes.{IsClosedAnd, IsUnopened}
 use Rattle.program.specs.Stores.{HasNoOffice, IsNotBroughtOver, IsNotMade}
@@ -88,11 +89,11 @@ line_no line out out_after Date of why = why
 line_no line out out_after Settings of why = why
 line_no line out out_after _ of why = of
 
-server_no : (port : ℕ) (out out_after : Stream) (f : Fault) → OfWords f → ServerFails port out out_after f → ⊥
-server_no port out out_after (Words text) of why = why
-server_no port out out_after Date of why = why
-server_no port out out_after Settings of why = why
-server_no port out out_after _ of why = of
+listening_no : (number : ℕ) (out out_after : Stream) (told told_after : Option History) (f : Fault) → OfWords f → ListeningFails number out out_after told told_after f → ⊥
+listening_no number out out_after told told_after (Words text) of why = why
+listening_no number out out_after told told_after Date of why = why
+listening_no number out out_after told told_after Settings of why = why
+listening_no number out out_after told told_after _ of why = of
 
 opening_no : (why_not : OpenFault) (f : Fault) → OfWords f → f ≡ fault_of_opening why_not → ⊥
 opening_no opening.Memory f of is = subst OfWords is of
@@ -175,59 +176,64 @@ module _ {S D : Type 0} (g : Ghosts D) (image : Image) where
     | inr (inr (brought, why)) ↦ line_no _ out out_after f of why
   ]
 
-  none_of_words : (task : Task) (reader reader_after out out_after : Stream) (outcome : StoreOutcome S D g) (f : Fault) → OfWords f → FailsWith g image task reader reader_after out out_after outcome f → ⊥
-  none_of_words (Preview country repo path) reader reader_after out out_after outcome f of why = preview_no country repo path reader reader_after out out_after f of why.1
-  none_of_words (Init path founding) reader reader_after out out_after outcome f of why = init_no founding outcome f of why.0
-  none_of_words (Trial founding) reader reader_after out out_after outcome f of why = trial_no founding reader reader_after out out_after f of why.1
-  none_of_words (Import path source file) reader reader_after out out_after outcome f of why = import_no source out out_after outcome f of why.1
-  none_of_words (Talk path) reader reader_after out out_after outcome f of why = talk_no reader reader_after out out_after outcome f of why
-  none_of_words (Serve path port connections) reader reader_after out out_after outcome f of (unread, inl why) = not_opened_no out out_after outcome f of why
-  none_of_words (Serve path port connections) reader reader_after out out_after outcome f of (unread, inr (served, why)) = server_no port out out_after f of why
-  none_of_words (Check path) reader reader_after out out_after outcome f of (unread, inl why) = unopened_no outcome f of why.0
-  none_of_words (Check path) reader reader_after out out_after outcome f of (unread, inr (judged, was, why)) = judgment_no judged out out_after f of why
-  none_of_words (Migrate path) reader reader_after out out_after outcome f of why = migrate_no out out_after outcome f of why.1
+  serve_no : (number connections : ℕ) (out out_after : Stream) (told told_after : Option History) (outcome : StoreOutcome S D g) (f : Fault) → OfWords f
+      → ServeFails g image number connections out out_after told told_after outcome f → ⊥
+  serve_no number connections out out_after told told_after outcome f of (inl (why, same)) = not_opened_no out out_after outcome f of why
+  serve_no number connections out out_after told told_after outcome f of (inr (inl (nobody, why))) = listening_no number out out_after told told_after f of why
+  serve_no number connections out out_after told told_after outcome f of (inr (inr (served, is, listens))) = subst OfWords is of
+
+  none_of_words : (task : Task) (before after : Channels) (outcome : StoreOutcome S D g) (f : Fault) → OfWords f → FailsWith g image task before after outcome f → ⊥
+  none_of_words (Preview country repo path) before after outcome f of why = preview_no country repo path before.reader after.reader before.out after.out f of why.2
+  none_of_words (Init path founding) before after outcome f of why = init_no founding outcome f of why.0
+  none_of_words (Trial founding) before after outcome f of why = trial_no founding before.reader after.reader before.out after.out f of why.2
+  none_of_words (Import path source file) before after outcome f of why = import_no source before.out after.out outcome f of why.1
+  none_of_words (Talk path) before after outcome f of why = talk_no before.reader after.reader before.out after.out outcome f of why.1
+  none_of_words (Serve path number connections) before after outcome f of why = serve_no number connections before.out after.out before.told after.told outcome f of why.1
+  none_of_words (Check path) before after outcome f of (same, inl why) = unopened_no outcome f of why.0
+  none_of_words (Check path) before after outcome f of (same, inr (judged, was, why)) = judgment_no judged before.out after.out f of why
+  none_of_words (Migrate path) before after outcome f of why = migrate_no before.out after.out outcome f of why.1
 
   -- words that name no task
-  words_fail : (words : List Text) (reader out : Stream) (start : S) (f : TaskFault) → (IsWords f → takes program words ≡ false) → AreRefusedFor (subcommand_of program words) f
-      → Fails g image words reader reader out out (Untouched start) (fault_of_words f)
-  words_fail words reader out start tasks.Memory refused values = inl (tt, (refl, refl))
-  words_fail words reader out start (tasks.Words text) refused values = (refused tt, (tt, (refl, refl)))
-  words_fail words reader out start tasks.Date refused values = (values, (tt, (refl, refl)))
-  words_fail words reader out start tasks.Settings refused values = (values, (tt, (refl, refl)))
+  words_fail : (words : List Text) (before : Channels) (start : S) (f : TaskFault) → (IsWords f → takes program words ≡ false) → AreRefusedFor (subcommand_of program words) f
+      → Fails g image words before before (Untouched start) (fault_of_words f)
+  words_fail words before start tasks.Memory refused values = inl (tt, refl)
+  words_fail words before start (tasks.Words text) refused values = (refused tt, (tt, refl))
+  words_fail words before start tasks.Date refused values = (values, (tt, refl))
+  words_fail words before start tasks.Settings refused values = (values, (tt, refl))
 
-  pub words_failed : (words : List Text) (reader out : Stream) (start : S) (f : TaskFault) (fault : Fault) → fault ≡ fault_of_words f
-      → (IsWords f → takes program words ≡ false) → AreRefusedFor (subcommand_of program words) f → Fails g image words reader reader out out (Untouched start) fault
-  words_failed words reader out start f fault is refused values = subst (Fails g image words reader reader out out (Untouched start)) (sym is) (words_fail words reader out start f refused values)
+  pub words_failed : (words : List Text) (before : Channels) (start : S) (f : TaskFault) (fault : Fault) → fault ≡ fault_of_words f
+      → (IsWords f → takes program words ≡ false) → AreRefusedFor (subcommand_of program words) f → Fails g image words before before (Untouched start) fault
+  words_failed words before start f fault is refused values = subst (Fails g image words before before (Untouched start)) (sym is) (words_fail words before start f refused values)
 
   -- so a task's fault is one of the task
-  fails : (words : List Text) (task : Task) (reader reader_after out out_after : Stream) (outcome : StoreOutcome S D g) (f : Fault) → IsTaskOf (subcommand_of program words) task
-      → FailsWith g image task reader reader_after out out_after outcome f → Fails g image words reader reader_after out out_after outcome f
-  fails words task reader reader_after out out_after outcome (Words text) is why = absurd (none_of_words task reader reader_after out out_after outcome (Words text) tt why)
-  fails words task reader reader_after out out_after outcome Date is why = absurd (none_of_words task reader reader_after out out_after outcome Date tt why)
-  fails words task reader reader_after out out_after outcome Settings is why = absurd (none_of_words task reader reader_after out out_after outcome Settings tt why)
-  fails words task reader reader_after out out_after outcome Memory is why = inr (task, is, why)
-  fails words task reader reader_after out out_after outcome _ is why = (task, is, why)
+  fails : (words : List Text) (task : Task) (before after : Channels) (outcome : StoreOutcome S D g) (f : Fault) → IsTaskOf (subcommand_of program words) task
+      → FailsWith g image task before after outcome f → Fails g image words before after outcome f
+  fails words task before after outcome (Words text) is why = absurd (none_of_words task before after outcome (Words text) tt why)
+  fails words task before after outcome Date is why = absurd (none_of_words task before after outcome Date tt why)
+  fails words task before after outcome Settings is why = absurd (none_of_words task before after outcome Settings tt why)
+  fails words task before after outcome Memory is why = inr (task, is, why)
+  fails words task before after outcome _ is why = (task, is, why)
 
-  pub task_failed : {X : Type 0} (words : List Text) (task : Task) (reader reader_after out out_after : Stream) (outcome : StoreOutcome S D g) (r : Result X Fault) → IsTaskOf (subcommand_of program words) task
-      → IfErr r (FailsWith g image task reader reader_after out out_after outcome) → IfErr r (Fails g image words reader reader_after out out_after outcome)
-  task_failed words task reader reader_after out out_after outcome (Ok x) is why = tt
-  task_failed words task reader reader_after out out_after outcome (Err f) is why = fails words task reader reader_after out out_after outcome f is why
+  pub task_failed : {X : Type 0} (words : List Text) (task : Task) (before after : Channels) (outcome : StoreOutcome S D g) (r : Result X Fault) → IsTaskOf (subcommand_of program words) task
+      → IfErr r (FailsWith g image task before after outcome) → IfErr r (Fails g image words before after outcome)
+  task_failed words task before after outcome (Ok x) is why = tt
+  task_failed words task before after outcome (Err f) is why = fails words task before after outcome f is why
 
   -- a command whose task is done
-  pub performs_done : (words : List Text) (reader reader_after out out_after err err_after : Stream) (outcome : StoreOutcome S D g) (status : ℕ) (r : Result (Unit {0}) Fault) (u : Unit {0})
-      → r ≡ Ok u → OnOk r (IsDone g image words reader reader_after out out_after outcome) → status ≡ 0 → err_after ≡ err
-      → IsPerformed g image words reader reader_after out out_after err err_after outcome status
-  performs_done words reader reader_after out out_after err err_after outcome status r u is done zero same =
-      inl (zero, subst (λ it. OnOk it (IsDone g image words reader reader_after out out_after outcome)) is done, same)
+  pub performs_done : (words : List Text) (before after : Channels) (err err_after : Stream) (outcome : StoreOutcome S D g) (status : ℕ) (r : Result (Unit {0}) Fault) (u : Unit {0})
+      → r ≡ Ok u → OnOk r (IsDone g image words before after outcome) → status ≡ 0 → err_after ≡ err
+      → IsPerformed g image words before after err err_after outcome status
+  performs_done words before after err err_after outcome status r u is done zero same =
+      inl (zero, subst (λ it. OnOk it (IsDone g image words before after outcome)) is done, same)
 
   -- a command that ended with a fault, whose message was told
-  pub performs_fault : (words : List Text) (reader reader_after out out_after err err_told err_after : Stream) (outcome : StoreOutcome S D g) (status code : ℕ) (r : Result (Unit {0}) Fault) (fault : Fault)
-      → r ≡ Err fault → IfErr r (Fails g image words reader reader_after out out_after outcome) → status ≡ code → code ≡ status_of fault → Tells err err_told (message_of fault) → err_after ≡ err_told
-      → IsPerformed g image words reader reader_after out out_after err err_after outcome status
-  performs_fault words reader reader_after out out_after err err_told err_after outcome status code r fault is why same_status is_code told same =
+  pub performs_fault : (words : List Text) (before after : Channels) (err err_told err_after : Stream) (outcome : StoreOutcome S D g) (status code : ℕ) (r : Result (Unit {0}) Fault) (fault : Fault)
+      → r ≡ Err fault → IfErr r (Fails g image words before after outcome) → status ≡ code → code ≡ status_of fault → Tells err err_told (message_of fault) → err_after ≡ err_told
+      → IsPerformed g image words before after err err_after outcome status
+  performs_fault words before after err err_told err_after outcome status code r fault is why same_status is_code told same =
       inr (
         fault,
         same_status ∙ is_code,
-        subst (λ it. IfErr it (Fails g image words reader reader_after out out_after outcome)) is why,
+        subst (λ it. IfErr it (Fails g image words before after outcome)) is why,
         subst (λ it. Tells err it (message_of fault)) (sym same) told,
       )

@@ -1,9 +1,12 @@
 -- Connections that were served, one after the other.
-use Rattle.std.proofs.Common.{◌≡◌, ◌∙◌, ◌||◌, ◌+◌, ◌≤◌, ℕ, Bool, true, false, [], ◌∷◌, Option, None, ap, refl, sym, subst, arith}
+use Rattle.std.proofs.Common.{◌≡◌, ◌∙◌, ◌||◌, ◌⊎◌, ◌+◌, ◌≤◌, ◌++◌, ℕ, Bool, true, false, inl, inr, List, [], ◌∷◌, Option, ap, refl, sym, subst, arith}
 use Rattle.office_core.specs.State.{State}
+use Rattle.office_core.specs.declared.command.Command.{Command}
+use Rattle.std.specs.List.{AllByRecursion}
+use Rattle.http_desk.specs.BusyMessages.{WasBusyWith}
 use Rattle.http_desk.specs.Exchanges.{Keeps, Through}
 use Rattle.http_desk.proofs.Openings.{session_open}
-use Rattle.program.specs.Connections.{AreSessions, Connection, History, IsHeard, Serves, SessionsLeaveOpen, after_failing, after_one}
+use Rattle.program.specs.Connections.{AreSessions, Connection, History, IsHeard, Serves, SessionsLeaveOpen, StaysFoundOrAny, WereBusyWith, after_failing, after_one}
 
 -- what has not failed before has failed where this call did
 pub failed_so : (new fault old : Bool) → new ≡ (fault || old) → old ≡ false → new ≡ fault
@@ -14,12 +17,16 @@ failed_so new false old is none = is ∙ none
 pub calls_of : (now before most : ℕ) → now ≤ before + most → before ≡ 0 → now ≤ most
 calls_of now before most within none = omega (arith, within, none)
 
+all_weaker : (P Q : Command → Type 0) → ((command : Command) → P command → Q command) → (commands : List Command) → AllByRecursion P commands → AllByRecursion Q commands
+all_weaker P Q so [] all = tt
+all_weaker P Q so (first ∷ others) all = (so first all.0, all_weaker P Q so others all.1)
+
 -- after so many connections, one more
-pub and_one : {M : Type 0} (represents : M → State → Type 0) (is_intact is_open : M → Type 0) (n : ℕ) (told told_mid told_after : Option History) (first mid last : M)
-    → Serves represents is_intact is_open n told told_mid first mid true → (is_intact last → is_intact mid)
-    → (it : Connection) → IsHeard it → told_after ≡ after_one told_mid it → Through represents is_intact mid last (λ s t. Keeps (is_open mid) (is_open last) s it.input it.output it.end t)
-    → Serves represents is_intact is_open (n + 1) told told_after first last true
-and_one represents is_intact is_open n told told_mid told_after first mid last so_far back it heard tells through = record {
+pub and_one : {M : Type 0} (represents : M → State → Type 0) (is_intact is_open : M → Type 0) (recovers : M → List Command → State → Type 0) (n : ℕ) (told told_mid told_after : Option History) (first mid last : M)
+    → Serves represents is_intact is_open recovers n told told_mid first mid true → (is_intact last → is_intact mid)
+    → (it : Connection) → IsHeard it → told_after ≡ after_one told_mid it → Through represents is_intact mid last (λ s t. Keeps (is_open mid) (is_open last) (recovers mid) (recovers last) s it.input it.output it.end t)
+    → Serves represents is_intact is_open recovers (n + 1) told told_after first last true
+and_one represents is_intact is_open recovers n told told_mid told_after first mid last so_far back it heard tells through = record {
   connections = it ∷ so_far.connections;
   heard = (heard, so_far.heard);
   tells = tells ∙ ap (λ h. after_one h it) so_far.tells;
@@ -27,15 +34,29 @@ and_one represents is_intact is_open n told told_mid told_after first mid last s
   whole = λ _. let all = so_far.whole refl in omega arith;
   sessions = λ intact s shown.
       let (between, there, before) = so_far.sessions (back intact) s shown in
-      let (t, then, talked) = through intact between there in
-      (t, then, ((between, before.0, talked.0), λ h. talked.1 (session_open _ (is_open mid) before.1 between t it.input it.output it.end talked.0 h)));
+      let (t, then, talked) = through intact between there in (
+        t,
+        then,
+        (
+          (between, before.0, talked.0),
+          (λ h. talked.1 (session_open _ (is_open mid) before.1 between t it.input it.output it.end talked.0 h)),
+          λ asked found.
+              let (more, busy, finds) = before.2 asked found in
+              let Busy = λ (command : Command). WereBusyWith so_far.connections s between before.0 command ⊎ WasBusyWith talked.0 command in
+              let still = all_weaker (WereBusyWith so_far.connections s between before.0) Busy (λ command was. inl was) more busy in
+              elim (talked.2 (more ++ asked) finds) [
+                | inl same ↦ (more, still, same)
+                | inr (command, was, after) ↦ (command ∷ more, (inr was, still), after)
+              ],
+        ),
+      );
 }
 
 -- after so many connections, none could be taken
-pub and_none : {M : Type 0} (represents : M → State → Type 0) (is_intact is_open : M → Type 0) (n most : ℕ) (told told_mid told_after : Option History) (first mid last : M)
-    → Serves represents is_intact is_open n told told_mid first mid true → n ≤ most → told_after ≡ after_failing told_mid → last ≡ mid
-    → Serves represents is_intact is_open most told told_after first last false
-and_none {M} represents is_intact is_open n most told told_mid told_after first mid last so_far within tells same =
+pub and_none : {M : Type 0} (represents : M → State → Type 0) (is_intact is_open : M → Type 0) (recovers : M → List Command → State → Type 0) (n most : ℕ) (told told_mid told_after : Option History) (first mid last : M)
+    → Serves represents is_intact is_open recovers n told told_mid first mid true → n ≤ most → told_after ≡ after_failing told_mid → last ≡ mid
+    → Serves represents is_intact is_open recovers most told told_after first last false
+and_none {M} represents is_intact is_open recovers n most told told_mid told_after first mid last so_far within tells same =
     let few = so_far.few in
     record {
       connections = so_far.connections;
@@ -43,15 +64,17 @@ and_none {M} represents is_intact is_open n most told told_mid told_after first 
       tells = tells ∙ ap after_failing so_far.tells;
       few = omega (arith, few, within);
       whole = λ all. absurd cc;
-      sessions = subst (λ (m : M). Through represents is_intact first m (λ s t. (are : AreSessions so_far.connections s t) × (SessionsLeaveOpen (is_open first) so_far.connections s t are → is_open m))) (sym same) so_far.sessions;
+      sessions = subst (λ (m : M). Through represents is_intact first m (λ s t. (are : AreSessions so_far.connections s t) × (SessionsLeaveOpen (is_open first) so_far.connections s t are → is_open m)
+          × StaysFoundOrAny (recovers first) (recovers m) (WereBusyWith so_far.connections s t are) s t)) (sym same) so_far.sessions;
     }
 
 -- what was served by a machine, as its office is seen
-pub seen_as : {M N : Type 0} {RM : M → State → Type 0} {IM OM : M → Type 0} {most : ℕ} {told told_after : Option History} {old new : M} {all : Bool}
-    (R : N → State → Type 0) (I O : N → Type 0) (a b : N) (it : Serves RM IM OM most told told_after old new all)
-    → Through R I a b (λ s t. (are : AreSessions it.connections s t) × (SessionsLeaveOpen (O a) it.connections s t are → O b))
-    → Serves R I O most told told_after a b all
-seen_as R I O a b it sessions = record {
+pub seen_as : {M N : Type 0} {RM : M → State → Type 0} {IM OM : M → Type 0} {FM : M → List Command → State → Type 0} {most : ℕ} {told told_after : Option History} {old new : M} {all : Bool}
+    (R : N → State → Type 0) (I O : N → Type 0) (F : N → List Command → State → Type 0) (a b : N) (it : Serves RM IM OM FM most told told_after old new all)
+    → Through R I a b (λ s t. (are : AreSessions it.connections s t) × (SessionsLeaveOpen (O a) it.connections s t are → O b)
+    × StaysFoundOrAny (F a) (F b) (WereBusyWith it.connections s t are) s t)
+    → Serves R I O F most told told_after a b all
+seen_as R I O F a b it sessions = record {
   connections = it.connections;
   heard = it.heard;
   tells = it.tells;
@@ -60,14 +83,20 @@ seen_as R I O a b it sessions = record {
   sessions = sessions;
 }
 
--- nobody was served on a port of which nothing is known
-pub unserved : {M : Type 0} (represents : M → State → Type 0) (is_intact is_open : M → Type 0) (most : ℕ) (office : M)
-    → Serves represents is_intact is_open most None None office office false
-unserved represents is_intact is_open most office = record {
+-- nobody was served
+pub unserved : {M : Type 0} (represents : M → State → Type 0) (is_intact is_open : M → Type 0) (recovers : M → List Command → State → Type 0) (told : Option History) (office : M)
+    → Serves represents is_intact is_open recovers 0 told told office office true
+unserved represents is_intact is_open recovers told office = record {
   connections = [];
   heard = tt;
   tells = refl;
   few = omega arith;
-  whole = λ all. absurd cc;
-  sessions = λ intact s shown. (s, shown, (refl, λ stays. stays));
+  whole = λ _. refl;
+  sessions = λ intact s shown. (s, shown, (refl, (λ stays. stays), λ asked found. ([], tt, found)));
 }
+
+-- what was known of the port before
+pub known_as : {M : Type 0} (represents : M → State → Type 0) (is_intact is_open : M → Type 0) (recovers : M → List Command → State → Type 0) (most : ℕ) (told told_mid told_after : Option History) (old new : M) (all : Bool)
+    → told_mid ≡ told → Serves represents is_intact is_open recovers most told_mid told_after old new all → Serves represents is_intact is_open recovers most told told_after old new all
+known_as represents is_intact is_open recovers most told told_mid told_after old new all same it =
+    subst (λ h. Serves represents is_intact is_open recovers most h told_after old new all) same it

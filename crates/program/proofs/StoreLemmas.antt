@@ -1,5 +1,5 @@
 -- What a command did with an office in a store, from what the calls on the office tell.
-use Rattle.std.proofs.Common.{◌≡◌, ℕ, Bool, true, false, Option, Some, None, Result, Ok, Err, IfErr, OnOk, inr, refl, subst, sym}
+use Rattle.std.proofs.Common.{◌≡◌, ℕ, Bool, true, false, Option, Some, None, Result, Ok, Err, IfErr, OnOk, inl, inr, refl, subst, sym, ◌⊎◌}
 use Rattle.std.specs.Prelude.{IsErrAnd}
 use Rattle.sqlite.specs.Effect.{Database}
 use Rattle.sqlite.specs.Files.{file_state, over_files}
@@ -14,7 +14,9 @@ use Rattle.sqlite_store.specs.declared.store.FileStore.{FileStore}
 use Rattle.isad_core.specs.Texts.{Bytes}
 use Rattle.office_core.specs.Rules.{Reply}
 use Rattle.office.specs.InitialSettings.{Founding}
-use Rattle.office.specs.IdleOffice.{is_clean, is_still_open}
+use Rattle.nested_sets.specs.Representation.{RepresentsSpanRows}
+use Rattle.tree_core.specs.Versions.{Spans}
+use Rattle.office.specs.IdleOffice.{is_clean, is_shown, is_still_open}
 use Rattle.office.specs.declared.faults.OpenFault.{OpenFault}
 use Rattle.http_desk.specs.Exchanges.{Talks}
 use Rattle.http_desk.specs.Streams.{Stream}
@@ -22,14 +24,14 @@ use Rattle.http_desk.specs.declared.session_end.Ended.{Ended}
 use Rattle.program.specs.ClosedFiles.{HasLeft, WasJudgedAsFound}
 use Rattle.program.specs.OpenedFiles.{AreHeld}
 use Rattle.program.specs.Outcomes.{IsClosedAnd}
-use Rattle.program.specs.CommandEffects.{CheckDone, CheckFails, Does, EndsWell, FailsWith, ImportDone, ImportFails, InitFails, JudgmentFails, JudgmentPrinted, Listens, MigrateFails, ReplyFails, ReplyPrinted, ServeDone, ServeFails, ServerFails, TalkDone, TalkFails, ended_by}
-use Rattle.program.specs.Connections.{Serves}
-use Rattle.program.specs.KeptOffices.{IsKept}
+use Rattle.program.specs.CommandEffects.{Channels, CheckDone, CheckFails, Does, EndsWell, FailsWith, ImportDone, ImportFails, InitFails, JudgmentFails, JudgmentPrinted, ListeningFails, Listens, MigrateFails, OnlyPrints, ReplyFails, ReplyPrinted, ServeDone, ServeFails, TalkDone, TalkFails, ended_by}
+use Rattle.program.specs.Connections.{History, Serves, after_listening}
+use Rattle.program.specs.KeptOffices.{IsRecovered}
 use Rattle.program.specs.Stores.{HasServed, HasTakenIn, IsMade, IsOpened, IsTalkedWith}
 use Rattle.program.specs.Streams.{AgreesWithCalls}
 use Rattle.program.specs.declared.faults.Break.{Break}
 use Rattle.program.specs.declared.faults.Fault.{Fault}
-use Rattle.program.specs.declared.faults.Fault.TheVariants.{Session}
+use Rattle.program.specs.declared.faults.Fault.TheVariants.{Net, Session}
 use Rattle.program.specs.declared.files.StoreOutcome.{StoreOutcome}
 use Rattle.program.specs.declared.files.StoreOutcome.TheVariants.{Closed}
 use Rattle.program.specs.declared.tasks.Task.{Task}
@@ -53,6 +55,11 @@ pub failed_with : {X E : Type 0} (r : Result X E) (P Q : E → Type 0) → IfErr
 failed_with (Ok x) P Q why so = tt
 failed_with (Err e) P Q why so = so e why
 
+-- what holds in one of two ways
+pub either_so : {A B C D : Type 0} → (A → C) → (B → D) → A ⊎ B → C ⊎ D
+either_so f g (inl a) = inl (f a)
+either_so f g (inr b) = inr (g b)
+
 module _ {S D : Type 0} (g : Ghosts D) (image : Image) where
   -- a store that was opened with this value, and closed
   module _ (start : S) (files : Files D) where
@@ -62,7 +69,7 @@ module _ {S D : Type 0} (g : Ghosts D) (image : Image) where
     module _ (reader reader_after out out_after : Stream) (office after : Held (FileStore D g)) (opened : IsOpened g image office)
         (intact : HasCleanDisk (file_state after) → HasCleanDisk (file_state office)) (left_so : HasLeft after files) where
       talked_with : (end : Ended) → AgreesWithCalls reader reader_after out out_after end
-          → Talks (IsKept (over_files {g = g})) (is_clean (over_files {g = g})) (is_still_open (over_files {g = g})) reader.bytes reader_after.bytes out.bytes out_after.bytes office end after
+          → Talks (is_shown (over_files {g = g}) RepresentsSpanRows Spans) (is_clean (over_files {g = g})) (is_still_open (over_files {g = g})) (IsRecovered (over_files {g = g})) reader.bytes reader_after.bytes out.bytes out_after.bytes office end after
           → IsTalkedWith g image reader reader_after out out_after end files
       talked_with end agrees (read, written, gone, told, through) =
           let it : IsTalkedWith g image reader reader_after out out_after end files = record {
@@ -81,13 +88,13 @@ module _ {S D : Type 0} (g : Ghosts D) (image : Image) where
           it
 
       pub talk_done : (r : Result (Unit {0}) Fault)
-          → OnOk r ((end : Ended) × EndsWell end × AgreesWithCalls reader reader_after out out_after end × Talks (IsKept (over_files {g = g})) (is_clean (over_files {g = g})) (is_still_open (over_files {g = g})) reader.bytes reader_after.bytes out.bytes out_after.bytes office end after)
+          → OnOk r ((end : Ended) × EndsWell end × AgreesWithCalls reader reader_after out out_after end × Talks (is_shown (over_files {g = g}) RepresentsSpanRows Spans) (is_clean (over_files {g = g})) (is_still_open (over_files {g = g})) (IsRecovered (over_files {g = g})) reader.bytes reader_after.bytes out.bytes out_after.bytes office end after)
           → OnOk r (TalkDone g image reader reader_after out out_after closed)
       talk_done (Ok u) (end, well, agrees, talks) = (end, well, talked_with end agrees talks)
       talk_done (Err f) done = tt
 
       pub talk_broken : (r : Result (Unit {0}) Fault)
-          → IfErr r (λ f. (broken : Break) × (f ≡ Session broken) × AgreesWithCalls reader reader_after out out_after (ended_by broken) × Talks (IsKept (over_files {g = g})) (is_clean (over_files {g = g})) (is_still_open (over_files {g = g})) reader.bytes reader_after.bytes out.bytes out_after.bytes office (ended_by broken) after)
+          → IfErr r (λ f. (broken : Break) × (f ≡ Session broken) × AgreesWithCalls reader reader_after out out_after (ended_by broken) × Talks (is_shown (over_files {g = g}) RepresentsSpanRows Spans) (is_clean (over_files {g = g})) (is_still_open (over_files {g = g})) (IsRecovered (over_files {g = g})) reader.bytes reader_after.bytes out.bytes out_after.bytes office (ended_by broken) after)
           → IfErr r (TalkFails g image reader reader_after out out_after closed)
       talk_broken (Ok u) why = tt
       talk_broken (Err f) (broken, is_so, agrees, talks) = inr (broken, is_so, talked_with (ended_by broken) agrees talks)
@@ -101,25 +108,29 @@ module _ {S D : Type 0} (g : Ghosts D) (image : Image) where
       import_failed (Ok u) why = tt
       import_failed (Err f) why = record { why = inr (inr (inr (reply, taken, why))) }
 
-    module _ (out out_after : Stream) (port connections : ℕ) (office after : Held (FileStore D g)) (opened : IsOpened g image office)
+    module _ (out out_after : Stream) (number connections : ℕ) (told told_after : Option History) (office after : Held (FileStore D g)) (opened : IsOpened g image office)
         (intact : HasCleanDisk (file_state after) → HasCleanDisk (file_state office)) (left_so : HasLeft after files) where
-      served : (all : Bool) → Serves (IsKept (over_files {g = g})) (is_clean (over_files {g = g})) (is_still_open (over_files {g = g})) connections None None office after all
-          → HasServed g image connections all files
-      served all sessions =
-          let it : HasServed g image connections all files = record { office = office; after = after; opened = opened; intact = intact; sessions = sessions; closed = left_so } in
+      served : (most : ℕ) (first last : Option History) (all : Bool)
+          → Serves (is_shown (over_files {g = g}) RepresentsSpanRows Spans) (is_clean (over_files {g = g})) (is_still_open (over_files {g = g})) (IsRecovered (over_files {g = g})) most first last office after all
+          → HasServed g image most all first last files
+      served most first last all sessions =
+          let it : HasServed g image most all first last files =
+          record { office = office; after = after; opened = opened; intact = intact; sessions = sessions; closed = left_so } in
           it
 
       pub serve_done : (r : Result (Unit {0}) Fault)
-          → OnOk r (Listens port out out_after × Serves (IsKept (over_files {g = g})) (is_clean (over_files {g = g})) (is_still_open (over_files {g = g})) connections None None office after true)
-          → OnOk r (ServeDone g image port connections out out_after closed)
-      serve_done (Ok u) (listens, sessions) = (served true sessions, listens)
+          → OnOk r (Listens number out out_after × Serves (is_shown (over_files {g = g}) RepresentsSpanRows Spans) (is_clean (over_files {g = g})) (is_still_open (over_files {g = g})) (IsRecovered (over_files {g = g})) connections (after_listening told number) told_after office after true)
+          → OnOk r (ServeDone g image number connections out out_after told told_after closed)
+      serve_done (Ok u) (listens, sessions) = (served connections (after_listening told number) told_after true sessions, listens)
       serve_done (Err f) done = tt
 
       pub serve_failed : (r : Result (Unit {0}) Fault)
-          → IfErr r (λ f. ServerFails port out out_after f × Serves (IsKept (over_files {g = g})) (is_clean (over_files {g = g})) (is_still_open (over_files {g = g})) connections None None office after false)
-          → IfErr r (ServeFails g image port connections out out_after closed)
+          → IfErr r (λ f. (ListeningFails number out out_after told told_after f × Serves (is_shown (over_files {g = g}) RepresentsSpanRows Spans) (is_clean (over_files {g = g})) (is_still_open (over_files {g = g})) (IsRecovered (over_files {g = g})) 0 told_after told_after office after true)
+          ⊎ ((f ≡ Net) × Listens number out out_after × Serves (is_shown (over_files {g = g}) RepresentsSpanRows Spans) (is_clean (over_files {g = g})) (is_still_open (over_files {g = g})) (IsRecovered (over_files {g = g})) connections (after_listening told number) told_after office after false))
+          → IfErr r (ServeFails g image number connections out out_after told told_after closed)
       serve_failed (Ok u) why = tt
-      serve_failed (Err f) (why, sessions) = inr (served false sessions, why)
+      serve_failed (Err f) (inl (why, sessions)) = inr (inl (served 0 told_after told_after true sessions, why))
+      serve_failed (Err f) (inr (is, listens, sessions)) = inr (inr (served connections (after_listening told number) told_after false sessions, is, listens))
 
     -- a check that is done has found nothing
     pub check_done : (out out_after : Stream) (judged : Option OpenFault) (r : Result (Unit {0}) Fault) → WasJudgedAsFound g image judged files → OnOk r (JudgmentPrinted judged out out_after)
@@ -133,24 +144,24 @@ module _ {S D : Type 0} (g : Ghosts D) (image : Image) where
     check_failed out out_after judged (Ok u) was why = tt
     check_failed out out_after judged (Err f) was why = inr (judged, was, why)
 
-  -- a new office was made, and nothing was read or printed
-  pub init_done : (outcome : StoreOutcome S D g) (task : Task) (path : Bytes) (founding : Founding) (reader out : Stream) (r : Result (Unit {0}) Fault) → task ≡ Init path founding → OnOk r (IsClosedAnd outcome (IsMade g image founding))
-      → OnOk r (Does g image task reader reader out out outcome)
-  init_done outcome task path founding reader out (Ok u) is made = subst (λ t. Does g image t reader reader out out outcome) (sym is) (made, (refl, refl))
-  init_done outcome task path founding reader out (Err f) is made = tt
+  -- a new office was made, and nothing was read, printed or served
+  pub init_done : (outcome : StoreOutcome S D g) (task : Task) (path : Bytes) (founding : Founding) (before : Channels) (r : Result (Unit {0}) Fault) → task ≡ Init path founding → OnOk r (IsClosedAnd outcome (IsMade g image founding))
+      → OnOk r (Does g image task before before outcome)
+  init_done outcome task path founding before (Ok u) is made = subst (λ t. Does g image t before before outcome) (sym is) (made, refl)
+  init_done outcome task path founding before (Err f) is made = tt
 
   -- an `init`, an import and a migration that fail are tasks that fail
-  pub init_as_task : (outcome : StoreOutcome S D g) (task : Task) (path : Bytes) (founding : Founding) (reader out : Stream) (r : Result (Unit {0}) Fault) → task ≡ Init path founding → IfErr r (InitFails g image founding outcome)
-      → IfErr r (FailsWith g image task reader reader out out outcome)
-  init_as_task outcome task path founding reader out (Ok u) is why = tt
-  init_as_task outcome task path founding reader out (Err f) is why = subst (λ t. FailsWith g image t reader reader out out outcome f) (sym is) (why, (refl, refl))
+  pub init_as_task : (outcome : StoreOutcome S D g) (task : Task) (path : Bytes) (founding : Founding) (before : Channels) (r : Result (Unit {0}) Fault) → task ≡ Init path founding → IfErr r (InitFails g image founding outcome)
+      → IfErr r (FailsWith g image task before before outcome)
+  init_as_task outcome task path founding before (Ok u) is why = tt
+  init_as_task outcome task path founding before (Err f) is why = subst (λ t. FailsWith g image t before before outcome f) (sym is) (why, refl)
 
-  pub import_as_task : (outcome : StoreOutcome S D g) (task : Task) (path source file : Bytes) (reader out out_after : Stream) (r : Result (Unit {0}) Fault) → task ≡ Import path source file → IfErr r (ImportFails g image source out out_after outcome)
-      → IfErr r (FailsWith g image task reader reader out out_after outcome)
-  import_as_task outcome task path source file reader out out_after (Ok u) is why = tt
-  import_as_task outcome task path source file reader out out_after (Err f) is why = subst (λ t. FailsWith g image t reader reader out out_after outcome f) (sym is) (refl, why)
+  pub import_as_task : (outcome : StoreOutcome S D g) (task : Task) (path source file : Bytes) (before after : Channels) (r : Result (Unit {0}) Fault) → task ≡ Import path source file → OnlyPrints before after
+      → IfErr r (ImportFails g image source before.out after.out outcome) → IfErr r (FailsWith g image task before after outcome)
+  import_as_task outcome task path source file before after (Ok u) is same why = tt
+  import_as_task outcome task path source file before after (Err f) is same why = subst (λ t. FailsWith g image t before after outcome f) (sym is) (same, why)
 
-  pub migrate_as_task : (outcome : StoreOutcome S D g) (task : Task) (path : Bytes) (reader out out_after : Stream) (r : Result (Unit {0}) Fault) → task ≡ Migrate path → IfErr r (MigrateFails g image out out_after outcome)
-      → IfErr r (FailsWith g image task reader reader out out_after outcome)
-  migrate_as_task outcome task path reader out out_after (Ok u) is why = tt
-  migrate_as_task outcome task path reader out out_after (Err f) is why = subst (λ t. FailsWith g image t reader reader out out_after outcome f) (sym is) (refl, why)
+  pub migrate_as_task : (outcome : StoreOutcome S D g) (task : Task) (path : Bytes) (before after : Channels) (r : Result (Unit {0}) Fault) → task ≡ Migrate path → OnlyPrints before after
+      → IfErr r (MigrateFails g image before.out after.out outcome) → IfErr r (FailsWith g image task before after outcome)
+  migrate_as_task outcome task path before after (Ok u) is same why = tt
+  migrate_as_task outcome task path before after (Err f) is same why = subst (λ t. FailsWith g image t before after outcome f) (sym is) (same, why)

@@ -31,7 +31,7 @@ always_clean all office = no_doubt _ (clean_is office.store.pool ∙ all _ _)
 module _ {D : Type 0} (g : Ghosts D) (clean : (office : Held (FileStore D g)) → HasCleanDisk (file_state office)) (places : Trees → Forest ℕ → Type 0) (version : Version) (founding : Founding) (reader reader_after out out_after : Stream) (before after : Held (FileStore D g)) (end : Ended) where
   -- what was said to a new office is a session with it
   pub talked : IsSoundOffice (founded founding) → IsIn places version (founded founding) (file_state before)
-      → Talks (is_shown (over_files {g = g}) places version) (is_clean (over_files {g = g})) (is_still_open (over_files {g = g})) reader.bytes reader_after.bytes out.bytes out_after.bytes before end after → AgreesWithCalls reader reader_after out out_after end
+      → Talks (is_shown (over_files {g = g}) places version) (is_clean (over_files {g = g})) (is_still_open (over_files {g = g})) (λ _ _ _. ⊥) reader.bytes reader_after.bytes out.bytes out_after.bytes before end after → AgreesWithCalls reader reader_after out out_after end
       → Talked founding reader reader_after out out_after end
   talked sound shown (read, written, gone, told, through) agrees =
       let (t, is, session) = through (clean after) (founded founding) (sound, shown) in

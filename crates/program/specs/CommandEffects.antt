@@ -1,5 +1,6 @@
--- What a command did with its streams and its files: `reader` and `reader_after` are standard input before and after it,
--- `out` and `out_after` are standard output, and `outcome` is what became of the store.
+-- What a command did with its streams, its port and its files: `reader` and `reader_after` are standard input before
+-- and after it, `out` and `out_after` are standard output, `told` and `told_after` are what is known of its port, and
+-- `outcome` is what became of the store.
 use Rattle.std.specs.Prelude.{◌≡◌, ◌⊎◌, ◌++◌, List, Option, Some, None, Result, Ok, Err, ℕ, codes, true, false}
 use Rattle.std.specs.Fmt.{decimal}
 use Rattle.std.specs.Io.KnownBytes.{Appends, Consumes, IsAtEnd}
@@ -23,6 +24,7 @@ use Rattle.office.specs.declared.faults.OpenFault.{OpenFault}
 use Rattle.office.specs.declared.faults.OpenFault.TheVariants as opening
 use Rattle.program.specs.Faults.{Refuses, fault_of_opening, fault_of_reading, line_of, message_of, status_of}
 use Rattle.program.specs.ClosedFiles.{WasJudgedAsFound}
+use Rattle.program.specs.Connections.{History, after_listening}
 use Rattle.program.specs.Outcomes.{IsClosedAnd, IsUnopened, IsUntouched}
 use Rattle.program.specs.Stores.{HasNoOffice, HasServed, HasTakenIn, IsBroughtOver, IsMade, IsNotBroughtOver}
 use Rattle.program.specs.Stores.{IsTalkedWith, MakesNone, WasBusy}
@@ -39,8 +41,8 @@ use Rattle.program.specs.declared.tasks.Task.{Task}
 use Rattle.program.specs.declared.tasks.Task.TheVariants.{Preview, Init, Trial, Import, Talk, Serve, Check, Migrate}
 use Rattle.program.specs.declared.tasks.TaskFault.TheVariants as tasks
 
--- the bytes of standard input, read to its end, where no read has failed; or any bytes, such as those of a named file, and
--- standard input was not touched
+-- the bytes of standard input, read to its end, where no read has failed; or any bytes, such as those of a named file,
+-- and standard input was not touched
 abbrev pub Reads : Option Text → Stream → Stream → List ℕ → Type 0
 Reads None reader reader_after bytes =
     Consumes reader.bytes reader_after.bytes bytes × IsAtEnd reader_after.bytes × (reader_after.failed ≡ reader.failed)
@@ -56,9 +58,13 @@ abbrev pub ReadingFails : Option Text → Stream → Stream → Type 0
 ReadingFails None reader reader_after = StreamFails most_calls reader reader_after
 ReadingFails (Some path) reader reader_after = Unit {0}
 
--- nothing was read or printed
-abbrev pub DoesNothing : Stream → Stream → Stream → Stream → Type 0
-DoesNothing reader reader_after out out_after = (reader_after ≡ reader) × (out_after ≡ out)
+-- nothing was read from standard input
+abbrev pub Unread : Stream → Stream → Type 0
+Unread reader reader_after = reader_after ≡ reader
+
+-- nothing was printed
+abbrev pub IsSilent : Stream → Stream → Type 0
+IsSilent out out_after = out_after ≡ out
 
 -- the finding aids of a file, or the row and the cause of its first fault
 abbrev pub previewed : Text → Text → List ℕ → Result Text (ℕ × ℕ)
@@ -113,14 +119,10 @@ TrialDone founding reader reader_after out out_after =
 abbrev pub TrialFails : Founding → Stream → Stream → Stream → Stream → Fault → Type 0
 TrialFails founding reader reader_after out out_after (Session broken) =
     Talked founding reader reader_after out out_after (ended_by broken)
-TrialFails founding reader reader_after out out_after Memory = DoesNothing reader reader_after out out_after
+TrialFails founding reader reader_after out out_after Memory = Unread reader reader_after × IsSilent out out_after
 TrialFails founding reader reader_after out out_after _ = ⊥
 
 -- ---- what is printed about an office
-
--- nothing was printed
-abbrev pub IsSilent : Stream → Stream → Type 0
-IsSilent out out_after = out_after ≡ out
 
 -- an office is busy: there is no memory, or its store fails
 abbrev pub IsBusy : Fault → Type 0
@@ -143,18 +145,21 @@ ReplyFails (Ok done) out out_after _ = ⊥
 ReplyFails (Err why) out out_after fault = Refuses why fault × IsSilent out out_after
 
 abbrev pub listening : ℕ → List ℕ
-listening port = codes "listening " ++ decimal port ++ line_feed
+listening number = codes "listening " ++ decimal number ++ line_feed
 
 -- a server has printed that it listens
 abbrev pub Listens : ℕ → Stream → Stream → Type 0
-Listens port out out_after = Prints (listening port) out out_after
+Listens number out out_after = Prints (listening number) out out_after
 
--- the server had no port or no memory, or standard output failed, or a connection could not be taken
-abbrev pub ServerFails : ℕ → Stream → Stream → Fault → Type 0
-ServerFails port out out_after Net = IsSilent out out_after ⊎ Listens port out out_after
-ServerFails port out out_after File = PrintsPart (listening port) out out_after
-ServerFails port out out_after Memory = IsSilent out out_after
-ServerFails port out out_after _ = ⊥
+-- A server took no connection: its port could not be bound; or it was bound, but standard output failed, or there was
+-- no memory for the line.
+abbrev pub ListeningFails : ℕ → Stream → Stream → Option History → Option History → Fault → Type 0
+ListeningFails number out out_after told told_after Net = IsSilent out out_after × (told_after ≡ told)
+ListeningFails number out out_after told told_after File =
+    PrintsPart (listening number) out out_after × (told_after ≡ after_listening told number)
+ListeningFails number out out_after told told_after Memory =
+    IsSilent out out_after × (told_after ≡ after_listening told number)
+ListeningFails number out out_after told told_after _ = ⊥
 
 -- what is printed about an office that is not sound, or is of the other version
 abbrev pub complaint_of : OpenFault → Option (List ℕ)
@@ -186,17 +191,35 @@ JudgmentFails (Some why) out out_after fault = ComplaintFails why (complaint_of 
 abbrev pub migrated : List ℕ
 migrated = codes "migrated\n"
 
--- nothing was read from standard input
-abbrev pub Unread : Stream → Stream → Type 0
-Unread reader reader_after = reader_after ≡ reader
+-- ---- standard input and output, and the port
+
+-- what a command has of them at one time
+pub record Channels : Type 0 where
+  pub reader : Stream
+  pub out : Stream
+  pub told : Option History
+
+abbrev pub channels : Stream → Stream → Option History → Channels
+channels reader out told = record { reader = reader; out = out; told = told }
+
+-- nothing was read, printed or served
+abbrev pub DoesNothing : Channels → Channels → Type 0
+DoesNothing before after = after ≡ before
+
+-- the port is as it was
+abbrev pub IsUnused : Channels → Channels → Type 0
+IsUnused before after = after.told ≡ before.told
+
+-- nothing was read or served
+abbrev pub OnlyPrints : Channels → Channels → Type 0
+OnlyPrints before after = Unread before.reader after.reader × IsUnused before after
 
 -- ---- offices in files, in which a store with this image was found
 
 module _ {S D : Type 0} (g : Ghosts D) (image : Image) where
-  -- the store was not touched, and nothing was read or printed
-  abbrev pub NothingDone : Stream → Stream → Stream → Stream → StoreOutcome S D g → Type 0
-  NothingDone reader reader_after out out_after outcome =
-      IsUntouched outcome × DoesNothing reader reader_after out out_after
+  -- the store was not touched, and nothing was read, printed or served
+  abbrev pub NothingDone : Channels → Channels → StoreOutcome S D g → Type 0
+  NothingDone before after outcome = IsUntouched outcome × DoesNothing before after
 
   -- the store could not be opened, and nothing was printed
   abbrev pub NoStore : Stream → Stream → StoreOutcome S D g → Fault → Type 0
@@ -207,9 +230,8 @@ module _ {S D : Type 0} (g : Ghosts D) (image : Image) where
   NotOpened out out_after outcome fault = HasNoOffice g image outcome fault × IsSilent out out_after
 
   -- a new office was made
-  abbrev pub InitDone : Founding → Stream → Stream → Stream → Stream → StoreOutcome S D g → Type 0
-  InitDone founding reader reader_after out out_after outcome =
-      IsClosedAnd outcome (IsMade g image founding) × DoesNothing reader reader_after out out_after
+  abbrev pub InitDone : Founding → Channels → Channels → StoreOutcome S D g → Type 0
+  InitDone founding before after outcome = IsClosedAnd outcome (IsMade g image founding) × DoesNothing before after
 
   -- no office was made
   abbrev pub InitFails : Founding → StoreOutcome S D g → Fault → Type 0
@@ -252,25 +274,34 @@ module _ {S D : Type 0} (g : Ghosts D) (image : Image) where
       ⊎ ((broken : Break) × (fault ≡ Session broken)
       × IsClosedAnd outcome (IsTalkedWith g image reader reader_after out out_after (ended_by broken)))
 
-  -- a server that is done: it has printed that it listens, and has served all connections
-  abbrev pub ServeDone : ℕ → ℕ → Stream → Stream → StoreOutcome S D g → Type 0
-  ServeDone port connections out out_after outcome =
-      IsClosedAnd outcome (HasServed g image connections true) × Listens port out out_after
+  -- a server that is done: its port was bound, it has printed that it listens, and has served all connections, which
+  -- the port gave and which were left
+  abbrev pub ServeDone : ℕ → ℕ → Stream → Stream → Option History → Option History → StoreOutcome S D g → Type 0
+  ServeDone number connections out out_after told told_after outcome =
+      IsClosedAnd outcome (HasServed g image connections true (after_listening told number) told_after)
+      × Listens number out out_after
 
-  -- a server that ended with a fault: the office was not opened, or the server did not print that it listens, or did
-  -- not take all connections
-  abbrev pub ServeFails : ℕ → ℕ → Stream → Stream → StoreOutcome S D g → Fault → Type 0
-  ServeFails port connections out out_after outcome fault =
-      NotOpened out out_after outcome fault
-      ⊎ (IsClosedAnd outcome (HasServed g image connections false) × ServerFails port out out_after fault)
+  -- an office was opened, and its server took no connection
+  abbrev pub ServesNobody : Option History → StoreOutcome S D g → Type 0
+  ServesNobody told outcome = IsClosedAnd outcome (HasServed g image 0 true told told)
+
+  -- a server that ended with a fault: the office was not opened, and the port is as it was; or the server did not print
+  -- that it listens, and took no connection; or the port could not give the next connection
+  abbrev pub ServeFails : ℕ → ℕ → Stream → Stream → Option History → Option History → StoreOutcome S D g → Fault
+      → Type 0
+  ServeFails number connections out out_after told told_after outcome fault =
+      (NotOpened out out_after outcome fault × (told_after ≡ told))
+      ⊎ ((ServesNobody told_after outcome × ListeningFails number out out_after told told_after fault)
+      ⊎ (IsClosedAnd outcome (HasServed g image connections false (after_listening told number) told_after)
+      × (fault ≡ Net) × Listens number out out_after))
 
   -- a check that is done: the tables are those of a sound office, and that was printed
   abbrev pub CheckDone : Stream → Stream → StoreOutcome S D g → Type 0
   CheckDone out out_after outcome =
       IsClosedAnd outcome (WasJudgedAsFound g image None) × JudgmentPrinted None out out_after
 
-  -- a check that ended with a fault: the store could not be opened; or no sound office was found in it, or it could not be
-  -- judged; or the office is sound, but that was not printed whole
+  -- a check that ended with a fault: the store could not be opened; or no sound office was found in it, or it could not
+  -- be judged; or the office is sound, but that was not printed whole
   abbrev pub CheckFails : Stream → Stream → StoreOutcome S D g → Fault → Type 0
   CheckFails out out_after outcome fault =
       NoStore out out_after outcome fault
@@ -281,74 +312,76 @@ module _ {S D : Type 0} (g : Ghosts D) (image : Image) where
   abbrev pub MigrateDone : Stream → Stream → StoreOutcome S D g → Type 0
   MigrateDone out out_after outcome = IsClosedAnd outcome (IsBroughtOver g image) × Prints migrated out out_after
 
-  -- a migration that ended with a fault: the store could not be opened; or its tables stay as they are; or the migration was
-  -- done, but that was not printed whole
+  -- a migration that ended with a fault: the store could not be opened; or its tables stay as they are; or the
+  -- migration was done, but that was not printed whole
   pub record MigrateFails (out out_after : Stream) (outcome : StoreOutcome S D g) (fault : Fault) : Type 0 where
     pub why : NoStore out out_after outcome fault
         ⊎ ((IsClosedAnd outcome (IsNotBroughtOver g image fault) × IsSilent out out_after)
         ⊎ (IsClosedAnd outcome (IsBroughtOver g image) × LineFails migrated out out_after fault))
 
   -- a task that is done
-  abbrev pub Does : Task → Stream → Stream → Stream → Stream → StoreOutcome S D g → Type 0
-  Does (Preview country repo path) reader reader_after out out_after outcome =
-      IsUntouched outcome × PreviewDone country repo path reader reader_after out out_after
-  Does (Init path founding) reader reader_after out out_after outcome =
-      InitDone founding reader reader_after out out_after outcome
-  Does (Trial founding) reader reader_after out out_after outcome =
-      IsUntouched outcome × TrialDone founding reader reader_after out out_after
-  Does (Import path source file) reader reader_after out out_after outcome =
-      Unread reader reader_after × ImportDone source out out_after outcome
-  Does (Talk path) reader reader_after out out_after outcome = TalkDone reader reader_after out out_after outcome
-  Does (Serve path port connections) reader reader_after out out_after outcome =
-      Unread reader reader_after × ServeDone port connections out out_after outcome
-  Does (Check path) reader reader_after out out_after outcome = Unread reader reader_after × CheckDone out out_after outcome
-  Does (Migrate path) reader reader_after out out_after outcome =
-      Unread reader reader_after × MigrateDone out out_after outcome
+  abbrev pub Does : Task → Channels → Channels → StoreOutcome S D g → Type 0
+  Does (Preview country repo path) before after outcome =
+      IsUntouched outcome × IsUnused before after
+      × PreviewDone country repo path before.reader after.reader before.out after.out
+  Does (Init path founding) before after outcome = InitDone founding before after outcome
+  Does (Trial founding) before after outcome =
+      IsUntouched outcome × IsUnused before after
+      × TrialDone founding before.reader after.reader before.out after.out
+  Does (Import path source file) before after outcome =
+      OnlyPrints before after × ImportDone source before.out after.out outcome
+  Does (Talk path) before after outcome =
+      IsUnused before after × TalkDone before.reader after.reader before.out after.out outcome
+  Does (Serve path number connections) before after outcome =
+      Unread before.reader after.reader
+      × ServeDone number connections before.out after.out before.told after.told outcome
+  Does (Check path) before after outcome = OnlyPrints before after × CheckDone before.out after.out outcome
+  Does (Migrate path) before after outcome = OnlyPrints before after × MigrateDone before.out after.out outcome
 
   -- a task that ended with a fault
-  abbrev pub FailsWith : Task → Stream → Stream → Stream → Stream → StoreOutcome S D g → Fault → Type 0
-  FailsWith (Preview country repo path) reader reader_after out out_after outcome fault =
-      IsUntouched outcome × PreviewFails country repo path reader reader_after out out_after fault
-  FailsWith (Init path founding) reader reader_after out out_after outcome fault =
-      InitFails founding outcome fault × DoesNothing reader reader_after out out_after
-  FailsWith (Trial founding) reader reader_after out out_after outcome fault =
-      IsUntouched outcome × TrialFails founding reader reader_after out out_after fault
-  FailsWith (Import path source file) reader reader_after out out_after outcome fault =
-      Unread reader reader_after × ImportFails source out out_after outcome fault
-  FailsWith (Talk path) reader reader_after out out_after outcome fault =
-      TalkFails reader reader_after out out_after outcome fault
-  FailsWith (Serve path port connections) reader reader_after out out_after outcome fault =
-      Unread reader reader_after × ServeFails port connections out out_after outcome fault
-  FailsWith (Check path) reader reader_after out out_after outcome fault =
-      Unread reader reader_after × CheckFails out out_after outcome fault
-  FailsWith (Migrate path) reader reader_after out out_after outcome fault =
-      Unread reader reader_after × MigrateFails out out_after outcome fault
+  abbrev pub FailsWith : Task → Channels → Channels → StoreOutcome S D g → Fault → Type 0
+  FailsWith (Preview country repo path) before after outcome fault =
+      IsUntouched outcome × IsUnused before after
+      × PreviewFails country repo path before.reader after.reader before.out after.out fault
+  FailsWith (Init path founding) before after outcome fault =
+      InitFails founding outcome fault × DoesNothing before after
+  FailsWith (Trial founding) before after outcome fault =
+      IsUntouched outcome × IsUnused before after
+      × TrialFails founding before.reader after.reader before.out after.out fault
+  FailsWith (Import path source file) before after outcome fault =
+      OnlyPrints before after × ImportFails source before.out after.out outcome fault
+  FailsWith (Talk path) before after outcome fault =
+      IsUnused before after × TalkFails before.reader after.reader before.out after.out outcome fault
+  FailsWith (Serve path number connections) before after outcome fault =
+      Unread before.reader after.reader
+      × ServeFails number connections before.out after.out before.told after.told outcome fault
+  FailsWith (Check path) before after outcome fault =
+      OnlyPrints before after × CheckFails before.out after.out outcome fault
+  FailsWith (Migrate path) before after outcome fault =
+      OnlyPrints before after × MigrateFails before.out after.out outcome fault
 
   -- words whose task is done
-  abbrev pub IsDone : List Text → Stream → Stream → Stream → Stream → StoreOutcome S D g → Type 0
-  IsDone words reader reader_after out out_after outcome =
-      (task : Task) × IsTaskOf (subcommand_of program words) task
-      × Does task reader reader_after out out_after outcome
+  abbrev pub IsDone : List Text → Channels → Channels → StoreOutcome S D g → Type 0
+  IsDone words before after outcome =
+      (task : Task) × IsTaskOf (subcommand_of program words) task × Does task before after outcome
 
   -- words whose task ended with that fault
-  abbrev pub TaskFails : List Text → Stream → Stream → Stream → Stream → StoreOutcome S D g → Fault → Type 0
-  TaskFails words reader reader_after out out_after outcome fault =
-      (task : Task) × IsTaskOf (subcommand_of program words) task
-      × FailsWith task reader reader_after out out_after outcome fault
+  abbrev pub TaskFails : List Text → Channels → Channels → StoreOutcome S D g → Fault → Type 0
+  TaskFails words before after outcome fault =
+      (task : Task) × IsTaskOf (subcommand_of program words) task × FailsWith task before after outcome fault
 
   -- words that led to a fault: they name no task, or its values are refused, or there was no memory to read them, and
-  -- nothing was read or printed; or their task ended with the fault
-  abbrev pub Fails : List Text → Stream → Stream → Stream → Stream → StoreOutcome S D g → Fault → Type 0
-  Fails words reader reader_after out out_after outcome (Words text) =
-      (takes program words ≡ false) × NothingDone reader reader_after out out_after outcome
-  Fails words reader reader_after out out_after outcome Date =
-      IsRefusedIn (subcommand_of program words) tasks.Date × NothingDone reader reader_after out out_after outcome
-  Fails words reader reader_after out out_after outcome Settings =
-      IsRefusedIn (subcommand_of program words) tasks.Settings × NothingDone reader reader_after out out_after outcome
-  Fails words reader reader_after out out_after outcome Memory =
-      NothingDone reader reader_after out out_after outcome ⊎ TaskFails words reader reader_after out out_after outcome Memory
-  Fails words reader reader_after out out_after outcome fault =
-      TaskFails words reader reader_after out out_after outcome fault
+  -- nothing was read, printed or served; or their task ended with the fault
+  abbrev pub Fails : List Text → Channels → Channels → StoreOutcome S D g → Fault → Type 0
+  Fails words before after outcome (Words text) =
+      (takes program words ≡ false) × NothingDone before after outcome
+  Fails words before after outcome Date =
+      IsRefusedIn (subcommand_of program words) tasks.Date × NothingDone before after outcome
+  Fails words before after outcome Settings =
+      IsRefusedIn (subcommand_of program words) tasks.Settings × NothingDone before after outcome
+  Fails words before after outcome Memory =
+      NothingDone before after outcome ⊎ TaskFails words before after outcome Memory
+  Fails words before after outcome fault = TaskFails words before after outcome fault
 
 -- ---- with standard error
 
@@ -359,9 +392,9 @@ Tells err err_after text = Prints text err err_after ⊎ PrintsPart text err err
 
 -- the task was done, and nothing was written on standard error; or there was a fault, and its message was written
 -- there, as far as standard error took it; this is the exit status
-abbrev pub IsPerformed : {S D : Type 0} → (g : Ghosts D) → Image → List Text → Stream → Stream → Stream → Stream → Stream
-    → Stream → StoreOutcome S D g → ℕ → Type 0
-IsPerformed g image words reader reader_after out out_after err err_after outcome status =
-    ((status ≡ 0) × IsDone g image words reader reader_after out out_after outcome × (err_after ≡ err))
-    ⊎ ((fault : Fault) × (status ≡ status_of fault) × Fails g image words reader reader_after out out_after outcome fault
+abbrev pub IsPerformed : {S D : Type 0} → (g : Ghosts D) → Image → List Text → Channels → Channels → Stream → Stream
+    → StoreOutcome S D g → ℕ → Type 0
+IsPerformed g image words before after err err_after outcome status =
+    ((status ≡ 0) × IsDone g image words before after outcome × (err_after ≡ err))
+    ⊎ ((fault : Fault) × (status ≡ status_of fault) × Fails g image words before after outcome fault
     × Tells err err_after (message_of fault))

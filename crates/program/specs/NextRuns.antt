@@ -27,7 +27,7 @@ use Rattle.http_desk.specs.Runs.{Brings, ByHttp}
 use Rattle.http_desk.specs.Streams.{Stream}
 use Rattle.http_desk.specs.declared.session_end.Ended.{Ended}
 use Rattle.program.specs.ClosedFiles.{WasJudgedAsFound}
-use Rattle.program.specs.Connections.{Connection}
+use Rattle.program.specs.Connections.{Connection, History}
 use Rattle.program.specs.OpenedFiles.{HoldsOffice}
 use Rattle.program.specs.Stores.{HasServed, HasTakenIn, IsBroughtOver, IsMade, IsNotBroughtOver, IsTalkedWith, WasBusy}
 use Rattle.program.specs.declared.faults.Fault.{Fault}
@@ -67,7 +67,8 @@ module _ {D : Type 0} (g : Ghosts D) (image : Image) (files : Files D) where
     IsBusy : (source : Bytes) (fault : Fault) → WasBusy g image source fault files → Run
     Talks : (reader reader_after out out_after : Stream) (end : Ended)
         → IsTalkedWith g image reader reader_after out out_after end files → Run
-    Serves : (connections : ℕ) (all : Bool) → HasServed g image connections all files → Run
+    Serves : (connections : ℕ) (all : Bool) (told told_after : Option History)
+        → HasServed g image connections all told told_after files → Run
     Judges : (judged : Option OpenFault) → WasJudgedAsFound g image judged files → Run
     FailsToMigrate : (fault : Fault) → IsNotBroughtOver g image fault files → Run
 
@@ -77,7 +78,7 @@ module _ {D : Type 0} {g : Ghosts D} {image : Image} {files : Files D} where
   closed_by (TakesIn source reply it) = it.after
   closed_by (IsBusy source fault it) = it.after
   closed_by (Talks reader reader_after out out_after end it) = it.after
-  closed_by (Serves connections all it) = it.after
+  closed_by (Serves connections all told told_after it) = it.after
   closed_by (Judges judged it) = it.after
   closed_by (FailsToMigrate fault it) = it.after
 
@@ -89,7 +90,8 @@ module _ {D : Type 0} {g : Ghosts D} {image : Image} {files : Files D} where
   RunBrings s (IsBusy source fault it) commands new = BringsNothing s commands new
   RunBrings s (Talks reader reader_after out out_after end it) commands new =
       Brings s (ByHttp it.input it.output end) commands new
-  RunBrings s (Serves connections all it) commands new = ConnectionsBring s it.sessions.connections commands new
+  RunBrings s (Serves connections all told told_after it) commands new =
+      ConnectionsBring s it.sessions.connections commands new
   RunBrings s (Judges judged it) commands new = BringsNothing s commands new
   RunBrings s (FailsToMigrate fault it) commands new = BringsNothing s commands new
 

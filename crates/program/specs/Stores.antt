@@ -3,7 +3,7 @@
 -- name. What is stated of an office has the premise that its disk has returned what was written. A disk that did so to
 -- the end also did so before (`intact`, and the first field of `crash`). `crash` describes what the files may hold if a
 -- failure of the disk had shut the office.
-use Rattle.std.specs.Prelude.{◌≡◌, ◌⊎◌, ℕ, Bool, false, IsOk, IsTrue, Ok, None, Some}
+use Rattle.std.specs.Prelude.{◌≡◌, ◌⊎◌, ℕ, Bool, false, IsOk, IsTrue, List, Ok, Option, Some}
 use Rattle.std.specs.Io.KnownBytes.{Appends, Consumes}
 use Rattle.sqlite.specs.Files.{file_state, over_files}
 use Rattle.sqlite.specs.Held.{Held}
@@ -18,6 +18,7 @@ use Rattle.nested_sets.specs.Representation.{RepresentsSpanRows}
 use Rattle.office_core.specs.Rules.{Reply, step}
 use Rattle.office_core.specs.SoundOffice.{IsSoundOffice}
 use Rattle.office_core.specs.State.{State}
+use Rattle.office_core.specs.declared.command.Command.{Command}
 use Rattle.office_core.specs.declared.command.Command.TheVariants.{Import}
 use Rattle.office_core.specs.declared.done.Done.{Done}
 use Rattle.office.specs.InitialSettings.{Founding, founded}
@@ -25,9 +26,10 @@ use Rattle.office.specs.Adoption.{HasAdoptCause, state_in}
 use Rattle.office.specs.NewOffice.{HasOpenCause}
 use Rattle.office.specs.OfficeCall.{MayFind, TakesStep}
 use Rattle.office.specs.Migration.{IsMigrated, MayFindMigrated}
-use Rattle.office.specs.IdleOffice.{IsAsBefore, IsIn, is_clean, is_still_open}
+use Rattle.office.specs.IdleOffice.{IsAsBefore, IsIn, is_clean, is_shown, is_still_open}
 use Rattle.office.specs.declared.faults.OpenFault.{OpenFault}
 use Rattle.http_desk.specs.AcceptedMessages.{LeavesOpen}
+use Rattle.http_desk.specs.BusyMessages.{WasBusyWith}
 use Rattle.http_desk.specs.Session.{Session}
 use Rattle.http_desk.specs.Exchanges.{Keeps}
 use Rattle.http_desk.specs.Streams.{Stream}
@@ -36,10 +38,10 @@ use Rattle.office_tables.specs.Schema.{no_schema}
 use Rattle.program.specs.ClosedFiles.{HasLeft, HaveCleanDisk, HoldState, LeaveOnly, WasJudgedAsFound}
 use Rattle.program.specs.Busy.{IsBusyFor}
 use Rattle.program.specs.Faults.{fault_of_opening}
-use Rattle.program.specs.KeptOffices.{AreTablesAfter, AreTablesOf, IsKept}
+use Rattle.program.specs.KeptOffices.{AreTablesAfter, AreTablesOf, IsRecovered}
 use Rattle.program.specs.OpenedFiles.{HoldsOffice, IsFound, IsStore}
 use Rattle.program.specs.Outcomes.{IsClosedAnd, IsUnopened}
-use Rattle.program.specs.Connections.{AreSessions, Serves, SessionsLeaveOpen}
+use Rattle.program.specs.Connections.{AreSessions, History, Serves, SessionsLeaveOpen, WereBusyWith}
 use Rattle.program.specs.Streams.{AgreesWithCalls}
 use Rattle.program.specs.declared.faults.Fault.{Fault}
 use Rattle.program.specs.declared.files.StoreOutcome.{StoreOutcome}
@@ -49,9 +51,13 @@ module _ {D : Type 0} (g : Ghosts D) (image : Image) where
   abbrev pub IsOpened : Held (FileStore D g) → Type 0
   IsOpened office = HasCleanDisk (file_state office) → IsFound image (file_state office)
 
-  -- it is in this state, and so it is after a failure of the disk, or after one command more
+  -- it is in this state, which is sound, unless a failure of the disk has shut it
   abbrev is_kept : Held (FileStore D g) → State → Type 0
-  is_kept = IsKept (over_files {g = g})
+  is_kept = is_shown (over_files {g = g}) RepresentsSpanRows Spans
+
+  -- if that has shut it, a crash finds it in this state, or in that after one of these commands
+  abbrev is_recovered : Held (FileStore D g) → List Command → State → Type 0
+  is_recovered = IsRecovered (over_files {g = g})
 
   -- A new office was made, and was in the state in which it begins; its connection was open. These are its files.
   pub record IsMade (founding : Founding) (files : Files D) : Type 0 where
@@ -86,8 +92,8 @@ module _ {D : Type 0} (g : Ghosts D) (image : Image) where
       ⊎ ((why : OpenFault) × (fault ≡ fault_of_opening why) × IsClosedAnd outcome (WasJudgedAsFound g image (Some why)))
 
   -- A session with an office that was opened. What was read is its input, what was written is its output, and its end
-  -- agrees with how the calls on its reader and writer went. If a failure of the disk has shut the office, a crash finds
-  -- it as the session left it, or after one command more. These are the office's files.
+  -- agrees with how the calls on its reader and writer went. If a failure of the disk has shut the office, a crash
+  -- finds it as the session left it, or after the command with which it was busy. These are the office's files.
   pub record IsTalkedWith (reader reader_after out out_after : Stream) (end : Ended) (files : Files D) : Type 0 where
     pub office : Held (FileStore D g)
     pub after : Held (FileStore D g)
@@ -100,7 +106,8 @@ module _ {D : Type 0} (g : Ghosts D) (image : Image) where
     pub agrees : AgreesWithCalls reader reader_after out out_after end
     pub session : is_clean (over_files {g = g}) after → (s : State) → is_kept office s
         → (t : State) × is_kept after t
-        × Keeps (IsTrue (file_state office).is_open) (IsTrue (file_state after).is_open) s input output end t
+        × Keeps (IsTrue (file_state office).is_open) (IsTrue (file_state after).is_open) (is_recovered office)
+        (is_recovered after) s input output end t
     pub closed : HasLeft after files
 
   -- An office that was opened imported a file in one step, with this reply. After a reply that is not a refusal, its
@@ -133,15 +140,17 @@ module _ {D : Type 0} (g : Ghosts D) (image : Image) where
     pub closed : HasLeft after files
 
   -- An office that was opened served this number of connections, one session after the other; or at most this number,
-  -- if not all could be taken. After a failure of the disk, a crash finds it as the sessions left it, or after one
-  -- command more. These are its files.
-  pub record HasServed (connections : ℕ) (all : Bool) (files : Files D) : Type 0 where
+  -- if not all could be taken. They are those that its port gave: `told` is known of it before the first, and
+  -- `told_after` after the last. After a failure of the disk, a crash finds the office as the sessions left it, or
+  -- after one command with which it was busy. These are its files.
+  pub record HasServed (connections : ℕ) (all : Bool) (told told_after : Option History) (files : Files D)
+      : Type 0 where
     pub office : Held (FileStore D g)
     pub after : Held (FileStore D g)
     pub opened : IsOpened office
     pub intact : HasCleanDisk (file_state after) → HasCleanDisk (file_state office)
-    pub sessions : Serves is_kept (is_clean (over_files {g = g})) (is_still_open (over_files {g = g})) connections
-        None None office after all
+    pub sessions : Serves is_kept (is_clean (over_files {g = g})) (is_still_open (over_files {g = g})) is_recovered
+        connections told told_after office after all
     pub closed : HasLeft after files
 
   -- The tables of a store were those of a sound office of version 1, and then those of an office of version 2 in the
@@ -181,8 +190,8 @@ module _ {D : Type 0} (g : Ghosts D) (image : Image) where
       → (s : State) → HoldsOffice image s → IsSoundOffice s → HoldState g files (step s (Import source it.file)).0
 
   -- After a session the office is open if the last message was a command that was accepted. After another message, a
-  -- failure of the disk may have shut it. Then a crash leaves only the office as the session left it, or after one
-  -- command more: the one that was carried out when the disk failed.
+  -- failure of the disk may have shut it. Then a crash leaves only the office as the session left it, or after the
+  -- command of its last message, if 503 was answered to that.
   abbrev pub WhatWasSaidIsHeld : Type 0
   WhatWasSaidIsHeld =
       (reader reader_after out out_after : Stream) (end : Ended) (files : Files D)
@@ -191,17 +200,19 @@ module _ {D : Type 0} (g : Ghosts D) (image : Image) where
       → (t : State) × (session : Session s it.input it.output end t)
       × (LeavesOpen (IsTrue (file_state it.office).is_open) session ⊎ IsTrue (file_state it.after).is_open
       → HoldState g files t)
-      × ((file_state it.after).is_open ≡ false → LeaveOnly g files (AreTablesAfter t))
+      × ((file_state it.after).is_open ≡ false → LeaveOnly g files (AreTablesAfter (WasBusyWith session) t))
 
-  -- the same for connections
+  -- the same for connections; 503 may have been answered to the last message of each
   abbrev pub WhatWasServedIsHeld : Type 0
   WhatWasServedIsHeld =
-      (connections : ℕ) (all : Bool) (files : Files D) (it : HasServed connections all files) → HaveCleanDisk g files
+      (connections : ℕ) (all : Bool) (told told_after : Option History) (files : Files D)
+      (it : HasServed connections all told told_after files) → HaveCleanDisk g files
       → (s : State) → HoldsOffice image s → IsSoundOffice s
       → (t : State) × (are : AreSessions it.sessions.connections s t)
       × (SessionsLeaveOpen (IsTrue (file_state it.office).is_open) it.sessions.connections s t are
       ⊎ IsTrue (file_state it.after).is_open → HoldState g files t)
-      × ((file_state it.after).is_open ≡ false → LeaveOnly g files (AreTablesAfter t))
+      × ((file_state it.after).is_open ≡ false
+      → LeaveOnly g files (AreTablesAfter (WereBusyWith it.sessions.connections s t are) t))
 
   -- Where no office was made, and a failure of the disk has shut the store, a crash leaves only a store without tables,
   -- or the new office.

@@ -1,11 +1,12 @@
 //! Performs the task that the words name.
-ghost use Rattle.std.specs.Prelude.{true, false, IfErr, OnOk, map};
+ghost use Rattle.std.specs.Prelude.{◌≡◌, ◌⊎◌, true, false, IfErr, OnOk, map};
 ghost use Rattle.std.specs.String.{string_bytes};
 ghost use Rattle.sqlite.specs.WalFiles.{image_at};
 ghost use Rattle.program.specs.CommandEffects.{CheckDone, CheckFails, Does, Fails, FailsWith, ImportDone, ImportFails};
-ghost use Rattle.program.specs.CommandEffects.{InitFails, IsDone, LineFails, Listens, MigrateDone, MigrateFails};
-ghost use Rattle.program.specs.CommandEffects.{ServeDone, ServeFails, ServerFails, TalkDone, TalkFails, migrated};
-ghost use Rattle.program.specs.Connections.{Serves};
+ghost use Rattle.program.specs.CommandEffects.{InitFails, IsDone, LineFails, ListeningFails, Listens, MigrateDone};
+ghost use Rattle.program.specs.CommandEffects.{MigrateFails, ServeDone, ServeFails, TalkDone, TalkFails, channels};
+ghost use Rattle.program.specs.CommandEffects.{migrated};
+ghost use Rattle.program.specs.Connections.{Serves, after_listening};
 ghost use Rattle.program.specs.Outcomes.{IsClosedAnd};
 ghost use Rattle.program.specs.Stores.{IsMade};
 ghost use Rattle.program.specs.Streams.{Prints};
@@ -15,7 +16,7 @@ use crate::faults::Fault;
 use crate::files::{Outcome, StoreOutcome, close, find};
 use crate::imports::{take_in, tell_reply};
 use crate::integrity::{judge_file, tell_judgment};
-use crate::ports::LocalPort;
+use crate::ports::Port;
 use crate::previews::{file_bytes, print_preview};
 use crate::server::serve;
 use crate::sessions::{talk_with, try_office};
@@ -102,41 +103,50 @@ fn talk<S: Start, R: Read, W: Write>(
     (talked, StoreOutcome::Closed(close_office(office)))
 }
 
-// Listens on a port of this machine, and prints that it does.
-fn listen<W: Write>(
+// Listens on the port of this number, and prints that it does.
+fn listen<P: Port, W: Write>(
     rt: &HostRuntime,
     alloc: Global,
-    port: u16,
+    number: u16,
+    port: &mut P,
     out: &mut Sink<'_, W>,
-) -> Result<LocalPort, Fault>
-    ensures done { OnOk result (Listens port out.old out.new) }
-    ensures fault { IfErr result (ServerFails port out.old out.new) }
+) -> Result<(), Fault>
+    ensures done { OnOk result (Listens number out.old out.new
+        × (P.history port.new ≡ after_listening (P.history port.old) number)) }
+    ensures fault { IfErr result (ListeningFails number out.old out.new (P.history port.old) (P.history port.new)) }
 {
-    let Some(local) = LocalPort::listen(rt, port) else {
+    if !port.listen(rt, number) {
         return Err(Fault::Net);
-    };
-    let line = format!(in alloc; "listening {port}\n")?;
+    }
+    let line = format!(in alloc; "listening {number}\n")?;
     write_whole(out, line.as_bytes())?;
-    Ok(local)
+    Ok(())
 }
 
-// Serves an office on a port of this machine. Prints that it listens as soon as the port is bound.
-fn serve_on_port<M: Machine, W: Write>(
+// Serves an office on the port of this number. Prints that it listens as soon as the port is bound.
+fn serve_on_port<P: Port, M: Machine, W: Write>(
     rt: &HostRuntime,
     alloc: Global,
-    port: u16,
+    number: u16,
     connections: u32,
+    port: &mut P,
     office: &mut M,
     out: &mut Sink<'_, W>,
 ) -> Result<(), Fault>
-    ensures done { OnOk result (Listens port out.old out.new
-        × Serves M.represents M.is_intact M.is_open connections None None office.old office.new true) }
-    ensures fault { IfErr result (λ f. ServerFails port out.old out.new f
-        × Serves M.represents M.is_intact M.is_open connections None None office.old office.new false) }
+    ensures done { OnOk result (Listens number out.old out.new
+        × Serves M.represents M.is_intact M.is_open M.recovers connections
+        (after_listening (P.history port.old) number) (P.history port.new) office.old office.new true) }
+    ensures fault { IfErr result (λ f.
+        (ListeningFails number out.old out.new (P.history port.old) (P.history port.new) f
+        × Serves M.represents M.is_intact M.is_open M.recovers 0 (P.history port.new) (P.history port.new)
+        office.old office.new true)
+        ⊎ ((f ≡ Fault.Net) × Listens number out.old out.new
+        × Serves M.represents M.is_intact M.is_open M.recovers connections
+        (after_listening (P.history port.old) number) (P.history port.new) office.old office.new false)) }
     ensures intact { M.is_intact office.new → M.is_intact office.old }
 {
-    let mut local = listen(rt, alloc, port, out)?;
-    if serve(alloc, &mut local, connections, office) {
+    listen(rt, alloc, number, port, out)?;
+    if serve(alloc, port, connections, office) {
         Ok(())
     } else {
         Err(Fault::Net)
@@ -144,25 +154,26 @@ fn serve_on_port<M: Machine, W: Write>(
 }
 
 // Serves the office in a file.
-fn serve_store<S: Start, W: Write>(
+fn serve_store<S: Start, P: Port, W: Write>(
     rt: &HostRuntime,
     alloc: Global,
     store: &Text,
-    port: u16,
+    number: u16,
     connections: u32,
+    port: &mut P,
     out: &mut Sink<'_, W>,
     start: S,
 ) -> (Result<(), Fault>, Outcome<S>)
-    ensures done { OnOk result.0 (ServeDone ⟦<FileFrom<S> as Disk>⟧ (image_at S.Start) port connections
-        out.old out.new result.1) }
-    ensures fault { IfErr result.0 (ServeFails ⟦<FileFrom<S> as Disk>⟧ (image_at S.Start) port connections
-        out.old out.new result.1) }
+    ensures done { OnOk result.0 (ServeDone ⟦<FileFrom<S> as Disk>⟧ (image_at S.Start) number connections
+        out.old out.new (P.history port.old) (P.history port.new) result.1) }
+    ensures fault { IfErr result.0 (ServeFails ⟦<FileFrom<S> as Disk>⟧ (image_at S.Start) number connections
+        out.old out.new (P.history port.old) (P.history port.new) result.1) }
 {
     let mut kept = match open_office(rt, alloc, store, start) {
         Ok(office) => DurableOffice { office },
         Err((fault, outcome)) => return (Err(fault), outcome),
     };
-    let served = serve_on_port(rt, alloc, port, connections, &mut kept, out);
+    let served = serve_on_port(rt, alloc, number, connections, port, &mut kept, out);
     let DurableOffice { office } = kept;
     (served, StoreOutcome::Closed(close_office(office)))
 }
@@ -230,18 +241,21 @@ fn migrate<S: Start, W: Write>(
 }
 
 // Performs a task.
-fn do_task<S: Start, R: Read, W: Write>(
+fn do_task<S: Start, R: Read, W: Write, P: Port>(
     rt: &HostRuntime,
     alloc: Global,
     task: Task,
     reader: &mut Source<'_, R>,
     out: &mut Sink<'_, W>,
+    port: &mut P,
     start: S,
 ) -> (Result<(), Fault>, Outcome<S>)
     ensures done { OnOk result.0 (Does ⟦<FileFrom<S> as Disk>⟧ (image_at S.Start) task
-        reader.old reader.new out.old out.new result.1) }
+        (channels reader.old out.old (P.history port.old)) (channels reader.new out.new (P.history port.new))
+        result.1) }
     ensures fault { IfErr result.0 (FailsWith ⟦<FileFrom<S> as Disk>⟧ (image_at S.Start) task
-        reader.old reader.new out.old out.new result.1) }
+        (channels reader.old out.old (P.history port.old)) (channels reader.new out.new (P.history port.new))
+        result.1) }
 {
     match task {
         Task::Preview {
@@ -265,31 +279,34 @@ fn do_task<S: Start, R: Read, W: Write>(
         Task::Talk { store } => talk(rt, alloc, &store, reader, out, start),
         Task::Serve {
             store,
-            port,
+            port: number,
             connections,
-        } => serve_store(rt, alloc, &store, port, connections, out, start),
+        } => serve_store(rt, alloc, &store, number, connections, port, out, start),
         Task::Check { store } => check(rt, alloc, &store, out, start),
         Task::Migrate { store } => migrate(rt, alloc, &store, out, start),
     }
 }
 
-/// Performs the task that the words name, with these streams as standard input and output. `S` gives what the files
-/// held before. Returns what became of the store: a store that was opened is closed.
-pub fn run<S: Start, R: Read, W: Write>(
+/// Performs the task that the words name, with these streams as standard input and output. Only `serve` uses the port.
+/// `S` gives what the files held before. Returns what became of the store: a store that was opened is closed.
+pub fn run<S: Start, R: Read, W: Write, P: Port>(
     rt: &HostRuntime,
     alloc: Global,
     words: &[String],
     reader: &mut Source<'_, R>,
     out: &mut Sink<'_, W>,
+    port: &mut P,
     start: S,
 ) -> (Result<(), Fault>, Outcome<S>)
     ensures done { OnOk result.0 (IsDone ⟦<FileFrom<S> as Disk>⟧ (image_at S.Start) (map string_bytes words.now)
-        reader.old reader.new out.old out.new result.1) }
+        (channels reader.old out.old (P.history port.old)) (channels reader.new out.new (P.history port.new))
+        result.1) }
     ensures fault { IfErr result.0 (Fails ⟦<FileFrom<S> as Disk>⟧ (image_at S.Start) (map string_bytes words.now)
-        reader.old reader.new out.old out.new result.1) }
+        (channels reader.old out.old (P.history port.old)) (channels reader.new out.new (P.history port.new))
+        result.1) }
 {
     match task(alloc, words) {
-        Ok(task) => do_task(rt, alloc, task, reader, out, start),
+        Ok(task) => do_task(rt, alloc, task, reader, out, port, start),
         Err(fault) => (Err(Fault::from(fault)), StoreOutcome::Untouched(start)),
     }
 }

@@ -27,14 +27,18 @@ pub struct DurableOffice<S: Durable> {
 impl<S: Durable> Machine for DurableOffice<S> {
     ghost use Rattle.sqlite.specs.Held.{state};
     ghost use Rattle.sqlite.specs.State.{HasCleanDisk};
-    ghost use Rattle.office.specs.IdleOffice.{is_still_open};
-    ghost use Rattle.program.specs.KeptOffices.{IsKept};
+    ghost use Rattle.tree_core.specs.Versions.{Spans};
+    ghost use Rattle.nested_sets.specs.Representation.{RepresentsSpanRows};
+    ghost use Rattle.office.specs.IdleOffice.{is_shown, is_still_open};
+    ghost use Rattle.program.specs.KeptOffices.{IsRecovered};
 
-    ghost represents = { λ it s. IsKept S.Store it.office s };
+    ghost represents = { λ it s. is_shown S.Store RepresentsSpanRows Spans it.office s };
 
     ghost is_intact = { λ it. HasCleanDisk (state S.Store it.office) };
 
     ghost is_open = { λ it. is_still_open S.Store it.office };
+
+    ghost recovers = { λ it asked s. IsRecovered S.Store it.office asked s };
 
     fn apply(&mut self, alloc: Global, command: Command) -> Result<Reply, Busy> {
         Office::apply(&mut self.office, alloc, &command)

@@ -3,11 +3,12 @@ ghost use Rattle.std.specs.Prelude.{◌≡◌, ◌≤◌, map};
 ghost use Rattle.std.specs.String.{string_bytes};
 ghost use Rattle.sqlite.specs.WalFiles.{image_at};
 ghost use Rattle.program.specs.Faults.{message_of, status_of};
-ghost use Rattle.program.specs.CommandEffects.{IsPerformed, Tells};
+ghost use Rattle.program.specs.CommandEffects.{IsPerformed, Tells, channels};
 
 use crate::commands::run;
 use crate::faults::Fault;
 use crate::files::Outcome;
+use crate::ports::Port;
 use crate::streams::write_whole;
 use http_desk::streams::{Sink, Source};
 use sqlite::{FileFrom, Start};
@@ -15,23 +16,25 @@ use sqlite_disk::Disk;
 use std::alloc::Global;
 use std::io::{Read, Write};
 
-/// Performs one command with these streams as standard input, output and error. Returns the exit status, and what became
-/// of the store: its file and its log are closed. The two may have held anything before: `S` gives their content.
-pub fn perform<S: Start, R: Read, W: Write, E: Write>(
+/// Performs one command with these streams as standard input, output and error. Only `serve` uses the port. Returns the
+/// exit status, and what became of the store: its file and its log are closed. The two may have held anything before:
+/// `S` gives their content.
+pub fn perform<S: Start, R: Read, W: Write, E: Write, P: Port>(
     rt: &HostRuntime,
     alloc: Global,
     words: &[String],
     reader: &mut Source<'_, R>,
     out: &mut Sink<'_, W>,
     err: &mut Sink<'_, E>,
+    port: &mut P,
     start: S,
 ) -> (u8, Outcome<S>)
     ensures performs { IsPerformed ⟦<FileFrom<S> as Disk>⟧ (image_at S.Start) (map string_bytes words.now)
-        reader.old reader.new out.old out.new
+        (channels reader.old out.old (P.history port.old)) (channels reader.new out.new (P.history port.new))
         err.old err.new result.1 result.0 }
     ensures status { result.0 ≤ 3 }
 {
-    let (done, outcome) = run(rt, alloc, words, reader, out, start);
+    let (done, outcome) = run(rt, alloc, words, reader, out, port, start);
     let status = match done {
         Ok(()) => 0,
         Err(fault) => tell(&fault, err),

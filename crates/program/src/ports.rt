@@ -1,6 +1,6 @@
 //! Ports that clients connect to.
 ghost use Rattle.std.specs.Prelude.{◌≡◌, IfNone, IfSome, None, Option};
-ghost use Rattle.program.specs.Connections.{History, IsHere, after_failing, after_leaving, after_taking};
+ghost use Rattle.program.specs.Connections.{History, IsHere, after_binding, after_failing, after_leaving, after_taking};
 
 use http_desk::session_end::Ended;
 use http_desk::streams::{Sink, Source};
@@ -16,8 +16,12 @@ pub trait Port {
     /// What writes to a client.
     type Writer: Write + Drop;
 
-    /// What is known of its connections. By default nothing is, as for a port of the system.
+    /// What is known of it and its connections. By default nothing is, as for a port of the system.
     ghost history: { Self → Option History } = { λ _. None };
+
+    /// Binds it to this number, and listens. Returns false if that fails.
+    fn listen(&mut self, rt: &HostRuntime, number: u16) -> bool
+        ensures { history self.new ≡ after_binding result (history self.old) number };
 
     /// Takes the next connection. Returns none if that fails.
     fn take(&mut self) -> Option<(Self::Reader, Self::Writer)>
@@ -69,14 +73,11 @@ fn here(port: u16) -> SocketAddr
 }
 
 impl LocalPort {
-    /// Listens on the port of this number. Returns none if it cannot be bound.
-    pub fn listen(rt: &HostRuntime, port: u16) -> Option<LocalPort> {
-        match TcpListener::bind(rt, here(port)) {
-            Ok(listener) => Some(LocalPort {
-                listener: Some(listener),
-                client: None,
-            }),
-            Err(_) => None,
+    /// A port that does not listen yet.
+    pub fn new() -> LocalPort {
+        LocalPort {
+            listener: None,
+            client: None,
         }
     }
 }
@@ -85,6 +86,14 @@ impl Port for LocalPort {
     type Reader = TcpStream;
 
     type Writer = TcpStream;
+
+    fn listen(&mut self, rt: &HostRuntime, number: u16) -> bool {
+        let Ok(listener) = TcpListener::bind(rt, here(number)) else {
+            return false;
+        };
+        self.listener = Some(listener);
+        true
+    }
 
     fn take(&mut self) -> Option<(TcpStream, TcpStream)> {
         let Some(listener) = &self.listener else {

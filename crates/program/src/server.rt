@@ -15,7 +15,7 @@ fn answer<P: Port, M: Machine>(
     office: &mut M,
 )
     ensures intact { M.is_intact office.new → M.is_intact office.old }
-    ensures answered { Answers M.represents M.is_intact M.is_open
+    ensures answered { Answers M.represents M.is_intact M.is_open M.recovers
         (P.Reader.remaining connection.0) (P.Writer.contents connection.1)
         (P.history port.old) (P.history port.new) office.old office.new }
 {
@@ -35,7 +35,7 @@ fn serve_one<P: Port, M: Machine>(
     office: &mut M,
 ) -> bool
     ensures intact { M.is_intact office.new → M.is_intact office.old }
-    ensures served { ServesOne M.represents M.is_intact M.is_open (P.history port.old) (P.history port.new)
+    ensures served { ServesOne M.represents M.is_intact M.is_open M.recovers (P.history port.old) (P.history port.new)
         office.old office.new result }
 {
     let taken = port.take();
@@ -60,8 +60,8 @@ pub fn serve<P: Port, M: Machine>(
     office: &mut M,
 ) -> bool
     ensures intact { M.is_intact office.new → M.is_intact office.old }
-    ensures served { Serves M.represents M.is_intact M.is_open connections (P.history port.old) (P.history port.new)
-        office.old office.new result }
+    ensures served { Serves M.represents M.is_intact M.is_open M.recovers connections
+        (P.history port.old) (P.history port.new) office.old office.new result }
 {
     for connection in 0..connections {
         if !serve_one(alloc, port, connection + 1 == connections, office) {

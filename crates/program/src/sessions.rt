@@ -36,11 +36,11 @@ pub fn talk_with<M: Machine, R: Read, W: Write>(
 ) -> Result<(), Fault>
     ensures done { OnOk result ((end : Ended) × EndsWell end
         × AgreesWithCalls reader.old reader.new out.old out.new end
-        × Talks M.represents M.is_intact M.is_open reader.old.bytes reader.new.bytes
+        × Talks M.represents M.is_intact M.is_open M.recovers reader.old.bytes reader.new.bytes
         out.old.bytes out.new.bytes office.old end office.new) }
     ensures broken { IfErr result (λ f. (broken : Break) × (f ≡ Fault.Session broken)
         × AgreesWithCalls reader.old reader.new out.old out.new (ended_by broken)
-        × Talks M.represents M.is_intact M.is_open reader.old.bytes reader.new.bytes
+        × Talks M.represents M.is_intact M.is_open M.recovers reader.old.bytes reader.new.bytes
         out.old.bytes out.new.bytes office.old (ended_by broken) office.new) }
     ensures store { StaysFailed M.is_intact M.is_open office.old office.new }
 {

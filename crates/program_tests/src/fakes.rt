@@ -165,12 +165,15 @@ impl Write for Page {
 }
 
 /// A port with a queue of clients, each with the text that it sends. The answers to all clients go to one pipe, with a
-/// bar after each client.
+/// bar after each client. It notes the number that it was bound to, and counts the clients that were taken and left.
 #[derive(Drop)]
 pub struct Queue<'a> {
     clients: &'a [&'a str],
-    came: usize,
     line: PipeWriter,
+    binds: bool,
+    pub number: Option<u16>,
+    pub taken: usize,
+    pub left: usize,
     pub is_shut: bool,
 }
 
@@ -179,9 +182,20 @@ impl<'a> Queue<'a> {
     pub fn of(clients: &'a [&'a str], line: PipeWriter) -> Queue<'a> {
         Queue {
             clients,
-            came: 0,
             line,
+            binds: true,
+            number: None,
+            taken: 0,
+            left: 0,
             is_shut: false,
+        }
+    }
+
+    /// It cannot be bound.
+    pub fn unbound(clients: &'a [&'a str], line: PipeWriter) -> Queue<'a> {
+        Queue {
+            binds: false,
+            ..Queue::of(clients, line)
         }
     }
 }
@@ -191,11 +205,18 @@ impl<'a> Port for Queue<'a> {
 
     type Writer = PipeWriter;
 
+    fn listen(&mut self, _rt: &HostRuntime, number: u16) -> bool {
+        if self.binds {
+            self.number = Some(number);
+        }
+        self.binds
+    }
+
     fn take(&mut self) -> Option<(Pieces<'a>, PipeWriter)> {
         let clients = self.clients;
-        let client = clients.get(self.came)?;
+        let client = clients.get(self.taken)?;
         let writer = self.line.try_clone().ok()?;
-        self.came = self.came.saturating_add(1);
+        self.taken = self.taken.saturating_add(1);
         Some((Pieces::of(client.as_bytes()), writer))
     }
 
@@ -205,6 +226,7 @@ impl<'a> Port for Queue<'a> {
         _writer: &Sink<'_, W>,
         _ended: Ended,
     ) {
+        self.left = self.left.saturating_add(1);
         let _ = self.line.write_all(b"|");
     }
 

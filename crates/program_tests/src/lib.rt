@@ -15,3 +15,4 @@ mod store_tests;
 mod streams;
 #[cfg(test)]
 mod tests;
+pub mod worked;

@@ -1,13 +1,13 @@
 //! The commands on an office in a file.
 
 use crate::fakes::{Page, Pieces, Queue};
-use crate::tests::{FONDS, Host, expect};
+use crate::tests::{FONDS, Host, expect, expect_over};
 use catalogue_store::LinkPlaces;
 use isad_core::Day;
 use nested_sets::SpanPlaces;
 use office::{Office, Settings};
 use program::files::{FailedOpening, FileFault, FileStoreFrom, close, find, make, unmake};
-use program::ports::LocalPort;
+use program::ports::{LocalPort, Port};
 use program::server::serve;
 use sqlite::{Connection, MemStore, Wary};
 use std::alloc::Global;
@@ -289,7 +289,9 @@ fn a_connection_is_served(rt: HostRuntime) -> Result<(), Fail> {
     let probe = TcpListener::bind(&rt, here)?;
     let there = probe.local_addr()?;
     drop(probe);
-    let mut local = LocalPort::listen(&rt, there.port()).ok_or("no port")?;
+    let mut local = LocalPort::new();
+    assert!(rt; local.take().is_none());
+    assert!(rt; local.listen(&rt, there.port()));
     let mut stream = TcpStream::connect(&rt, there)?;
     stream.write_all(ASKED.as_bytes())?;
     stream.shutdown(Shutdown::Write)?;
@@ -351,4 +353,94 @@ fn a_client_is_missing(rt: HostRuntime) -> Result<(), Fail> {
     assert!(rt; !all_came);
     assert_eq!(rt; sent.as_str(), wanted.as_str());
     Ok(())
+}
+
+// Performs the words over this port and output, with nothing to read, and expects this exit status, this output and
+// this text on standard error.
+fn serves<R: Abort + Host>(
+    rt: &R,
+    alloc: Global,
+    words: &str,
+    port: &mut Queue<'_>,
+    out: Page,
+    wanted: (u8, &str, &str),
+) -> Result<(), Fail> {
+    let (status, printed, told) = wanted;
+    let reader = Pieces::failing(b"");
+    let wanted = (status, printed.as_bytes(), told);
+    expect_over(rt, alloc, words, reader, out, port, wanted)
+}
+
+// `serve` takes as many clients as it was asked for, or as many as come, and leaves each of them.
+#[test]
+fn clients_are_taken_and_left(rt: HostRuntime) -> Result<(), Fail> {
+    let alloc = rt.alloc();
+    let store = new_path(&rt, alloc, "record_office_served.db")?;
+    let store = store.as_str();
+    let init = format!(in alloc; "init --store {store} {SETTINGS}")?;
+    says(&rt, alloc, init.as_str(), "", (0, "", ""))?;
+    let clients = [ASKED, "", ASKED];
+    let first = format!(in alloc; "{NONE_ANSWERED}|")?;
+    let all = format!(in alloc; "{NONE_ANSWERED}||{NONE_ANSWERED}|")?;
+    for (connections, taken, status, told, answers) in [
+        (1, 1, 0, "", first.as_str()),
+        (3, 3, 0, "", all.as_str()),
+        (5, 3, 3, "net fault\n", all.as_str()),
+    ] {
+        let (mut line, end) = io::pipe(&rt)?;
+        let mut port = Queue::of(&clients, end);
+        let words = format!(in alloc;
+            "serve --store {store} --port 8080 --connections {connections}"
+        )?;
+        let out = Page::new(Vec::new(alloc));
+        let wanted = (status, "listening 8080\n", told);
+        serves(&rt, alloc, words.as_str(), &mut port, out, wanted)?;
+        assert_eq!(rt; port.number, Some(8080));
+        assert_eq!(rt; (port.taken, port.left), (taken, taken));
+        assert_eq!(rt; port.is_shut, status == 0);
+        drop(port);
+        let mut sent = String::new(alloc);
+        let _length = line.read_to_string(&mut sent)?;
+        assert_eq!(rt; sent.as_str(), answers);
+    }
+    forget(&rt, alloc, store)
+}
+
+// No client is taken by a server that has no office, cannot bind its port or cannot print that it listens, nor by
+// another command.
+#[test]
+fn no_client_is_taken(rt: HostRuntime) -> Result<(), Fail> {
+    let alloc = rt.alloc();
+    let store = new_path(&rt, alloc, "record_office_unserved.db")?;
+    let store = store.as_str();
+    let init = format!(in alloc; "init --store {store} {SETTINGS}")?;
+    says(&rt, alloc, init.as_str(), "", (0, "", ""))?;
+    let absent = "serve --store /none/none --port 8080 --connections 2";
+    let serve = format!(in alloc; "serve --store {store} --port 8080 --connections 2")?;
+    let check = format!(in alloc; "check --store {store}")?;
+    for (words, binds, room, wanted, number) in [
+        (absent, true, 99, (3, "", "file fault\n"), None),
+        (serve.as_str(), false, 99, (3, "", "net fault\n"), None),
+        (
+            serve.as_str(),
+            true,
+            9,
+            (3, "listening", "file fault\n"),
+            Some(8080),
+        ),
+        (check.as_str(), true, 99, (0, "sound\n", ""), None),
+    ] {
+        let (_line, end) = io::pipe(&rt)?;
+        let clients = [ASKED, ASKED];
+        let mut port = if binds {
+            Queue::of(&clients, end)
+        } else {
+            Queue::unbound(&clients, end)
+        };
+        let out = Page::narrow(Vec::new(alloc), room);
+        serves(&rt, alloc, words, &mut port, out, wanted)?;
+        assert_eq!(rt; port.number, number);
+        assert_eq!(rt; (port.taken, port.left), (0, 0));
+    }
+    forget(&rt, alloc, store)
 }

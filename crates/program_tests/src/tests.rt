@@ -2,6 +2,7 @@ use crate::fakes::{Page, Pieces, Spoken};
 use crate::printed_help::HELP;
 use http_desk::streams::{Sink, Source};
 use program::perform::perform;
+use program::ports::{LocalPort, Port};
 use program::tasks::{Task, TaskFault};
 use program::words::{given, task};
 use sqlite::Wary;
@@ -84,8 +85,21 @@ pub fn expect<R: Abort + Host>(
     rt: &R,
     alloc: Global,
     words: &str,
+    reader: Pieces<'_>,
+    out: Page,
+    wanted: (u8, &[u8], &str),
+) -> Result<(), Fail> {
+    expect_over(rt, alloc, words, reader, out, &mut LocalPort::new(), wanted)
+}
+
+// The same over a port.
+pub fn expect_over<R: Abort + Host, P: Port>(
+    rt: &R,
+    alloc: Global,
+    words: &str,
     mut reader: Pieces<'_>,
     mut out: Page,
+    port: &mut P,
     wanted: (u8, &[u8], &str),
 ) -> Result<(), Fail> {
     let mut err = Page::new(Vec::new(alloc));
@@ -97,6 +111,7 @@ pub fn expect<R: Abort + Host>(
         &mut Source::new(&mut reader),
         &mut Sink::new(&mut out),
         &mut Sink::new(&mut err),
+        port,
         Wary,
     );
     let (wanted_status, wanted_out, wanted_err) = wanted;
@@ -264,6 +279,7 @@ fn a_status_stands_without_its_text(rt: HostRuntime) -> Result<(), Fail> {
             &mut Source::new(&mut reader),
             &mut Sink::new(&mut out),
             &mut Sink::new(&mut err),
+            &mut LocalPort::new(),
             Wary,
         );
         assert_eq!(rt; status, 1);

@@ -2,6 +2,7 @@
 #![tactic(auto)]
 
 use http_desk::streams::{Sink, Source};
+use program::ports::LocalPort;
 use program::{perform, words};
 use sqlite::Wary;
 use std::process::ExitCode;
@@ -18,6 +19,7 @@ fn main(rt: HostRuntime) -> ExitCode {
                 &mut Source::new(&mut rt.stdin()),
                 &mut Sink::new(&mut rt.stdout()),
                 &mut err,
+                &mut LocalPort::new(),
                 Wary,
             );
             status

@@ -24,9 +24,9 @@ returns-clause-turn g c =
     let next = c.reply_or_refuse-next.result in
     let sent = of_view (λ a. Replies before after closing (answer_text c.is_bare-bare.result closing a) next) (λ why. Refused before after false Busy next)
     c.view.result c.prepare-prepared.result.answered c.view.ensures c.reply_or_refuse-next.ensures.sent in
-    answered_at g.M.Machine.represents g.M.Machine.is_intact g.M.Machine.is_open answer_in c.args.number _ _ items size (unwrap_or c.args.head.length 0) (request_in (take size items) c.args.head) c.prepare-prepared.result.answered c.is_bare-bare.result _ _ _ c.is_closing-closing.result _
+    answered_at g.M.Machine.represents g.M.Machine.is_intact g.M.Machine.is_open g.M.Machine.recovers answer_in c.args.number _ _ items size (unwrap_or c.args.head.length 0) (request_in (take size items) c.args.head) c.prepare-prepared.result.answered c.is_bare-bare.result _ _ _ c.is_closing-closing.result _
     c.requires.accepted c.requires.whole refl (left_back c.prepare-prepared.result.answered _ _ _ c.prepare-prepared.ensures.left (grind arith))
-    (rw c.deref.ensures.value at c.is_bare-bare.ensures) (sym c.is_closing-closing.ensures) sent c.prepare-prepared.ensures.machine.answers c.prepare-prepared.ensures.machine.busy c.prepare-prepared.ensures.machine.kept
+    (rw c.deref.ensures.value at c.is_bare-bare.ensures) (sym c.is_closing-closing.ensures) sent c.prepare-prepared.ensures.machine.answers c.prepare-prepared.ensures.machine.busy c.prepare-prepared.ensures.machine.kept c.prepare-prepared.ensures.machine.found c.prepare-prepared.ensures.machine.doubt
 
 pub returns-clause-used_up : goal.returns-clause-used_up
 returns-clause-used_up g c = some_bound c.view.result _ _ c.reply_or_refuse-next.new.writer c.reply_or_refuse-next.result c.reply_or_refuse-next.ensures.used_up
@@ -44,6 +44,6 @@ returns-clause-breaks_off g c = λ bound.
     c.view.result c.prepare-prepared.result.answered c.view.ensures c.reply_or_refuse-next.ensures.sent in
     let told = of_view (λ a. TellsWriteBound (answer_text bare closing a) writer next) (λ why. TellsWriteBound (refusal false (error Busy)) writer next)
     c.view.result c.prepare-prepared.result.answered c.view.ensures c.reply_or_refuse-next.ensures.used_up in
-    answered_to_bound g.M.Machine.represents g.M.Machine.is_intact g.M.Machine.is_open answer_in c.args.number _ _ items size (unwrap_or c.args.head.length 0) (request_in (take size items) c.args.head) c.prepare-prepared.result.answered bare _ _ closing next writer
+    answered_to_bound g.M.Machine.represents g.M.Machine.is_intact g.M.Machine.is_open g.M.Machine.recovers answer_in c.args.number _ _ items size (unwrap_or c.args.head.length 0) (request_in (take size items) c.args.head) c.prepare-prepared.result.answered bare _ _ closing next writer
     c.requires.accepted c.requires.whole refl
     (rw c.deref.ensures.value at c.is_bare-bare.ensures) (sym c.is_closing-closing.ensures) sent told c.prepare-prepared.ensures.machine.answers c.prepare-prepared.ensures.machine.busy bound

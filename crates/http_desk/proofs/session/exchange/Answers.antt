@@ -30,8 +30,8 @@ returns-in-Refused-clause-turn g c =
     let bare = c.in-Refused.bare in
     let j = subst (λ v. Judges (take c.in-Whole.size c.deref.result.now) (verdict_in (take c.in-Whole.size c.deref.result.now) v)) c.in-Refused.is c.judge.ensures.judged in
     let head = head_found items c.in-Whole.size (heads.Refused status bare) found within (subst (λ b. Judges (take c.in-Whole.size b) (heads.Refused status bare)) c.deref.ensures.value j) in
-    let (written, appended, through) = refused g.M.Machine.represents g.M.Machine.is_intact g.M.Machine.is_open c.args.number c.args.office.now c.args.office.now (c.args.buffer.now.items ++ got) [] items (Refuses status bare) bare status _ _ _ c.refuse.ensures.sent
-    (subst (λ i. (block more : List ℕ) × HasHead i block (heads.Refused status bare) more) e (take c.in-Whole.size items, drop c.in-Whole.size items, head)) tt (λ s. (refl, refl)) (λ i s h. h) (λ s stays. stays) in
+    let (written, appended, through) = refused g.M.Machine.represents g.M.Machine.is_intact g.M.Machine.is_open g.M.Machine.recovers c.args.number c.args.office.now c.args.office.now (c.args.buffer.now.items ++ got) [] items (Refuses status bare) bare status _ _ _ c.refuse.ensures.sent
+    (subst (λ i. (block more : List ℕ) × HasHead i block (heads.Refused status bare) more) e (take c.in-Whole.size items, drop c.in-Whole.size items, head)) tt (λ s. (refl, refl)) (λ i s h. h) (λ s stays. stays) (λ i s h asked before. inl before) in
     (got, written, consumed, appended, through)
 
 pub returns-in-Accepted-clause-turn : goal.returns-in-Accepted-clause-turn
@@ -43,30 +43,30 @@ returns-in-Accepted-clause-turn g c =
       written,
       Consumes-trans _ _ _ _ _ consumed consumed2,
       appended,
-      subst (λ input. Through g.M.Machine.represents g.M.Machine.is_intact c.args.office.now c.receive.new.office (λ s t. Turn (g.M.Machine.is_open c.args.office.now) (g.M.Machine.is_open c.receive.new.office) c.args.number s input c.receive.result written t c.receive.new.buffer.items)) (ap (λ l. l ++ more) e ∙ append_assoc items got more) through,
+      subst (λ input. Through g.M.Machine.represents g.M.Machine.is_intact c.args.office.now c.receive.new.office (λ s t. Turn (g.M.Machine.is_open c.args.office.now) (g.M.Machine.is_open c.receive.new.office) (g.M.Machine.recovers c.args.office.now) (g.M.Machine.recovers c.receive.new.office) c.args.number s input c.receive.result written t c.receive.new.buffer.items)) (ap (λ l. l ++ more) e ∙ append_assoc items got more) through,
     )
 
 pub returns-in-TooLong-clause-turn : goal.returns-in-TooLong-clause-turn
 returns-in-TooLong-clause-turn g c =
     let (got, consumed, e) = rw c.begin_message.ensures at c.gather_head.ensures.got in
-    let (written, appended, through) = refused g.M.Machine.represents g.M.Machine.is_intact g.M.Machine.is_open c.args.number c.args.office.now c.args.office.now (c.args.buffer.now.items ++ got) [] c.gather_head.new.buffer.items NoHead false BadRequest _ _ _ c.refuse-in-TooLong.ensures.sent
-    (subst IsTooLong e c.in-TooLong.ensures.found) tt (λ s. (refl, refl)) (λ i s h. h) (λ s stays. stays) in
+    let (written, appended, through) = refused g.M.Machine.represents g.M.Machine.is_intact g.M.Machine.is_open g.M.Machine.recovers c.args.number c.args.office.now c.args.office.now (c.args.buffer.now.items ++ got) [] c.gather_head.new.buffer.items NoHead false BadRequest _ _ _ c.refuse-in-TooLong.ensures.sent
+    (subst IsTooLong e c.in-TooLong.ensures.found) tt (λ s. (refl, refl)) (λ i s h. h) (λ s stays. stays) (λ i s h asked before. inl before) in
     (got, written, consumed, appended, through)
 
 pub returns-in-Blank-clause-turn : goal.returns-in-Blank-clause-turn
 returns-in-Blank-clause-turn g c =
     let (got, consumed, e) = rw c.begin_message.ensures at c.gather_head.ensures.got in
-    (got, [], consumed, Appends-nil _, λ i s shown. (s, shown, (record { last = Nothing; stands = subst IsBlank e c.in-Blank.ensures.found; ends = refl; written = refl; leaves = refl }, λ stays. stays)))
+    (got, [], consumed, Appends-nil _, λ i s shown. (s, shown, (record { last = Nothing; stands = subst IsBlank e c.in-Blank.ensures.found; ends = refl; written = refl; leaves = refl }, (λ stays. stays), (λ asked before. inl before))))
 
 pub returns-in-Cut-clause-turn : goal.returns-in-Cut-clause-turn
 returns-in-Cut-clause-turn g c =
     let (got, consumed, e) = rw c.begin_message.ensures at c.gather_head.ensures.got in
-    (got, [], consumed, Appends-nil _, λ i s shown. (s, shown, (record { last = HeadCut; stands = subst IsHeadCut e c.in-Cut.ensures.found; ends = tt; written = refl; leaves = refl }, λ stays. stays)))
+    (got, [], consumed, Appends-nil _, λ i s shown. (s, shown, (record { last = HeadCut; stands = subst IsHeadCut e c.in-Cut.ensures.found; ends = tt; written = refl; leaves = refl }, (λ stays. stays), (λ asked before. inl before))))
 
 pub returns-in-Failed-clause-turn : goal.returns-in-Failed-clause-turn
 returns-in-Failed-clause-turn g c =
     let (got, consumed, e) = rw c.begin_message.ensures at c.gather_head.ensures.got in
-    (got, [], consumed, Appends-nil _, λ i s shown. (s, shown, stops_early (g.M.Machine.is_open c.args.office.now) c.args.number s (c.args.buffer.now.items ++ got) (subst (λ l. IsBlank l ⊎ IsHeadCut l) e c.in-Failed.ensures.found)))
+    (got, [], consumed, Appends-nil _, λ i s shown. (s, shown, stops_early (g.M.Machine.is_open c.args.office.now) (g.M.Machine.recovers c.args.office.now) c.args.number s (c.args.buffer.now.items ++ got) (subst (λ l. IsBlank l ⊎ IsHeadCut l) e c.in-Failed.ensures.found)))
 
 pub returns-in-Bound : goal.returns-in-Bound
 returns-in-Bound g c =
@@ -76,7 +76,7 @@ returns-in-Bound g c =
     let (before, few) = (rw c.begin_message.ensures at c.in-Bound.ensures.calls.bound) q in
     omega arith) (c.in-Bound.ensures.calls.used_up refl) in
     record {
-      turn = (got, [], consumed, Appends-nil _, λ i s shown. (s, shown, bound_here (g.M.Machine.is_open c.args.office.now) c.args.number s (c.args.buffer.now.items ++ got) false (may_fail (c.args.buffer.now.items ++ got))));
+      turn = (got, [], consumed, Appends-nil _, λ i s shown. (s, shown, bound_here (g.M.Machine.is_open c.args.office.now) (g.M.Machine.recovers c.args.office.now) c.args.number s (c.args.buffer.now.items ++ got) false (may_fail (c.args.buffer.now.items ++ got))));
       store = record { intact = λ i. i; was_open = λ i stays. stays };
       streams = begun _ _ _ _ _ _ c.begin_message.ensures (ran_out _ _ _ c.in-Bound.ensures.calls.failed all_taken c.gather_head.ensures.calls.taken);
       breaks_off = λ e. inl all_taken;
@@ -85,8 +85,8 @@ returns-in-Bound g c =
 pub returns-in-NoMemory-clause-turn : goal.returns-in-NoMemory-clause-turn
 returns-in-NoMemory-clause-turn g c =
     let (got, consumed, e) = rw c.begin_message.ensures at c.gather_head.ensures.got in
-    let (written, appended, through) = refused g.M.Machine.represents g.M.Machine.is_intact g.M.Machine.is_open c.args.number c.args.office.now c.args.office.now (c.args.buffer.now.items ++ got) [] c.gather_head.new.buffer.items (Fails false false) false Busy _ _ _ c.refuse-in-NoMemory.ensures.sent
-    (may_fail (c.args.buffer.now.items ++ got)) tt (λ s. (refl, refl)) (λ i s h. h) (λ s never. absurd never) in
+    let (written, appended, through) = refused g.M.Machine.represents g.M.Machine.is_intact g.M.Machine.is_open g.M.Machine.recovers c.args.number c.args.office.now c.args.office.now (c.args.buffer.now.items ++ got) [] c.gather_head.new.buffer.items (Fails false false) false Busy _ _ _ c.refuse-in-NoMemory.ensures.sent
+    (may_fail (c.args.buffer.now.items ++ got)) tt (λ s. (refl, refl)) (λ i s h. h) (λ s never. absurd never) (λ i s h asked before. inl before) in
     (got, written, consumed, appended, through)
 
 pub returns-in-Refused-clause-streams : goal.returns-in-Refused-clause-streams
@@ -119,7 +119,7 @@ returns-in-Refused-clause-breaks_off g c = λ bound.
     let bare = c.in-Refused.bare in
     let j = subst (λ v. Judges (take c.in-Whole.size c.deref.result.now) (verdict_in (take c.in-Whole.size c.deref.result.now) v)) c.in-Refused.is c.judge.ensures.judged in
     let head = head_found items c.in-Whole.size (heads.Refused status bare) found within (subst (λ b. Judges (take c.in-Whole.size b) (heads.Refused status bare)) c.deref.ensures.value j) in
-    let (written, appended, through) = refused_to_bound g.M.Machine.represents g.M.Machine.is_intact g.M.Machine.is_open c.args.number c.args.office.now c.args.office.now (c.args.buffer.now.items ++ got) [] (Refuses status bare) bare status _ _ _ c.refuse.new.writer c.refuse.ensures.sent c.refuse.ensures.used_up
+    let (written, appended, through) = refused_to_bound g.M.Machine.represents g.M.Machine.is_intact g.M.Machine.is_open g.M.Machine.recovers c.args.number c.args.office.now c.args.office.now (c.args.buffer.now.items ++ got) [] (Refuses status bare) bare status _ _ _ c.refuse.new.writer c.refuse.ensures.sent c.refuse.ensures.used_up
     (subst (λ i. (block more : List ℕ) × HasHead i block (heads.Refused status bare) more) e (take c.in-Whole.size items, drop c.in-Whole.size items, head)) refl (λ s. refl) (λ s. (refl, refl)) (λ i s h. h) bound in
     inr (got, written, consumed, appended, through)
 
@@ -144,13 +144,13 @@ returns-in-Accepted-clause-breaks_off g c = λ bound.
 pub returns-in-TooLong-clause-breaks_off : goal.returns-in-TooLong-clause-breaks_off
 returns-in-TooLong-clause-breaks_off g c = λ bound.
     let (got, consumed, e) = rw c.begin_message.ensures at c.gather_head.ensures.got in
-    let (written, appended, through) = refused_to_bound g.M.Machine.represents g.M.Machine.is_intact g.M.Machine.is_open c.args.number c.args.office.now c.args.office.now (c.args.buffer.now.items ++ got) [] NoHead false BadRequest _ _ _ c.refuse-in-TooLong.new.writer c.refuse-in-TooLong.ensures.sent c.refuse-in-TooLong.ensures.used_up
+    let (written, appended, through) = refused_to_bound g.M.Machine.represents g.M.Machine.is_intact g.M.Machine.is_open g.M.Machine.recovers c.args.number c.args.office.now c.args.office.now (c.args.buffer.now.items ++ got) [] NoHead false BadRequest _ _ _ c.refuse-in-TooLong.new.writer c.refuse-in-TooLong.ensures.sent c.refuse-in-TooLong.ensures.used_up
     (subst IsTooLong e c.in-TooLong.ensures.found) refl (λ s. refl) (λ s. (refl, refl)) (λ i s h. h) bound in
     inr (got, written, consumed, appended, through)
 
 pub returns-in-NoMemory-clause-breaks_off : goal.returns-in-NoMemory-clause-breaks_off
 returns-in-NoMemory-clause-breaks_off g c = λ bound.
     let (got, consumed, e) = rw c.begin_message.ensures at c.gather_head.ensures.got in
-    let (written, appended, through) = refused_to_bound g.M.Machine.represents g.M.Machine.is_intact g.M.Machine.is_open c.args.number c.args.office.now c.args.office.now (c.args.buffer.now.items ++ got) [] (Fails false false) false Busy _ _ _ c.refuse-in-NoMemory.new.writer c.refuse-in-NoMemory.ensures.sent c.refuse-in-NoMemory.ensures.used_up
+    let (written, appended, through) = refused_to_bound g.M.Machine.represents g.M.Machine.is_intact g.M.Machine.is_open g.M.Machine.recovers c.args.number c.args.office.now c.args.office.now (c.args.buffer.now.items ++ got) [] (Fails false false) false Busy _ _ _ c.refuse-in-NoMemory.new.writer c.refuse-in-NoMemory.ensures.sent c.refuse-in-NoMemory.ensures.used_up
     (may_fail (c.args.buffer.now.items ++ got)) refl (λ s. refl) (λ s. (refl, refl)) (λ i s h. h) bound in
     inr (got, written, consumed, appended, through)

@@ -24,7 +24,7 @@ returns-in_default g c =
     let block = take size items in
     record {
       turn =
-          leave_broken g.M.Machine.represents g.M.Machine.is_intact g.M.Machine.is_open c.args.number c.args.office.now items block
+          leave_broken g.M.Machine.represents g.M.Machine.is_intact g.M.Machine.is_open g.M.Machine.recovers c.args.number c.args.office.now items block
           (drop size items) (request_in block c.args.head) c.args.reader.now.bytes _ _
           c.allow_body.result _ c.after.result c.in_default.not-All c.after.ensures c.requires.accepted
           c.allow_body.ensures.sends;
@@ -33,7 +33,7 @@ returns-in_default g c =
           (answered _ _ c.allow_body.result true c.after.result c.after.ensures (λ all. absurd (c.in_default.not-All all)) c.allow_body.ensures.writes c.allow_body.ensures.turns c.allow_body.ensures.same)
           (λ e. (continue_text, tells_bound continue_text c.allow_body.new.writer c.allow_body.result (Ends Closed) c.after.result closed_no_bound c.after.ensures c.allow_body.ensures.used_up e)) (refl, omega arith, refl);
       breaks_off = λ bound.
-          inr (leave_to_bound g.M.Machine.represents g.M.Machine.is_intact g.M.Machine.is_open c.args.number c.args.office.now items block
+          inr (leave_to_bound g.M.Machine.represents g.M.Machine.is_intact g.M.Machine.is_open g.M.Machine.recovers c.args.number c.args.office.now items block
           (drop size items) (request_in block c.args.head) _ _ c.allow_body.new.writer c.allow_body.result c.after.result c.after.ensures c.requires.accepted
           c.allow_body.ensures.sends c.allow_body.ensures.due c.allow_body.ensures.used_up bound);
     }
@@ -55,7 +55,7 @@ returns-in-Whole-clause-turn g c =
       continue_if c.args.head.waits ++ written,
       consumed,
       Appends-trans _ _ _ _ _ c.in-All.ensures.sends appended,
-      subst (λ input. Through g.M.Machine.represents g.M.Machine.is_intact c.args.office.now c.act.new.office (λ s t. Turn (g.M.Machine.is_open c.args.office.now) (g.M.Machine.is_open c.act.new.office) c.args.number s input c.act.result (continue_if c.args.head.waits ++ written) t c.act.new.buffer.items)) e through,
+      subst (λ input. Through g.M.Machine.represents g.M.Machine.is_intact c.args.office.now c.act.new.office (λ s t. Turn (g.M.Machine.is_open c.args.office.now) (g.M.Machine.is_open c.act.new.office) (g.M.Machine.recovers c.args.office.now) (g.M.Machine.recovers c.act.new.office) c.args.number s input c.act.result (continue_if c.args.head.waits ++ written) t c.act.new.buffer.items)) e through,
     )
 
 pub returns-in-Cut-clause-turn : goal.returns-in-Cut-clause-turn
@@ -68,7 +68,7 @@ returns-in-Cut-clause-turn g c =
       continue_if c.args.head.waits,
       consumed,
       c.in-All.ensures.sends,
-      λ i s shown. (s, shown, stops_in_body (g.M.Machine.is_open c.args.office.now) c.args.number s items c.gather_body.new.buffer.items got size (request_in (take size items) c.args.head) Cut c.requires.within e short c.requires.accepted (inl refl)),
+      λ i s shown. (s, shown, stops_in_body (g.M.Machine.is_open c.args.office.now) (g.M.Machine.recovers c.args.office.now) c.args.number s items c.gather_body.new.buffer.items got size (request_in (take size items) c.args.head) Cut c.requires.within e short c.requires.accepted (inl refl)),
     )
 
 pub returns-in-Failed-clause-turn : goal.returns-in-Failed-clause-turn
@@ -81,7 +81,7 @@ returns-in-Failed-clause-turn g c =
       continue_if c.args.head.waits,
       consumed,
       c.in-All.ensures.sends,
-      λ i s shown. (s, shown, stops_in_body (g.M.Machine.is_open c.args.office.now) c.args.number s items c.gather_body.new.buffer.items got size (request_in (take size items) c.args.head) ReadFault c.requires.within e short c.requires.accepted (inr refl)),
+      λ i s shown. (s, shown, stops_in_body (g.M.Machine.is_open c.args.office.now) (g.M.Machine.recovers c.args.office.now) c.args.number s items c.gather_body.new.buffer.items got size (request_in (take size items) c.args.head) ReadFault c.requires.within e short c.requires.accepted (inr refl)),
     )
 
 pub returns-in-Bound : goal.returns-in-Bound
@@ -102,7 +102,7 @@ returns-in-Bound g c =
         continue_if c.args.head.waits,
         consumed,
         c.in-All.ensures.sends,
-        λ i s shown. (s, shown, bound_here (g.M.Machine.is_open c.args.office.now) c.args.number s (items ++ got) c.args.head.waits (may_fail_after (items ++ got) (take size items) (drop size items ++ got) (request_in (take size items) c.args.head) there)),
+        λ i s shown. (s, shown, bound_here (g.M.Machine.is_open c.args.office.now) (g.M.Machine.recovers c.args.office.now) c.args.number s (items ++ got) c.args.head.waits (may_fail_after (items ++ got) (take size items) (drop size items ++ got) (request_in (take size items) c.args.head) there)),
       );
       store = record { intact = λ i. i; was_open = λ i stays. stays };
       streams = ends_on _ _ _ _ _ _ _ written (ran_out _ _ _ c.in-Bound.ensures.calls.failed all_taken c.gather_body.ensures.calls.taken) c.gather_body.ensures.calls.taken;
@@ -115,8 +115,8 @@ returns-in-NoMemory-clause-turn g c =
     let size = c.args.size in
     let (got, consumed, e) = c.gather_body.ensures.got in
     let there = head_more items (take size items) (Accepted (request_in (take size items) c.args.head)) (drop size items) got c.requires.accepted in
-    let (written, appended, through) = refused g.M.Machine.represents g.M.Machine.is_intact g.M.Machine.is_open c.args.number c.args.office.now c.args.office.now (items ++ got) (continue_if c.args.head.waits) c.gather_body.new.buffer.items (Fails c.args.head.waits false) false Busy _ _ _ c.refuse.ensures.sent
-    (may_fail_after (items ++ got) (take size items) (drop size items ++ got) (request_in (take size items) c.args.head) there) tt (λ s. (refl, refl)) (λ i s h. h) (λ s never. absurd never) in
+    let (written, appended, through) = refused g.M.Machine.represents g.M.Machine.is_intact g.M.Machine.is_open g.M.Machine.recovers c.args.number c.args.office.now c.args.office.now (items ++ got) (continue_if c.args.head.waits) c.gather_body.new.buffer.items (Fails c.args.head.waits false) false Busy _ _ _ c.refuse.ensures.sent
+    (may_fail_after (items ++ got) (take size items) (drop size items ++ got) (request_in (take size items) c.args.head) there) tt (λ s. (refl, refl)) (λ i s h. h) (λ s never. absurd never) (λ i s h asked before. inl before) in
     (got, continue_if c.args.head.waits ++ written, consumed, Appends-trans _ _ _ _ _ c.in-All.ensures.sends appended, through)
 
 pub returns-in-Whole-clause-streams : goal.returns-in-Whole-clause-streams
@@ -149,6 +149,6 @@ returns-in-NoMemory-clause-breaks_off g c = λ bound.
     let size = c.args.size in
     let (got, consumed, e) = c.gather_body.ensures.got in
     let there = head_more items (take size items) (Accepted (request_in (take size items) c.args.head)) (drop size items) got c.requires.accepted in
-    let (written, appended, through) = refused_to_bound g.M.Machine.represents g.M.Machine.is_intact g.M.Machine.is_open c.args.number c.args.office.now c.args.office.now (items ++ got) (continue_if c.args.head.waits) (Fails c.args.head.waits false) false Busy _ _ _ c.refuse.new.writer c.refuse.ensures.sent c.refuse.ensures.used_up
+    let (written, appended, through) = refused_to_bound g.M.Machine.represents g.M.Machine.is_intact g.M.Machine.is_open g.M.Machine.recovers c.args.number c.args.office.now c.args.office.now (items ++ got) (continue_if c.args.head.waits) (Fails c.args.head.waits false) false Busy _ _ _ c.refuse.new.writer c.refuse.ensures.sent c.refuse.ensures.used_up
     (may_fail_after (items ++ got) (take size items) (drop size items ++ got) (request_in (take size items) c.args.head) there) refl (λ s. refl) (λ s. (refl, refl)) (λ i s h. h) bound in
     inr (got, continue_if c.args.head.waits ++ written, consumed, Appends-trans _ _ _ _ _ c.in-All.ensures.sends appended, through)

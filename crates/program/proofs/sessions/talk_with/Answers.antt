@@ -14,5 +14,5 @@ returns-clause-broken g c =
       broken,
       is,
       subst (AgreesWithCalls c.args.reader.now c.talk.new.reader c.args.out.now c.talk.new.writer) ended c.talk.ensures.streams,
-      subst (λ e. Talks g.M.Machine.represents g.M.Machine.is_intact g.M.Machine.is_open c.args.reader.now.bytes c.talk.new.reader.bytes c.args.out.now.bytes c.talk.new.writer.bytes c.args.office.now e c.talk.new.office) ended c.talk.ensures.session,
+      subst (λ e. Talks g.M.Machine.represents g.M.Machine.is_intact g.M.Machine.is_open g.M.Machine.recovers c.args.reader.now.bytes c.talk.new.reader.bytes c.args.out.now.bytes c.talk.new.writer.bytes c.args.office.now e c.talk.new.office) ended c.talk.ensures.session,
     )) c.after.ensures.broken
