@@ -12,11 +12,11 @@ use Rattle.sqlite.specs.Effect.{Database, RefusesToRead, RefusesQuery}
 use Rattle.sqlite.specs.State.{State, HasCleanDisk, Survives, Shown, FailsToQuery, IsNotRun, IsNoStatement, IsUnchanged, Fails, CommitsShowing}
 use Rattle.sqlite.specs.declared.error.Error.{Error}
 use Rattle.sqlite.proofs.StateLemmas.{survives_weaker}
-use Rattle.office_tables.specs.Faults.{fault_of, IsUnlimited, HasCause}
+use Rattle.office_tables.specs.Faults.{fault_of, IsUnlimited, HasCause, HasOuterCause}
 use Rattle.office_tables.specs.Step.{LeavesUnchanged, IsAborted}
 use Rattle.office_tables.specs.declared.fault.StoreFault.TheVariants as fault
 use Rattle.office_tables.proofs.Calls.{early, unchanged_on, stopped}
-use Rattle.office_tables.proofs.Causes.{failed_cause}
+use Rattle.office_tables.proofs.Causes.{failed_cause, failed_outer}
 use Rattle.office_tables.proofs.Errors.{fails}
 use Rattle.tree_core.specs.Versions.{Version, Links, Spans, version_number}
 use Rattle.office_tables.specs.Cells.{number_in}
@@ -75,7 +75,7 @@ module _ (old new : State) where
 
   schema_only : (e : Error) → fault_of e ≡ fault.Schema → IsRefused e ⊎ Fails old new ⊥ e → IsRefused e
   schema_only e is (inl it) = it
-  schema_only e is (inr failed) = absurd (subst (HasCause old new) is (failed_cause old new e failed))
+  schema_only e is (inr failed) = absurd (subst (HasOuterCause old new) is (failed_outer old new e failed))
 
   pub versions_refused : (e : Error) → IsUnlimited old → FailsToQuery version_text [] old new e → fault_of e ≡ fault.Schema → IsRefused e
   versions_refused e free h is = schema_only e is (versions_fail e free h)

@@ -1,21 +1,19 @@
 //! Closes units, and ends their closure.
 
 ghost use Rattle.std.specs.Prelude.{◌≡◌, true};
-ghost use Rattle.sqlite.specs.Held.{state};
 ghost use Rattle.isad_core.specs.Limits.{IsNumber};
 ghost use Rattle.catalogue_core.specs.UnitLookup.{has_unit};
 ghost use Rattle.catalogue_core.specs.Units.{is_later};
 ghost use Rattle.catalogue_core.specs.GoodCatalogues.{IsSomeDay};
 ghost use Rattle.office_core.specs.declared.command.Command.TheVariants as command;
-ghost use Rattle.office_tables.specs.Step.{InTransaction};
 ghost use Rattle.refinement.specs.CommandSteps.{Performs};
 
 use catalogue_store::{Places, is_unit, set_closure};
 use isad_core::Day;
 use office_core::{Done, Refusal};
-use office_tables::StoreFault;
+use office_tables::{StoreFault, Tables};
 use refinement::{is_closed, pass_near};
-use sqlite::{Alter, Connection};
+use sqlite::Alter;
 use std::alloc::Global;
 
 /// If there is a day, it is one of the calendar.
@@ -31,24 +29,23 @@ fn is_of_calendar(until: Option<Day>)
 /// reader who has it. A closure that is not in force today closes none.
 fn close_known<P: Places, S: Alter>(
     alloc: Global,
-    conn: &mut Connection<S>,
+    tables: &mut Tables<P, S>,
     today: Day,
     unit: u64,
     until: Option<Day>,
     is_in_force: bool,
 ) -> Result<Result<Done, Refusal>, StoreFault>
-    requires inside { InTransaction P.version (state S.Store conn.old) }
     requires small { IsNumber unit }
     requires calendar { IsSomeDay until }
     requires lasts { is_in_force ≡ is_later today until }
-    ensures { Performs P.Places S.Store (λ s. (today ≡ s.day) × (has_unit s.catalogue.forest unit ≡ true))
-        (command.SetClosure unit until) conn.old conn.new result }
+    ensures { Performs P.represents P.version S.Store (λ s. (today ≡ s.day) × (has_unit s.catalogue.forest unit ≡ true))
+        (command.SetClosure unit until) tables.old tables.new result }
 {
-    set_closure::<P, S>(conn, unit, until)?;
+    set_closure(tables, unit, until)?;
     if !is_in_force {
         return Ok(Ok(Done::SetClosure { unit }));
     }
-    pass_near::<P, S>(alloc, conn, today, unit, Done::SetClosure { unit })
+    pass_near(alloc, tables, today, unit, Done::SetClosure { unit })
 }
 
 /// Closes a unit until a day, or ends its closure. Refuses if there is no such unit, or if this
@@ -56,18 +53,18 @@ fn close_known<P: Places, S: Alter>(
 /// transaction back. `today` must be the office's day.
 pub fn change_closure<P: Places, S: Alter>(
     alloc: Global,
-    conn: &mut Connection<S>,
+    tables: &mut Tables<P, S>,
     today: Day,
     unit: u64,
     until: Option<Day>,
 ) -> Result<Result<Done, Refusal>, StoreFault>
-    requires inside { InTransaction P.version (state S.Store conn.old) }
-    ensures { Performs P.Places S.Store (λ s. today ≡ s.day) (command.SetClosure unit until) conn.old conn.new result }
+    ensures { Performs P.represents P.version S.Store (λ s. today ≡ s.day) (command.SetClosure unit until) tables.old
+        tables.new result }
 {
-    if !is_unit::<P, S>(alloc, conn, unit)? {
+    if !is_unit(alloc, tables, unit)? {
         return Ok(Err(Refusal::UnknownUnit));
     }
     is_of_calendar(until);
     let is_in_force = is_closed(until, today);
-    close_known::<P, S>(alloc, conn, today, unit, until, is_in_force)
+    close_known(alloc, tables, today, unit, until, is_in_force)
 }

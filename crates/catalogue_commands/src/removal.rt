@@ -1,13 +1,11 @@
 //! Removes units.
 
 ghost use Rattle.std.specs.Prelude.{◌≡◌, true};
-ghost use Rattle.sqlite.specs.Held.{state};
 ghost use Rattle.isad_core.specs.Limits.{IsNumber};
 ghost use Rattle.catalogue_core.specs.UnitLookup.{has_unit};
 ghost use Rattle.desk_store.specs.Holdings.{issued_of};
 ghost use Rattle.office_core.specs.declared.command.Command.TheVariants as command;
-ghost use Rattle.state_encoding.specs.OfficeRows.{tables};
-ghost use Rattle.office_tables.specs.Step.{InTransaction};
+ghost use Rattle.state_encoding.specs.OfficeRows.{tables as tables_of};
 ghost use Rattle.refinement.specs.CommandSteps.{Performs};
 ghost use Rattle.refinement.specs.Gate.{AreAsked};
 
@@ -15,46 +13,44 @@ use catalogue_store::{Places, is_unit, remove_branch};
 use desk_store::Loan;
 use isad_core::Day;
 use office_core::{Done, Refusal};
-use office_tables::StoreFault;
+use office_tables::{StoreFault, Tables};
 use refinement::{loans_near, pass_of};
-use sqlite::{Alter, Connection};
+use sqlite::Alter;
 use std::alloc::Global;
 
 /// Removes a unit that exists and all below it, or refuses if this would close a container to the reader who has it.
 /// `loans` are the loans that this may affect.
 fn remove_beside<P: Places, S: Alter>(
     alloc: Global,
-    conn: &mut Connection<S>,
+    tables: &mut Tables<P, S>,
     today: Day,
     unit: u64,
     loans: &[Loan],
 ) -> Result<Result<Done, Refusal>, StoreFault>
-    requires inside { InTransaction P.version (state S.Store conn.old) }
     requires small { IsNumber unit }
-    ensures { Performs P.Places S.Store (λ s. (today ≡ s.day) × (has_unit s.catalogue.forest unit ≡ true)
-        × AreAsked unit s (issued_of (tables P.version s).desk) loans.now) (command.Remove unit)
-        conn.old conn.new result }
+    ensures { Performs P.represents P.version S.Store (λ s. (today ≡ s.day) × (has_unit s.catalogue.forest unit ≡ true)
+        × AreAsked unit s (issued_of (tables_of P.version s).desk) loans.now) (command.Remove unit)
+        tables.old tables.new result }
 {
-    let units = remove_branch::<P, S>(alloc, conn, unit)?;
-    pass_of::<P, S>(alloc, conn, today, loans, Done::Remove { units })
+    let units = remove_branch(alloc, tables, unit)?;
+    pass_of(alloc, tables, today, loans, Done::Remove { units })
 }
 
 /// Removes a unit that exists and all below it, or refuses if this would close a container to the
 /// reader who has it.
 fn remove_known<P: Places, S: Alter>(
     alloc: Global,
-    conn: &mut Connection<S>,
+    tables: &mut Tables<P, S>,
     today: Day,
     unit: u64,
 ) -> Result<Result<Done, Refusal>, StoreFault>
-    requires inside { InTransaction P.version (state S.Store conn.old) }
     requires small { IsNumber unit }
-    ensures { Performs P.Places S.Store (λ s. (today ≡ s.day) × (has_unit s.catalogue.forest unit ≡ true))
-        (command.Remove unit) conn.old conn.new result }
+    ensures { Performs P.represents P.version S.Store (λ s. (today ≡ s.day) × (has_unit s.catalogue.forest unit ≡ true))
+        (command.Remove unit) tables.old tables.new result }
 {
     // Once the units are removed, no row says which containers they named.
-    let loans = loans_near::<P, S>(alloc, conn, unit)?;
-    remove_beside::<P, S>(alloc, conn, today, unit, &loans)
+    let loans = loans_near(alloc, tables, unit)?;
+    remove_beside(alloc, tables, today, unit, &loans)
 }
 
 /// Removes a unit and all below it, with the permits for these units. Refuses if there is no such unit, or if this
@@ -62,15 +58,15 @@ fn remove_known<P: Places, S: Alter>(
 /// must be the office's day.
 pub fn remove_unit<P: Places, S: Alter>(
     alloc: Global,
-    conn: &mut Connection<S>,
+    tables: &mut Tables<P, S>,
     today: Day,
     unit: u64,
 ) -> Result<Result<Done, Refusal>, StoreFault>
-    requires inside { InTransaction P.version (state S.Store conn.old) }
-    ensures { Performs P.Places S.Store (λ s. today ≡ s.day) (command.Remove unit) conn.old conn.new result }
+    ensures { Performs P.represents P.version S.Store (λ s. today ≡ s.day) (command.Remove unit) tables.old tables.new
+        result }
 {
-    if !is_unit::<P, S>(alloc, conn, unit)? {
+    if !is_unit(alloc, tables, unit)? {
         return Ok(Err(Refusal::UnknownUnit));
     }
-    remove_known::<P, S>(alloc, conn, today, unit)
+    remove_known(alloc, tables, today, unit)
 }

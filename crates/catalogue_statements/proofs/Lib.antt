@@ -27,7 +27,6 @@ pub mod Moves
 pub mod UnitDeletes
 pub mod Removals
 pub mod LinkQueries
-pub mod LinkStatements
 pub mod InsertFaults
 pub mod UnitFaults
 pub mod Untold

@@ -4,11 +4,13 @@
 pub mod containers;
 pub mod elements;
 pub mod housing;
+mod link_places;
 pub mod link_queries;
 pub mod link_updates;
 pub mod office;
 pub mod row_types;
 pub mod units;
 
+pub use link_places::LinkPlaces;
 pub use office::OfficeRow;
 pub use units::NewUnit;

@@ -7,8 +7,8 @@ ghost use Rattle.tree_core.specs.Versions.{Version};
 ghost use Rattle.isad_core.specs.Limits.{IsNumber};
 ghost use Rattle.office_tables.specs.ChangeStatement.{Leaves};
 ghost use Rattle.office_tables.specs.RowCounts.{capped};
-ghost use Rattle.office_tables.specs.Schema as tables;
-ghost use Rattle.office_tables.specs.Step.{InOffice, Holds, HasRows};
+ghost use Rattle.office_tables.specs.Schema as schema;
+ghost use Rattle.office_tables.specs.Step.{Holds, HasRows};
 ghost use Rattle.office_tables.specs.TableStatements.{LooksUp};
 ghost use Rattle.catalogue_statements.specs.CallClauses.{ChangesOnly, FailsWithCause, OnlyReads};
 ghost use Rattle.catalogue_statements.specs.Rows.{container_row, office_row as row_of_office, unit_row};
@@ -18,8 +18,8 @@ ghost use Rattle.catalogue_statements.specs.declared.office.OfficeRow.{OfficeRow
 
 use isad_core::{Day, Text};
 use office_tables::value::number;
-use office_tables::{StoreFault, change, find};
-use sqlite::{Alter, Connection};
+use office_tables::{StoreFault, Tables, Versioned, change, find};
+use sqlite::Alter;
 use std::alloc::Global;
 
 /// The office's row: the settings, the day and the next unit number.
@@ -44,67 +44,68 @@ pub struct OfficeRow {
 }
 
 /// Writes the number of the next new unit.
-pub fn set_next_unit<S: Alter>(conn: &mut Connection<S>, next: u64) -> Result<(), StoreFault>
-    requires inside { InOffice (state S.Store conn.old) }
+pub fn set_next_unit<P: Versioned, S: Alter>(
+    tables: &mut Tables<P, S>,
+    next: u64,
+) -> Result<(), StoreFault>
     requires small { IsNumber next }
-    ensures leaves { Leaves (state S.Store conn.old) (state S.Store conn.new) result }
-    ensures rows { HasCleanDisk (state S.Store conn.new)
-        → (version : Version) (o : OfficeRow) → RepresentsOffice version (state S.Store conn.old).now.trees o
-        → OnOk result (HasRows tables.office.tree (row_of_office version (record o { next_unit = next }) ∷ [])
-        (state S.Store conn.old).now (state S.Store conn.new).now) }
-    ensures only { ChangesOnly S.Store (tables.office.tree ∷ []) conn.old conn.new result }
-    ensures faults { (version : Version) (o : OfficeRow) → RepresentsOffice version (state S.Store conn.old).now.trees o
-        → FailsWithCause S.Store conn.old conn.new result }
+    ensures leaves { Leaves (state S.Store tables.old) (state S.Store tables.new) result }
+    ensures rows { HasCleanDisk (state S.Store tables.new)
+        → (version : Version) (o : OfficeRow) → RepresentsOffice version (state S.Store tables.old).now.trees o
+        → OnOk result (HasRows schema.office.tree (row_of_office version (record o { next_unit = next }) ∷ [])
+        (state S.Store tables.old).now (state S.Store tables.new).now) }
+    ensures only { ChangesOnly S.Store (schema.office.tree ∷ []) tables.old tables.new result }
+    ensures faults { (version : Version) (o : OfficeRow) → RepresentsOffice version
+        (state S.Store tables.old).now.trees o
+        → FailsWithCause S.Store tables.old tables.new result }
 {
     change(
-        conn,
+        tables,
         "UPDATE office SET next_unit = ?1 WHERE one = 1",
         &[number(next)],
     )
 }
 
 /// The rows of the table, of which there is one.
-pub fn office_rows<S: Alter>(
+pub fn office_rows<P: Versioned, S: Alter>(
     alloc: Global,
-    conn: &mut Connection<S>,
+    tables: &mut Tables<P, S>,
 ) -> Result<Vec<OfficeRow>, StoreFault>
-    requires inside { InOffice (state S.Store conn.old) }
-    ensures reads { OnlyReads S.Store conn.old conn.new result }
-    ensures rows { HasCleanDisk (state S.Store conn.new)
-        → (version : Version) (o : OfficeRow) → RepresentsOffice version (state S.Store conn.old).now.trees o
+    ensures reads { OnlyReads S.Store tables.old tables.new result }
+    ensures rows { HasCleanDisk (state S.Store tables.new)
+        → (version : Version) (o : OfficeRow) → RepresentsOffice version (state S.Store tables.old).now.trees o
         → IfOk result (λ found. found.items ≡ o ∷ []) }
-    ensures faults { (version : Version) (o : OfficeRow) → RepresentsOffice version (state S.Store conn.old).now.trees o
+    ensures faults { (version : Version) (o : OfficeRow) → RepresentsOffice version
+        (state S.Store tables.old).now.trees o
         → AreLegibleSettings o
-        → FailsWithCause S.Store conn.old conn.new result }
+        → FailsWithCause S.Store tables.old tables.new result }
 {
     find(
         alloc,
-        conn,
+        tables,
         "SELECT country, repo, seats, daily, hands, run_size, day, next_unit FROM office ORDER BY one",
         &[],
     )
 }
 
 /// How many units there are.
-pub fn count_units<S: Alter>(
+pub fn count_units<P: Versioned, S: Alter>(
     alloc: Global,
-    conn: &mut Connection<S>,
+    tables: &mut Tables<P, S>,
 ) -> Result<Vec<u64>, StoreFault>
-    requires inside { InOffice (state S.Store conn.old) }
-    ensures { LooksUp S.Store (Holds tables.unit unit_row) conn.old conn.new result
+    ensures { LooksUp S.Store (Holds schema.unit unit_row) tables.old tables.new result
         (λ _. ⊤) (λ _. ⊤) (λ xs found. found.items ≡ capped (length xs) ∷ []) }
 {
-    find(alloc, conn, "SELECT count(*) FROM unit", &[])
+    find(alloc, tables, "SELECT count(*) FROM unit", &[])
 }
 
 /// How many containers there are.
-pub fn count_containers<S: Alter>(
+pub fn count_containers<P: Versioned, S: Alter>(
     alloc: Global,
-    conn: &mut Connection<S>,
+    tables: &mut Tables<P, S>,
 ) -> Result<Vec<u64>, StoreFault>
-    requires inside { InOffice (state S.Store conn.old) }
-    ensures { LooksUp S.Store (Holds tables.container container_row) conn.old conn.new result
+    ensures { LooksUp S.Store (Holds schema.container container_row) tables.old tables.new result
         (λ _. ⊤) (λ _. ⊤) (λ xs found. found.items ≡ capped (length xs) ∷ []) }
 {
-    find(alloc, conn, "SELECT count(*) FROM container", &[])
+    find(alloc, tables, "SELECT count(*) FROM container", &[])
 }

@@ -12,7 +12,6 @@ ghost use Rattle.office_tables.specs.Creation.{IsMaking, LeavesMaking};
 ghost use Rattle.catalogue_core.specs.UnitLookup.{FindsUnit};
 ghost use Rattle.office_tables.specs.Schema.{desk_schema, desk_tables};
 ghost use Rattle.catalogue_statements.specs.Representation.{Represents, RepresentsUnits};
-ghost use Rattle.office_tables.specs.Step.{InOffice};
 ghost use Rattle.catalogue_core.specs.Units.{is_from};
 
 use crate::office::insert_office;
@@ -20,8 +19,8 @@ use crate::places::Places;
 use catalogue_statements::OfficeRow;
 use catalogue_statements::units::units_from;
 use isad_core::Text;
-use office_tables::StoreFault;
 use office_tables::table_creation::{create_containers, create_units};
+use office_tables::{StoreFault, Tables, Versioned};
 use sqlite::{Alter, Connection};
 use std::alloc::Global;
 
@@ -48,16 +47,16 @@ pub fn create<P: Places, S: Alter>(
 }
 
 /// The number of the unit that has the number `legacy` in this source, or none if no unit has it.
-pub fn known<S: Alter>(
+pub fn known<P: Versioned, S: Alter>(
     alloc: Global,
-    conn: &mut Connection<S>,
+    tables: &mut Tables<P, S>,
     source: &Text,
     legacy: &Text,
 ) -> Result<Option<u64>, StoreFault>
-    requires inside { InOffice (state S.Store conn.old) }
-    ensures tells { StoreAnswers S.Store (RepresentsAlone RepresentsUnits) (λ _. ⊤) conn.old conn.new result (λ _. ⊤)
+    ensures tells { StoreAnswers S.Store (RepresentsAlone RepresentsUnits) (λ _. ⊤) tables.old tables.new result
+        (λ _. ⊤)
         (λ _ f. FindsUnit (is_from source.now legacy.now) f) }
 {
-    let found = units_from(alloc, conn, source, legacy)?;
+    let found = units_from(alloc, tables, source, legacy)?;
     Ok(found.first().copied())
 }

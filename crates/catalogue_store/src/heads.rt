@@ -2,7 +2,6 @@
 
 ghost use Rattle.std.specs.Prelude.{◌≡◌, ⊤, [], Some, find, map, nat_eq, option_map, true, unwrap_or, IfOk, IfSome};
 ghost use Rattle.std.specs.List.{AllByRecursion};
-ghost use Rattle.sqlite.specs.Held.{state};
 ghost use Rattle.isad_core.specs.Limits.{IsNumber};
 ghost use Rattle.tree_core.specs.Forest.{nodes, path};
 ghost use Rattle.tree_core.specs.Tops.{part_below, tops};
@@ -10,7 +9,6 @@ ghost use Rattle.catalogue_core.specs.Bounds.{IsKept};
 ghost use Rattle.catalogue_core.specs.UnitLookup.{has_unit};
 ghost use Rattle.catalogue_core.specs.Units.{has_id};
 ghost use Rattle.office_tables.specs.Calls.{StoreAnswers};
-ghost use Rattle.office_tables.specs.Step.{InTransaction};
 ghost use Rattle.catalogue_statements.specs.Representation.{Represents};
 ghost use Rattle.catalogue_statements.specs.declared.row_types.Element.{Element};
 ghost use Rattle.catalogue_store.specs.Heads.{head_at, head_of};
@@ -20,9 +18,9 @@ use catalogue_statements::elements::first_elements;
 use catalogue_statements::row_types::Element;
 use catalogue_statements::units::standings_of;
 use isad_core::{Day, Text};
-use office_tables::StoreFault;
 use office_tables::value::NO_NUMBER;
-use sqlite::{Alter, Connection};
+use office_tables::{StoreFault, Tables};
+use sqlite::Alter;
 use std::alloc::{AllocError, Global};
 
 /// A unit as its head line shows it. A text that the unit lacks is empty.
@@ -57,19 +55,19 @@ fn text_among(alloc: Global, elements: &[Element], element: u64) -> Result<Text,
 /// The head of the unit with this number, or none if there is no such unit.
 pub fn find_head<P: Places, S: Alter>(
     alloc: Global,
-    conn: &mut Connection<S>,
+    tables: &mut Tables<P, S>,
     unit: u64,
 ) -> Result<Option<Head>, StoreFault>
-    requires inside { InTransaction P.version (state S.Store conn.old) }
     requires small { IsNumber unit }
-    ensures tells { StoreAnswers S.Store (Represents P.represents P.version) IsKept conn.old conn.new result (λ _. ⊤)
+    ensures tells { StoreAnswers S.Store (Represents P.represents P.version) IsKept tables.old tables.new result
+        (λ _. ⊤)
         (λ _ c head. head ≡ option_map head_of (find (has_id unit) (nodes c.forest))) }
 {
-    let mut found = standings_of(alloc, conn, unit)?;
+    let mut found = standings_of(alloc, tables, unit)?;
     let Some(standing) = found.pop() else {
         return Ok(None);
     };
-    let elements = first_elements(alloc, conn, unit, TITLE)?;
+    let elements = first_elements(alloc, tables, unit, TITLE)?;
     let identifier = text_among(alloc, &elements, REFERENCE_CODE)?;
     let title = text_among(alloc, &elements, TITLE)?;
     Ok(Some(Head {
@@ -85,11 +83,10 @@ pub fn find_head<P: Places, S: Alter>(
 /// The heads of these units, all of which must exist.
 fn heads_of<P: Places, S: Alter>(
     alloc: Global,
-    conn: &mut Connection<S>,
+    tables: &mut Tables<P, S>,
     units: &[u64],
 ) -> Result<Vec<Head>, StoreFault>
-    requires inside { InTransaction P.version (state S.Store conn.old) }
-    ensures tells { StoreAnswers S.Store (Represents P.represents P.version) IsKept conn.old conn.new result
+    ensures tells { StoreAnswers S.Store (Represents P.represents P.version) IsKept tables.old tables.new result
         (λ c. AllByRecursion (λ unit. has_unit c.forest unit ≡ true) units.now)
         (λ _ c heads. map Some heads.items ≡ map (head_at c.forest) units.now) }
 {
@@ -99,7 +96,7 @@ fn heads_of<P: Places, S: Alter>(
         if unit >= NO_NUMBER {
             return Err(StoreFault::Schema);
         }
-        let found = find_head::<P, S>(alloc, conn, unit)?;
+        let found = find_head(alloc, tables, unit)?;
         let Some(head) = found else {
             return Err(StoreFault::Schema);
         };
@@ -111,29 +108,29 @@ fn heads_of<P: Places, S: Alter>(
 /// The heads of the units from a top down to this one. Empty if there is no such unit.
 pub fn path_heads<P: Places, S: Alter>(
     alloc: Global,
-    conn: &mut Connection<S>,
+    tables: &mut Tables<P, S>,
     unit: u64,
 ) -> Result<Vec<Head>, StoreFault>
-    requires inside { InTransaction P.version (state S.Store conn.old) }
     requires small { IsNumber unit }
-    ensures tells { StoreAnswers S.Store (Represents P.represents P.version) IsKept conn.old conn.new result (λ _. ⊤)
+    ensures tells { StoreAnswers S.Store (Represents P.represents P.version) IsKept tables.old tables.new result
+        (λ _. ⊤)
         (λ _ c heads. heads.items ≡ map head_of (path (has_id unit) c.forest)) }
 {
-    let units = P::path(alloc, conn, unit)?;
-    heads_of::<P, S>(alloc, conn, &units)
+    let units = P::path(alloc, tables, unit)?;
+    heads_of(alloc, tables, &units)
 }
 
 /// The heads of the units right below this one, or of the tops, in their order.
 pub fn heads_below<P: Places, S: Alter>(
     alloc: Global,
-    conn: &mut Connection<S>,
+    tables: &mut Tables<P, S>,
     unit: Option<u64>,
 ) -> Result<Vec<Head>, StoreFault>
-    requires inside { InTransaction P.version (state S.Store conn.old) }
     requires small { IfSome unit IsNumber }
-    ensures tells { StoreAnswers S.Store (Represents P.represents P.version) IsKept conn.old conn.new result (λ _. ⊤)
+    ensures tells { StoreAnswers S.Store (Represents P.represents P.version) IsKept tables.old tables.new result
+        (λ _. ⊤)
         (λ _ c heads. heads.items ≡ map head_of (tops (part_below has_id unit c.forest))) }
 {
-    let units = P::below(alloc, conn, unit)?;
-    heads_of::<P, S>(alloc, conn, &units)
+    let units = P::below(alloc, tables, unit)?;
+    heads_of(alloc, tables, &units)
 }

@@ -2,13 +2,11 @@
 //! added at once.
 
 ghost use Rattle.std.specs.Prelude.{ℕ, Option};
-ghost use Rattle.sqlite.specs.Held.{state};
 ghost use Rattle.isad_core.specs.Limits.{IsNumber};
 ghost use Rattle.tree_core.specs.Versions.{Version};
 ghost use Rattle.catalogue_core.specs.Bounds.{IsKept};
 ghost use Rattle.catalogue_core.specs.Descriptions.{AreWhole, HasPlaceFor, IsNew, MayDescribe, with_values};
 ghost use Rattle.office_tables.specs.Calls.{StoreUpdates};
-ghost use Rattle.office_tables.specs.Step.{InOffice};
 ghost use Rattle.catalogue_statements.specs.NewUnit.{unit_of};
 ghost use Rattle.catalogue_statements.specs.Representation.{RepresentsCatalogue, described_trees};
 ghost use Rattle.catalogue_store.specs.ImportEntries.{with_entered};
@@ -17,41 +15,39 @@ use crate::descriptions::{clear, describe};
 use catalogue_statements::NewUnit;
 use catalogue_statements::units::{insert_unit, set_level};
 use isad_core::Values;
-use office_tables::StoreFault;
-use sqlite::{Alter, Connection};
+use office_tables::{StoreFault, Tables, Versioned};
+use sqlite::Alter;
 use std::alloc::Global;
 
 /// Enters a new unit with its values, wherever its place is. New containers get the next numbers.
 /// The next unit number stays as it is.
-pub fn enter_unit<S: Alter>(
+pub fn enter_unit<P: Versioned, S: Alter>(
     alloc: Global,
-    conn: &mut Connection<S>,
+    tables: &mut Tables<P, S>,
     unit: &NewUnit<'_>,
 ) -> Result<(), StoreFault>
-    requires inside { InOffice (state S.Store conn.old) }
     requires small { IsNumber unit.now.id }
     ensures makes { (version : Version) (parent : Option ℕ)
         → StoreUpdates S.Store (RepresentsCatalogue version) (λ c. IsKept c × IsNew (unit_of unit.now) c)
-        conn.old conn.new result (HasPlaceFor parent) (with_entered parent (unit_of unit.now)) described_trees }
+        tables.old tables.new result (HasPlaceFor parent) (with_entered parent (unit_of unit.now)) described_trees }
 {
-    insert_unit(conn, unit)?;
-    describe(alloc, conn, unit.id, unit.values)
+    insert_unit(tables, unit)?;
+    describe(alloc, tables, unit.id, unit.values)
 }
 
 /// Replaces the values of a known unit, wherever its place is. New containers get the next numbers.
-pub fn enter_values<S: Alter>(
+pub fn enter_values<P: Versioned, S: Alter>(
     alloc: Global,
-    conn: &mut Connection<S>,
+    tables: &mut Tables<P, S>,
     unit: u64,
     values: &Values,
 ) -> Result<(), StoreFault>
-    requires inside { InOffice (state S.Store conn.old) }
     requires small { IsNumber unit }
     ensures makes { (version : Version)
         → StoreUpdates S.Store (RepresentsCatalogue version) (λ c. IsKept c × AreWhole values.now)
-        conn.old conn.new result (MayDescribe unit) (with_values unit values.now) described_trees }
+        tables.old tables.new result (MayDescribe unit) (with_values unit values.now) described_trees }
 {
-    set_level(conn, unit, values)?;
-    clear(conn, unit)?;
-    describe(alloc, conn, unit, values)
+    set_level(tables, unit, values)?;
+    clear(tables, unit)?;
+    describe(alloc, tables, unit, values)
 }

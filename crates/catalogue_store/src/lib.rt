@@ -20,12 +20,12 @@ mod unit_values;
 
 pub use branch_moves::{move_unit, remove_branch};
 pub use catalogue::{create, known};
-pub use catalogue_statements::{NewUnit, OfficeRow};
+pub use catalogue_statements::{LinkPlaces, NewUnit, OfficeRow};
 pub use container_marks::{Attached, attached_rows, branch_marks, contents_marks, path_marks};
 pub use descriptions::{add_unit, replace_values};
 pub use heads::{Head, find_head, heads_below, path_heads};
 pub use import_entries::{enter_unit, enter_values};
-pub use links::{LONGEST_PATH, LinkPlaces, spans_by_links};
+pub use links::{LONGEST_PATH, spans_by_links};
 pub use marks::{marks_of, marks_of_branch, status_marks};
 pub use office::{Office, office_row, settings};
 pub use office_tables::{StoreFault, begin, commit, create_index, create_table, roll_back};

@@ -6,7 +6,7 @@ ghost use Rattle.sqlite.specs.State.{HasCleanDisk};
 ghost use Rattle.isad_core.specs.Limits.{IsNumber};
 ghost use Rattle.office_tables.specs.Calls.{StoreAnswers};
 ghost use Rattle.office_tables.specs.ChangeStatement.{Leaves};
-ghost use Rattle.office_tables.specs.Schema as tables;
+ghost use Rattle.office_tables.specs.Schema as schema;
 ghost use Rattle.office_tables.specs.Step.{InTransaction, PutsRow};
 ghost use Rattle.catalogue_statements.specs.CallClauses.{FailsWithCause};
 ghost use Rattle.catalogue_statements.specs.Rows.{office_row as row_of_office};
@@ -17,9 +17,9 @@ ghost use Rattle.catalogue_store.specs.Offices.{told_office};
 use crate::places::Places;
 use catalogue_statements::OfficeRow;
 use catalogue_statements::office::{count_containers, count_units, office_rows};
-use office_tables::StoreFault;
 use office_tables::from_row::only_number;
 use office_tables::value::{day, number, words};
+use office_tables::{StoreFault, Tables};
 use sqlite::{Alter, Connection};
 use std::alloc::Global;
 
@@ -32,10 +32,10 @@ pub fn insert_office<P: Places, S: Alter>(
     ensures leaves { InTransaction P.version (state S.Store conn.old)
         → Leaves (state S.Store conn.old) (state S.Store conn.new) result }
     ensures puts { InTransaction P.version (state S.Store conn.old) → HasCleanDisk (state S.Store conn.new)
-        → OnOk result (PutsRow tables.office.tree (row_of_office P.version row.now) (state S.Store conn.old).now
+        → OnOk result (PutsRow schema.office.tree (row_of_office P.version row.now) (state S.Store conn.old).now
         (state S.Store conn.new).now) }
     ensures faults { InTransaction P.version (state S.Store conn.old)
-        → (state S.Store conn.old).now.trees tables.office.tree ≡ []
+        → (state S.Store conn.old).now.trees schema.office.tree ≡ []
         → FailsWithCause S.Store conn.old conn.new result }
 {
     let version = P::number();
@@ -71,15 +71,14 @@ pub struct Office {
 /// The settings, the day, the next unit number, and how many units and containers there are.
 pub fn office_row<P: Places, S: Alter>(
     alloc: Global,
-    conn: &mut Connection<S>,
+    tables: &mut Tables<P, S>,
 ) -> Result<Office, StoreFault>
-    requires inside { InTransaction P.version (state S.Store conn.old) }
-    ensures tells { StoreAnswers S.Store (RepresentsSettings P.represents P.version) AreLegibleSettings conn.old
-        conn.new result (λ _. ⊤) (λ c o office. office ≡ told_office c o) }
+    ensures tells { StoreAnswers S.Store (RepresentsSettings P.represents P.version) AreLegibleSettings tables.old
+        tables.new result (λ _. ⊤) (λ c o office. office ≡ told_office c o) }
 {
-    let mut rows = office_rows(alloc, conn)?;
-    let units = count_units(alloc, conn)?;
-    let containers = count_containers(alloc, conn)?;
+    let mut rows = office_rows(alloc, tables)?;
+    let units = count_units(alloc, tables)?;
+    let containers = count_containers(alloc, tables)?;
     let Some(row) = rows.pop() else {
         return Err(StoreFault::Schema);
     };
@@ -93,13 +92,12 @@ pub fn office_row<P: Places, S: Alter>(
 /// The settings, the day and the next unit number. Nothing is counted.
 pub fn settings<P: Places, S: Alter>(
     alloc: Global,
-    conn: &mut Connection<S>,
+    tables: &mut Tables<P, S>,
 ) -> Result<OfficeRow, StoreFault>
-    requires inside { InTransaction P.version (state S.Store conn.old) }
-    ensures tells { StoreAnswers S.Store (RepresentsSettings P.represents P.version) AreLegibleSettings conn.old
-        conn.new result (λ _. ⊤) (λ _ o row. row ≡ o) }
+    ensures tells { StoreAnswers S.Store (RepresentsSettings P.represents P.version) AreLegibleSettings tables.old
+        tables.new result (λ _. ⊤) (λ _ o row. row ≡ o) }
 {
-    let mut rows = office_rows(alloc, conn)?;
+    let mut rows = office_rows(alloc, tables)?;
     let Some(row) = rows.pop() else {
         return Err(StoreFault::Schema);
     };

@@ -15,8 +15,7 @@ ghost use Rattle.catalogue_core.specs.Descriptions.{KnowsItsContainers};
 ghost use Rattle.catalogue_core.specs.CatalogueMerge.{box_number};
 ghost use Rattle.office_tables.specs.Calls.{StoreAnswers};
 ghost use Rattle.office_tables.specs.RowNumbers.{HoldsNumbered};
-ghost use Rattle.office_tables.specs.Schema as tables;
-ghost use Rattle.office_tables.specs.Step.{InOffice};
+ghost use Rattle.office_tables.specs.Schema as schema;
 ghost use Rattle.catalogue_statements.specs.CallClauses.{FailsWithCause, OnlyReads};
 ghost use Rattle.catalogue_statements.specs.Rows.{HousingRow, housing_row};
 ghost use Rattle.catalogue_statements.specs.Representation.{RepresentsContainers, element_cells, housing_cells};
@@ -32,9 +31,9 @@ use catalogue_statements::elements::elements_of;
 use catalogue_statements::row_types::{Element, Housing};
 use catalogue_statements::units::levels_of;
 use isad_core::{BoxKey, List, Text, Values};
-use office_tables::StoreFault;
 use office_tables::value::NO_NUMBER;
-use sqlite::{Alter, Connection};
+use office_tables::{StoreFault, Tables, Versioned};
+use sqlite::Alter;
 use std::alloc::{AllocError, Global};
 use std::array;
 
@@ -79,17 +78,16 @@ fn placed(elements: Vec<Element>) -> Result<[Option<Text>; 25], StoreFault>
 }
 
 /// The texts of a unit, each at its place.
-fn texts_of<S: Alter>(
+fn texts_of<P: Versioned, S: Alter>(
     alloc: Global,
-    conn: &mut Connection<S>,
+    tables: &mut Tables<P, S>,
     unit: u64,
 ) -> Result<[Option<Text>; 25], StoreFault>
-    requires inside { InOffice (state S.Store conn.old) }
     requires small { IsNumber unit }
-    ensures tells { StoreAnswers S.Store (TellsTexts unit) (AllByRecursion (λ e. IsUtf8 e.value)) conn.old conn.new
+    ensures tells { StoreAnswers S.Store (TellsTexts unit) (AllByRecursion (λ e. IsUtf8 e.value)) tables.old tables.new
         result (λ _. ⊤) (λ values _ texts. texts ≡ values.texts) }
 {
-    let found = elements_of(alloc, conn, unit)?;
+    let found = elements_of(alloc, tables, unit)?;
     placed(found)
 }
 
@@ -105,46 +103,44 @@ fn numbers_in(alloc: Global, housings: &[Housing]) -> Result<List<u64>, AllocErr
 }
 
 /// The numbers of a unit's containers, in its order.
-fn containers_of<S: Alter>(
+fn containers_of<P: Versioned, S: Alter>(
     alloc: Global,
-    conn: &mut Connection<S>,
+    tables: &mut Tables<P, S>,
     unit: u64,
 ) -> Result<List<u64>, StoreFault>
-    requires inside { InOffice (state S.Store conn.old) }
     requires small { IsNumber unit }
-    ensures reads { OnlyReads S.Store conn.old conn.new result }
-    ensures numbers { HasCleanDisk (state S.Store conn.new) → (xs : List HousingRow)
-        → HoldsNumbered tables.housing housing_row (state S.Store conn.old) xs
+    ensures reads { OnlyReads S.Store tables.old tables.new result }
+    ensures numbers { HasCleanDisk (state S.Store tables.new) → (xs : List HousingRow)
+        → HoldsNumbered schema.housing housing_row (state S.Store tables.old) xs
         → (boxes : List BoxKey) (values : Description)
         → IsPermutation (housing_cells boxes values) (containers_among unit xs)
         → IfOk result (λ numbers. numbers ≡ map (box_number boxes) values.boxes) }
-    ensures faults { (xs : List HousingRow) → HoldsNumbered tables.housing housing_row (state S.Store conn.old) xs
-        → FailsWithCause S.Store conn.old conn.new result }
+    ensures faults { (xs : List HousingRow) → HoldsNumbered schema.housing housing_row (state S.Store tables.old) xs
+        → FailsWithCause S.Store tables.old tables.new result }
 {
-    let found = housings_of(alloc, conn, unit)?;
+    let found = housings_of(alloc, tables, unit)?;
     Ok(numbers_in(alloc, &found)?)
 }
 
 /// The container with this number.
-fn container_of<S: Alter>(
+fn container_of<P: Versioned, S: Alter>(
     alloc: Global,
-    conn: &mut Connection<S>,
+    tables: &mut Tables<P, S>,
     number: u64,
 ) -> Result<BoxKey, StoreFault>
-    requires inside { InOffice (state S.Store conn.old) }
-    ensures reads { OnlyReads S.Store conn.old conn.new result }
-    ensures key { HasCleanDisk (state S.Store conn.new) → (boxes : List BoxKey)
-        → RepresentsContainers (state S.Store conn.old).now.trees boxes → (b : BoxKey) → number ≡ box_number boxes b
+    ensures reads { OnlyReads S.Store tables.old tables.new result }
+    ensures key { HasCleanDisk (state S.Store tables.new) → (boxes : List BoxKey)
+        → RepresentsContainers (state S.Store tables.old).now.trees boxes → (b : BoxKey) → number ≡ box_number boxes b
         → IfOk result (λ key. key ≡ b) }
-    ensures faults { (boxes : List BoxKey) → RepresentsContainers (state S.Store conn.old).now.trees boxes
+    ensures faults { (boxes : List BoxKey) → RepresentsContainers (state S.Store tables.old).now.trees boxes
         → AllByRecursion IsLegibleBox boxes → length boxes < 2 ^ 62 → (b : BoxKey)
         → list_any (is_same_box b) boxes ≡ true → number ≡ box_number boxes b
-        → FailsWithCause S.Store conn.old conn.new result }
+        → FailsWithCause S.Store tables.old tables.new result }
 {
     if number >= NO_NUMBER {
         return Err(StoreFault::Schema);
     }
-    let mut found = find_container(alloc, conn, number)?;
+    let mut found = find_container(alloc, tables, number)?;
     let Some(key) = found.pop() else {
         return Err(StoreFault::Schema);
     };
@@ -152,46 +148,44 @@ fn container_of<S: Alter>(
 }
 
 /// The containers with these numbers.
-fn boxes_of<S: Alter>(
+fn boxes_of<P: Versioned, S: Alter>(
     alloc: Global,
-    conn: &mut Connection<S>,
+    tables: &mut Tables<P, S>,
     numbers: &[u64],
 ) -> Result<List<BoxKey>, StoreFault>
-    requires inside { InOffice (state S.Store conn.old) }
-    ensures reads { OnlyReads S.Store conn.old conn.new result }
-    ensures boxes { HasCleanDisk (state S.Store conn.new) → (boxes : List BoxKey)
-        → RepresentsContainers (state S.Store conn.old).now.trees boxes → (bs : List BoxKey)
+    ensures reads { OnlyReads S.Store tables.old tables.new result }
+    ensures boxes { HasCleanDisk (state S.Store tables.new) → (boxes : List BoxKey)
+        → RepresentsContainers (state S.Store tables.old).now.trees boxes → (bs : List BoxKey)
         → numbers.now ≡ map (box_number boxes) bs → IfOk result (λ keys. keys ≡ bs) }
-    ensures faults { (boxes : List BoxKey) → RepresentsContainers (state S.Store conn.old).now.trees boxes
+    ensures faults { (boxes : List BoxKey) → RepresentsContainers (state S.Store tables.old).now.trees boxes
         → AllByRecursion IsLegibleBox boxes → length boxes < 2 ^ 62 → (bs : List BoxKey)
         → list_all (λ b. list_any (is_same_box b) boxes) bs ≡ true → numbers.now ≡ map (box_number boxes) bs
-        → FailsWithCause S.Store conn.old conn.new result }
+        → FailsWithCause S.Store tables.old tables.new result }
 {
     let mut keys = List::new(alloc);
     for number in numbers {
-        keys.push(container_of(alloc, conn, *number)?)?;
+        keys.push(container_of(alloc, tables, *number)?)?;
     }
     Ok(keys)
 }
 
 /// The values of a unit and the numbers of its containers, or none if no unit has this number.
-pub fn values<S: Alter>(
+pub fn values<P: Versioned, S: Alter>(
     alloc: Global,
-    conn: &mut Connection<S>,
+    tables: &mut Tables<P, S>,
     unit: u64,
 ) -> Result<Option<UnitValues>, StoreFault>
-    requires inside { InOffice (state S.Store conn.old) }
     requires small { IsNumber unit }
-    ensures tells { StoreAnswers S.Store RepresentsValues IsKept conn.old conn.new result KnowsItsContainers
+    ensures tells { StoreAnswers S.Store RepresentsValues IsKept tables.old tables.new result KnowsItsContainers
         (λ _ c found. found ≡ values_of unit c) }
 {
-    let mut levels = levels_of(alloc, conn, unit)?;
+    let mut levels = levels_of(alloc, tables, unit)?;
     let Some(level) = levels.pop() else {
         return Ok(None);
     };
-    let texts = texts_of(alloc, conn, unit)?;
-    let containers = containers_of(alloc, conn, unit)?;
-    let boxes = boxes_of(alloc, conn, containers.as_slice())?;
+    let texts = texts_of(alloc, tables, unit)?;
+    let containers = containers_of(alloc, tables, unit)?;
+    let boxes = boxes_of(alloc, tables, containers.as_slice())?;
     Ok(Some(UnitValues {
         values: Values {
             level,

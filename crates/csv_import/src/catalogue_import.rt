@@ -2,14 +2,12 @@
 
 ghost use Rattle.std.specs.Prelude.{◌≡◌, ◌+◌, ◌≤◌, ◌&&◌, true, length, nat_le, nat_lt, Ok, IfOk, IfSome, ⊤};
 ghost use Rattle.std.specs.List.{AllByRecursion};
-ghost use Rattle.sqlite.specs.Held.{state};
 ghost use Rattle.isad_core.specs.Limits.{IsNumber, most_containers, most_rows, most_unit_numbers, most_units};
 ghost use Rattle.isad_core.specs.Texts.{Bytes};
 ghost use Rattle.atom_csv.specs.FileContents.{file_of};
 ghost use Rattle.catalogue_core.specs.Sources.{is_source};
 ghost use Rattle.office_core.specs.declared.command.Command.TheVariants as command;
 ghost use Rattle.office_tables.specs.Calls.{Answers};
-ghost use Rattle.office_tables.specs.Step.{InTransaction};
 ghost use Rattle.catalogue_statements.specs.Settings.{AreLegibleSettings};
 ghost use Rattle.catalogue_statements.specs.Representation.{RepresentsSettings};
 ghost use Rattle.refinement.specs.CommandSteps.{Performs};
@@ -28,10 +26,10 @@ use catalogue_store::{Places, settings};
 use isad_core::limits::{MOST_CONTAINERS, MOST_UNIT_NUMBERS, MOST_UNITS};
 use isad_core::{Day, Text};
 use office_core::{Done, Refusal};
-use office_tables::StoreFault;
 use office_tables::from_row::only_number;
+use office_tables::{StoreFault, Tables};
 use refinement::pass;
-use sqlite::{Alter, Connection};
+use sqlite::Alter;
 use std::alloc::Global;
 
 /// Whether `new` more units fit besides so many, each with a number of its own from `next` on.
@@ -46,16 +44,15 @@ fn has_space(units: u64, next: u64, new: u64) -> bool
 /// The number of the next new unit, or none if there is no room for `new` more units, each with a number of its own.
 fn next_with_room<P: Places, S: Alter>(
     alloc: Global,
-    conn: &mut Connection<S>,
+    tables: &mut Tables<P, S>,
     new: u64,
 ) -> Result<Option<u64>, StoreFault>
-    requires inside { InTransaction P.version (state S.Store conn.old) }
-    ensures tells { Answers S.Store (RepresentsSettings P.represents P.version) AreLegibleSettings conn.old conn.new
+    ensures tells { Answers S.Store (RepresentsSettings P.represents P.version) AreLegibleSettings tables.old tables.new
         result (λ _. ⊤) (λ c _ next. next ≡ spec.next_with_room new c) }
     ensures low { IfOk result (λ next. IfSome next (λ number. number ≤ most_unit_numbers + 1)) }
 {
-    let office = settings::<P, S>(alloc, conn)?;
-    let counted = count_units(alloc, conn)?;
+    let office = settings(alloc, tables)?;
+    let counted = count_units(alloc, tables)?;
     let units = only_number(&counted)?;
     if has_space(units, office.next_unit, new) {
         return Ok(Some(office.next_unit));
@@ -66,13 +63,12 @@ fn next_with_room<P: Places, S: Alter>(
 /// Whether there are more containers than an office may have.
 fn has_many_containers<P: Places, S: Alter>(
     alloc: Global,
-    conn: &mut Connection<S>,
+    tables: &mut Tables<P, S>,
 ) -> Result<bool, StoreFault>
-    requires inside { InTransaction P.version (state S.Store conn.old) }
-    ensures tells { Answers S.Store (RepresentsSettings P.represents P.version) AreLegibleSettings conn.old conn.new
+    ensures tells { Answers S.Store (RepresentsSettings P.represents P.version) AreLegibleSettings tables.old tables.new
         result (λ _. ⊤) (λ c _ many. many ≡ nat_lt most_containers (length c.containers)) }
 {
-    let counted = count_containers(alloc, conn)?;
+    let counted = count_containers(alloc, tables)?;
     let containers = only_number(&counted)?;
     Ok(containers > MOST_CONTAINERS)
 }
@@ -81,22 +77,21 @@ fn has_many_containers<P: Places, S: Alter>(
 /// is now closed to the reader who has it.
 fn judge<P: Places, S: Alter>(
     alloc: Global,
-    conn: &mut Connection<S>,
+    tables: &mut Tables<P, S>,
     today: Day,
     file: &File,
     outcome: &Outcome,
 ) -> Result<Result<Done, Refusal>, StoreFault>
-    requires inside { InTransaction P.version (state S.Store conn.old) }
     requires small { AllByRecursion IsNumber outcome.now.units.items }
     ensures tells { (source : Bytes) → Answers S.Store (RepresentsWhole P.represents P.version)
-        (HasNumbered source file.now outcome.now.units.items) conn.old conn.new result (λ _. ⊤)
+        (HasNumbered source file.now outcome.now.units.items) tables.old tables.new result (λ _. ⊤)
         (λ _ s reply. HasNumbered source file.now outcome.now.units.items s → today ≡ s.day
         → reply ≡ judged s (told_of source file.now outcome.now.counts s)) }
 {
-    if has_many_containers::<P, S>(alloc, conn)? {
+    if has_many_containers(alloc, tables)? {
         return Ok(Err(Refusal::Full));
     }
-    let remarks = remarks::<P, S>(alloc, conn, &outcome.units, file.rows.as_slice())?;
+    let remarks = remarks(alloc, tables, &outcome.units, file.rows.as_slice())?;
     let counts = outcome.counts;
     let done = Done::Import {
         changed: counts.changed,
@@ -105,31 +100,30 @@ fn judge<P: Places, S: Alter>(
         same: counts.same,
         translations: u64::from(file.translations),
     };
-    pass::<P, S>(alloc, conn, today, done)
+    pass(alloc, tables, today, done)
 }
 
 /// Imports a file that was read, or refuses it if one of its rows cannot be placed or there is no room for the new
 /// ones.
 fn import_read<P: Places, S: Alter>(
     alloc: Global,
-    conn: &mut Connection<S>,
+    tables: &mut Tables<P, S>,
     today: Day,
     source: &Text,
     file: &File,
 ) -> Result<Result<Done, Refusal>, StoreFault>
-    requires inside { InTransaction P.version (state S.Store conn.old) }
     requires few { length file.now.rows ≤ most_rows }
-    ensures { (bytes : Bytes) → file_of bytes ≡ Ok file.now → Performs P.Places S.Store
+    ensures { (bytes : Bytes) → file_of bytes ≡ Ok file.now → Performs P.represents P.version S.Store
         (λ s. (today ≡ s.day) × (is_source source.now ≡ true)) (command.Import source.now bytes)
-        conn.old conn.new result }
+        tables.old tables.new result }
 {
     let rows = file.rows.as_slice();
-    let catalogued = known_units::<P, S>(alloc, conn, source, rows)?;
-    let new = match plan::<P, S>(alloc, conn, &catalogued, rows)? {
+    let catalogued = known_units(alloc, tables, source, rows)?;
+    let new = match plan(alloc, tables, &catalogued, rows)? {
         Planned::Fits { new } => new,
         Planned::Faulty { row, cause } => return Ok(Err(Refusal::BadFile { row, cause })),
     };
-    let Some(next) = next_with_room::<P, S>(alloc, conn, new)? else {
+    let Some(next) = next_with_room(alloc, tables, new)? else {
         return Ok(Err(Refusal::Full));
     };
     let import = Import {
@@ -138,8 +132,8 @@ fn import_read<P: Places, S: Alter>(
         catalogued: &catalogued,
         next,
     };
-    let outcome = enter_rows::<P, S>(alloc, conn, &import)?;
-    judge::<P, S>(alloc, conn, today, file, &outcome)
+    let outcome = enter_rows(alloc, tables, &import)?;
+    judge(alloc, tables, today, file, &outcome)
 }
 
 /// Imports a file of a source into the catalogue: units that exist get the file's values, and new units are added.
@@ -147,17 +141,16 @@ fn import_read<P: Places, S: Alter>(
 /// office's day, and `source` a well-formed name.
 pub fn import<P: Places, S: Alter>(
     alloc: Global,
-    conn: &mut Connection<S>,
+    tables: &mut Tables<P, S>,
     today: Day,
     source: &Text,
     file: &[u8],
 ) -> Result<Result<Done, Refusal>, StoreFault>
-    requires inside { InTransaction P.version (state S.Store conn.old) }
-    ensures { Performs P.Places S.Store (λ s. (today ≡ s.day) × (is_source source.now ≡ true))
-        (command.Import source.now file.now) conn.old conn.new result }
+    ensures { Performs P.represents P.version S.Store (λ s. (today ≡ s.day) × (is_source source.now ≡ true))
+        (command.Import source.now file.now) tables.old tables.new result }
 {
     match read_file(alloc, file) {
-        Ok(read) => import_read::<P, S>(alloc, conn, today, source, &read),
+        Ok(read) => import_read(alloc, tables, today, source, &read),
         Err(fault) => match fault {
             FileFault::Bad { row, cause } => Ok(Err(Refusal::BadFile { row, cause })),
             FileFault::Memory => Err(StoreFault::Memory),

@@ -4,13 +4,11 @@ ghost use Rattle.std.specs.Prelude.{◌≡◌, ◌||◌, true, IfOk, IfSome, OnO
 ghost use Rattle.std.specs.BTreeMap.{get_by_text};
 ghost use Rattle.std.specs.BTreeSet.{contains_text};
 ghost use Rattle.std.specs.Str.{bytes_eq};
-ghost use Rattle.sqlite.specs.Held.{state};
 ghost use Rattle.isad_core.specs.Limits.{IsNumber};
 ghost use Rattle.isad_core.specs.Texts.{Bytes};
 ghost use Rattle.catalogue_core.specs.GoodCatalogues.{AreGoodUnits};
 ghost use Rattle.catalogue_core.specs.EntryByRow.{number_there};
 ghost use Rattle.office_tables.specs.Calls.{Answers};
-ghost use Rattle.office_tables.specs.Step.{InTransaction};
 ghost use Rattle.csv_import.specs.RowEntry.{RepresentsEntering};
 ghost use Rattle.csv_import.specs.KnownUnits.{IsAsked, KnowsAsked, KnowsUnits};
 
@@ -18,24 +16,23 @@ use crate::legacy::{ByLegacy, Legacies, kept_number, note, remember};
 use atom_csv::Row;
 use catalogue_store::{Places, known};
 use isad_core::Text;
-use office_tables::StoreFault;
 use office_tables::value::NO_NUMBER;
-use sqlite::{Alter, Connection};
+use office_tables::{StoreFault, Tables};
+use sqlite::Alter;
 use std::alloc::Global;
 
 /// The number of the unit that has this number in the source, if it is catalogued.
 fn number_of<P: Places, S: Alter>(
     alloc: Global,
-    conn: &mut Connection<S>,
+    tables: &mut Tables<P, S>,
     source: &Text,
     legacy: &Text,
 ) -> Result<Option<u64>, StoreFault>
-    requires inside { InTransaction P.version (state S.Store conn.old) }
-    ensures tells { Answers S.Store (RepresentsEntering P.version) (λ _. ⊤) conn.old conn.new result AreGoodUnits
+    ensures tells { Answers S.Store (RepresentsEntering P.version) (λ _. ⊤) tables.old tables.new result AreGoodUnits
         (λ _ c found. AreGoodUnits c → found ≡ number_there c source.now legacy.now) }
     ensures small { IfOk result (λ found. IfSome found IsNumber) }
 {
-    let Some(unit) = known(alloc, conn, source, legacy)? else {
+    let Some(unit) = known(alloc, tables, source, legacy)? else {
         return Ok(None);
     };
     if unit >= NO_NUMBER {
@@ -48,15 +45,14 @@ fn number_of<P: Places, S: Alter>(
 /// number is kept.
 fn look_up<P: Places, S: Alter>(
     alloc: Global,
-    conn: &mut Connection<S>,
+    tables: &mut Tables<P, S>,
     source: &Text,
     asked: &mut Legacies,
     numbers: &mut ByLegacy,
     legacy: &Text,
 ) -> Result<(), StoreFault>
-    requires inside { InTransaction P.version (state S.Store conn.old) }
     requires low { (q : Bytes) → IfSome (get_by_text numbers.old q) IsNumber }
-    ensures tells { Answers S.Store (RepresentsEntering P.version) (λ _. ⊤) conn.old conn.new result AreGoodUnits
+    ensures tells { Answers S.Store (RepresentsEntering P.version) (λ _. ⊤) tables.old tables.new result AreGoodUnits
         (λ _ c _. AreGoodUnits c → KnowsAsked c source.now (contains_text asked.old) (get_by_text numbers.old)
         → KnowsAsked c source.now (contains_text asked.new) (get_by_text numbers.new)) }
     ensures asked { OnOk result ((q : Bytes) → contains_text asked.new q
@@ -66,7 +62,7 @@ fn look_up<P: Places, S: Alter>(
     if !note(asked, alloc, legacy)? {
         return Ok(());
     }
-    let Some(unit) = number_of::<P, S>(alloc, conn, source, legacy)? else {
+    let Some(unit) = number_of(alloc, tables, source, legacy)? else {
         return Ok(());
     };
     remember(numbers, alloc, legacy, unit)?;
@@ -77,29 +73,28 @@ fn look_up<P: Places, S: Alter>(
 /// placed, so its parent is not looked up.
 fn look_up_row<P: Places, S: Alter>(
     alloc: Global,
-    conn: &mut Connection<S>,
+    tables: &mut Tables<P, S>,
     source: &Text,
     asked: &mut Legacies,
     numbers: &mut ByLegacy,
     row: &Row,
 ) -> Result<(), StoreFault>
-    requires inside { InTransaction P.version (state S.Store conn.old) }
     requires low { (q : Bytes) → IfSome (get_by_text numbers.old q) IsNumber }
-    ensures tells { Answers S.Store (RepresentsEntering P.version) (λ _. ⊤) conn.old conn.new result AreGoodUnits
+    ensures tells { Answers S.Store (RepresentsEntering P.version) (λ _. ⊤) tables.old tables.new result AreGoodUnits
         (λ _ c _. AreGoodUnits c → KnowsAsked c source.now (contains_text asked.old) (get_by_text numbers.old)
         → KnowsAsked c source.now (contains_text asked.new) (get_by_text numbers.new)
         × IsAsked c source.now (contains_text asked.new) row.now) }
     ensures more { OnOk result ((q : Bytes) → contains_text asked.old q ≡ true → contains_text asked.new q ≡ true) }
     ensures small { OnOk result ((q : Bytes) → IfSome (get_by_text numbers.new q) IsNumber) }
 {
-    look_up::<P, S>(alloc, conn, source, asked, numbers, &row.legacy)?;
+    look_up(alloc, tables, source, asked, numbers, &row.legacy)?;
     if kept_number(numbers, &row.legacy).is_some() {
         return Ok(());
     }
     let Some(parent) = &row.parent else {
         return Ok(());
     };
-    look_up::<P, S>(alloc, conn, source, asked, numbers, parent)?;
+    look_up(alloc, tables, source, asked, numbers, parent)?;
     Ok(())
 }
 
@@ -107,19 +102,18 @@ fn look_up_row<P: Places, S: Alter>(
 /// up once, and kept for all later steps.
 pub(crate) fn known_units<P: Places, S: Alter>(
     alloc: Global,
-    conn: &mut Connection<S>,
+    tables: &mut Tables<P, S>,
     source: &Text,
     rows: &[Row],
 ) -> Result<ByLegacy, StoreFault>
-    requires inside { InTransaction P.version (state S.Store conn.old) }
-    ensures tells { Answers S.Store (RepresentsEntering P.version) (λ _. ⊤) conn.old conn.new result AreGoodUnits
+    ensures tells { Answers S.Store (RepresentsEntering P.version) (λ _. ⊤) tables.old tables.new result AreGoodUnits
         (λ _ c numbers. AreGoodUnits c → KnowsUnits c source.now rows.now (get_by_text numbers)) }
     ensures small { IfOk result (λ numbers. (legacy : Bytes) → IfSome (get_by_text numbers legacy) IsNumber) }
 {
     let mut asked = Legacies::new(alloc);
     let mut numbers = ByLegacy::new(alloc);
     for row in rows {
-        look_up_row::<P, S>(alloc, conn, source, &mut asked, &mut numbers, row)?;
+        look_up_row(alloc, tables, source, &mut asked, &mut numbers, row)?;
     }
     Ok(numbers)
 }

@@ -1,7 +1,6 @@
 //! The paths of the units that a file's rows name.
 
 ghost use Rattle.std.specs.Prelude.{◌≡◌, map, IfSome, ⊤};
-ghost use Rattle.sqlite.specs.Held.{state};
 ghost use Rattle.isad_core.specs.Limits.{IsNumber};
 ghost use Rattle.isad_core.specs.Texts.{Bytes};
 ghost use Rattle.tree_core.specs.Forest.{path};
@@ -10,28 +9,26 @@ ghost use Rattle.catalogue_core.specs.GoodCatalogues.{AreGoodUnits};
 ghost use Rattle.catalogue_core.specs.EntryByRow.{number_there};
 ghost use Rattle.catalogue_core.specs.Units.{is_from};
 ghost use Rattle.office_tables.specs.Calls.{Answers};
-ghost use Rattle.office_tables.specs.Step.{InTransaction};
 ghost use Rattle.catalogue_statements.specs.Representation.{Represents};
 
 use catalogue_store::Places;
-use office_tables::StoreFault;
-use sqlite::{Alter, Connection};
+use office_tables::{StoreFault, Tables};
+use sqlite::Alter;
 use std::alloc::Global;
 
 /// The numbers of the units from a top down to this one. Empty if there is none.
 pub(crate) fn path_of<P: Places, S: Alter>(
     alloc: Global,
-    conn: &mut Connection<S>,
+    tables: &mut Tables<P, S>,
     unit: Option<u64>,
 ) -> Result<Vec<u64>, StoreFault>
-    requires inside { InTransaction P.version (state S.Store conn.old) }
     requires small { IfSome unit IsNumber }
-    ensures tells { Answers S.Store (Represents P.represents P.version) IsKept conn.old conn.new result (λ _. ⊤)
+    ensures tells { Answers S.Store (Represents P.represents P.version) IsKept tables.old tables.new result (λ _. ⊤)
         (λ _ c ids. AreGoodUnits c → (source legacy : Bytes) → unit ≡ number_there c source legacy
         → ids.items ≡ map (λ unit. unit.id) (path (is_from source legacy) c.forest)) }
 {
     let Some(unit) = unit else {
         return Ok(Vec::new(alloc));
     };
-    P::path(alloc, conn, unit)
+    P::path(alloc, tables, unit)
 }

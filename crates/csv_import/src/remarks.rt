@@ -3,7 +3,6 @@
 ghost use Rattle.std.specs.Prelude.{◌≡◌, Some, find, is_some, IfSome, ⊤};
 ghost use Rattle.std.specs.List.{AllByRecursion, list_all};
 ghost use Rattle.std.specs.Option.{option_to_list};
-ghost use Rattle.sqlite.specs.Held.{state};
 ghost use Rattle.isad_core.specs.Levels.{rank_of};
 ghost use Rattle.isad_core.specs.Limits.{IsNumber};
 ghost use Rattle.isad_core.specs.Texts.{Bytes};
@@ -16,7 +15,6 @@ ghost use Rattle.office_core.specs.ImportReply.{is_level_above, remark_if};
 ghost use Rattle.office_core.specs.ImportReply as reply;
 ghost use Rattle.office_core.specs.declared.done.Remark.TheVariants.{LacksEssential, LevelTooHigh};
 ghost use Rattle.office_tables.specs.Calls.{Answers};
-ghost use Rattle.office_tables.specs.Step.{InTransaction};
 ghost use Rattle.catalogue_statements.specs.Representation.{Represents};
 ghost use Rattle.csv_import.specs.Remarks.{HasParent, HaveParents, HaveUnits, IsRankOf, IsRanked};
 
@@ -25,9 +23,9 @@ use catalogue_statements::units::levels_of;
 use catalogue_store::Places;
 use isad_core::{Element, List, Values, is_blank, rank};
 use office_core::Remark;
-use office_tables::StoreFault;
 use office_tables::value::NO_NUMBER;
-use sqlite::{Alter, Connection};
+use office_tables::{StoreFault, Tables};
+use sqlite::Alter;
 use std::alloc::Global;
 
 /// The elements that are essential for international exchange, besides the level.
@@ -86,15 +84,14 @@ fn kept_of(last: Option<Ranked>, unit: u64) -> Option<Ranked>
 /// The rank of the level of the unit with this number.
 fn rank_there<P: Places, S: Alter>(
     alloc: Global,
-    conn: &mut Connection<S>,
+    tables: &mut Tables<P, S>,
     unit: u64,
 ) -> Result<Option<u8>, StoreFault>
-    requires inside { InTransaction P.version (state S.Store conn.old) }
     requires small { IsNumber unit }
-    ensures tells { Answers S.Store (Represents P.represents P.version) IsKept conn.old conn.new result (λ _. ⊤)
+    ensures tells { Answers S.Store (Represents P.represents P.version) IsKept tables.old tables.new result (λ _. ⊤)
         (λ _ c rank. IsRankOf c unit rank) }
 {
-    let mut levels = levels_of(alloc, conn, unit)?;
+    let mut levels = levels_of(alloc, tables, unit)?;
     let Some(level) = levels.pop() else {
         return Ok(None);
     };
@@ -104,19 +101,18 @@ fn rank_there<P: Places, S: Alter>(
 /// The same, but a rank that is kept is not looked up again, and the rank is kept afterwards.
 fn kept_rank<P: Places, S: Alter>(
     alloc: Global,
-    conn: &mut Connection<S>,
+    tables: &mut Tables<P, S>,
     last: &mut Option<Ranked>,
     unit: u64,
 ) -> Result<Option<u8>, StoreFault>
-    requires inside { InTransaction P.version (state S.Store conn.old) }
     requires small { IsNumber unit }
-    ensures tells { Answers S.Store (Represents P.represents P.version) IsKept conn.old conn.new result (λ _. ⊤)
+    ensures tells { Answers S.Store (Represents P.represents P.version) IsKept tables.old tables.new result (λ _. ⊤)
         (λ _ c rank. IsRanked c last.old → IsRankOf c unit rank × IsRanked c last.new) }
 {
     if let Some(ranked) = kept_of(*last, unit) {
         return Ok(ranked.rank);
     }
-    let rank = rank_there::<P, S>(alloc, conn, unit)?;
+    let rank = rank_there(alloc, tables, unit)?;
     *last = Some(Ranked { unit, rank });
     Ok(rank)
 }
@@ -124,13 +120,12 @@ fn kept_rank<P: Places, S: Alter>(
 /// The remark on a row whose unit is right below the one with this number.
 fn remark_below<P: Places, S: Alter>(
     alloc: Global,
-    conn: &mut Connection<S>,
+    tables: &mut Tables<P, S>,
     last: &mut Option<Ranked>,
     parent: u64,
     row: &Row,
 ) -> Result<Option<Remark>, StoreFault>
-    requires inside { InTransaction P.version (state S.Store conn.old) }
-    ensures tells { Answers S.Store (Represents P.represents P.version) IsKept conn.old conn.new result
+    ensures tells { Answers S.Store (Represents P.represents P.version) IsKept tables.old tables.new result
         (λ c. (unit : Described) × (find (has_id parent) (nodes c.forest) ≡ Some unit))
         (λ _ c told. IsRanked c last.old → IsRanked c last.new
         × ((unit : Described) → find (has_id parent) (nodes c.forest) ≡ Some unit
@@ -140,7 +135,7 @@ fn remark_below<P: Places, S: Alter>(
     if parent >= NO_NUMBER {
         return Err(StoreFault::Schema);
     }
-    let above = kept_rank::<P, S>(alloc, conn, last, parent)?;
+    let above = kept_rank(alloc, tables, last, parent)?;
     if is_above(rank(row.values.level.as_str()), above) {
         return Ok(Some(Remark::LevelTooHigh { row: row.row }));
     }
@@ -160,19 +155,18 @@ fn remark_on_top(row: &Row) -> Option<Remark>
 /// The remark on a row whose unit is right below the one with this number, or is a top.
 fn remark_on<P: Places, S: Alter>(
     alloc: Global,
-    conn: &mut Connection<S>,
+    tables: &mut Tables<P, S>,
     last: &mut Option<Ranked>,
     parent: Option<u64>,
     row: &Row,
 ) -> Result<Option<Remark>, StoreFault>
-    requires inside { InTransaction P.version (state S.Store conn.old) }
-    ensures tells { (source : Bytes) → Answers S.Store (Represents P.represents P.version) IsKept conn.old conn.new
+    ensures tells { (source : Bytes) → Answers S.Store (Represents P.represents P.version) IsKept tables.old tables.new
         result (HasParent source row.now parent) (λ _ c told. IsRanked c last.old → HasParent source row.now parent c
         → IsRanked c last.new
         × (option_to_list told ≡ reply.remark_on row.now.row (path (is_from source row.now.legacy) c.forest))) }
 {
     match parent {
-        Some(parent) => remark_below::<P, S>(alloc, conn, last, parent, row),
+        Some(parent) => remark_below(alloc, tables, last, parent, row),
         None => Ok(remark_on_top(row)),
     }
 }
@@ -180,19 +174,18 @@ fn remark_on<P: Places, S: Alter>(
 /// The remarks on rows whose units are right below those with these numbers, or are tops.
 fn remarks_below<P: Places, S: Alter>(
     alloc: Global,
-    conn: &mut Connection<S>,
+    tables: &mut Tables<P, S>,
     parents: &[Option<u64>],
     rows: &[Row],
 ) -> Result<List<Remark>, StoreFault>
-    requires inside { InTransaction P.version (state S.Store conn.old) }
-    ensures tells { (source : Bytes) → Answers S.Store (Represents P.represents P.version) IsKept conn.old conn.new
+    ensures tells { (source : Bytes) → Answers S.Store (Represents P.represents P.version) IsKept tables.old tables.new
         result (HaveParents source rows.now parents.now) (λ _ c told. HaveParents source rows.now parents.now c
         → told ≡ reply.remarks c.forest source rows.now) }
 {
     let mut told = List::new(alloc);
     let mut last = None;
     for (row, parent) in rows.iter().zip(parents) {
-        if let Some(remark) = remark_on::<P, S>(alloc, conn, &mut last, *parent, row)? {
+        if let Some(remark) = remark_on(alloc, tables, &mut last, *parent, row)? {
             told.push(remark)?;
         }
     }
@@ -203,16 +196,15 @@ fn remarks_below<P: Places, S: Alter>(
 /// rows' units.
 pub(crate) fn remarks<P: Places, S: Alter>(
     alloc: Global,
-    conn: &mut Connection<S>,
+    tables: &mut Tables<P, S>,
     units: &[u64],
     rows: &[Row],
 ) -> Result<List<Remark>, StoreFault>
-    requires inside { InTransaction P.version (state S.Store conn.old) }
     requires small { AllByRecursion IsNumber units.now }
-    ensures tells { (source : Bytes) → Answers S.Store (Represents P.represents P.version) IsKept conn.old conn.new
+    ensures tells { (source : Bytes) → Answers S.Store (Represents P.represents P.version) IsKept tables.old tables.new
         result (HaveUnits source rows.now units.now)
         (λ _ c told. HaveUnits source rows.now units.now c → told ≡ reply.remarks c.forest source rows.now) }
 {
-    let parents = P::parents(alloc, conn, units)?;
-    remarks_below::<P, S>(alloc, conn, &parents, rows)
+    let parents = P::parents(alloc, tables, units)?;
+    remarks_below(alloc, tables, &parents, rows)
 }

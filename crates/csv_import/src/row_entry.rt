@@ -17,7 +17,6 @@ ghost use Rattle.catalogue_statements.specs.Representation.{RepresentsNumbered, 
 ghost use Rattle.catalogue_statements.specs.declared.office.OfficeRow.{OfficeRow};
 ghost use Rattle.catalogue_store.specs.Arrivals.{IsNumbered};
 ghost use Rattle.office_tables.specs.Calls.{Updates};
-ghost use Rattle.office_tables.specs.Step.{InTransaction};
 ghost use Rattle.csv_import.specs.PendingImport.{AreNext, Brings, ReadsCatalogue, IsPending, counted_in, imported};
 ghost use Rattle.csv_import.specs.RowEntry.{RepresentsEntering, RepresentsLegible, entered};
 ghost use Rattle.csv_import.specs.KnownUnits.{units_from};
@@ -30,8 +29,8 @@ use atom_csv::Row;
 use catalogue_statements::office::set_next_unit;
 use catalogue_store::{NewUnit, Places, enter_unit, enter_values, values as values_of};
 use isad_core::{Text, Values};
-use office_tables::StoreFault;
-use sqlite::{Alter, Connection};
+use office_tables::{StoreFault, Tables};
+use sqlite::Alter;
 use std::alloc::{AllocError, Global};
 use tree_core::Arrival;
 
@@ -71,40 +70,38 @@ fn are_same(some: &Values, others: &Values) -> bool
 /// Gives a unit the values of its row, if they differ.
 fn enter_known<P: Places, S: Alter>(
     alloc: Global,
-    conn: &mut Connection<S>,
+    tables: &mut Tables<P, S>,
     unit: u64,
     values: &Values,
 ) -> Result<Entry, StoreFault>
-    requires inside { InTransaction P.version (state S.Store conn.old) }
     requires small { IsNumber unit }
-    ensures makes { Updates S.Store (RepresentsEntering P.version) (λ _. ⊤) conn.old conn.new result
+    ensures makes { Updates S.Store (RepresentsEntering P.version) (λ _. ⊤) tables.old tables.new result
         (MayChange unit values.now) (with_values unit values.now) described_trees }
-    ensures told { HasCleanDisk (state S.Store conn.new) → (o : OfficeRow) (c : Catalogue)
-        → RepresentsEntering P.version (state S.Store conn.old).now o c → MayChange unit values.now c
+    ensures told { HasCleanDisk (state S.Store tables.new) → (o : OfficeRow) (c : Catalogue)
+        → RepresentsEntering P.version (state S.Store tables.old).now o c → MayChange unit values.now c
         → (u : Described) → find (has_id unit) (nodes c.forest) ≡ Some u
         → IfOk result (λ entry. entry ≡ entry_of (Some u) values.now) }
 {
-    let Some(found) = values_of(alloc, conn, unit)? else {
+    let Some(found) = values_of(alloc, tables, unit)? else {
         return Err(StoreFault::Schema);
     };
     if are_same(&found.values, values) {
         return Ok(Entry::Same);
     }
-    enter_values(alloc, conn, unit, values)?;
+    enter_values(alloc, tables, unit, values)?;
     Ok(Entry::Changed)
 }
 
 /// Adds the unit of a row.
 fn enter_new<P: Places, S: Alter>(
     alloc: Global,
-    conn: &mut Connection<S>,
+    tables: &mut Tables<P, S>,
     source: &Text,
     next: u64,
     row: &Row,
 ) -> Result<Entry, StoreFault>
-    requires inside { InTransaction P.version (state S.Store conn.old) }
     requires small { IsNumber next }
-    ensures makes { Updates S.Store (RepresentsEntering P.version) (λ _. ⊤) conn.old conn.new result
+    ensures makes { Updates S.Store (RepresentsEntering P.version) (λ _. ⊤) tables.old tables.new result
         (MayCome source.now row.now next) (with_new source.now row.now) described_trees }
     ensures told { IfOk result (λ entry. entry ≡ entry_of None row.now.values) }
 {
@@ -115,7 +112,7 @@ fn enter_new<P: Places, S: Alter>(
         values: &row.values,
         draft: !row.published,
     };
-    enter_unit(alloc, conn, &unit)?;
+    enter_unit(alloc, tables, &unit)?;
     Ok(Entry::New)
 }
 
@@ -123,23 +120,23 @@ fn enter_new<P: Places, S: Alter>(
 /// next number.
 fn enter_row<P: Places, S: Alter>(
     alloc: Global,
-    conn: &mut Connection<S>,
+    tables: &mut Tables<P, S>,
     source: &Text,
     number: Option<u64>,
     next: u64,
     row: &Row,
 ) -> Result<Entry, StoreFault>
-    requires inside { InTransaction P.version (state S.Store conn.old) }
     requires low { IfSome number IsNumber }
     requires small { IsNumber next }
-    ensures makes { Updates S.Store (RepresentsEntering P.version) (λ _. ⊤) conn.old conn.new result
+    ensures makes { Updates S.Store (RepresentsEntering P.version) (λ _. ⊤) tables.old tables.new result
         (IsTurnOf source.now row.now number next) (entered source.now (row.now ∷ [])) described_trees }
-    ensures told { ReadsCatalogue S.Store (RepresentsEntering P.version) (IsTurnOf source.now row.now number next) conn.old
-        conn.new result (λ c entry. entry ≡ entry_of (unit_of c.forest source.now row.now) row.now.values) }
+    ensures told { ReadsCatalogue S.Store (RepresentsEntering P.version) (IsTurnOf source.now row.now number next)
+        tables.old
+        tables.new result (λ c entry. entry ≡ entry_of (unit_of c.forest source.now row.now) row.now.values) }
 {
     match number {
-        Some(unit) => enter_known::<P, S>(alloc, conn, unit, &row.values),
-        None => enter_new::<P, S>(alloc, conn, source, next, row),
+        Some(unit) => enter_known(alloc, tables, unit, &row.values),
+        None => enter_new(alloc, tables, source, next, row),
     }
 }
 
@@ -167,13 +164,13 @@ fn count(counts: Counts, became: Entry) -> Counts
 /// Enters the rows one after another. The places of new units are entered separately.
 fn enter_each<P: Places, S: Alter>(
     alloc: Global,
-    conn: &mut Connection<S>,
+    tables: &mut Tables<P, S>,
     import: &Import<'_>,
 ) -> Result<Counts, StoreFault>
-    requires inside { InTransaction P.version (state S.Store conn.old) }
-    ensures makes { Updates S.Store (RepresentsEntering P.version) (λ _. ⊤) conn.old conn.new result
+    ensures makes { Updates S.Store (RepresentsEntering P.version) (λ _. ⊤) tables.old tables.new result
         (AreNext import.now) (imported import.now) described_trees }
-    ensures counts { ReadsCatalogue S.Store (RepresentsEntering P.version) (AreNext import.now) conn.old conn.new result
+    ensures counts { ReadsCatalogue S.Store (RepresentsEntering P.version) (AreNext import.now) tables.old tables.new
+        result
         (λ c counts. (counts ≡ counted_in c import.now)
         × (import.now.next + counts.new ≡ (imported import.now c).next)) }
     ensures few { IfOk result (λ counts. counts.new ≤ length import.now.rows.now) }
@@ -186,7 +183,7 @@ fn enter_each<P: Places, S: Alter>(
     for row in import.rows {
         let number = kept_number(import.catalogued, &row.legacy);
         let next = import.next + counts.new;
-        let became = enter_row::<P, S>(alloc, conn, import.source, number, next, row)?;
+        let became = enter_row(alloc, tables, import.source, number, next, row)?;
         counts = count(counts, became);
     }
     Ok(counts)
@@ -223,39 +220,38 @@ fn units_of(alloc: Global, import: &Import<'_>) -> Result<Vec<u64>, AllocError>
 /// Enters the rows, and the places of the units that they add, all places at once.
 fn enter_with_places<P: Places, S: Alter>(
     alloc: Global,
-    conn: &mut Connection<S>,
+    tables: &mut Tables<P, S>,
     import: &Import<'_>,
     arrivals: &[Arrival],
 ) -> Result<Counts, StoreFault>
-    requires inside { InTransaction P.version (state S.Store conn.old) }
     requires numbered { AllByRecursion IsNumbered arrivals.now }
-    ensures makes { Updates S.Store (RepresentsNumbered P.represents P.version) (λ _. ⊤) conn.old conn.new result
+    ensures makes { Updates S.Store (RepresentsNumbered P.represents P.version) (λ _. ⊤) tables.old tables.new result
         (Brings import.now arrivals.now) (imported import.now) catalogue_trees }
     ensures counts { ReadsCatalogue S.Store (RepresentsNumbered P.represents P.version) (Brings import.now arrivals.now)
-        conn.old conn.new result (λ c counts. counts ≡ counted_in c import.now) }
+        tables.old tables.new result (λ c counts. counts ≡ counted_in c import.now) }
 {
-    P::add_all(alloc, conn, arrivals)?;
-    let counts = enter_each::<P, S>(alloc, conn, import)?;
-    set_next_unit(conn, import.next + counts.new)?;
+    P::add_all(alloc, tables, arrivals)?;
+    let counts = enter_each(alloc, tables, import)?;
+    set_next_unit(tables, import.next + counts.new)?;
     Ok(counts)
 }
 
 /// Enters the rows one after another: the unit of a row gets the row's values, or is added with the next number.
 pub(crate) fn enter_rows<P: Places, S: Alter>(
     alloc: Global,
-    conn: &mut Connection<S>,
+    tables: &mut Tables<P, S>,
     import: &Import<'_>,
 ) -> Result<Outcome, StoreFault>
-    requires inside { InTransaction P.version (state S.Store conn.old) }
-    ensures makes { Updates S.Store (RepresentsLegible P.represents P.version) (λ _. ⊤) conn.old conn.new result
+    ensures makes { Updates S.Store (RepresentsLegible P.represents P.version) (λ _. ⊤) tables.old tables.new result
         (IsPending import.now) (imported import.now) catalogue_trees }
-    ensures finds { ReadsCatalogue S.Store (RepresentsLegible P.represents P.version) (IsPending import.now) conn.old conn.new
+    ensures finds { ReadsCatalogue S.Store (RepresentsLegible P.represents P.version) (IsPending import.now)
+        tables.old tables.new
         result (λ c made. (made.counts ≡ counted_in c import.now) × (map Some made.units.items
         ≡ map (λ row. number_there (imported import.now c) import.now.source.now row.legacy) import.now.rows.now)) }
     ensures small { IfOk result (λ made. AllByRecursion IsNumber made.units.items) }
 {
     let arrivals = arrivals(alloc, import)?;
     let units = units_of(alloc, import)?;
-    let counts = enter_with_places::<P, S>(alloc, conn, import, &arrivals)?;
+    let counts = enter_with_places(alloc, tables, import, &arrivals)?;
     Ok(Outcome { counts, units })
 }

@@ -2,7 +2,6 @@
 
 ghost use Rattle.std.specs.Prelude.{◌≡◌, List, IfSome, ⊤};
 ghost use Rattle.std.specs.BTreeMap.{get_by_text};
-ghost use Rattle.sqlite.specs.Held.{state};
 ghost use Rattle.isad_core.specs.Limits.{IsNumber};
 ghost use Rattle.isad_core.specs.Texts.{Bytes};
 ghost use Rattle.atom_csv.specs.declared.file.Row.{«Row» as RowTold};
@@ -10,7 +9,6 @@ ghost use Rattle.catalogue_core.specs.Bounds.{IsKept};
 ghost use Rattle.catalogue_core.specs.GoodCatalogues.{AreGoodUnits};
 ghost use Rattle.catalogue_core.specs.CatalogueMerge.{depth_under};
 ghost use Rattle.office_tables.specs.Calls.{Answers};
-ghost use Rattle.office_tables.specs.Step.{InTransaction};
 ghost use Rattle.catalogue_statements.specs.Representation.{Represents};
 ghost use Rattle.catalogue_core.specs.EntryByRow.{number_there};
 ghost use Rattle.csv_import.specs.KnownUnits.{KnowsUnits, TellsParent, TellsParentOfNew};
@@ -22,8 +20,8 @@ use crate::paths::path_of;
 use atom_csv::Row;
 use catalogue_store::Places;
 use isad_core::limits::MOST_DEEP;
-use office_tables::StoreFault;
-use sqlite::{Alter, Connection};
+use office_tables::{StoreFault, Tables};
+use sqlite::Alter;
 use std::alloc::Global;
 
 /// Why a row cannot be placed: its parent does not exist.
@@ -57,14 +55,13 @@ enum Placing {
 /// catalogued.
 fn depth_of<P: Places, S: Alter>(
     alloc: Global,
-    conn: &mut Connection<S>,
+    tables: &mut Tables<P, S>,
     catalogued: &ByLegacy,
     depths: &mut ByLegacy,
     row: &Row,
 ) -> Result<Option<u64>, StoreFault>
-    requires inside { InTransaction P.version (state S.Store conn.old) }
     requires low { (legacy : Bytes) → IfSome (get_by_text catalogued.now legacy) IsNumber }
-    ensures tells { Answers S.Store (Represents P.represents P.version) IsKept conn.old conn.new result (λ _. ⊤)
+    ensures tells { Answers S.Store (Represents P.represents P.version) IsKept tables.old tables.new result (λ _. ⊤)
         (λ _ c depth. AreGoodUnits c → (source : Bytes) → TellsParent c source (get_by_text catalogued.now) row.now
         → (above : List RowTold) → KnowsDepths c.forest source above (get_by_text depths.old)
         → (depth ≡ depth_under c.forest source row.now.parent above)
@@ -76,7 +73,7 @@ fn depth_of<P: Places, S: Alter>(
     if let Some(depth) = depths.get(parent.as_str()) {
         return Ok(Some(*depth));
     }
-    let path = path_of::<P, S>(alloc, conn, kept_number(catalogued, parent))?;
+    let path = path_of(alloc, tables, kept_number(catalogued, parent))?;
     if path.is_empty() {
         return Ok(None);
     }
@@ -100,14 +97,13 @@ fn placed(depth: Option<u64>) -> Placing
 /// parent if these are catalogued.
 fn place<P: Places, S: Alter>(
     alloc: Global,
-    conn: &mut Connection<S>,
+    tables: &mut Tables<P, S>,
     catalogued: &ByLegacy,
     depths: &mut ByLegacy,
     row: &Row,
 ) -> Result<Placing, StoreFault>
-    requires inside { InTransaction P.version (state S.Store conn.old) }
     requires low { (legacy : Bytes) → IfSome (get_by_text catalogued.now legacy) IsNumber }
-    ensures tells { Answers S.Store (Represents P.represents P.version) IsKept conn.old conn.new result (λ _. ⊤)
+    ensures tells { Answers S.Store (Represents P.represents P.version) IsKept tables.old tables.new result (λ _. ⊤)
         (λ _ c placing. AreGoodUnits c → (source : Bytes)
         → get_by_text catalogued.now row.now.legacy ≡ number_there c source row.now.legacy
         → TellsParentOfNew c source (get_by_text catalogued.now) row.now
@@ -118,7 +114,7 @@ fn place<P: Places, S: Alter>(
     if kept_number(catalogued, &row.legacy).is_some() {
         return Ok(Placing::Known);
     }
-    let depth = depth_of::<P, S>(alloc, conn, catalogued, depths, row)?;
+    let depth = depth_of(alloc, tables, catalogued, depths, row)?;
     Ok(placed(depth))
 }
 
@@ -126,20 +122,19 @@ fn place<P: Places, S: Alter>(
 /// catalogued units among those of the rows and their parents. Nothing is entered.
 pub(crate) fn plan<P: Places, S: Alter>(
     alloc: Global,
-    conn: &mut Connection<S>,
+    tables: &mut Tables<P, S>,
     catalogued: &ByLegacy,
     rows: &[Row],
 ) -> Result<Planned, StoreFault>
-    requires inside { InTransaction P.version (state S.Store conn.old) }
     requires low { (legacy : Bytes) → IfSome (get_by_text catalogued.now legacy) IsNumber }
-    ensures tells { Answers S.Store (Represents P.represents P.version) IsKept conn.old conn.new result (λ _. ⊤)
+    ensures tells { Answers S.Store (Represents P.represents P.version) IsKept tables.old tables.new result (λ _. ⊤)
         (λ _ c told. AreGoodUnits c → (source : Bytes) → KnowsUnits c source rows.now (get_by_text catalogued.now)
         → told ≡ plan_of c.forest source rows.now) }
 {
-    let mut depths = depths_below_many::<P, S>(alloc, conn, rows, catalogued)?;
+    let mut depths = depths_below_many(alloc, tables, rows, catalogued)?;
     let mut new = 0;
     for row in rows {
-        match place::<P, S>(alloc, conn, catalogued, &mut depths, row)? {
+        match place(alloc, tables, catalogued, &mut depths, row)? {
             Placing::Known => {}
             Placing::Fits { below } => {
                 remember(&mut depths, alloc, &row.legacy, below)?;

@@ -6,14 +6,13 @@ ghost use Rattle.isad_core.specs.Limits.{IsNumber};
 ghost use Rattle.desk_store.specs.Orders.{state_number};
 ghost use Rattle.office_core.specs.State.{waits};
 ghost use Rattle.office_core.specs.declared.command.Command.TheVariants as command;
-ghost use Rattle.office_tables.specs.Step.{InTransaction};
 ghost use Rattle.refinement.specs.CommandSteps.{Performs};
 
 use catalogue_store::Places;
 use desk_store::{OrderState, end_order, order};
 use office_core::{Done, Refusal};
-use office_tables::StoreFault;
-use sqlite::{Alter, Connection};
+use office_tables::{StoreFault, Tables};
+use sqlite::Alter;
 use std::alloc::Global;
 
 /// Whether an order in this state waits.
@@ -25,31 +24,30 @@ fn is_waiting(state: OrderState) -> bool
 
 /// Cancels an order that is known to wait.
 fn end_waiting<P: Places, S: Alter>(
-    conn: &mut Connection<S>,
+    tables: &mut Tables<P, S>,
     order: u64,
 ) -> Result<Result<Done, Refusal>, StoreFault>
-    requires inside { InTransaction P.version (state S.Store conn.old) }
     requires number { IsNumber order }
-    ensures { Performs P.Places S.Store (λ s. waits s order ≡ true) (command.Cancel order) conn.old conn.new result }
+    ensures { Performs P.represents P.version S.Store (λ s. waits s order ≡ true) (command.Cancel order) tables.old
+        tables.new result }
 {
-    end_order(conn, order, OrderState::Cancelled)?;
+    end_order(tables, order, OrderState::Cancelled)?;
     Ok(Ok(Done::Cancel { order }))
 }
 
 /// Cancels an order. The command is refused if the order was not placed or does not wait.
 pub fn cancel<P: Places, S: Alter>(
     alloc: Global,
-    conn: &mut Connection<S>,
+    tables: &mut Tables<P, S>,
     number: u64,
 ) -> Result<Result<Done, Refusal>, StoreFault>
-    requires inside { InTransaction P.version (state S.Store conn.old) }
-    ensures { Performs P.Places S.Store (λ _. ⊤) (command.Cancel number) conn.old conn.new result }
+    ensures { Performs P.represents P.version S.Store (λ _. ⊤) (command.Cancel number) tables.old tables.new result }
 {
-    let Some(placed) = order(alloc, conn, number)? else {
+    let Some(placed) = order(alloc, tables, number)? else {
         return Ok(Err(Refusal::UnknownOrder));
     };
     if !is_waiting(placed.state) {
         return Ok(Err(Refusal::OrderNotWaiting));
     }
-    end_waiting::<P, S>(conn, number)
+    end_waiting(tables, number)
 }

@@ -2,58 +2,54 @@
 
 ghost use Rattle.std.specs.Prelude.{[], ◌∷◌, IfSome, ⊤};
 ghost use Rattle.std.specs.List.{AllByRecursion};
-ghost use Rattle.sqlite.specs.Held.{state};
 ghost use Rattle.isad_core.specs.Limits.{IsNumber};
 ghost use Rattle.desk_store.specs.Holdings.{by_order};
 ghost use Rattle.desk_store.specs.Representation.{IsLegible, RepresentsDeskAlone};
 ghost use Rattle.office_tables.specs.Calls.{Updates};
-ghost use Rattle.office_tables.specs.Schema as tables;
-ghost use Rattle.office_tables.specs.Step.{InOffice};
+ghost use Rattle.office_tables.specs.Schema as schema;
 ghost use Rattle.desk_commands.specs.ContainerMoves.{handed_over, with_all_placed};
 
 use desk_core::Place;
 use desk_store::{OrderState, end_order, set_place};
-use office_tables::StoreFault;
 use office_tables::value::NO_NUMBER;
-use sqlite::{Alter, Connection};
+use office_tables::{StoreFault, Tables, Versioned};
+use sqlite::Alter;
 
 /// Moves a container to a place, and sets its order to the state that goes with the place.
-pub(crate) fn hand_over<S: Alter>(
-    conn: &mut Connection<S>,
+pub(crate) fn hand_over<P: Versioned, S: Alter>(
+    tables: &mut Tables<P, S>,
     container: u64,
     place: Place,
     order: u64,
     next: OrderState,
 ) -> Result<(), StoreFault>
-    requires inside { InOffice (state S.Store conn.old) }
     requires number { IsNumber container }
     requires known { IfSome (by_order place) IsNumber }
     requires small { IsNumber order }
-    ensures makes { Updates S.Store RepresentsDeskAlone IsLegible conn.old conn.new result (λ _. ⊤)
-        (handed_over container place order next) (tables.orders.tree ∷ tables.holding.tree ∷ []) }
+    ensures makes { Updates S.Store RepresentsDeskAlone IsLegible tables.old tables.new result (λ _. ⊤)
+        (handed_over container place order next) (schema.orders.tree ∷ schema.holding.tree ∷ []) }
 {
-    end_order(conn, order, next)?;
-    set_place(conn, container, place)
+    end_order(tables, order, next)?;
+    set_place(tables, container, place)
 }
 
 /// Moves these containers to one place, one after the other.
-pub(crate) fn move_all<S: Alter>(
-    conn: &mut Connection<S>,
+pub(crate) fn move_all<P: Versioned, S: Alter>(
+    tables: &mut Tables<P, S>,
     containers: &[u64],
     place: Place,
 ) -> Result<(), StoreFault>
-    requires inside { InOffice (state S.Store conn.old) }
     requires known { IfSome (by_order place) IsNumber }
-    ensures makes { Updates S.Store RepresentsDeskAlone IsLegible conn.old conn.new result
+    ensures makes { Updates S.Store RepresentsDeskAlone IsLegible tables.old tables.new result
         (λ _. AllByRecursion IsNumber containers.now) (with_all_placed place containers.now)
-        (tables.holding.tree ∷ []) }
+        (schema.holding.tree ∷ []) }
 {
     for container in containers {
         let container = *container;
         if container >= NO_NUMBER {
             return Err(StoreFault::Schema);
         }
-        set_place(conn, container, place)?;
+        set_place(tables, container, place)?;
     }
     Ok(())
 }

@@ -2,7 +2,6 @@
 
 ghost use Rattle.std.specs.Prelude.{◌≡◌, None, Some, IfOk, option_map};
 ghost use Rattle.std.specs.Result.{result_err};
-ghost use Rattle.sqlite.specs.Held.{state};
 ghost use Rattle.isad_core.specs.Limits.{IsNumber};
 ghost use Rattle.desk_core.specs.Checks.{issue_checks};
 ghost use Rattle.desk_core.specs.Decisions.{issue_facts};
@@ -11,7 +10,6 @@ ghost use Rattle.desk_store.specs.declared.orders.WaitingOrder.{WaitingOrder as 
 ghost use Rattle.office_core.specs.Rules.{refusal};
 ghost use Rattle.office_core.specs.Words.{first as first_of};
 ghost use Rattle.office_core.specs.declared.command.Command.TheVariants as command;
-ghost use Rattle.office_tables.specs.Step.{InTransaction};
 ghost use Rattle.refinement.specs.ReadingRoomLimits.{limits_of};
 ghost use Rattle.refinement.specs.CommandSteps.{Performs};
 ghost use Rattle.desk_commands.specs.Issuance.{IsQueuedFor, asked_for};
@@ -22,10 +20,10 @@ use desk_core::{AtDesk, Limits, Place, Reader, known_container, may_issue};
 use desk_store::{OrderState, QueueHead, WaitingOrder, queue_head, ticket_holder};
 use isad_core::Day;
 use office_core::{Done, Refusal};
-use office_tables::StoreFault;
 use office_tables::value::NO_NUMBER;
+use office_tables::{StoreFault, Tables};
 use refinement::is_open_to;
-use sqlite::{Alter, Connection};
+use sqlite::Alter;
 use std::alloc::Global;
 
 /// The ticket of the order, or none if there is no order.
@@ -64,44 +62,42 @@ fn decide(
 
 /// Issues a container with the first order that waits for it. The caller knows that no rule forbids this.
 fn lend<P: Places, S: Alter>(
-    conn: &mut Connection<S>,
+    tables: &mut Tables<P, S>,
     container: u64,
     ticket: u64,
     order: u64,
 ) -> Result<Result<Done, Refusal>, StoreFault>
-    requires inside { InTransaction P.version (state S.Store conn.old) }
     requires number { IsNumber container }
-    ensures { Performs P.Places S.Store
+    ensures { Performs P.represents P.version S.Store
         (λ s. (refusal s (command.Issue container ticket) ≡ None) × (first_of (s.queue container) ≡ Some order))
-        (command.Issue container ticket) conn.old conn.new result }
+        (command.Issue container ticket) tables.old tables.new result }
 {
     if order >= NO_NUMBER {
         return Err(StoreFault::Schema);
     }
-    hand_over(conn, container, Place::Out(order), order, OrderState::Out)?;
+    hand_over(tables, container, Place::Out(order), order, OrderState::Out)?;
     Ok(Ok(Done::Issue { order }))
 }
 
 /// Issues a container to a reader if no rule forbids it. The container is known, and `head` is the head of its queue.
 fn issue_known<P: Places, S: Alter>(
     alloc: Global,
-    conn: &mut Connection<S>,
+    tables: &mut Tables<P, S>,
     today: Day,
     limits: &Limits,
     container: u64,
     ticket: u64,
     head: QueueHead,
 ) -> Result<Result<Done, Refusal>, StoreFault>
-    requires inside { InTransaction P.version (state S.Store conn.old) }
     requires number { IsNumber container }
-    ensures { Performs P.Places S.Store
+    ensures { Performs P.represents P.version S.Store
         (λ s. (today ≡ s.day) × (limits.now ≡ limits_of s) × IsQueuedFor s container head.place head.first)
-        (command.Issue container ticket) conn.old conn.new result }
+        (command.Issue container ticket) tables.old tables.new result }
 {
-    let who = ticket_holder(alloc, conn, ticket)?;
-    let is_open = is_open_to::<P, S>(alloc, conn, container, ticket, today)?;
+    let who = ticket_holder(alloc, tables, ticket)?;
+    let is_open = is_open_to(alloc, tables, container, ticket, today)?;
     match decide(head, is_open, ticket, who, today, limits) {
-        Ok(order) => lend::<P, S>(conn, container, ticket, order),
+        Ok(order) => lend(tables, container, ticket, order),
         Err(why) => Ok(Err(why)),
     }
 }
@@ -111,19 +107,18 @@ fn issue_known<P: Places, S: Alter>(
 /// refused.
 pub fn issue<P: Places, S: Alter>(
     alloc: Global,
-    conn: &mut Connection<S>,
+    tables: &mut Tables<P, S>,
     today: Day,
     limits: &Limits,
     container: u64,
     ticket: u64,
 ) -> Result<Result<Done, Refusal>, StoreFault>
-    requires inside { InTransaction P.version (state S.Store conn.old) }
-    ensures { Performs P.Places S.Store (λ s. (today ≡ s.day) × (limits.now ≡ limits_of s))
-        (command.Issue container ticket) conn.old conn.new result }
+    ensures { Performs P.represents P.version S.Store (λ s. (today ≡ s.day) × (limits.now ≡ limits_of s))
+        (command.Issue container ticket) tables.old tables.new result }
 {
-    let found = queue_head(alloc, conn, container)?;
+    let found = queue_head(alloc, tables, container)?;
     match known_container(found) {
-        Ok(head) => issue_known::<P, S>(alloc, conn, today, limits, container, ticket, head),
+        Ok(head) => issue_known(alloc, tables, today, limits, container, ticket, head),
         Err(why) => Ok(Err(why)),
     }
 }

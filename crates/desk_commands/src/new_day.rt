@@ -2,10 +2,8 @@
 
 ghost use Rattle.std.specs.Prelude.{◌≡◌, false, int_lt, true};
 ghost use Rattle.std.specs.List.{list_any};
-ghost use Rattle.sqlite.specs.Held.{state};
 ghost use Rattle.office_core.specs.State.{containers, is_out};
 ghost use Rattle.office_core.specs.declared.command.Command.TheVariants as command;
-ghost use Rattle.office_tables.specs.Step.{InTransaction};
 ghost use Rattle.refinement.specs.CommandSteps.{Performs};
 
 use crate::emptiness::are_none;
@@ -13,35 +11,35 @@ use catalogue_store::Places;
 use desk_store::{issued, open_day};
 use isad_core::Day;
 use office_core::{Done, Refusal};
-use office_tables::StoreFault;
-use sqlite::{Alter, Connection};
+use office_tables::{StoreFault, Tables};
+use sqlite::Alter;
 use std::alloc::Global;
 
 /// Opens a day that is known to be later. Nothing is out.
 fn begin_day<P: Places, S: Alter>(
-    conn: &mut Connection<S>,
+    tables: &mut Tables<P, S>,
     day: Day,
 ) -> Result<Result<Done, Refusal>, StoreFault>
-    requires inside { InTransaction P.version (state S.Store conn.old) }
-    ensures { Performs P.Places S.Store (λ s. (int_lt s.day day ≡ true) × (list_any (is_out s) (containers s) ≡ false))
-        (command.OpenDay day) conn.old conn.new result }
+    ensures { Performs P.represents P.version S.Store
+        (λ s. (int_lt s.day day ≡ true) × (list_any (is_out s) (containers s) ≡ false))
+        (command.OpenDay day) tables.old tables.new result }
 {
-    open_day(conn, day)?;
+    open_day(tables, day)?;
     Ok(Ok(Done::OpenDay { day }))
 }
 
 /// Opens another day, which is known to be later. The command is refused if a container is out.
 pub fn open<P: Places, S: Alter>(
     alloc: Global,
-    conn: &mut Connection<S>,
+    tables: &mut Tables<P, S>,
     day: Day,
 ) -> Result<Result<Done, Refusal>, StoreFault>
-    requires inside { InTransaction P.version (state S.Store conn.old) }
-    ensures { Performs P.Places S.Store (λ s. int_lt s.day day ≡ true) (command.OpenDay day) conn.old conn.new result }
+    ensures { Performs P.represents P.version S.Store (λ s. int_lt s.day day ≡ true) (command.OpenDay day) tables.old
+        tables.new result }
 {
-    let loans = issued(alloc, conn)?;
+    let loans = issued(alloc, tables)?;
     if !are_none(&loans) {
         return Ok(Err(Refusal::StillIssued));
     }
-    begin_day::<P, S>(conn, day)
+    begin_day(tables, day)
 }

@@ -2,12 +2,10 @@
 
 ghost use Rattle.std.specs.Prelude.{◌≡◌, ◌&&◌, ◌^◌, true, nat_eq, nat_lt};
 ghost use Rattle.std.specs.List.{list_any};
-ghost use Rattle.sqlite.specs.Held.{state};
 ghost use Rattle.isad_core.specs.Limits.{IsNumber};
 ghost use Rattle.desk_store.specs.declared.reader_summary.LiveOrder.{LiveOrder as Live};
 ghost use Rattle.office_core.specs.State.{opens};
 ghost use Rattle.office_core.specs.declared.command.Command.TheVariants as command;
-ghost use Rattle.office_tables.specs.Step.{InTransaction};
 ghost use Rattle.refinement.specs.ReadingRoomLimits.{limits_of};
 ghost use Rattle.refinement.specs.CommandSteps.{Performs};
 ghost use Rattle.desk_commands.specs.OrderPlacement.{IsCardOf, MayOrder, ask_of};
@@ -17,10 +15,10 @@ use desk_core::{Ask, Limits, may_order};
 use desk_store::{LiveOrder, ReaderCard, append_order, reader};
 use isad_core::Day;
 use office_core::{Done, Refusal};
-use office_tables::StoreFault;
 use office_tables::value::NO_NUMBER;
+use office_tables::{StoreFault, Tables};
 use refinement::is_open_to;
-use sqlite::{Alter, Connection};
+use sqlite::Alter;
 use std::alloc::Global;
 
 /// Whether one of these orders is for the container.
@@ -44,26 +42,26 @@ fn ask(card: &ReaderCard, container: u64, is_open: bool) -> Ask
 
 /// Places an order that is known to be allowed, under the number after the last.
 fn append<P: Places, S: Alter>(
-    conn: &mut Connection<S>,
+    tables: &mut Tables<P, S>,
     today: Day,
     ticket: u64,
     container: u64,
     order: u64,
 ) -> Result<Result<Done, Refusal>, StoreFault>
-    requires inside { InTransaction P.version (state S.Store conn.old) }
     requires number { IsNumber order }
     requires small { IsNumber ticket }
     requires known { IsNumber container }
-    ensures { Performs P.Places S.Store (λ s. MayOrder s ticket container order today) (command.Order ticket container)
-        conn.old conn.new result }
+    ensures { Performs P.represents P.version S.Store (λ s. MayOrder s ticket container order today)
+        (command.Order ticket container)
+        tables.old tables.new result }
 {
-    append_order(conn, order, ticket, container, today)?;
+    append_order(tables, order, ticket, container, today)?;
     Ok(Ok(Done::Order { order }))
 }
 
 /// Places an order if the reader may place it. `is_open` is whether the container is open to the reader.
 fn decide<P: Places, S: Alter>(
-    conn: &mut Connection<S>,
+    tables: &mut Tables<P, S>,
     today: Day,
     limits: &Limits,
     card: &ReaderCard,
@@ -71,12 +69,11 @@ fn decide<P: Places, S: Alter>(
     container: u64,
     is_open: bool,
 ) -> Result<Result<Done, Refusal>, StoreFault>
-    requires inside { InTransaction P.version (state S.Store conn.old) }
     requires small { IsNumber ticket }
     requires known { is_open ≡ true → IsNumber container }
-    ensures { Performs P.Places S.Store (λ s. (today ≡ s.day) × (limits.now ≡ limits_of s)
+    ensures { Performs P.represents P.version S.Store (λ s. (today ≡ s.day) × (limits.now ≡ limits_of s)
         × IsCardOf P.version s ticket card.now × (is_open ≡ opens s ticket container)) (command.Order ticket container)
-        conn.old conn.new result }
+        tables.old tables.new result }
 {
     match may_order(
         Some(&card.reader),
@@ -84,7 +81,7 @@ fn decide<P: Places, S: Alter>(
         &ask(card, container, is_open),
         limits,
     ) {
-        Ok(()) => append::<P, S>(conn, today, ticket, container, card.orders + 1),
+        Ok(()) => append(tables, today, ticket, container, card.orders + 1),
         Err(why) => Ok(Err(why)),
     }
 }
@@ -99,22 +96,21 @@ fn is_open_with_number(container: u64, is_open: bool) -> bool
 /// Places an order of the reader with this card, if the reader may place it.
 fn order_by<P: Places, S: Alter>(
     alloc: Global,
-    conn: &mut Connection<S>,
+    tables: &mut Tables<P, S>,
     today: Day,
     limits: &Limits,
     card: &ReaderCard,
     ticket: u64,
     container: u64,
 ) -> Result<Result<Done, Refusal>, StoreFault>
-    requires inside { InTransaction P.version (state S.Store conn.old) }
     requires small { IsNumber ticket }
-    ensures { Performs P.Places S.Store
+    ensures { Performs P.represents P.version S.Store
         (λ s. (today ≡ s.day) × (limits.now ≡ limits_of s) × IsCardOf P.version s ticket card.now)
-        (command.Order ticket container) conn.old conn.new result }
+        (command.Order ticket container) tables.old tables.new result }
 {
-    let is_open = is_open_to::<P, S>(alloc, conn, container, ticket, today)?;
-    decide::<P, S>(
-        conn,
+    let is_open = is_open_to(alloc, tables, container, ticket, today)?;
+    decide(
+        tables,
         today,
         limits,
         card,
@@ -128,18 +124,17 @@ fn order_by<P: Places, S: Alter>(
 /// ordered by the ticket, and no limit on the number of orders may be reached. Otherwise the command is refused.
 pub fn order<P: Places, S: Alter>(
     alloc: Global,
-    conn: &mut Connection<S>,
+    tables: &mut Tables<P, S>,
     today: Day,
     limits: &Limits,
     ticket: u64,
     container: u64,
 ) -> Result<Result<Done, Refusal>, StoreFault>
-    requires inside { InTransaction P.version (state S.Store conn.old) }
-    ensures { Performs P.Places S.Store (λ s. (today ≡ s.day) × (limits.now ≡ limits_of s))
-        (command.Order ticket container) conn.old conn.new result }
+    ensures { Performs P.represents P.version S.Store (λ s. (today ≡ s.day) × (limits.now ≡ limits_of s))
+        (command.Order ticket container) tables.old tables.new result }
 {
-    let Some(card) = reader(alloc, conn, ticket, today)? else {
+    let Some(card) = reader(alloc, tables, ticket, today)? else {
         return Ok(Err(Refusal::UnknownTicket));
     };
-    order_by::<P, S>(alloc, conn, today, limits, &card, ticket, container)
+    order_by(alloc, tables, today, limits, &card, ticket, container)
 }

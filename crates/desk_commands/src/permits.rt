@@ -1,12 +1,10 @@
 //! Granting permits for closed units.
 
 ghost use Rattle.std.specs.Prelude.{◌≡◌, ◌&&◌, true, ⊤, not, is_some, length, nat_le};
-ghost use Rattle.sqlite.specs.Held.{state};
 ghost use Rattle.isad_core.specs.Limits.{IsNumber, most_permits};
 ghost use Rattle.catalogue_core.specs.UnitLookup.{has_unit};
 ghost use Rattle.office_core.specs.State.{is_ticket};
 ghost use Rattle.office_core.specs.declared.command.Command.TheVariants as command;
-ghost use Rattle.office_tables.specs.Step.{InTransaction};
 ghost use Rattle.refinement.specs.CommandSteps.{Performs};
 ghost use Rattle.desk_commands.specs.Permits.{MayPermit, later_of, until_for};
 
@@ -14,8 +12,8 @@ use catalogue_store::{Places, is_unit};
 use desk_store::{Permit, grant, is_registered, permits};
 use isad_core::{Day, limits};
 use office_core::{Done, Refusal};
-use office_tables::StoreFault;
-use sqlite::{Alter, Connection};
+use office_tables::{StoreFault, Tables};
+use sqlite::Alter;
 use std::alloc::Global;
 
 /// How many permits a ticket may have.
@@ -50,19 +48,19 @@ fn is_full(held: &[Permit], unit: u64) -> bool
 /// Grants a permit that is known to be allowed. `until` is its last day: the day asked for, or a later one that was
 /// granted before.
 fn give<P: Places, S: Alter>(
-    conn: &mut Connection<S>,
+    tables: &mut Tables<P, S>,
     ticket: u64,
     unit: u64,
     asked: Day,
     until: Day,
 ) -> Result<Result<Done, Refusal>, StoreFault>
-    requires inside { InTransaction P.version (state S.Store conn.old) }
     requires small { IsNumber ticket }
     requires known { IsNumber unit }
-    ensures { Performs P.Places S.Store (λ s. MayPermit s ticket unit asked until) (command.Permit ticket unit asked)
-        conn.old conn.new result }
+    ensures { Performs P.represents P.version S.Store (λ s. MayPermit s ticket unit asked until)
+        (command.Permit ticket unit asked)
+        tables.old tables.new result }
 {
-    grant(conn, ticket, unit, until)?;
+    grant(tables, ticket, unit, until)?;
     Ok(Ok(Done::Permit {
         ticket,
         unit,
@@ -73,60 +71,60 @@ fn give<P: Places, S: Alter>(
 /// Grants a permit if the ticket has one for the unit or may have one more. The ticket and the unit exist.
 fn give_within<P: Places, S: Alter>(
     alloc: Global,
-    conn: &mut Connection<S>,
+    tables: &mut Tables<P, S>,
     ticket: u64,
     unit: u64,
     asked: Day,
 ) -> Result<Result<Done, Refusal>, StoreFault>
-    requires inside { InTransaction P.version (state S.Store conn.old) }
     requires small { IsNumber ticket }
     requires known { IsNumber unit }
-    ensures { Performs P.Places S.Store (λ s. (is_ticket s ticket ≡ true) × (has_unit s.catalogue.forest unit ≡ true))
-        (command.Permit ticket unit asked) conn.old conn.new result }
+    ensures { Performs P.represents P.version S.Store
+        (λ s. (is_ticket s ticket ≡ true) × (has_unit s.catalogue.forest unit ≡ true))
+        (command.Permit ticket unit asked) tables.old tables.new result }
 {
-    let held = permits(alloc, conn, ticket)?;
+    let held = permits(alloc, tables, ticket)?;
     if is_full(&held, unit) {
         return Ok(Err(Refusal::Full));
     }
     let until = later(last_day(&held, unit), asked);
-    give::<P, S>(conn, ticket, unit, asked, until)
+    give(tables, ticket, unit, asked, until)
 }
 
 /// Grants a permit for a unit that may or may not exist. The ticket exists.
 fn give_for<P: Places, S: Alter>(
     alloc: Global,
-    conn: &mut Connection<S>,
+    tables: &mut Tables<P, S>,
     ticket: u64,
     unit: u64,
     asked: Day,
 ) -> Result<Result<Done, Refusal>, StoreFault>
-    requires inside { InTransaction P.version (state S.Store conn.old) }
     requires small { IsNumber ticket }
-    ensures { Performs P.Places S.Store (λ s. is_ticket s ticket ≡ true) (command.Permit ticket unit asked)
-        conn.old conn.new result }
+    ensures { Performs P.represents P.version S.Store (λ s. is_ticket s ticket ≡ true)
+        (command.Permit ticket unit asked)
+        tables.old tables.new result }
 {
-    let there = is_unit::<P, S>(alloc, conn, unit)?;
+    let there = is_unit(alloc, tables, unit)?;
     if !there {
         return Ok(Err(Refusal::UnknownUnit));
     }
-    give_within::<P, S>(alloc, conn, ticket, unit, asked)
+    give_within(alloc, tables, ticket, unit, asked)
 }
 
 /// Grants a ticket a permit for a unit up to a day. If the ticket has one up to a later day, that later day remains.
 /// The command is refused if the ticket or the unit does not exist, or if the ticket may have no further permit.
 pub fn permit<P: Places, S: Alter>(
     alloc: Global,
-    conn: &mut Connection<S>,
+    tables: &mut Tables<P, S>,
     ticket: u64,
     unit: u64,
     until: Day,
 ) -> Result<Result<Done, Refusal>, StoreFault>
-    requires inside { InTransaction P.version (state S.Store conn.old) }
-    ensures { Performs P.Places S.Store (λ _. ⊤) (command.Permit ticket unit until) conn.old conn.new result }
+    ensures { Performs P.represents P.version S.Store (λ _. ⊤) (command.Permit ticket unit until) tables.old
+        tables.new result }
 {
-    let known = is_registered(alloc, conn, ticket)?;
+    let known = is_registered(alloc, tables, ticket)?;
     if !known {
         return Ok(Err(Refusal::UnknownTicket));
     }
-    give_for::<P, S>(alloc, conn, ticket, unit, until)
+    give_for(alloc, tables, ticket, unit, until)
 }

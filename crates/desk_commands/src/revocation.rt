@@ -1,12 +1,10 @@
 //! Revoking permits for closed units.
 
 ghost use Rattle.std.specs.Prelude.{◌≡◌, true};
-ghost use Rattle.sqlite.specs.Held.{state};
 ghost use Rattle.isad_core.specs.Limits.{IsNumber};
 ghost use Rattle.catalogue_core.specs.UnitLookup.{has_unit};
 ghost use Rattle.office_core.specs.State.{is_ticket};
 ghost use Rattle.office_core.specs.declared.command.Command.TheVariants as command;
-ghost use Rattle.office_tables.specs.Step.{InTransaction};
 ghost use Rattle.refinement.specs.CommandSteps.{Performs};
 ghost use Rattle.desk_commands.specs.Revocation.{HasPermit};
 
@@ -15,87 +13,85 @@ use catalogue_store::{Places, is_unit};
 use desk_store::{is_registered, permits, revoke};
 use isad_core::Day;
 use office_core::{Done, Refusal};
-use office_tables::StoreFault;
+use office_tables::{StoreFault, Tables};
 use refinement::pass_near;
-use sqlite::{Alter, Connection};
+use sqlite::Alter;
 use std::alloc::Global;
 
 /// Revokes a permit that exists. The command is refused if it would close a container to the reader who has it.
 fn take_back<P: Places, S: Alter>(
     alloc: Global,
-    conn: &mut Connection<S>,
+    tables: &mut Tables<P, S>,
     today: Day,
     ticket: u64,
     unit: u64,
 ) -> Result<Result<Done, Refusal>, StoreFault>
-    requires inside { InTransaction P.version (state S.Store conn.old) }
     requires small { IsNumber ticket }
     requires known { IsNumber unit }
-    ensures { Performs P.Places S.Store (λ s. (today ≡ s.day) × HasPermit s ticket unit) (command.Revoke ticket unit)
-        conn.old conn.new result }
+    ensures { Performs P.represents P.version S.Store (λ s. (today ≡ s.day) × HasPermit s ticket unit)
+        (command.Revoke ticket unit)
+        tables.old tables.new result }
 {
-    revoke(conn, ticket, unit)?;
-    pass_near::<P, S>(alloc, conn, today, unit, Done::Revoke { unit })
+    revoke(tables, ticket, unit)?;
+    pass_near(alloc, tables, today, unit, Done::Revoke { unit })
 }
 
 /// Revokes a permit that may or may not exist. The ticket and the unit exist.
 fn take_back_held<P: Places, S: Alter>(
     alloc: Global,
-    conn: &mut Connection<S>,
+    tables: &mut Tables<P, S>,
     today: Day,
     ticket: u64,
     unit: u64,
 ) -> Result<Result<Done, Refusal>, StoreFault>
-    requires inside { InTransaction P.version (state S.Store conn.old) }
     requires small { IsNumber ticket }
     requires known { IsNumber unit }
-    ensures { Performs P.Places S.Store
+    ensures { Performs P.represents P.version S.Store
         (λ s. (today ≡ s.day) × (is_ticket s ticket ≡ true) × (has_unit s.catalogue.forest unit ≡ true))
-        (command.Revoke ticket unit) conn.old conn.new result }
+        (command.Revoke ticket unit) tables.old tables.new result }
 {
-    let held = permits(alloc, conn, ticket)?;
+    let held = permits(alloc, tables, ticket)?;
     let until = last_day(&held, unit);
     if until.is_none() {
         return Ok(Err(Refusal::NoPermit));
     }
-    take_back::<P, S>(alloc, conn, today, ticket, unit)
+    take_back(alloc, tables, today, ticket, unit)
 }
 
 /// Revokes a permit for a unit that may or may not exist. The ticket exists.
 fn take_back_for<P: Places, S: Alter>(
     alloc: Global,
-    conn: &mut Connection<S>,
+    tables: &mut Tables<P, S>,
     today: Day,
     ticket: u64,
     unit: u64,
 ) -> Result<Result<Done, Refusal>, StoreFault>
-    requires inside { InTransaction P.version (state S.Store conn.old) }
     requires small { IsNumber ticket }
-    ensures { Performs P.Places S.Store (λ s. (today ≡ s.day) × (is_ticket s ticket ≡ true))
-        (command.Revoke ticket unit) conn.old conn.new result }
+    ensures { Performs P.represents P.version S.Store (λ s. (today ≡ s.day) × (is_ticket s ticket ≡ true))
+        (command.Revoke ticket unit) tables.old tables.new result }
 {
-    let there = is_unit::<P, S>(alloc, conn, unit)?;
+    let there = is_unit(alloc, tables, unit)?;
     if !there {
         return Ok(Err(Refusal::UnknownUnit));
     }
-    take_back_held::<P, S>(alloc, conn, today, ticket, unit)
+    take_back_held(alloc, tables, today, ticket, unit)
 }
 
 /// Revokes a ticket's permit for a unit. The command is refused if the ticket, the unit or the permit does not exist,
 /// or if it would close a container to the reader who has it.
 pub fn revoke_permit<P: Places, S: Alter>(
     alloc: Global,
-    conn: &mut Connection<S>,
+    tables: &mut Tables<P, S>,
     today: Day,
     ticket: u64,
     unit: u64,
 ) -> Result<Result<Done, Refusal>, StoreFault>
-    requires inside { InTransaction P.version (state S.Store conn.old) }
-    ensures { Performs P.Places S.Store (λ s. today ≡ s.day) (command.Revoke ticket unit) conn.old conn.new result }
+    ensures { Performs P.represents P.version S.Store (λ s. today ≡ s.day) (command.Revoke ticket unit) tables.old
+        tables.new result }
 {
-    let known = is_registered(alloc, conn, ticket)?;
+    let known = is_registered(alloc, tables, ticket)?;
     if !known {
         return Ok(Err(Refusal::UnknownTicket));
     }
-    take_back_for::<P, S>(alloc, conn, today, ticket, unit)
+    take_back_for(alloc, tables, today, ticket, unit)
 }

@@ -2,13 +2,11 @@
 
 ghost use Rattle.std.specs.Prelude.{◌≡◌, false, map, IfOk, ⊤};
 ghost use Rattle.std.specs.List.{AllByRecursion, list_all};
-ghost use Rattle.sqlite.specs.Held.{state};
 ghost use Rattle.desk_store.specs.Runs.{IsNumbered};
 ghost use Rattle.desk_store.specs.declared.holdings.FirstOrder.{FirstOrder as Taken};
 ghost use Rattle.office_core.specs.Words.{is_empty};
 ghost use Rattle.office_core.specs.declared.command.Command.TheVariants as command;
 ghost use Rattle.office_tables.specs.Calls.{Answers};
-ghost use Rattle.office_tables.specs.Step.{InTransaction};
 ghost use Rattle.refinement.specs.ReadingRoomLimits.{limits_of};
 ghost use Rattle.refinement.specs.CommandSteps.{Performs};
 ghost use Rattle.refinement.specs.AccessConditions.{CanBeJudged, RepresentsWhole};
@@ -21,22 +19,21 @@ use desk_core::{Limits, Place};
 use desk_store::{FirstOrder, candidates, record_run};
 use isad_core::Day;
 use office_core::{Done, Refusal};
-use office_tables::StoreFault;
 use office_tables::value::NO_NUMBER;
+use office_tables::{StoreFault, Tables};
 use refinement::is_open_to;
-use sqlite::{Alter, Connection};
+use sqlite::Alter;
 use std::alloc::{AllocError, Global};
 
 /// The first `most` of these orders whose containers are open to their readers.
 fn due<P: Places, S: Alter>(
     alloc: Global,
-    conn: &mut Connection<S>,
+    tables: &mut Tables<P, S>,
     today: Day,
     most: u32,
     waiting: &[FirstOrder],
 ) -> Result<Vec<FirstOrder>, StoreFault>
-    requires inside { InTransaction P.version (state S.Store conn.old) }
-    ensures tells { Answers S.Store (RepresentsWhole P.represents P.version) CanBeJudged conn.old conn.new result
+    ensures tells { Answers S.Store (RepresentsWhole P.represents P.version) CanBeJudged tables.old tables.new result
         (λ _. ⊤) (λ _ s due. CanBeJudged s → today ≡ s.day → due.items ≡ due_of s most waiting.now) }
 {
     let mut due = Vec::new(alloc);
@@ -45,7 +42,7 @@ fn due<P: Places, S: Alter>(
         if due.len() >= most as usize {
             return Ok(due);
         }
-        if is_open_to::<P, S>(alloc, conn, order.container, order.ticket, today)? {
+        if is_open_to(alloc, tables, order.container, order.ticket, today)? {
             due.push(order)?;
         }
     }
@@ -68,22 +65,21 @@ fn containers_of(alloc: Global, due: &[FirstOrder]) -> Result<Vec<u64>, AllocErr
 
 /// Records a run that takes these orders, and brings their containers to the desk.
 fn bring<P: Places, S: Alter>(
-    conn: &mut Connection<S>,
+    tables: &mut Tables<P, S>,
     today: Day,
     due: &[FirstOrder],
     containers: &[u64],
 ) -> Result<Result<Done, Refusal>, StoreFault>
-    requires inside { InTransaction P.version (state S.Store conn.old) }
     requires numbers { AllByRecursion IsNumbered due.now }
     requires theirs { containers.now ≡ map (λ (o : Taken). o.container) due.now }
-    ensures { Performs P.Places S.Store
+    ensures { Performs P.represents P.version S.Store
         (λ s. (today ≡ s.day) × (due.now ≡ taken_by P.version s) × (is_empty due.now ≡ false)) command.Run
-        conn.old conn.new result }
+        tables.old tables.new result }
 {
-    let Some(run) = record_run(conn, today, due)? else {
+    let Some(run) = record_run(tables, today, due)? else {
         return Ok(Err(Refusal::Full));
     };
-    move_all(conn, containers, Place::Desk)?;
+    move_all(tables, containers, Place::Desk)?;
     Ok(Ok(Done::Run {
         run,
         taken: due.len() as u64,
@@ -93,20 +89,19 @@ fn bring<P: Places, S: Alter>(
 /// Makes a run for these orders, which are known to be those that are due.
 fn bring_due<P: Places, S: Alter>(
     alloc: Global,
-    conn: &mut Connection<S>,
+    tables: &mut Tables<P, S>,
     today: Day,
     due: &[FirstOrder],
 ) -> Result<Result<Done, Refusal>, StoreFault>
-    requires inside { InTransaction P.version (state S.Store conn.old) }
-    ensures { Performs P.Places S.Store
+    ensures { Performs P.represents P.version S.Store
         (λ s. (today ≡ s.day) × (due.now ≡ taken_by P.version s) × (is_empty due.now ≡ false)) command.Run
-        conn.old conn.new result }
+        tables.old tables.new result }
 {
     if !are_kept(due) {
         return Err(StoreFault::Schema);
     }
     let containers = containers_of(alloc, due)?;
-    bring::<P, S>(conn, today, due, &containers)
+    bring(tables, today, due, &containers)
 }
 
 /// Makes a run. It takes the first order for each container on the shelf if the container is open to the order's
@@ -114,18 +109,17 @@ fn bring_due<P: Places, S: Alter>(
 /// is refused if no order is due, or if no number is left for a run.
 pub fn fetch<P: Places, S: Alter>(
     alloc: Global,
-    conn: &mut Connection<S>,
+    tables: &mut Tables<P, S>,
     today: Day,
     limits: &Limits,
 ) -> Result<Result<Done, Refusal>, StoreFault>
-    requires inside { InTransaction P.version (state S.Store conn.old) }
-    ensures { Performs P.Places S.Store (λ s. (today ≡ s.day) × (limits.now ≡ limits_of s)) command.Run
-        conn.old conn.new result }
+    ensures { Performs P.represents P.version S.Store (λ s. (today ≡ s.day) × (limits.now ≡ limits_of s)) command.Run
+        tables.old tables.new result }
 {
-    let waiting = candidates(alloc, conn)?;
-    let due = due::<P, S>(alloc, conn, today, limits.run, &waiting)?;
+    let waiting = candidates(alloc, tables)?;
+    let due = due(alloc, tables, today, limits.run, &waiting)?;
     if are_none(&due) {
         return Ok(Err(Refusal::NothingToMove));
     }
-    bring_due::<P, S>(alloc, conn, today, &due)
+    bring_due(alloc, tables, today, &due)
 }

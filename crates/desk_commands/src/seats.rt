@@ -2,11 +2,9 @@
 
 ghost use Rattle.std.specs.Prelude.{◌≡◌, ⊤, IfOk, IfSome, IsPermutation, map};
 ghost use Rattle.std.specs.List.Sorted.{IsNonDecreasing};
-ghost use Rattle.sqlite.specs.Held.{state};
 ghost use Rattle.isad_core.specs.Limits.{IsNumber};
 ghost use Rattle.desk_store.specs.declared.taken_seats.TakenSeat.{TakenSeat as Taken};
 ghost use Rattle.office_core.specs.declared.command.Command.TheVariants as command;
-ghost use Rattle.office_tables.specs.Step.{InTransaction};
 ghost use Rattle.refinement.specs.ReadingRoomLimits.{limits_of};
 ghost use Rattle.refinement.specs.CommandSteps.{Performs};
 ghost use Rattle.refinement.specs.Sitters.{sitter};
@@ -17,36 +15,34 @@ use desk_core::{Limits, Reader, may_leave, may_sit};
 use desk_store::{TakenSeat, seats, set_seat, ticket_holder};
 use isad_core::Day;
 use office_core::{Done, Refusal};
-use office_tables::StoreFault;
-use sqlite::{Alter, Connection};
+use office_tables::{StoreFault, Tables};
+use sqlite::Alter;
 use std::alloc::{AllocError, Global};
 
 /// Frees the seat of a ticket that is known to be allowed to leave.
 fn free_seat<P: Places, S: Alter>(
-    conn: &mut Connection<S>,
+    tables: &mut Tables<P, S>,
     ticket: u64,
     seat: u32,
 ) -> Result<Result<Done, Refusal>, StoreFault>
-    requires inside { InTransaction P.version (state S.Store conn.old) }
-    ensures { Performs P.Places S.Store (λ s. MayLeave s ticket seat) (command.LeaveSeat ticket)
-        conn.old conn.new result }
+    ensures { Performs P.represents P.version S.Store (λ s. MayLeave s ticket seat) (command.LeaveSeat ticket)
+        tables.old tables.new result }
 {
-    set_seat(conn, seat, None)?;
+    set_seat(tables, seat, None)?;
     Ok(Ok(Done::LeaveSeat { seat }))
 }
 
 /// Frees the seat of a ticket. The command is refused if the ticket was not given, has no seat, or has a container out.
 pub fn leave_seat<P: Places, S: Alter>(
     alloc: Global,
-    conn: &mut Connection<S>,
+    tables: &mut Tables<P, S>,
     ticket: u64,
 ) -> Result<Result<Done, Refusal>, StoreFault>
-    requires inside { InTransaction P.version (state S.Store conn.old) }
-    ensures { Performs P.Places S.Store (λ _. ⊤) (command.LeaveSeat ticket) conn.old conn.new result }
+    ensures { Performs P.represents P.version S.Store (λ _. ⊤) (command.LeaveSeat ticket) tables.old tables.new result }
 {
-    let who = ticket_holder(alloc, conn, ticket)?;
+    let who = ticket_holder(alloc, tables, ticket)?;
     match may_leave(who.as_ref()) {
-        Ok(seat) => free_seat::<P, S>(conn, ticket, seat),
+        Ok(seat) => free_seat(tables, ticket, seat),
         Err(why) => Ok(Err(why)),
     }
 }
@@ -66,36 +62,36 @@ fn numbers_of(alloc: Global, taken: &[TakenSeat]) -> Result<Vec<u32>, AllocError
 
 /// Gives a ticket a seat that is free.
 fn take<P: Places, S: Alter>(
-    conn: &mut Connection<S>,
+    tables: &mut Tables<P, S>,
     ticket: u64,
     seat: u32,
 ) -> Result<Result<Done, Refusal>, StoreFault>
-    requires inside { InTransaction P.version (state S.Store conn.old) }
     requires small { IsNumber ticket }
-    ensures { Performs P.Places S.Store (λ s. MaySit s ticket seat) (command.TakeSeat ticket) conn.old conn.new result }
+    ensures { Performs P.represents P.version S.Store (λ s. MaySit s ticket seat) (command.TakeSeat ticket) tables.old
+        tables.new result }
 {
-    set_seat(conn, seat, Some(ticket))?;
+    set_seat(tables, seat, Some(ticket))?;
     Ok(Ok(Done::TakeSeat { seat }))
 }
 
 /// Gives a reader the lowest free seat, if the reader may sit down.
 fn sit_down<P: Places, S: Alter>(
     alloc: Global,
-    conn: &mut Connection<S>,
+    tables: &mut Tables<P, S>,
     today: Day,
     limits: &Limits,
     ticket: u64,
     who: Option<Reader>,
 ) -> Result<Result<Done, Refusal>, StoreFault>
-    requires inside { InTransaction P.version (state S.Store conn.old) }
     requires small { IfSome who (λ _. IsNumber ticket) }
-    ensures { Performs P.Places S.Store (λ s. (today ≡ s.day) × (limits.now ≡ limits_of s) × (who ≡ sitter s ticket))
-        (command.TakeSeat ticket) conn.old conn.new result }
+    ensures { Performs P.represents P.version S.Store
+        (λ s. (today ≡ s.day) × (limits.now ≡ limits_of s) × (who ≡ sitter s ticket))
+        (command.TakeSeat ticket) tables.old tables.new result }
 {
-    let taken = seats(alloc, conn)?;
+    let taken = seats(alloc, tables)?;
     let numbers = numbers_of(alloc, &taken)?;
     match may_sit(who.as_ref(), today, &numbers, limits) {
-        Ok(seat) => take::<P, S>(conn, ticket, seat),
+        Ok(seat) => take(tables, ticket, seat),
         Err(why) => Ok(Err(why)),
     }
 }
@@ -104,15 +100,15 @@ fn sit_down<P: Places, S: Alter>(
 /// or if no seat is free.
 pub fn take_seat<P: Places, S: Alter>(
     alloc: Global,
-    conn: &mut Connection<S>,
+    tables: &mut Tables<P, S>,
     today: Day,
     limits: &Limits,
     ticket: u64,
 ) -> Result<Result<Done, Refusal>, StoreFault>
-    requires inside { InTransaction P.version (state S.Store conn.old) }
-    ensures { Performs P.Places S.Store (λ s. (today ≡ s.day) × (limits.now ≡ limits_of s)) (command.TakeSeat ticket)
-        conn.old conn.new result }
+    ensures { Performs P.represents P.version S.Store (λ s. (today ≡ s.day) × (limits.now ≡ limits_of s))
+        (command.TakeSeat ticket)
+        tables.old tables.new result }
 {
-    let who = ticket_holder(alloc, conn, ticket)?;
-    sit_down::<P, S>(alloc, conn, today, limits, ticket, who)
+    let who = ticket_holder(alloc, tables, ticket)?;
+    sit_down(alloc, tables, today, limits, ticket, who)
 }

@@ -1,11 +1,9 @@
 //! Moving containers that nobody waits for back to the shelf.
 
 ghost use Rattle.std.specs.Prelude.{◌≡◌, false, ⊤};
-ghost use Rattle.sqlite.specs.Held.{state};
 ghost use Rattle.office_core.specs.State.{idle};
 ghost use Rattle.office_core.specs.Words.{is_empty};
 ghost use Rattle.office_core.specs.declared.command.Command.TheVariants as command;
-ghost use Rattle.office_tables.specs.Step.{InTransaction};
 ghost use Rattle.refinement.specs.CommandSteps.{Performs};
 
 use crate::container_moves::move_all;
@@ -15,20 +13,19 @@ use desk_core::{Place, pick_reshelve};
 use desk_store::at_desk;
 use isad_core::List;
 use office_core::{Done, Refusal};
-use office_tables::StoreFault;
-use sqlite::{Alter, Connection};
+use office_tables::{StoreFault, Tables};
+use sqlite::Alter;
 use std::alloc::Global;
 
 /// Moves these containers back to the shelf. They are known to be those at the desk that nobody waits for.
 fn shelve<P: Places, S: Alter>(
-    conn: &mut Connection<S>,
+    tables: &mut Tables<P, S>,
     containers: Vec<u64>,
 ) -> Result<Result<Done, Refusal>, StoreFault>
-    requires inside { InTransaction P.version (state S.Store conn.old) }
-    ensures { Performs P.Places S.Store (λ s. (containers.items ≡ idle s) × (is_empty (idle s) ≡ false))
-        command.Reshelve conn.old conn.new result }
+    ensures { Performs P.represents P.version S.Store (λ s. (containers.items ≡ idle s) × (is_empty (idle s) ≡ false))
+        command.Reshelve tables.old tables.new result }
 {
-    move_all(conn, &containers, Place::Shelf)?;
+    move_all(tables, &containers, Place::Shelf)?;
     Ok(Ok(Done::Reshelve {
         containers: List(containers),
     }))
@@ -37,15 +34,14 @@ fn shelve<P: Places, S: Alter>(
 /// Moves the containers at the desk that nobody waits for back to the shelf. The command is refused if there are none.
 pub fn reshelve<P: Places, S: Alter>(
     alloc: Global,
-    conn: &mut Connection<S>,
+    tables: &mut Tables<P, S>,
 ) -> Result<Result<Done, Refusal>, StoreFault>
-    requires inside { InTransaction P.version (state S.Store conn.old) }
-    ensures { Performs P.Places S.Store (λ _. ⊤) command.Reshelve conn.old conn.new result }
+    ensures { Performs P.represents P.version S.Store (λ _. ⊤) command.Reshelve tables.old tables.new result }
 {
-    let told = at_desk(alloc, conn)?;
+    let told = at_desk(alloc, tables)?;
     let idle = pick_reshelve(alloc, &told)?;
     if are_none(&idle) {
         return Ok(Err(Refusal::NothingToMove));
     }
-    shelve::<P, S>(conn, idle)
+    shelve(tables, idle)
 }

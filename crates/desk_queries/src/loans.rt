@@ -1,17 +1,15 @@
 //! The containers that are with readers.
 
-ghost use Rattle.sqlite.specs.Held.{state};
 ghost use Rattle.office_core.specs.declared.query.Query.TheVariants as query;
-ghost use Rattle.office_tables.specs.Step.{InTransaction};
 ghost use Rattle.refinement.specs.QueryAnswers.{Responds};
 
 use crate::json_values::{Told, list_text};
 use catalogue_store::Places;
 use desk_store::{Loan, issued};
 use office_core::Answer;
-use office_tables::StoreFault;
+use office_tables::{StoreFault, Tables};
 use serde_json::{Value, json};
-use sqlite::{Alter, Connection};
+use sqlite::Alter;
 use std::alloc::{AllocError, Global};
 
 impl Told for Loan {
@@ -27,12 +25,11 @@ impl Told for Loan {
 /// The containers that are out, each with its order and the ticket of that order, as JSON.
 pub fn issued_now<P: Places, S: Alter>(
     alloc: Global,
-    conn: &mut Connection<S>,
+    tables: &mut Tables<P, S>,
 ) -> Result<Answer, StoreFault>
-    requires inside { InTransaction P.version (state S.Store conn.old) }
-    ensures { Responds P.Places S.Store query.IssuedNow conn.old conn.new result }
+    ensures { Responds P.represents P.version S.Store query.IssuedNow tables.old tables.new result }
 {
-    let loans = issued(alloc, conn)?;
+    let loans = issued(alloc, tables)?;
     let text = list_text(alloc, &loans)?;
     Ok(Answer::Json(text))
 }

@@ -1,18 +1,16 @@
 //! The permits of a ticket.
 
-ghost use Rattle.sqlite.specs.Held.{state};
 ghost use Rattle.office_core.specs.declared.query.Query.TheVariants as query;
-ghost use Rattle.office_tables.specs.Step.{InTransaction};
 ghost use Rattle.refinement.specs.QueryAnswers.{Responds};
 
 use crate::json_values::{Told, list_text};
 use catalogue_store::Places;
 use desk_store::{Permit, is_registered, permits};
 use office_core::{Answer, Refusal};
-use office_tables::StoreFault;
+use office_tables::{StoreFault, Tables};
 use replies::day_value;
 use serde_json::{Value, json};
-use sqlite::{Alter, Connection};
+use sqlite::Alter;
 use std::alloc::{AllocError, Global};
 
 impl Told for Permit {
@@ -29,17 +27,16 @@ impl Told for Permit {
 /// The permits of a ticket, in order of unit, as JSON. The answer is `Unknown` if the ticket was not given.
 pub fn reader_permits<P: Places, S: Alter>(
     alloc: Global,
-    conn: &mut Connection<S>,
+    tables: &mut Tables<P, S>,
     ticket: u64,
 ) -> Result<Answer, StoreFault>
-    requires inside { InTransaction P.version (state S.Store conn.old) }
-    ensures { Responds P.Places S.Store (query.ReaderPermits ticket) conn.old conn.new result }
+    ensures { Responds P.represents P.version S.Store (query.ReaderPermits ticket) tables.old tables.new result }
 {
-    let known = is_registered(alloc, conn, ticket)?;
+    let known = is_registered(alloc, tables, ticket)?;
     if !known {
         return Ok(Answer::Unknown(Refusal::UnknownTicket));
     }
-    let granted = permits(alloc, conn, ticket)?;
+    let granted = permits(alloc, tables, ticket)?;
     let text = list_text(alloc, &granted)?;
     Ok(Answer::Json(text))
 }

@@ -3,12 +3,10 @@
 ghost use Rattle.std.specs.Prelude.{◌≡◌, option_map, IfOk};
 ghost use Rattle.serde_json.specs.View.{view};
 ghost use Rattle.serde_json.specs.Written.{compact_text};
-ghost use Rattle.sqlite.specs.Held.{state};
 ghost use Rattle.office_core.specs.Json.{count, or_null};
 ghost use Rattle.office_core.specs.Queries.{place_name};
 ghost use Rattle.office_core.specs.State.{order_out};
 ghost use Rattle.office_core.specs.declared.query.Query.TheVariants as query;
-ghost use Rattle.office_tables.specs.Step.{InTransaction};
 ghost use Rattle.refinement.specs.QueryAnswers.{Responds};
 ghost use Rattle.desk_queries.specs.JsonValues.{queue_data};
 
@@ -18,10 +16,10 @@ use desk_core::{Place, known_container};
 use desk_store::{ContainerQueue, WaitingOrder};
 use isad_core::List;
 use office_core::Answer;
-use office_tables::StoreFault;
+use office_tables::{StoreFault, Tables};
 use replies::text_of;
 use serde_json::{Value, json};
-use sqlite::{Alter, Connection};
+use sqlite::Alter;
 use std::alloc::{AllocError, Global};
 
 impl Told for WaitingOrder {
@@ -83,13 +81,12 @@ fn queue_text(alloc: Global, container: u64, queue: &ContainerQueue) -> Result<L
 /// Where a container is, and who waits for it, as JSON. The answer is `Unknown` if the container is not known.
 pub fn queue<P: Places, S: Alter>(
     alloc: Global,
-    conn: &mut Connection<S>,
+    tables: &mut Tables<P, S>,
     container: u64,
 ) -> Result<Answer, StoreFault>
-    requires inside { InTransaction P.version (state S.Store conn.old) }
-    ensures { Responds P.Places S.Store (query.Queue container) conn.old conn.new result }
+    ensures { Responds P.represents P.version S.Store (query.Queue container) tables.old tables.new result }
 {
-    let found = desk_store::queue(alloc, conn, container)?;
+    let found = desk_store::queue(alloc, tables, container)?;
     let queue = match known_container(found) {
         Ok(queue) => queue,
         Err(why) => return Ok(Answer::Unknown(why)),

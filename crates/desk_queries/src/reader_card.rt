@@ -6,7 +6,6 @@ ghost use Rattle.serde_json.specs.Written.{compact_text};
 ghost use Rattle.sqlite.specs.Held.{state};
 ghost use Rattle.office_core.specs.Json.{count, or_null};
 ghost use Rattle.office_core.specs.declared.query.Query.TheVariants as query;
-ghost use Rattle.office_tables.specs.Step.{InTransaction};
 ghost use Rattle.refinement.specs.QueryAnswers.{Responds};
 ghost use Rattle.desk_queries.specs.JsonValues.{card_data};
 
@@ -15,10 +14,10 @@ use catalogue_store::Places;
 use desk_store::{LiveOrder, ReaderCard, reader};
 use isad_core::{Day, List};
 use office_core::{Answer, Refusal};
-use office_tables::StoreFault;
+use office_tables::{StoreFault, Tables};
 use replies::{day_value, text_of};
 use serde_json::{Value, json};
-use sqlite::{Alter, Connection};
+use sqlite::Alter;
 use std::alloc::{AllocError, Global};
 
 /// The name of the state of an order that has not ended.
@@ -73,14 +72,13 @@ fn card_text(alloc: Global, card: &ReaderCard) -> Result<List<u8>, AllocError>
 /// `Unknown` if the ticket was not given.
 pub fn reader_orders<P: Places, S: Alter>(
     alloc: Global,
-    conn: &mut Connection<S>,
+    tables: &mut Tables<P, S>,
     today: Day,
     ticket: u64,
 ) -> Result<Answer, StoreFault>
-    requires inside { InTransaction P.version (state S.Store conn.old) }
-    ensures { Responds P.Places S.Store (query.ReaderOrders ticket) conn.old conn.new result }
+    ensures { Responds P.represents P.version S.Store (query.ReaderOrders ticket) tables.old tables.new result }
 {
-    let Some(card) = reader(alloc, conn, ticket, today)? else {
+    let Some(card) = reader(alloc, tables, ticket, today)? else {
         return Ok(Answer::Unknown(Refusal::UnknownTicket));
     };
     let text = card_text(alloc, &card)?;

@@ -1,29 +1,26 @@
 //! The slip of a run.
 
-ghost use Rattle.sqlite.specs.Held.{state};
 ghost use Rattle.office_core.specs.declared.query.Query.TheVariants as query;
-ghost use Rattle.office_tables.specs.Step.{InTransaction};
 ghost use Rattle.refinement.specs.QueryAnswers.{Responds};
 
 use catalogue_store::Places;
 use desk_core::slip_text;
 use isad_core::List;
 use office_core::{Answer, Refusal};
-use office_tables::StoreFault;
-use sqlite::{Alter, Connection};
+use office_tables::{StoreFault, Tables};
+use sqlite::Alter;
 use std::alloc::Global;
 
 /// The slip of a run: what it brought, in the order in which the containers stand on the shelves. The answer is
 /// `Unknown` if there was no such run.
 pub fn run_slip<P: Places, S: Alter>(
     alloc: Global,
-    conn: &mut Connection<S>,
+    tables: &mut Tables<P, S>,
     run: u64,
 ) -> Result<Answer, StoreFault>
-    requires inside { InTransaction P.version (state S.Store conn.old) }
-    ensures { Responds P.Places S.Store (query.RunSlip run) conn.old conn.new result }
+    ensures { Responds P.represents P.version S.Store (query.RunSlip run) tables.old tables.new result }
 {
-    let Some(brought) = desk_store::run(alloc, conn, run)? else {
+    let Some(brought) = desk_store::run(alloc, tables, run)? else {
         return Ok(Answer::Unknown(Refusal::UnknownRun));
     };
     let text = slip_text(alloc, run, brought.day, brought.lines.as_slice())?;

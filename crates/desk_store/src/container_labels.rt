@@ -2,14 +2,13 @@
 
 ghost use Rattle.std.specs.Prelude.{◌≡◌, ℕ, nat_eq, true, find, IfOk, IfSome, ⊤, is_some, option_map};
 ghost use Rattle.std.specs.List.{AllByRecursion};
-ghost use Rattle.sqlite.specs.Held.{state};
 ghost use Rattle.isad_core.specs.LegibleValues.{IsLegibleBox};
 ghost use Rattle.isad_core.specs.declared.values.BoxKey.{BoxKey};
 ghost use Rattle.isad_core.specs.Limits.{IsNumber};
 ghost use Rattle.office_tables.specs.Calls.{StoreAnswers};
-ghost use Rattle.office_tables.specs.Schema as tables;
+ghost use Rattle.office_tables.specs.Schema as schema;
 ghost use Rattle.office_tables.specs.SharedRows.{container_row};
-ghost use Rattle.office_tables.specs.Step.{InOffice, Holds};
+ghost use Rattle.office_tables.specs.Step.{Holds};
 ghost use Rattle.office_tables.specs.RowNumbers.{AreCounted};
 ghost use Rattle.office_tables.specs.TableStatements.{LooksUp};
 ghost use Rattle.desk_store.specs.Stacks.{RepresentsQueues, IsLegibleStacks, box_with};
@@ -17,83 +16,79 @@ ghost use Rattle.desk_store.specs.Stacks.{RepresentsQueues, IsLegibleStacks, box
 use isad_core::BoxKey;
 use isad_core::limits::MOST_CONTAINERS;
 use office_tables::value::number;
-use office_tables::{StoreFault, find_one};
-use sqlite::{Alter, Connection};
+use office_tables::{StoreFault, Tables, Versioned, find_one};
+use sqlite::Alter;
 use std::alloc::Global;
 
 /// What is written on the container with this number, or none if no row has the number.
-fn find_box<S: Alter>(
+fn find_box<P: Versioned, S: Alter>(
     alloc: Global,
-    conn: &mut Connection<S>,
+    tables: &mut Tables<P, S>,
     container: u64,
 ) -> Result<Option<BoxKey>, StoreFault>
-    requires inside { InOffice (state S.Store conn.old) }
     requires small { IsNumber container }
-    ensures { LooksUp S.Store (Holds tables.container container_row) conn.old conn.new result
+    ensures { LooksUp S.Store (Holds schema.container container_row) tables.old tables.new result
         (AreCounted (λ b. b.0)) (AllByRecursion (λ b. IsLegibleBox b.1))
         (λ bs found. found ≡ option_map (λ (b : ℕ × BoxKey). b.1)
         (find (λ (b : ℕ × BoxKey). nat_eq container b.0) bs)) }
 {
     find_one(
         alloc,
-        conn,
+        tables,
         "SELECT name, location, kind FROM container WHERE id = ?1 ORDER BY id",
         &[number(container)],
     )
 }
 
 /// What is written on the container with this number, or none if the container is not known.
-pub(crate) fn box_of<S: Alter>(
+pub(crate) fn box_of<P: Versioned, S: Alter>(
     alloc: Global,
-    conn: &mut Connection<S>,
+    tables: &mut Tables<P, S>,
     container: u64,
 ) -> Result<Option<BoxKey>, StoreFault>
-    requires inside { InOffice (state S.Store conn.old) }
-    ensures tells { StoreAnswers S.Store RepresentsQueues IsLegibleStacks conn.old conn.new result (λ _. ⊤)
+    ensures tells { StoreAnswers S.Store RepresentsQueues IsLegibleStacks tables.old tables.new result (λ _. ⊤)
         (λ _ stacks found. found ≡ option_map (λ (b : ℕ × BoxKey). b.1) (box_with container stacks)) }
     ensures small { IfOk result (λ found. IfSome found (λ _. IsNumber container)) }
 {
     if container > MOST_CONTAINERS {
         return Ok(None);
     }
-    find_box(alloc, conn, container)
+    find_box(alloc, tables, container)
 }
 
 /// The number of the container with this number, or none. Nothing that is written on it is read.
-fn find_container<S: Alter>(
+fn find_container<P: Versioned, S: Alter>(
     alloc: Global,
-    conn: &mut Connection<S>,
+    tables: &mut Tables<P, S>,
     container: u64,
 ) -> Result<Option<u64>, StoreFault>
-    requires inside { InOffice (state S.Store conn.old) }
     requires small { IsNumber container }
-    ensures { LooksUp S.Store (Holds tables.container container_row) conn.old conn.new result
+    ensures { LooksUp S.Store (Holds schema.container container_row) tables.old tables.new result
         (AreCounted (λ b. b.0)) (λ _. ⊤)
         (λ bs found. found ≡ option_map (λ (b : ℕ × BoxKey). b.0)
         (find (λ (b : ℕ × BoxKey). nat_eq container b.0) bs)) }
 {
     find_one(
         alloc,
-        conn,
+        tables,
         "SELECT id FROM container WHERE id = ?1 ORDER BY id",
         &[number(container)],
     )
 }
 
 /// Whether there is a container with this number.
-pub(crate) fn is_known<S: Alter>(
+pub(crate) fn is_known<P: Versioned, S: Alter>(
     alloc: Global,
-    conn: &mut Connection<S>,
+    tables: &mut Tables<P, S>,
     container: u64,
 ) -> Result<bool, StoreFault>
-    requires inside { InOffice (state S.Store conn.old) }
-    ensures tells { StoreAnswers S.Store RepresentsQueues IsLegibleStacks conn.old conn.new result (λ _. ⊤)
+    ensures tells { StoreAnswers S.Store RepresentsQueues IsLegibleStacks tables.old tables.new result (λ _. ⊤)
         (λ _ stacks known. known ≡ is_some (box_with container stacks)) }
     ensures small { IfOk result (λ known. known ≡ true → IsNumber container) }
 {
     if container > MOST_CONTAINERS {
         return Ok(false);
     }
-    let found = find_container(alloc, conn, container)?;
+    let found = find_container(alloc, tables, container)?;
     Ok(found.is_some())
 }

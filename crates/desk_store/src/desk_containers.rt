@@ -1,11 +1,10 @@
 //! Containers at the desk.
 
 ghost use Rattle.std.specs.Prelude.{◌≡◌, nat_eq, map, filter, ⊤};
-ghost use Rattle.sqlite.specs.Held.{state};
 ghost use Rattle.desk_core.specs.DeskRows.{HoldingRow};
 ghost use Rattle.office_tables.specs.Calls.{StoreAnswers};
-ghost use Rattle.office_tables.specs.Schema as tables;
-ghost use Rattle.office_tables.specs.Step.{InOffice, Holds};
+ghost use Rattle.office_tables.specs.Schema as schema;
+ghost use Rattle.office_tables.specs.Step.{Holds};
 ghost use Rattle.office_tables.specs.TableStatements.{LooksUp};
 ghost use Rattle.desk_store.specs.Holdings.{at_desk_of};
 ghost use Rattle.desk_store.specs.Rows.{holding_cells};
@@ -13,40 +12,41 @@ ghost use Rattle.desk_store.specs.Representation.{RepresentsDeskAlone, IsLegible
 ghost use Rattle.office_tables.specs.RowNumbers.{AreByNumber};
 
 use crate::waiting_orders::is_awaited;
-use office_tables::{StoreFault, find};
-use sqlite::{Alter, Connection};
+use office_tables::{StoreFault, Tables, Versioned, find};
+use sqlite::Alter;
 use std::alloc::Global;
 
 /// The containers at the desk, by number. This reads the whole table, which has a row for each container
 /// that is not on the shelf.
-fn desk_lines<S: Alter>(alloc: Global, conn: &mut Connection<S>) -> Result<Vec<u64>, StoreFault>
-    requires inside { InOffice (state S.Store conn.old) }
-    ensures { LooksUp S.Store (Holds tables.holding holding_cells) conn.old conn.new result
+fn desk_lines<P: Versioned, S: Alter>(
+    alloc: Global,
+    tables: &mut Tables<P, S>,
+) -> Result<Vec<u64>, StoreFault>
+    ensures { LooksUp S.Store (Holds schema.holding holding_cells) tables.old tables.new result
         (AreByNumber (λ h. h.container)) (λ _. ⊤)
         (λ xs found. found.items ≡ map (λ (h : HoldingRow). h.container)
         (filter (λ (h : HoldingRow). nat_eq 1 h.place) xs)) }
 {
     find(
         alloc,
-        conn,
+        tables,
         "SELECT container FROM holding WHERE place = 1 ORDER BY container",
         &[],
     )
 }
 
 /// The containers at the desk, by number. The flag is true if an order waits for the container.
-pub fn at_desk<S: Alter>(
+pub fn at_desk<P: Versioned, S: Alter>(
     alloc: Global,
-    conn: &mut Connection<S>,
+    tables: &mut Tables<P, S>,
 ) -> Result<Vec<(u64, bool)>, StoreFault>
-    requires inside { InOffice (state S.Store conn.old) }
-    ensures tells { StoreAnswers S.Store RepresentsDeskAlone IsLegible conn.old conn.new result (λ _. ⊤)
+    ensures tells { StoreAnswers S.Store RepresentsDeskAlone IsLegible tables.old tables.new result (λ _. ⊤)
         (λ _ d all. all.items ≡ at_desk_of d) }
 {
-    let containers = desk_lines(alloc, conn)?;
+    let containers = desk_lines(alloc, tables)?;
     let mut told = Vec::new(alloc);
     for container in &containers {
-        let awaited = is_awaited(conn, *container)?;
+        let awaited = is_awaited(tables, *container)?;
         told.push((*container, awaited))?;
     }
     Ok(told)

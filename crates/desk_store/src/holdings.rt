@@ -2,11 +2,9 @@
 
 ghost use Rattle.std.specs.Prelude.{◌≡◌, not, nat_eq, false, [], ◌∷◌, filter, IfSome, ⊤};
 ghost use Rattle.std.specs.List.{list_any};
-ghost use Rattle.sqlite.specs.Held.{state};
 ghost use Rattle.isad_core.specs.Limits.{IsNumber};
 ghost use Rattle.office_tables.specs.Calls.{StoreUpdates};
-ghost use Rattle.office_tables.specs.Schema as tables;
-ghost use Rattle.office_tables.specs.Step.{InOffice};
+ghost use Rattle.office_tables.specs.Schema as schema;
 ghost use Rattle.office_tables.specs.TableStatements.{Puts, Thins};
 ghost use Rattle.desk_store.specs.Holdings.{by_order, with_place};
 ghost use Rattle.desk_store.specs.Rows.{holding_cells};
@@ -15,8 +13,8 @@ ghost use Rattle.office_tables.specs.RowNumbers.{AreByNumber};
 
 use desk_core::Place;
 use office_tables::value::{number, number_or_null};
-use office_tables::{StoreFault, change};
-use sqlite::{Alter, Connection};
+use office_tables::{StoreFault, Tables, Versioned, change};
+use sqlite::Alter;
 
 /// A container that is out with a reader, with the order that it is out with and the ticket of that order.
 #[derive(Debug, Clone, Copy, PartialEq, Eq)]
@@ -35,57 +33,57 @@ pub struct FirstOrder {
 }
 
 /// Deletes the row of a container, as if the container were on the shelf. The row is found by its number.
-fn clear_holding<S: Alter>(conn: &mut Connection<S>, container: u64) -> Result<(), StoreFault>
-    requires inside { InOffice (state S.Store conn.old) }
+fn clear_holding<P: Versioned, S: Alter>(
+    tables: &mut Tables<P, S>,
+    container: u64,
+) -> Result<(), StoreFault>
     requires number { IsNumber container }
-    ensures { Thins S.Store tables.holding holding_cells conn.old conn.new result (AreByNumber (λ h. h.container))
+    ensures { Thins S.Store schema.holding holding_cells tables.old tables.new result (AreByNumber (λ h. h.container))
         (filter (λ h. not (nat_eq container h.container))) }
 {
     change(
-        conn,
+        tables,
         "DELETE FROM holding WHERE container = ?1",
         &[number(container)],
     )
 }
 
 /// Inserts a row for a container that has none, with the place where the container is now.
-fn insert_holding<S: Alter>(
-    conn: &mut Connection<S>,
+fn insert_holding<P: Versioned, S: Alter>(
+    tables: &mut Tables<P, S>,
     container: u64,
     place: u64,
     held_by: Option<u64>,
 ) -> Result<(), StoreFault>
-    requires inside { InOffice (state S.Store conn.old) }
     requires number { IsNumber container }
     requires small { IsNumber place }
     requires known { IfSome held_by IsNumber }
-    ensures { Puts S.Store tables.holding holding_cells conn.old conn.new result
+    ensures { Puts S.Store schema.holding holding_cells tables.old tables.new result
         (record { container = container; place = place; held_by = held_by })
         (λ xs. list_any (λ h. nat_eq container h.container) xs ≡ false) }
 {
     change(
-        conn,
+        tables,
         "INSERT INTO holding (container, place, held_by) VALUES (?1, ?2, ?3)",
         &[number(container), number(place), number_or_null(held_by)],
     )
 }
 
 /// Moves a container to a place. A container on the shelf has no row.
-pub fn set_place<S: Alter>(
-    conn: &mut Connection<S>,
+pub fn set_place<P: Versioned, S: Alter>(
+    tables: &mut Tables<P, S>,
     container: u64,
     place: Place,
 ) -> Result<(), StoreFault>
-    requires inside { InOffice (state S.Store conn.old) }
     requires number { IsNumber container }
     requires known { IfSome (by_order place) IsNumber }
-    ensures makes { StoreUpdates S.Store RepresentsDeskAlone IsLegible conn.old conn.new result (λ _. ⊤)
-        (with_place container place) (tables.holding.tree ∷ []) }
+    ensures makes { StoreUpdates S.Store RepresentsDeskAlone IsLegible tables.old tables.new result (λ _. ⊤)
+        (with_place container place) (schema.holding.tree ∷ []) }
 {
-    clear_holding(conn, container)?;
+    clear_holding(tables, container)?;
     match place {
         Place::Shelf => Ok(()),
-        Place::Desk => insert_holding(conn, container, 1, None),
-        Place::Out(order) => insert_holding(conn, container, 2, Some(order)),
+        Place::Desk => insert_holding(tables, container, 1, None),
+        Place::Out(order) => insert_holding(tables, container, 2, Some(order)),
     }
 }

@@ -1,12 +1,11 @@
 //! Containers that are with readers.
 
 ghost use Rattle.std.specs.Prelude.{◌≡◌, map, ⊤};
-ghost use Rattle.sqlite.specs.Held.{state};
 ghost use Rattle.isad_core.specs.Limits.{IsNumber};
 ghost use Rattle.desk_core.specs.DeskRows.{HoldingRow};
 ghost use Rattle.office_tables.specs.Calls.{StoreAnswers};
-ghost use Rattle.office_tables.specs.Schema as tables;
-ghost use Rattle.office_tables.specs.Step.{InOffice, Holds};
+ghost use Rattle.office_tables.specs.Schema as schema;
+ghost use Rattle.office_tables.specs.Step.{Holds};
 ghost use Rattle.office_tables.specs.TableStatements.{LooksUp};
 ghost use Rattle.desk_store.specs.Holdings.{issued_of, loan_by, ticket_of};
 ghost use Rattle.desk_store.specs.Rows.{holding_cells, order_cells};
@@ -16,8 +15,8 @@ ghost use Rattle.office_tables.specs.RowNumbers.{AreByNumber, AreCounted};
 use crate::holdings::Loan;
 use office_tables::from_row::FromRow;
 use office_tables::value::{NO_NUMBER, number};
-use office_tables::{StoreFault, find, find_one};
-use sqlite::{Alter, Connection, Row};
+use office_tables::{StoreFault, Tables, Versioned, find, find_one};
+use sqlite::{Alter, Row};
 use std::alloc::Global;
 
 /// A container that is not on the shelf, as its row shows it.
@@ -47,73 +46,69 @@ impl FromRow for HoldingLine {
 
 /// The containers that are not on the shelf, by number. This reads the whole table, which has a row for
 /// each of them.
-pub(crate) fn holding_lines<S: Alter>(
+pub(crate) fn holding_lines<P: Versioned, S: Alter>(
     alloc: Global,
-    conn: &mut Connection<S>,
+    tables: &mut Tables<P, S>,
 ) -> Result<Vec<HoldingLine>, StoreFault>
-    requires inside { InOffice (state S.Store conn.old) }
-    ensures { LooksUp S.Store (Holds tables.holding holding_cells) conn.old conn.new result
+    ensures { LooksUp S.Store (Holds schema.holding holding_cells) tables.old tables.new result
         (AreByNumber (λ h. h.container)) (λ _. ⊤)
         (λ xs found. found.items
         ≡ map (λ (h : HoldingRow). record { container = h.container; held_by = h.held_by }) xs) }
 {
     find(
         alloc,
-        conn,
+        tables,
         "SELECT container, held_by FROM holding ORDER BY container",
         &[],
     )
 }
 
 /// The ticket of an order, or none if there is no such order. The order is found by its number.
-fn find_ticket<S: Alter>(
+fn find_ticket<P: Versioned, S: Alter>(
     alloc: Global,
-    conn: &mut Connection<S>,
+    tables: &mut Tables<P, S>,
     order: u64,
 ) -> Result<Option<u64>, StoreFault>
-    requires inside { InOffice (state S.Store conn.old) }
     requires small { IsNumber order }
-    ensures { LooksUp S.Store (Holds tables.orders order_cells) conn.old conn.new result
+    ensures { LooksUp S.Store (Holds schema.orders order_cells) tables.old tables.new result
         (AreCounted (λ o. o.id)) (λ _. ⊤) (λ xs found. found ≡ ticket_of xs order) }
 {
     find_one(
         alloc,
-        conn,
+        tables,
         "SELECT ticket FROM orders WHERE id = ?1 ORDER BY id",
         &[number(order)],
     )
 }
 
 /// The ticket that placed an order, or none if there is no such order.
-fn holder_of<S: Alter>(
+fn holder_of<P: Versioned, S: Alter>(
     alloc: Global,
-    conn: &mut Connection<S>,
+    tables: &mut Tables<P, S>,
     order: u64,
 ) -> Result<Option<u64>, StoreFault>
-    requires inside { InOffice (state S.Store conn.old) }
-    ensures tells { StoreAnswers S.Store RepresentsDeskAlone IsLegible conn.old conn.new result (λ _. ⊤)
+    ensures tells { StoreAnswers S.Store RepresentsDeskAlone IsLegible tables.old tables.new result (λ _. ⊤)
         (λ _ d ticket. ticket ≡ ticket_of d.orders order) }
 {
     if order >= NO_NUMBER {
         return Ok(None);
     }
-    find_ticket(alloc, conn, order)
+    find_ticket(alloc, tables, order)
 }
 
 /// The loan of the container in this line, or none if the line has no order or there is no such order.
-fn loan_of<S: Alter>(
+fn loan_of<P: Versioned, S: Alter>(
     alloc: Global,
-    conn: &mut Connection<S>,
+    tables: &mut Tables<P, S>,
     line: HoldingLine,
 ) -> Result<Option<Loan>, StoreFault>
-    requires inside { InOffice (state S.Store conn.old) }
-    ensures tells { StoreAnswers S.Store RepresentsDeskAlone IsLegible conn.old conn.new result (λ _. ⊤)
+    ensures tells { StoreAnswers S.Store RepresentsDeskAlone IsLegible tables.old tables.new result (λ _. ⊤)
         (λ _ d loan. loan ≡ loan_by d.orders line.container line.held_by) }
 {
     let Some(order) = line.held_by else {
         return Ok(None);
     };
-    let Some(ticket) = holder_of(alloc, conn, order)? else {
+    let Some(ticket) = holder_of(alloc, tables, order)? else {
         return Ok(None);
     };
     Ok(Some(Loan {
@@ -124,15 +119,17 @@ fn loan_of<S: Alter>(
 }
 
 /// The containers that are with readers, by number.
-pub fn issued<S: Alter>(alloc: Global, conn: &mut Connection<S>) -> Result<Vec<Loan>, StoreFault>
-    requires inside { InOffice (state S.Store conn.old) }
-    ensures tells { StoreAnswers S.Store RepresentsDeskAlone IsLegible conn.old conn.new result (λ _. ⊤)
+pub fn issued<P: Versioned, S: Alter>(
+    alloc: Global,
+    tables: &mut Tables<P, S>,
+) -> Result<Vec<Loan>, StoreFault>
+    ensures tells { StoreAnswers S.Store RepresentsDeskAlone IsLegible tables.old tables.new result (λ _. ⊤)
         (λ _ d all. all.items ≡ issued_of d) }
 {
-    let lines = holding_lines(alloc, conn)?;
+    let lines = holding_lines(alloc, tables)?;
     let mut loans = Vec::new(alloc);
     for line in &lines {
-        if let Some(loan) = loan_of(alloc, conn, *line)? {
+        if let Some(loan) = loan_of(alloc, tables, *line)? {
             loans.push(loan)?;
         }
     }

@@ -7,8 +7,8 @@ ghost use Rattle.sqlite.specs.State.{HasCleanDisk};
 ghost use Rattle.isad_core.specs.Limits.{IsNumber};
 ghost use Rattle.desk_core.specs.DeskRows.{with_state};
 ghost use Rattle.office_tables.specs.Calls.{StoreUpdates};
-ghost use Rattle.office_tables.specs.Schema as tables;
-ghost use Rattle.office_tables.specs.Step.{InOffice, PutsRow};
+ghost use Rattle.office_tables.specs.Schema as schema;
+ghost use Rattle.office_tables.specs.Step.{PutsRow};
 ghost use Rattle.office_tables.specs.TableStatements.{Changes, Puts};
 ghost use Rattle.desk_store.specs.Orders.{state_number, with_order, with_order_state, IsNextOrder};
 ghost use Rattle.desk_store.specs.Rows.{order_cells};
@@ -18,27 +18,26 @@ ghost use Rattle.office_tables.specs.RowNumbers.{AreCounted};
 use crate::orders::OrderState;
 use isad_core::Day;
 use office_tables::value::{day, number};
-use office_tables::{StoreFault, change};
-use sqlite::{Alter, Connection};
+use office_tables::{StoreFault, Tables, Versioned, change};
+use sqlite::Alter;
 
 /// Inserts an order under a number that was not given yet. The order waits.
-fn insert_order<S: Alter>(
-    conn: &mut Connection<S>,
+fn insert_order<P: Versioned, S: Alter>(
+    tables: &mut Tables<P, S>,
     order: u64,
     ticket: u64,
     container: u64,
     on: Day,
 ) -> Result<(), StoreFault>
-    requires inside { InOffice (state S.Store conn.old) }
     requires number { IsNumber order }
     requires small { IsNumber ticket }
     requires known { IsNumber container }
-    ensures { Puts S.Store tables.orders order_cells conn.old conn.new result
+    ensures { Puts S.Store schema.orders order_cells tables.old tables.new result
         (record { id = order; ticket = ticket; container = container; day = on; state = 1 })
         (λ xs. list_any (λ o. nat_eq order o.id) xs ≡ false) }
 {
     change(
-        conn,
+        tables,
         "INSERT INTO orders (id, ticket, container, day, state) VALUES (?1, ?2, ?3, ?4, 1)",
         &[number(order), number(ticket), number(container), day(on)],
     )
@@ -46,25 +45,24 @@ fn insert_order<S: Alter>(
 
 /// Places an order under the number after the last. If the call succeeds, it adds exactly this row, whatever the
 /// number.
-pub fn append_order<S: Alter>(
-    conn: &mut Connection<S>,
+pub fn append_order<P: Versioned, S: Alter>(
+    tables: &mut Tables<P, S>,
     order: u64,
     ticket: u64,
     container: u64,
     on: Day,
 ) -> Result<(), StoreFault>
-    requires inside { InOffice (state S.Store conn.old) }
     requires number { IsNumber order }
     requires small { IsNumber ticket }
     requires known { IsNumber container }
-    ensures makes { StoreUpdates S.Store RepresentsDeskAlone IsLegible conn.old conn.new result (IsNextOrder order)
-        (with_order ticket container on) (tables.orders.tree ∷ []) }
-    ensures puts { HasCleanDisk (state S.Store conn.new)
-        → OnOk result (PutsRow tables.orders.tree
+    ensures makes { StoreUpdates S.Store RepresentsDeskAlone IsLegible tables.old tables.new result (IsNextOrder order)
+        (with_order ticket container on) (schema.orders.tree ∷ []) }
+    ensures puts { HasCleanDisk (state S.Store tables.new)
+        → OnOk result (PutsRow schema.orders.tree
         (order_cells (record { id = order; ticket = ticket; container = container; day = on; state = 1 }))
-        (state S.Store conn.old).now (state S.Store conn.new).now) }
+        (state S.Store tables.old).now (state S.Store tables.new).now) }
 {
-    insert_order(conn, order, ticket, container, on)
+    insert_order(tables, order, ticket, container, on)
 }
 
 /// The number that represents a state in the table.
@@ -81,30 +79,32 @@ fn number_of(next: OrderState) -> u64
 }
 
 /// Sets the state of an order, which is found by its number.
-fn set_state<S: Alter>(conn: &mut Connection<S>, order: u64, next: u64) -> Result<(), StoreFault>
-    requires inside { InOffice (state S.Store conn.old) }
+fn set_state<P: Versioned, S: Alter>(
+    tables: &mut Tables<P, S>,
+    order: u64,
+    next: u64,
+) -> Result<(), StoreFault>
     requires number { IsNumber order }
     requires small { IsNumber next }
-    ensures { Changes S.Store tables.orders order_cells conn.old conn.new result (AreCounted (λ o. o.id))
+    ensures { Changes S.Store schema.orders order_cells tables.old tables.new result (AreCounted (λ o. o.id))
         (with_state order next) }
 {
     change(
-        conn,
+        tables,
         "UPDATE orders SET state = ?1 WHERE id = ?2",
         &[number(next), number(order)],
     )
 }
 
 /// Sets the state of an order: any state is accepted, usually out, done or cancelled.
-pub fn end_order<S: Alter>(
-    conn: &mut Connection<S>,
+pub fn end_order<P: Versioned, S: Alter>(
+    tables: &mut Tables<P, S>,
     order: u64,
     next: OrderState,
 ) -> Result<(), StoreFault>
-    requires inside { InOffice (state S.Store conn.old) }
     requires number { IsNumber order }
-    ensures makes { StoreUpdates S.Store RepresentsDeskAlone IsLegible conn.old conn.new result (λ _. ⊤)
-        (with_order_state order next) (tables.orders.tree ∷ []) }
+    ensures makes { StoreUpdates S.Store RepresentsDeskAlone IsLegible tables.old tables.new result (λ _. ⊤)
+        (with_order_state order next) (schema.orders.tree ∷ []) }
 {
-    set_state(conn, order, number_of(next))
+    set_state(tables, order, number_of(next))
 }

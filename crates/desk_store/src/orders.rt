@@ -7,8 +7,8 @@ ghost use Rattle.sqlite.specs.Held.{state};
 ghost use Rattle.isad_core.specs.Limits.{IsNumber};
 ghost use Rattle.desk_core.specs.DeskRows.{OrderRow};
 ghost use Rattle.office_tables.specs.Calls.{StoreAnswers};
-ghost use Rattle.office_tables.specs.Schema as tables;
-ghost use Rattle.office_tables.specs.Step.{InOffice, Holds};
+ghost use Rattle.office_tables.specs.Schema as schema;
+ghost use Rattle.office_tables.specs.Step.{Holds};
 ghost use Rattle.office_tables.specs.TableStatements.{LooksUp};
 ghost use Rattle.desk_store.specs.Orders.{state_number, order_with, IsThere};
 ghost use Rattle.desk_store.specs.Rows.{order_cells};
@@ -19,8 +19,8 @@ use isad_core::Day;
 use isad_core::limits::MOST_ORDERS;
 use office_tables::from_row::FromRow;
 use office_tables::value::number;
-use office_tables::{StoreFault, find_one};
-use sqlite::{Alter, Connection, Row};
+use office_tables::{StoreFault, Tables, Versioned, find_one};
+use sqlite::{Alter, Row};
 use std::alloc::Global;
 
 /// The state of an order.
@@ -83,14 +83,13 @@ impl FromRow for OrderEntry {
 }
 
 /// The order with this number, or none. It is found by the number of its row.
-fn find_order<S: Alter>(
+fn find_order<P: Versioned, S: Alter>(
     alloc: Global,
-    conn: &mut Connection<S>,
+    tables: &mut Tables<P, S>,
     order: u64,
 ) -> Result<Option<OrderEntry>, StoreFault>
-    requires inside { InOffice (state S.Store conn.old) }
     requires small { IsNumber order }
-    ensures { LooksUp S.Store (Holds tables.orders order_cells) conn.old conn.new result
+    ensures { LooksUp S.Store (Holds schema.orders order_cells) tables.old tables.new result
         (AreCounted (λ o. o.id)) (AllByRecursion IsLegibleOrder)
         (λ xs found. found ≡ option_map (λ (o : OrderRow).
         record { ticket = o.ticket; container = o.container; day = o.day; state = o.state })
@@ -98,7 +97,7 @@ fn find_order<S: Alter>(
 {
     find_one(
         alloc,
-        conn,
+        tables,
         "SELECT ticket, container, day, state FROM orders WHERE id = ?1 ORDER BY id",
         &[number(order)],
     )
@@ -131,20 +130,19 @@ impl OrderEntry {
 }
 
 /// The order with this number, or none if no such order was placed.
-pub fn order<S: Alter>(
+pub fn order<P: Versioned, S: Alter>(
     alloc: Global,
-    conn: &mut Connection<S>,
+    tables: &mut Tables<P, S>,
     order: u64,
 ) -> Result<Option<PlacedOrder>, StoreFault>
-    requires inside { InOffice (state S.Store conn.old) }
-    ensures tells { StoreAnswers S.Store RepresentsDeskAlone IsLegible conn.old conn.new result (λ _. ⊤)
+    ensures tells { StoreAnswers S.Store RepresentsDeskAlone IsLegible tables.old tables.new result (λ _. ⊤)
         (λ _ d found. IsThere (order_with order d) found) }
     ensures small { IfOk result (λ found. IfSome found (λ _. IsNumber order)) }
 {
     if order > MOST_ORDERS {
         return Ok(None);
     }
-    let Some(entry) = find_order(alloc, conn, order)? else {
+    let Some(entry) = find_order(alloc, tables, order)? else {
         return Ok(None);
     };
     let placed = entry.placed()?;

@@ -1,10 +1,8 @@
 //! The heads of queues: where containers are, and who is the first that waits.
 
 ghost use Rattle.std.specs.Prelude.{IfOk, IfSome, ⊤};
-ghost use Rattle.sqlite.specs.Held.{state};
 ghost use Rattle.isad_core.specs.Limits.{IsNumber};
 ghost use Rattle.office_tables.specs.Calls.{StoreAnswers};
-ghost use Rattle.office_tables.specs.Step.{InOffice};
 ghost use Rattle.desk_store.specs.Stacks.{RepresentsQueues, IsLegibleStacks, box_with, IsHeaded};
 
 use crate::container_labels::is_known;
@@ -12,8 +10,8 @@ use crate::orders::WaitingOrder;
 use crate::queues::place_of;
 use crate::waiting_orders::first_for;
 use desk_core::Place;
-use office_tables::StoreFault;
-use sqlite::{Alter, Connection};
+use office_tables::{StoreFault, Tables, Versioned};
+use sqlite::Alter;
 use std::alloc::Global;
 
 /// Where a container is, and the first order that waits for it.
@@ -26,21 +24,20 @@ pub struct QueueHead {
 
 /// Where a container is, and the first order that waits for it; none if the container is not known. Neither what is
 /// written on the container nor any other order is read.
-pub fn queue_head<S: Alter>(
+pub fn queue_head<P: Versioned, S: Alter>(
     alloc: Global,
-    conn: &mut Connection<S>,
+    tables: &mut Tables<P, S>,
     container: u64,
 ) -> Result<Option<QueueHead>, StoreFault>
-    requires inside { InOffice (state S.Store conn.old) }
-    ensures tells { StoreAnswers S.Store RepresentsQueues IsLegibleStacks conn.old conn.new result (λ _. ⊤)
+    ensures tells { StoreAnswers S.Store RepresentsQueues IsLegibleStacks tables.old tables.new result (λ _. ⊤)
         (λ _ stacks found. IsHeaded container stacks (box_with container stacks) found) }
     ensures small { IfOk result (λ found. IfSome found (λ _. IsNumber container)) }
 {
-    let known = is_known(alloc, conn, container)?;
+    let known = is_known(alloc, tables, container)?;
     if !known {
         return Ok(None);
     }
-    let place = place_of(alloc, conn, container)?;
-    let first = first_for(alloc, conn, container)?;
+    let place = place_of(alloc, tables, container)?;
+    let first = first_for(alloc, tables, container)?;
     Ok(Some(QueueHead { place, first }))
 }

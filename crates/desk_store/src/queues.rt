@@ -1,12 +1,11 @@
 //! Queues of containers.
 
 ghost use Rattle.std.specs.Prelude.{◌≡◌, ◌≢◌, nat_eq, find, option_map, IfOk, IfErr, IfSome, IsOk, ⊤};
-ghost use Rattle.sqlite.specs.Held.{state};
 ghost use Rattle.isad_core.specs.Limits.{IsNumber};
 ghost use Rattle.desk_core.specs.DeskRows.{HoldingRow};
 ghost use Rattle.office_tables.specs.Calls.{StoreAnswers};
-ghost use Rattle.office_tables.specs.Schema as tables;
-ghost use Rattle.office_tables.specs.Step.{InOffice, Holds};
+ghost use Rattle.office_tables.specs.Schema as schema;
+ghost use Rattle.office_tables.specs.Step.{Holds};
 ghost use Rattle.office_tables.specs.TableStatements.{LooksUp};
 ghost use Rattle.desk_store.specs.Orders.{holding_of, IsAt};
 ghost use Rattle.desk_store.specs.Rows.{holding_cells};
@@ -21,8 +20,8 @@ use desk_core::Place;
 use isad_core::{List, Text};
 use office_tables::from_row::FromRow;
 use office_tables::value::number;
-use office_tables::{StoreFault, find_one};
-use sqlite::{Alter, Connection, Row};
+use office_tables::{StoreFault, Tables, Versioned, find_one};
+use sqlite::{Alter, Row};
 use std::alloc::Global;
 
 /// A container, and the orders that wait for it.
@@ -79,59 +78,56 @@ impl PlaceEntry {
 }
 
 /// The row with the place of a container, or none. It is found by the container's number.
-fn find_place<S: Alter>(
+fn find_place<P: Versioned, S: Alter>(
     alloc: Global,
-    conn: &mut Connection<S>,
+    tables: &mut Tables<P, S>,
     container: u64,
 ) -> Result<Option<PlaceEntry>, StoreFault>
-    requires inside { InOffice (state S.Store conn.old) }
     requires small { IsNumber container }
-    ensures { LooksUp S.Store (Holds tables.holding holding_cells) conn.old conn.new result
+    ensures { LooksUp S.Store (Holds schema.holding holding_cells) tables.old tables.new result
         (AreByNumber (λ h. h.container)) (λ _. ⊤)
         (λ xs found. found ≡ option_map (λ (h : HoldingRow). record { place = h.place; held_by = h.held_by })
         (find (λ (h : HoldingRow). nat_eq container h.container) xs)) }
 {
     find_one(
         alloc,
-        conn,
+        tables,
         "SELECT place, held_by FROM holding WHERE container = ?1 ORDER BY container",
         &[number(container)],
     )
 }
 
 /// Where a container is. A container without a row is on the shelf.
-pub(crate) fn place_of<S: Alter>(
+pub(crate) fn place_of<P: Versioned, S: Alter>(
     alloc: Global,
-    conn: &mut Connection<S>,
+    tables: &mut Tables<P, S>,
     container: u64,
 ) -> Result<Place, StoreFault>
-    requires inside { InOffice (state S.Store conn.old) }
     requires small { IsNumber container }
-    ensures tells { StoreAnswers S.Store RepresentsDeskAlone IsLegible conn.old conn.new result (λ _. ⊤)
+    ensures tells { StoreAnswers S.Store RepresentsDeskAlone IsLegible tables.old tables.new result (λ _. ⊤)
         (λ _ d place. IsAt (holding_of container d) place) }
 {
-    match find_place(alloc, conn, container)? {
+    match find_place(alloc, tables, container)? {
         Some(entry) => entry.place(),
         None => Ok(Place::Shelf),
     }
 }
 
 /// The name of a container, where it is, and the orders that wait for it; none if the container is not known.
-pub fn queue<S: Alter>(
+pub fn queue<P: Versioned, S: Alter>(
     alloc: Global,
-    conn: &mut Connection<S>,
+    tables: &mut Tables<P, S>,
     container: u64,
 ) -> Result<Option<ContainerQueue>, StoreFault>
-    requires inside { InOffice (state S.Store conn.old) }
-    ensures tells { StoreAnswers S.Store RepresentsQueues IsLegibleStacks conn.old conn.new result (λ _. ⊤)
+    ensures tells { StoreAnswers S.Store RepresentsQueues IsLegibleStacks tables.old tables.new result (λ _. ⊤)
         (λ _ stacks found. IsQueued container stacks (box_with container stacks) found) }
     ensures small { IfOk result (λ found. IfSome found (λ _. IsNumber container)) }
 {
-    let Some(known) = box_of(alloc, conn, container)? else {
+    let Some(known) = box_of(alloc, tables, container)? else {
         return Ok(None);
     };
-    let place = place_of(alloc, conn, container)?;
-    let waiting = waiting_for(alloc, conn, container)?;
+    let place = place_of(alloc, tables, container)?;
+    let waiting = waiting_for(alloc, tables, container)?;
     Ok(Some(ContainerQueue {
         name: known.name,
         place,

@@ -8,8 +8,7 @@ ghost use Rattle.isad_core.specs.Limits.{IsNumber};
 ghost use Rattle.desk_core.specs.DeskRows.{PermitRow};
 ghost use Rattle.office_tables.specs.Calls.{StoreUpdates, StoreAnswers};
 ghost use Rattle.office_tables.specs.Order.{IsOrdered};
-ghost use Rattle.office_tables.specs.Schema as tables;
-ghost use Rattle.office_tables.specs.Step.{InOffice};
+ghost use Rattle.office_tables.specs.Schema as schema;
 ghost use Rattle.office_tables.specs.NumberedStatements.{PutsNumbered, ThinsNumbered};
 ghost use Rattle.desk_store.specs.Permits.{permits_of, by_unit, is_permit, without_permit, with_permit, granted};
 ghost use Rattle.desk_store.specs.Permits.{revoked, HasUnitRow, MayHave};
@@ -21,8 +20,8 @@ use crate::readers::MOST_TICKETS;
 use isad_core::Day;
 use office_tables::from_row::FromRow;
 use office_tables::value::{day, number};
-use office_tables::{StoreFault, change, find};
-use sqlite::{Alter, Connection, Row};
+use office_tables::{StoreFault, Tables, Versioned, change, find};
+use sqlite::{Alter, Row};
 use std::alloc::Global;
 
 /// A permit for a unit, up to and including a day.
@@ -54,74 +53,71 @@ impl FromRow for Permit {
 }
 
 /// The permits of a ticket, in order of unit. They are found by the ticket, the first column of the primary key.
-fn permits_with<S: Alter>(
+fn permits_with<P: Versioned, S: Alter>(
     alloc: Global,
-    conn: &mut Connection<S>,
+    tables: &mut Tables<P, S>,
     ticket: u64,
 ) -> Result<Vec<Permit>, StoreFault>
-    requires inside { InOffice (state S.Store conn.old) }
     requires small { IsNumber ticket }
-    ensures tells { StoreAnswers S.Store RepresentsDeskAlone IsLegible conn.old conn.new result (λ _. ⊤)
+    ensures tells { StoreAnswers S.Store RepresentsDeskAlone IsLegible tables.old tables.new result (λ _. ⊤)
         (λ _ d all. IsOrdered by_unit (permits_of ticket d) all.items) }
 {
     find(
         alloc,
-        conn,
+        tables,
         "SELECT unit, until FROM permit WHERE ticket = ?1 ORDER BY ticket, unit",
         &[number(ticket)],
     )
 }
 
 /// The permits of a ticket, in order of unit. A ticket that was not given has none.
-pub fn permits<S: Alter>(
+pub fn permits<P: Versioned, S: Alter>(
     alloc: Global,
-    conn: &mut Connection<S>,
+    tables: &mut Tables<P, S>,
     ticket: u64,
 ) -> Result<Vec<Permit>, StoreFault>
-    requires inside { InOffice (state S.Store conn.old) }
-    ensures tells { StoreAnswers S.Store RepresentsDeskAlone IsLegible conn.old conn.new result (λ _. ⊤)
+    ensures tells { StoreAnswers S.Store RepresentsDeskAlone IsLegible tables.old tables.new result (λ _. ⊤)
         (λ _ d all. IsOrdered by_unit (permits_of ticket d) all.items) }
 {
     if ticket > u64::from(MOST_TICKETS) {
         return Ok(Vec::new(alloc));
     }
-    permits_with(alloc, conn, ticket)
+    permits_with(alloc, tables, ticket)
 }
 
 /// Adds a permit for a unit for which the ticket has none.
-fn insert_permit<S: Alter>(
-    conn: &mut Connection<S>,
+fn insert_permit<P: Versioned, S: Alter>(
+    tables: &mut Tables<P, S>,
     ticket: u64,
     unit: u64,
     until: Day,
 ) -> Result<(), StoreFault>
-    requires inside { InOffice (state S.Store conn.old) }
     requires small { IsNumber ticket }
     requires known { IsNumber unit }
-    ensures { PutsNumbered S.Store tables.permit permit_cells conn.old conn.new result
+    ensures { PutsNumbered S.Store schema.permit permit_cells tables.old tables.new result
         (record { ticket = ticket; unit = unit; until = until })
         (λ s ps. (list_any (is_permit ticket unit) ps ≡ false) × HasUnitRow unit s.now.trees) }
 {
     change(
-        conn,
+        tables,
         "INSERT INTO permit (ticket, unit, until) VALUES (?1, ?2, ?3)",
         &[number(ticket), number(unit), day(until)],
     )
 }
 
 /// Deletes a ticket's permit for a unit, if it has one. The permit is found by its primary key.
-fn clear_permit<S: Alter>(
-    conn: &mut Connection<S>,
+fn clear_permit<P: Versioned, S: Alter>(
+    tables: &mut Tables<P, S>,
     ticket: u64,
     unit: u64,
 ) -> Result<(), StoreFault>
-    requires inside { InOffice (state S.Store conn.old) }
     requires small { IsNumber ticket }
     requires known { IsNumber unit }
-    ensures { ThinsNumbered S.Store tables.permit permit_cells conn.old conn.new result (without_permit ticket unit) }
+    ensures { ThinsNumbered S.Store schema.permit permit_cells tables.old tables.new result
+        (without_permit ticket unit) }
 {
     change(
-        conn,
+        tables,
         "DELETE FROM permit WHERE ticket = ?1 AND unit = ?2",
         &[number(ticket), number(unit)],
     )
@@ -129,34 +125,36 @@ fn clear_permit<S: Alter>(
 
 /// Gives a ticket a permit for a unit up to a day, in place of the one that it may have for this unit. No other permit
 /// is touched, whatever the ticket and the unit. The table refuses a unit that is not catalogued.
-pub fn grant<S: Alter>(
-    conn: &mut Connection<S>,
+pub fn grant<P: Versioned, S: Alter>(
+    tables: &mut Tables<P, S>,
     ticket: u64,
     unit: u64,
     until: Day,
 ) -> Result<(), StoreFault>
-    requires inside { InOffice (state S.Store conn.old) }
     requires small { IsNumber ticket }
     requires known { IsNumber unit }
-    ensures makes { StoreUpdates S.Store RepresentsDeskAlone IsLegible conn.old conn.new result
-        (MayHave ticket unit (state S.Store conn.old).now.trees) (with_permit ticket unit until)
-        (tables.permit.tree ∷ []) }
-    ensures rows { HasCleanDisk (state S.Store conn.new) → (ps : List PermitRow)
-        → HasNumbered permit_cells ((state S.Store conn.old).now.trees tables.permit.tree) ps
-        → OnOk result (HasNumbered permit_cells ((state S.Store conn.new).now.trees tables.permit.tree)
+    ensures makes { StoreUpdates S.Store RepresentsDeskAlone IsLegible tables.old tables.new result
+        (MayHave ticket unit (state S.Store tables.old).now.trees) (with_permit ticket unit until)
+        (schema.permit.tree ∷ []) }
+    ensures rows { HasCleanDisk (state S.Store tables.new) → (ps : List PermitRow)
+        → HasNumbered permit_cells ((state S.Store tables.old).now.trees schema.permit.tree) ps
+        → OnOk result (HasNumbered permit_cells ((state S.Store tables.new).now.trees schema.permit.tree)
         (granted ticket unit until ps)) }
 {
-    clear_permit(conn, ticket, unit)?;
-    insert_permit(conn, ticket, unit, until)
+    clear_permit(tables, ticket, unit)?;
+    insert_permit(tables, ticket, unit, until)
 }
 
 /// Revokes a ticket's permit for a unit, if it has one.
-pub fn revoke<S: Alter>(conn: &mut Connection<S>, ticket: u64, unit: u64) -> Result<(), StoreFault>
-    requires inside { InOffice (state S.Store conn.old) }
+pub fn revoke<P: Versioned, S: Alter>(
+    tables: &mut Tables<P, S>,
+    ticket: u64,
+    unit: u64,
+) -> Result<(), StoreFault>
     requires small { IsNumber ticket }
     requires known { IsNumber unit }
-    ensures makes { StoreUpdates S.Store RepresentsDeskAlone IsLegible conn.old conn.new result (λ _. ⊤)
-        (revoked ticket unit) (tables.permit.tree ∷ []) }
+    ensures makes { StoreUpdates S.Store RepresentsDeskAlone IsLegible tables.old tables.new result (λ _. ⊤)
+        (revoked ticket unit) (schema.permit.tree ∷ []) }
 {
-    clear_permit(conn, ticket, unit)
+    clear_permit(tables, ticket, unit)
 }

@@ -8,8 +8,8 @@ ghost use Rattle.sqlite.specs.Held.{state};
 ghost use Rattle.isad_core.specs.Limits.{IsNumber, most_orders};
 ghost use Rattle.desk_core.specs.DeskRows.{OrderRow};
 ghost use Rattle.office_tables.specs.Calls.{StoreAnswers};
-ghost use Rattle.office_tables.specs.Schema as tables;
-ghost use Rattle.office_tables.specs.Step.{InOffice, Holds};
+ghost use Rattle.office_tables.specs.Schema as schema;
+ghost use Rattle.office_tables.specs.Step.{Holds};
 ghost use Rattle.office_tables.specs.TableStatements.{LooksUp};
 ghost use Rattle.desk_store.specs.Readers.{is_live, live_orders, placed_on, card_of};
 ghost use Rattle.desk_store.specs.Rows.{order_cells};
@@ -22,8 +22,8 @@ use desk_core::Reader;
 use isad_core::{Day, List, Text};
 use office_tables::from_row::FromRow;
 use office_tables::value::{day, number};
-use office_tables::{StoreFault, find, find_number};
-use sqlite::{Alter, Connection, Row};
+use office_tables::{StoreFault, Tables, Versioned, find, find_number};
+use sqlite::{Alter, Row};
 use std::alloc::{AllocError, Global};
 
 /// An order that waits or is out.
@@ -76,14 +76,13 @@ impl FromRow for OrderLine {
 
 /// The orders of a ticket that wait or are out, by number. The index of the orders by ticket and state
 /// finds them, so orders that have ended are not read.
-pub(crate) fn live_lines<S: Alter>(
+pub(crate) fn live_lines<P: Versioned, S: Alter>(
     alloc: Global,
-    conn: &mut Connection<S>,
+    tables: &mut Tables<P, S>,
     ticket: u64,
 ) -> Result<Vec<OrderLine>, StoreFault>
-    requires inside { InOffice (state S.Store conn.old) }
     requires small { IsNumber ticket }
-    ensures { LooksUp S.Store (Holds tables.orders order_cells) conn.old conn.new result
+    ensures { LooksUp S.Store (Holds schema.orders order_cells) tables.old tables.new result
         (AreCounted (λ o. o.id)) (λ _. ⊤)
         (λ xs found. found.items
         ≡ map (λ (o : OrderRow). record { order = o.id; container = o.container; state = o.state })
@@ -91,38 +90,42 @@ pub(crate) fn live_lines<S: Alter>(
 {
     find(
         alloc,
-        conn,
+        tables,
         "SELECT id, container, state FROM orders WHERE ticket = ?1 AND state < 3 ORDER BY id",
         &[number(ticket)],
     )
 }
 
 /// How many orders all tickets have placed so far. This is the greatest number of an order, in the table's last row.
-pub(crate) fn last_order<S: Alter>(conn: &mut Connection<S>) -> Result<u32, StoreFault>
-    requires inside { InOffice (state S.Store conn.old) }
-    ensures { LooksUp S.Store (Holds tables.orders order_cells) conn.old conn.new result
+pub(crate) fn last_order<P: Versioned, S: Alter>(
+    tables: &mut Tables<P, S>,
+) -> Result<u32, StoreFault>
+    ensures { LooksUp S.Store (Holds schema.orders order_cells) tables.old tables.new result
         (λ xs. (length xs ≤ most_orders) × AreCounted (λ o. o.id) xs)
         (λ xs. (length xs ≤ most_orders) × AreCounted (λ o. o.id) xs)
         (λ xs n. n ≡ length xs) }
 {
-    find_number(conn, "SELECT id FROM orders ORDER BY id DESC LIMIT 1", &[])
+    find_number(
+        tables,
+        "SELECT id FROM orders ORDER BY id DESC LIMIT 1",
+        &[],
+    )
 }
 
 /// How many orders a ticket placed on a day, including those that have ended. They are counted by the index
 /// of the orders by ticket and day, so orders of other days are not read.
-pub(crate) fn placed_on<S: Alter>(
-    conn: &mut Connection<S>,
+pub(crate) fn placed_on<P: Versioned, S: Alter>(
+    tables: &mut Tables<P, S>,
     ticket: u64,
     on: Day,
 ) -> Result<u32, StoreFault>
-    requires inside { InOffice (state S.Store conn.old) }
     requires small { IsNumber ticket }
-    ensures { LooksUp S.Store (Holds tables.orders order_cells) conn.old conn.new result
+    ensures { LooksUp S.Store (Holds schema.orders order_cells) tables.old tables.new result
         (λ xs. length xs ≤ most_orders) (λ xs. length xs ≤ most_orders)
         (λ xs n. n ≡ count_by (λ (o : OrderRow). nat_eq ticket o.ticket && int_eq o.day on) xs) }
 {
     find_number(
-        conn,
+        tables,
         "SELECT count(*) FROM orders WHERE ticket = ?1 AND day = ?2",
         &[number(ticket), day(on)],
     )
@@ -170,21 +173,21 @@ pub(crate) fn seat_in(taken: Option<TakenSeat>) -> Option<u32>
 
 /// The orders of a ticket that wait or are out, how many it placed on the day, and how many all tickets have
 /// placed so far.
-fn orders_of<S: Alter>(
+fn orders_of<P: Versioned, S: Alter>(
     alloc: Global,
-    conn: &mut Connection<S>,
+    tables: &mut Tables<P, S>,
     ticket: u64,
     today: Day,
 ) -> Result<TicketOrders, StoreFault>
-    requires inside { InOffice (state S.Store conn.old) }
     requires small { IsNumber ticket }
-    ensures tells { StoreAnswers S.Store RepresentsDeskAlone IsLegible conn.old conn.new result (λ _. ⊤) (λ _ d told.
+    ensures tells { StoreAnswers S.Store RepresentsDeskAlone IsLegible tables.old tables.new result (λ _. ⊤)
+        (λ _ d told.
         told ≡ record { live = live_orders ticket d; placed = placed_on ticket today d; orders = length d.orders }) }
 {
-    let lines = live_lines(alloc, conn, ticket)?;
+    let lines = live_lines(alloc, tables, ticket)?;
     let live = live_in(alloc, &lines)?;
-    let placed = placed_on(conn, ticket, today)?;
-    let orders = last_order(conn)?;
+    let placed = placed_on(tables, ticket, today)?;
+    let orders = last_order(tables)?;
     Ok(TicketOrders {
         live,
         placed,
@@ -193,25 +196,24 @@ fn orders_of<S: Alter>(
 }
 
 /// A reader's card on a day, or none if the ticket was not given.
-pub fn reader<S: Alter>(
+pub fn reader<P: Versioned, S: Alter>(
     alloc: Global,
-    conn: &mut Connection<S>,
+    tables: &mut Tables<P, S>,
     ticket: u64,
     today: Day,
 ) -> Result<Option<ReaderCard>, StoreFault>
-    requires inside { InOffice (state S.Store conn.old) }
-    ensures tells { StoreAnswers S.Store RepresentsDeskAlone IsLegible conn.old conn.new result (λ _. ⊤)
+    ensures tells { StoreAnswers S.Store RepresentsDeskAlone IsLegible tables.old tables.new result (λ _. ⊤)
         (λ _ d card. card ≡ card_of ticket today d) }
     ensures small { IfOk result (λ card. IfSome card (λ _. IsNumber ticket)) }
 {
     if ticket > u64::from(MOST_TICKETS) {
         return Ok(None);
     }
-    let Some(NamedReader { name, until }) = find_reader(alloc, conn, ticket)? else {
+    let Some(NamedReader { name, until }) = find_reader(alloc, tables, ticket)? else {
         return Ok(None);
     };
-    let taken = find_seat(alloc, conn, ticket)?;
-    let told = orders_of(alloc, conn, ticket, today)?;
+    let taken = find_seat(alloc, tables, ticket)?;
+    let told = orders_of(alloc, tables, ticket, today)?;
     Ok(Some(ReaderCard {
         reader: Reader {
             ticket,

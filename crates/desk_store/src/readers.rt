@@ -10,8 +10,8 @@ ghost use Rattle.desk_core.specs.DeskRows.{Desk, ReaderRow};
 ghost use Rattle.office_tables.specs.Query.{Reads};
 ghost use Rattle.office_tables.specs.Calls.{StoreUpdates, StoreAnswers};
 ghost use Rattle.office_tables.specs.Faults.{FaultsHaveCause};
-ghost use Rattle.office_tables.specs.Schema as tables;
-ghost use Rattle.office_tables.specs.Step.{InOffice, Holds};
+ghost use Rattle.office_tables.specs.Schema as schema;
+ghost use Rattle.office_tables.specs.Step.{Holds};
 ghost use Rattle.office_tables.specs.TableStatements.{Changes, LooksUp, Puts};
 ghost use Rattle.desk_store.specs.Readers.{next_ticket, reader_with, with_reader, renewed, with_last_day};
 ghost use Rattle.desk_store.specs.Rows.{reader_cells};
@@ -21,8 +21,8 @@ ghost use Rattle.office_tables.specs.RowNumbers.{AreCounted};
 use isad_core::{Day, Text, limits};
 use office_tables::from_row::FromRow;
 use office_tables::value::{day, number, words};
-use office_tables::{StoreFault, change, find_number, find_one};
-use sqlite::{Alter, Connection, Row};
+use office_tables::{StoreFault, Tables, Versioned, change, find_number, find_one};
+use sqlite::{Alter, Row};
 use std::alloc::Global;
 
 /// The greatest number of tickets that may ever be given.
@@ -58,99 +58,97 @@ impl FromRow for NamedReader {
 }
 
 /// The reader with this ticket, or none. A ticket is the number of its row.
-pub(crate) fn find_reader<S: Alter>(
+pub(crate) fn find_reader<P: Versioned, S: Alter>(
     alloc: Global,
-    conn: &mut Connection<S>,
+    tables: &mut Tables<P, S>,
     ticket: u64,
 ) -> Result<Option<NamedReader>, StoreFault>
-    requires inside { InOffice (state S.Store conn.old) }
     requires small { IsNumber ticket }
-    ensures { LooksUp S.Store (Holds tables.reader reader_cells) conn.old conn.new result
+    ensures { LooksUp S.Store (Holds schema.reader reader_cells) tables.old tables.new result
         (AreCounted (λ r. r.ticket)) (AllByRecursion IsLegibleReader)
         (λ xs found. found ≡ option_map (λ (r : ReaderRow). record { name = r.name; until = r.until })
         (find (λ r. nat_eq ticket r.ticket) xs)) }
 {
     find_one(
         alloc,
-        conn,
+        tables,
         "SELECT name, until FROM reader WHERE ticket = ?1 ORDER BY ticket",
         &[number(ticket)],
     )
 }
 
 /// How many tickets were given. This is the greatest ticket, in the table's last row.
-fn last_ticket<S: Alter>(conn: &mut Connection<S>) -> Result<u32, StoreFault>
-    requires inside { InOffice (state S.Store conn.old) }
-    ensures { LooksUp S.Store (Holds tables.reader reader_cells) conn.old conn.new result
+fn last_ticket<P: Versioned, S: Alter>(tables: &mut Tables<P, S>) -> Result<u32, StoreFault>
+    ensures { LooksUp S.Store (Holds schema.reader reader_cells) tables.old tables.new result
         (AreCounted (λ r. r.ticket)) (λ xs. AreCounted (λ r. r.ticket) xs × (length xs ≤ most_tickets))
         (λ xs n. n ≡ length xs) }
 {
     find_number(
-        conn,
+        tables,
         "SELECT ticket FROM reader ORDER BY ticket DESC LIMIT 1",
         &[],
     )
 }
 
 /// Inserts a reader under a ticket that was not given yet.
-fn insert_reader<S: Alter>(
-    conn: &mut Connection<S>,
+fn insert_reader<P: Versioned, S: Alter>(
+    tables: &mut Tables<P, S>,
     ticket: u64,
     name: &Text,
     until: Day,
 ) -> Result<(), StoreFault>
-    requires inside { InOffice (state S.Store conn.old) }
     requires small { IsNumber ticket }
-    ensures { Puts S.Store tables.reader reader_cells conn.old conn.new result
+    ensures { Puts S.Store schema.reader reader_cells tables.old tables.new result
         (record { ticket = ticket; name = name.now; until = until })
         (λ xs. list_any (λ r. nat_eq ticket r.ticket) xs ≡ false) }
 {
     change(
-        conn,
+        tables,
         "INSERT INTO reader (ticket, name, until) VALUES (?1, ?2, ?3)",
         &[number(ticket), words(name), day(until)],
     )
 }
 
 /// Sets the last day of a ticket, which is found by its number.
-fn set_last_day<S: Alter>(
-    conn: &mut Connection<S>,
+fn set_last_day<P: Versioned, S: Alter>(
+    tables: &mut Tables<P, S>,
     ticket: u64,
     until: Day,
 ) -> Result<(), StoreFault>
-    requires inside { InOffice (state S.Store conn.old) }
     requires small { IsNumber ticket }
-    ensures { Changes S.Store tables.reader reader_cells conn.old conn.new result (AreCounted (λ r. r.ticket))
+    ensures { Changes S.Store schema.reader reader_cells tables.old tables.new result (AreCounted (λ r. r.ticket))
         (renewed ticket until) }
 {
     change(
-        conn,
+        tables,
         "UPDATE reader SET until = ?2 WHERE ticket = ?1",
         &[number(ticket), day(until)],
     )
 }
 
 /// Sets the last day of a ticket. It may be earlier or later than before.
-pub fn renew<S: Alter>(conn: &mut Connection<S>, ticket: u64, until: Day) -> Result<(), StoreFault>
-    requires inside { InOffice (state S.Store conn.old) }
+pub fn renew<P: Versioned, S: Alter>(
+    tables: &mut Tables<P, S>,
+    ticket: u64,
+    until: Day,
+) -> Result<(), StoreFault>
     requires small { IsNumber ticket }
-    ensures makes { StoreUpdates S.Store RepresentsDeskAlone IsLegible conn.old conn.new result (λ _. ⊤)
-        (with_last_day ticket until) (tables.reader.tree ∷ []) }
+    ensures makes { StoreUpdates S.Store RepresentsDeskAlone IsLegible tables.old tables.new result (λ _. ⊤)
+        (with_last_day ticket until) (schema.reader.tree ∷ []) }
 {
-    set_last_day(conn, ticket, until)
+    set_last_day(tables, ticket, until)
 }
 
 /// The next ticket, or none if no ticket is left.
-fn next_number<S: Alter>(conn: &mut Connection<S>) -> Result<Option<u64>, StoreFault>
-    requires inside { InOffice (state S.Store conn.old) }
-    ensures reads { Reads (state S.Store conn.old) (state S.Store conn.new) result }
-    ensures number { HasCleanDisk (state S.Store conn.new) → (d : Desk)
-        → RepresentsDesk (state S.Store conn.old).now.trees d → IfOk result (λ ticket. ticket ≡ next_ticket d) }
+fn next_number<P: Versioned, S: Alter>(tables: &mut Tables<P, S>) -> Result<Option<u64>, StoreFault>
+    ensures reads { Reads (state S.Store tables.old) (state S.Store tables.new) result }
+    ensures number { HasCleanDisk (state S.Store tables.new) → (d : Desk)
+        → RepresentsDesk (state S.Store tables.old).now.trees d → IfOk result (λ ticket. ticket ≡ next_ticket d) }
     ensures small { IfOk result (λ ticket. IfSome ticket IsNumber) }
-    ensures faults { (d : Desk) → RepresentsDesk (state S.Store conn.old).now.trees d
-        → FaultsHaveCause (state S.Store conn.old) (state S.Store conn.new) result }
+    ensures faults { (d : Desk) → RepresentsDesk (state S.Store tables.old).now.trees d
+        → FaultsHaveCause (state S.Store tables.old) (state S.Store tables.new) result }
 {
-    let last = last_ticket(conn)?;
+    let last = last_ticket(tables)?;
     if last < MOST_TICKETS {
         Ok(Some(u64::from(last) + 1))
     } else {
@@ -159,38 +157,36 @@ fn next_number<S: Alter>(conn: &mut Connection<S>) -> Result<Option<u64>, StoreF
 }
 
 /// Adds a reader. Returns the new ticket, or none if no ticket is left.
-pub fn add_reader<S: Alter>(
-    conn: &mut Connection<S>,
+pub fn add_reader<P: Versioned, S: Alter>(
+    tables: &mut Tables<P, S>,
     name: &Text,
     until: Day,
 ) -> Result<Option<u64>, StoreFault>
-    requires inside { InOffice (state S.Store conn.old) }
-    ensures number { HasCleanDisk (state S.Store conn.new) → (d : Desk)
-        → RepresentsDesk (state S.Store conn.old).now.trees d → IfOk result (λ ticket. ticket ≡ next_ticket d) }
-    ensures makes { StoreUpdates S.Store RepresentsDeskAlone IsLegible conn.old conn.new result (λ _. ⊤)
-        (λ d. with_reader (next_ticket d) name.now until d) (tables.reader.tree ∷ []) }
+    ensures number { HasCleanDisk (state S.Store tables.new) → (d : Desk)
+        → RepresentsDesk (state S.Store tables.old).now.trees d → IfOk result (λ ticket. ticket ≡ next_ticket d) }
+    ensures makes { StoreUpdates S.Store RepresentsDeskAlone IsLegible tables.old tables.new result (λ _. ⊤)
+        (λ d. with_reader (next_ticket d) name.now until d) (schema.reader.tree ∷ []) }
 {
-    let Some(ticket) = next_number(conn)? else {
+    let Some(ticket) = next_number(tables)? else {
         return Ok(None);
     };
-    insert_reader(conn, ticket, name, until)?;
+    insert_reader(tables, ticket, name, until)?;
     Ok(Some(ticket))
 }
 
 /// Whether a ticket was given.
-pub fn is_registered<S: Alter>(
+pub fn is_registered<P: Versioned, S: Alter>(
     alloc: Global,
-    conn: &mut Connection<S>,
+    tables: &mut Tables<P, S>,
     ticket: u64,
 ) -> Result<bool, StoreFault>
-    requires inside { InOffice (state S.Store conn.old) }
-    ensures tells { StoreAnswers S.Store RepresentsDeskAlone IsLegible conn.old conn.new result (λ _. ⊤)
+    ensures tells { StoreAnswers S.Store RepresentsDeskAlone IsLegible tables.old tables.new result (λ _. ⊤)
         (λ _ d known. known ≡ is_some (reader_with ticket d)) }
     ensures small { IfOk result (λ known. known ≡ true → IsNumber ticket) }
 {
     if ticket > u64::from(MOST_TICKETS) {
         return Ok(false);
     }
-    let found = find_reader(alloc, conn, ticket)?;
+    let found = find_reader(alloc, tables, ticket)?;
     Ok(found.is_some())
 }

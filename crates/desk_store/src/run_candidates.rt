@@ -5,8 +5,8 @@ ghost use Rattle.std.specs.List.{list_any};
 ghost use Rattle.sqlite.specs.Held.{state};
 ghost use Rattle.desk_core.specs.DeskRows.{OrderRow};
 ghost use Rattle.office_tables.specs.Calls.{StoreAnswers};
-ghost use Rattle.office_tables.specs.Schema as tables;
-ghost use Rattle.office_tables.specs.Step.{InOffice, Holds};
+ghost use Rattle.office_tables.specs.Schema as schema;
+ghost use Rattle.office_tables.specs.Step.{Holds};
 ghost use Rattle.office_tables.specs.TableStatements.{LooksUp};
 ghost use Rattle.desk_store.specs.Holdings.{candidates_of};
 ghost use Rattle.desk_store.specs.RunCandidates.{is_earliest, is_new};
@@ -18,8 +18,8 @@ ghost use Rattle.desk_store.specs.declared.holdings.FirstOrder.{FirstOrder};
 use crate::holdings::FirstOrder;
 use crate::loans::{HoldingLine, holding_lines};
 use office_tables::from_row::FromRow;
-use office_tables::{StoreFault, find};
-use sqlite::{Alter, Connection, Row};
+use office_tables::{StoreFault, Tables, Versioned, find};
+use sqlite::{Alter, Row};
 use std::alloc::{AllocError, Global};
 use std::collections::BTreeSet;
 
@@ -42,12 +42,11 @@ impl FromRow for FirstOrder {
 
 /// The orders that wait, by number. The index of the orders by state and container finds them, so orders
 /// that have ended are not read.
-fn waiting_orders<S: Alter>(
+fn waiting_orders<P: Versioned, S: Alter>(
     alloc: Global,
-    conn: &mut Connection<S>,
+    tables: &mut Tables<P, S>,
 ) -> Result<Vec<FirstOrder>, StoreFault>
-    requires inside { InOffice (state S.Store conn.old) }
-    ensures { LooksUp S.Store (Holds tables.orders order_cells) conn.old conn.new result
+    ensures { LooksUp S.Store (Holds schema.orders order_cells) tables.old tables.new result
         (AreCounted (λ o. o.id)) (λ _. ⊤)
         (λ xs found. found.items
         ≡ map (λ (o : OrderRow). record { container = o.container; order = o.id; ticket = o.ticket })
@@ -55,7 +54,7 @@ fn waiting_orders<S: Alter>(
 {
     find(
         alloc,
-        conn,
+        tables,
         "SELECT id, ticket, container FROM orders WHERE state = 1 ORDER BY id",
         &[],
     )
@@ -106,16 +105,15 @@ fn firsts(
 
 /// What a run may take: the containers on the shelf for which an order waits, each with its first order,
 /// sorted by the numbers of these orders.
-pub fn candidates<S: Alter>(
+pub fn candidates<P: Versioned, S: Alter>(
     alloc: Global,
-    conn: &mut Connection<S>,
+    tables: &mut Tables<P, S>,
 ) -> Result<Vec<FirstOrder>, StoreFault>
-    requires inside { InOffice (state S.Store conn.old) }
-    ensures tells { StoreAnswers S.Store RepresentsDeskAlone IsLegible conn.old conn.new result (λ _. ⊤)
+    ensures tells { StoreAnswers S.Store RepresentsDeskAlone IsLegible tables.old tables.new result (λ _. ⊤)
         (λ _ d all. all.items ≡ candidates_of d) }
 {
-    let orders = waiting_orders(alloc, conn)?;
-    let lines = holding_lines(alloc, conn)?;
+    let orders = waiting_orders(alloc, tables)?;
+    let lines = holding_lines(alloc, tables)?;
     let known = absent(alloc, &lines)?;
     let firsts = firsts(alloc, known, &orders)?;
     Ok(firsts)

@@ -2,13 +2,12 @@
 
 ghost use Rattle.std.specs.Prelude.{◌≡◌, nat_eq, true, find, option_map};
 ghost use Rattle.std.specs.List.{AllByRecursion, AllZip};
-ghost use Rattle.sqlite.specs.Held.{state};
 ghost use Rattle.isad_core.specs.Days.{is_day_number};
 ghost use Rattle.isad_core.specs.Limits.{IsNumber};
 ghost use Rattle.desk_core.specs.DeskRows.{RunRow};
 ghost use Rattle.office_tables.specs.Calls.{StoreAnswers};
-ghost use Rattle.office_tables.specs.Schema as tables;
-ghost use Rattle.office_tables.specs.Step.{InOffice, Holds};
+ghost use Rattle.office_tables.specs.Schema as schema;
+ghost use Rattle.office_tables.specs.Step.{Holds};
 ghost use Rattle.office_tables.specs.TableStatements.{LooksUp};
 ghost use Rattle.desk_store.specs.Rows.{run_cells};
 ghost use Rattle.desk_store.specs.Runs.{run_with};
@@ -22,8 +21,8 @@ use desk_core::Candidate;
 use isad_core::{Day, List};
 use office_tables::from_row::FromRow;
 use office_tables::value::number;
-use office_tables::{StoreFault, find_one};
-use sqlite::{Alter, Connection, Row};
+use office_tables::{StoreFault, Tables, Versioned, find_one};
+use sqlite::{Alter, Row};
 use std::alloc::Global;
 
 /// The day on which a run was made.
@@ -51,36 +50,34 @@ impl FromRow for RunDay {
 }
 
 /// The day of a run, or none if there is no such run. A run is found by the number of its row.
-fn find_day<S: Alter>(
+fn find_day<P: Versioned, S: Alter>(
     alloc: Global,
-    conn: &mut Connection<S>,
+    tables: &mut Tables<P, S>,
     run: u64,
 ) -> Result<Option<RunDay>, StoreFault>
-    requires inside { InOffice (state S.Store conn.old) }
     requires small { IsNumber run }
-    ensures { LooksUp S.Store (Holds tables.run run_cells) conn.old conn.new result
+    ensures { LooksUp S.Store (Holds schema.run run_cells) tables.old tables.new result
         (AreCounted (λ r. r.id)) (AllByRecursion (λ r. is_day_number r.day ≡ true))
         (λ xs found. found ≡ option_map (λ (r : RunRow). record { day = r.day }) (find (λ r. nat_eq run r.id) xs)) }
 {
     find_one(
         alloc,
-        conn,
+        tables,
         "SELECT day FROM run WHERE id = ?1 ORDER BY id",
         &[number(run)],
     )
 }
 
 /// A line of a run, with what is written on its container.
-fn candidate<S: Alter>(
+fn candidate<P: Versioned, S: Alter>(
     alloc: Global,
-    conn: &mut Connection<S>,
+    tables: &mut Tables<P, S>,
     line: &TakenLine,
 ) -> Result<Candidate, StoreFault>
-    requires inside { InOffice (state S.Store conn.old) }
-    ensures tells { StoreAnswers S.Store RepresentsQueues IsLegibleStacks conn.old conn.new result (IsKnownLine
+    ensures tells { StoreAnswers S.Store RepresentsQueues IsLegibleStacks tables.old tables.new result (IsKnownLine
         line.now) (λ _ stacks told. IsToldLine stacks line.now told) }
 {
-    let Some(written) = box_of(alloc, conn, line.container)? else {
+    let Some(written) = box_of(alloc, tables, line.container)? else {
         return Err(StoreFault::Schema);
     };
     Ok(Candidate {
@@ -94,19 +91,18 @@ fn candidate<S: Alter>(
 }
 
 /// These lines, each with what is written on its container.
-fn candidates_of<S: Alter>(
+fn candidates_of<P: Versioned, S: Alter>(
     alloc: Global,
-    conn: &mut Connection<S>,
+    tables: &mut Tables<P, S>,
     lines: &[TakenLine],
 ) -> Result<Vec<Candidate>, StoreFault>
-    requires inside { InOffice (state S.Store conn.old) }
-    ensures tells { StoreAnswers S.Store RepresentsQueues IsLegibleStacks conn.old conn.new result
+    ensures tells { StoreAnswers S.Store RepresentsQueues IsLegibleStacks tables.old tables.new result
         (λ stacks. AllByRecursion (λ l. IsKnownLine l stacks) lines.now)
         (λ _ stacks told. AllZip (IsToldLine stacks) lines.now told.items) }
 {
     let mut told = Vec::new(alloc);
     for line in lines {
-        let candidate = candidate(alloc, conn, line)?;
+        let candidate = candidate(alloc, tables, line)?;
         told.push(candidate)?;
     }
     Ok(told)
@@ -114,23 +110,22 @@ fn candidates_of<S: Alter>(
 
 /// What a run brought: its day, and its lines, each with what is written on its container. Returns none if
 /// there was no such run.
-pub fn run<S: Alter>(
+pub fn run<P: Versioned, S: Alter>(
     alloc: Global,
-    conn: &mut Connection<S>,
+    tables: &mut Tables<P, S>,
     run: u64,
 ) -> Result<Option<Brought>, StoreFault>
-    requires inside { InOffice (state S.Store conn.old) }
-    ensures tells { StoreAnswers S.Store RepresentsQueues IsLegibleStacks conn.old conn.new result (AreKnown run)
+    ensures tells { StoreAnswers S.Store RepresentsQueues IsLegibleStacks tables.old tables.new result (AreKnown run)
         (λ _ stacks found. IsToldRun stacks (run_with run stacks.desk) found) }
 {
     if run > u64::from(MOST_RUNS) {
         return Ok(None);
     }
-    let Some(made) = find_day(alloc, conn, run)? else {
+    let Some(made) = find_day(alloc, tables, run)? else {
         return Ok(None);
     };
-    let lines = lines_with(alloc, conn, run)?;
-    let told = candidates_of(alloc, conn, &lines)?;
+    let lines = lines_with(alloc, tables, run)?;
+    let told = candidates_of(alloc, tables, &lines)?;
     Ok(Some(Brought {
         day: made.day,
         lines: List(told),

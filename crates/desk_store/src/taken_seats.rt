@@ -8,8 +8,8 @@ ghost use Rattle.sqlite.specs.State.{HasCleanDisk};
 ghost use Rattle.isad_core.specs.Limits.{IsNumber};
 ghost use Rattle.desk_core.specs.DeskRows.{SeatRow};
 ghost use Rattle.office_tables.specs.Calls.{StoreUpdates, StoreAnswers};
-ghost use Rattle.office_tables.specs.Schema as tables;
-ghost use Rattle.office_tables.specs.Step.{InOffice, Holds, PutsRow};
+ghost use Rattle.office_tables.specs.Schema as schema;
+ghost use Rattle.office_tables.specs.Step.{Holds, PutsRow};
 ghost use Rattle.office_tables.specs.TableStatements.{LooksUp, Puts, Thins};
 ghost use Rattle.desk_store.specs.Rows.{seat_cells};
 ghost use Rattle.desk_store.specs.Seats.{taken_seats, with_seat, MayTake};
@@ -19,8 +19,8 @@ ghost use Rattle.desk_store.specs.declared.taken_seats.TakenSeat.{TakenSeat};
 
 use office_tables::from_row::FromRow;
 use office_tables::value::number;
-use office_tables::{StoreFault, change, find, find_one};
-use sqlite::{Alter, Connection, Row};
+use office_tables::{StoreFault, Tables, Versioned, change, find, find_one};
+use sqlite::{Alter, Row};
 use std::alloc::Global;
 
 /// A seat that is taken.
@@ -47,87 +47,89 @@ impl FromRow for TakenSeat {
 }
 
 /// The seats that are taken, by number. This reads the whole table, which has a row for each of them.
-pub fn seats<S: Alter>(
+pub fn seats<P: Versioned, S: Alter>(
     alloc: Global,
-    conn: &mut Connection<S>,
+    tables: &mut Tables<P, S>,
 ) -> Result<Vec<TakenSeat>, StoreFault>
-    requires inside { InOffice (state S.Store conn.old) }
-    ensures tells { StoreAnswers S.Store RepresentsDeskAlone IsLegible conn.old conn.new result (λ _. ⊤)
+    ensures tells { StoreAnswers S.Store RepresentsDeskAlone IsLegible tables.old tables.new result (λ _. ⊤)
         (λ _ d all. all.items ≡ taken_seats d) }
 {
     find(
         alloc,
-        conn,
+        tables,
         "SELECT seat, ticket FROM seat ORDER BY seat",
         &[],
     )
 }
 
 /// The seat of a ticket, or none. Seats are found by their tickets, which are unique.
-pub(crate) fn find_seat<S: Alter>(
+pub(crate) fn find_seat<P: Versioned, S: Alter>(
     alloc: Global,
-    conn: &mut Connection<S>,
+    tables: &mut Tables<P, S>,
     ticket: u64,
 ) -> Result<Option<TakenSeat>, StoreFault>
-    requires inside { InOffice (state S.Store conn.old) }
     requires small { IsNumber ticket }
-    ensures { LooksUp S.Store (Holds tables.seat seat_cells) conn.old conn.new result
+    ensures { LooksUp S.Store (Holds schema.seat seat_cells) tables.old tables.new result
         (AreByNumber (λ s. s.seat)) (AllByRecursion (λ s. s.seat < 2 ^ 32))
         (λ xs found. found ≡ option_map (λ (s : SeatRow). record { seat = s.seat; ticket = s.ticket })
         (find (λ s. nat_eq ticket s.ticket) xs)) }
 {
     find_one(
         alloc,
-        conn,
+        tables,
         "SELECT seat, ticket FROM seat WHERE ticket = ?1 ORDER BY seat",
         &[number(ticket)],
     )
 }
 
 /// Gives a free seat to a ticket that has none.
-fn insert_seat<S: Alter>(conn: &mut Connection<S>, seat: u64, ticket: u64) -> Result<(), StoreFault>
-    requires inside { InOffice (state S.Store conn.old) }
+fn insert_seat<P: Versioned, S: Alter>(
+    tables: &mut Tables<P, S>,
+    seat: u64,
+    ticket: u64,
+) -> Result<(), StoreFault>
     requires number { IsNumber seat }
     requires small { IsNumber ticket }
-    ensures { Puts S.Store tables.seat seat_cells conn.old conn.new result (record { seat = seat; ticket = ticket })
+    ensures { Puts S.Store schema.seat seat_cells tables.old tables.new result (record { seat = seat; ticket = ticket })
         (λ xs. (list_any (λ s. nat_eq seat s.seat) xs ≡ false)
         × (list_any (λ s. nat_eq ticket s.ticket) xs ≡ false)) }
 {
     change(
-        conn,
+        tables,
         "INSERT INTO seat (seat, ticket) VALUES (?1, ?2)",
         &[number(seat), number(ticket)],
     )
 }
 
 /// Frees a seat.
-fn clear_seat<S: Alter>(conn: &mut Connection<S>, seat: u64) -> Result<(), StoreFault>
-    requires inside { InOffice (state S.Store conn.old) }
+fn clear_seat<P: Versioned, S: Alter>(
+    tables: &mut Tables<P, S>,
+    seat: u64,
+) -> Result<(), StoreFault>
     requires number { IsNumber seat }
-    ensures { Thins S.Store tables.seat seat_cells conn.old conn.new result (AreByNumber (λ s. s.seat))
+    ensures { Thins S.Store schema.seat seat_cells tables.old tables.new result (AreByNumber (λ s. s.seat))
         (filter (λ s. not (nat_eq seat s.seat))) }
 {
-    change(conn, "DELETE FROM seat WHERE seat = ?1", &[number(seat)])
+    change(tables, "DELETE FROM seat WHERE seat = ?1", &[number(seat)])
 }
 
 /// Gives a free seat to a ticket, or frees the seat if `who` is none. The table refuses a seat that is taken, and a
 /// ticket that has a seat.
-pub fn set_seat<S: Alter>(
-    conn: &mut Connection<S>,
+pub fn set_seat<P: Versioned, S: Alter>(
+    tables: &mut Tables<P, S>,
     seat: u32,
     who: Option<u64>,
 ) -> Result<(), StoreFault>
-    requires inside { InOffice (state S.Store conn.old) }
     requires small { IfSome who IsNumber }
-    ensures makes { StoreUpdates S.Store RepresentsDeskAlone IsLegible conn.old conn.new result (MayTake seat who)
-        (with_seat seat who) (tables.seat.tree ∷ []) }
-    ensures puts { HasCleanDisk (state S.Store conn.new)
-        → IfSome who (λ ticket. OnOk result (PutsRow tables.seat.tree
-        (seat_cells (record { seat = seat; ticket = ticket })) (state S.Store conn.old).now
-        (state S.Store conn.new).now)) }
+    ensures makes { StoreUpdates S.Store RepresentsDeskAlone IsLegible tables.old tables.new result (MayTake seat who)
+        (with_seat seat who) (schema.seat.tree ∷ []) }
+    ensures puts { HasCleanDisk (state S.Store tables.new)
+        → IfSome who (λ ticket. OnOk result (PutsRow schema.seat.tree
+        (seat_cells (record { seat = seat; ticket = ticket })) (state S.Store tables.old).now
+        (state S.Store tables.new).now)) }
 {
     match who {
-        Some(ticket) => insert_seat(conn, u64::from(seat), ticket),
-        None => clear_seat(conn, u64::from(seat)),
+        Some(ticket) => insert_seat(tables, u64::from(seat), ticket),
+        None => clear_seat(tables, u64::from(seat)),
     }
 }

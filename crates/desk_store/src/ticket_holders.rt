@@ -5,7 +5,6 @@ ghost use Rattle.std.specs.List.{count_by};
 ghost use Rattle.sqlite.specs.Held.{state};
 ghost use Rattle.isad_core.specs.Limits.{IsNumber};
 ghost use Rattle.office_tables.specs.Calls.{StoreAnswers};
-ghost use Rattle.office_tables.specs.Step.{InOffice};
 ghost use Rattle.desk_store.specs.Readers.{ticket_holder};
 ghost use Rattle.desk_store.specs.Representation.{RepresentsDeskAlone, IsLegible};
 
@@ -13,8 +12,8 @@ use crate::reader_summary::{OrderLine, live_lines, seat_in};
 use crate::readers::{MOST_TICKETS, find_reader};
 use crate::taken_seats::find_seat;
 use desk_core::Reader;
-use office_tables::StoreFault;
-use sqlite::{Alter, Connection};
+use office_tables::{StoreFault, Tables, Versioned};
+use sqlite::Alter;
 use std::alloc::Global;
 
 /// How many of the orders are out.
@@ -27,24 +26,23 @@ fn count_out(lines: &[OrderLine]) -> u32
 
 /// The reader who has a ticket, with his seat and how many containers are out with him, or none if the
 /// ticket was not given.
-pub fn ticket_holder<S: Alter>(
+pub fn ticket_holder<P: Versioned, S: Alter>(
     alloc: Global,
-    conn: &mut Connection<S>,
+    tables: &mut Tables<P, S>,
     ticket: u64,
 ) -> Result<Option<Reader>, StoreFault>
-    requires inside { InOffice (state S.Store conn.old) }
-    ensures tells { StoreAnswers S.Store RepresentsDeskAlone IsLegible conn.old conn.new result (λ _. ⊤)
+    ensures tells { StoreAnswers S.Store RepresentsDeskAlone IsLegible tables.old tables.new result (λ _. ⊤)
         (λ _ d holder. holder ≡ ticket_holder ticket d) }
     ensures small { IfOk result (λ holder. IfSome holder (λ _. IsNumber ticket)) }
 {
     if ticket > u64::from(MOST_TICKETS) {
         return Ok(None);
     }
-    let Some(row) = find_reader(alloc, conn, ticket)? else {
+    let Some(row) = find_reader(alloc, tables, ticket)? else {
         return Ok(None);
     };
-    let taken = find_seat(alloc, conn, ticket)?;
-    let lines = live_lines(alloc, conn, ticket)?;
+    let taken = find_seat(alloc, tables, ticket)?;
+    let lines = live_lines(alloc, tables, ticket)?;
     Ok(Some(Reader {
         ticket,
         until: row.until,

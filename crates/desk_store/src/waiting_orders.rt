@@ -6,8 +6,8 @@ ghost use Rattle.sqlite.specs.Held.{state};
 ghost use Rattle.isad_core.specs.Limits.{IsNumber, most_orders};
 ghost use Rattle.desk_core.specs.DeskRows.{OrderRow};
 ghost use Rattle.office_tables.specs.Calls.{StoreAnswers};
-ghost use Rattle.office_tables.specs.Schema as tables;
-ghost use Rattle.office_tables.specs.Step.{InOffice, Holds};
+ghost use Rattle.office_tables.specs.Schema as schema;
+ghost use Rattle.office_tables.specs.Step.{Holds};
 ghost use Rattle.office_tables.specs.TableStatements.{LooksUp};
 ghost use Rattle.desk_store.specs.Holdings.{waits_for};
 ghost use Rattle.desk_store.specs.Rows.{order_cells};
@@ -17,8 +17,8 @@ ghost use Rattle.office_tables.specs.RowNumbers.{AreCounted};
 use crate::orders::WaitingOrder;
 use office_tables::from_row::FromRow;
 use office_tables::value::{NO_NUMBER, number};
-use office_tables::{StoreFault, find, find_number, find_one};
-use sqlite::{Alter, Connection, Row};
+use office_tables::{StoreFault, Tables, Versioned, find, find_number, find_one};
+use sqlite::{Alter, Row};
 use std::alloc::Global;
 
 impl FromRow for WaitingOrder {
@@ -39,21 +39,20 @@ impl FromRow for WaitingOrder {
 
 /// The orders that wait for a container, by number. The index of the orders by state and container finds
 /// them, in this order.
-pub(crate) fn waiting_for<S: Alter>(
+pub(crate) fn waiting_for<P: Versioned, S: Alter>(
     alloc: Global,
-    conn: &mut Connection<S>,
+    tables: &mut Tables<P, S>,
     container: u64,
 ) -> Result<Vec<WaitingOrder>, StoreFault>
-    requires inside { InOffice (state S.Store conn.old) }
     requires small { IsNumber container }
-    ensures { LooksUp S.Store (Holds tables.orders order_cells) conn.old conn.new result
+    ensures { LooksUp S.Store (Holds schema.orders order_cells) tables.old tables.new result
         (AreCounted (λ o. o.id)) (λ _. ⊤)
         (λ xs found. found.items ≡ map (λ (o : OrderRow). record { order = o.id; ticket = o.ticket })
         (filter (waits_for container) xs)) }
 {
     find(
         alloc,
-        conn,
+        tables,
         "SELECT id, ticket FROM orders WHERE state = 1 AND container = ?1 ORDER BY id",
         &[number(container)],
     )
@@ -61,53 +60,53 @@ pub(crate) fn waiting_for<S: Alter>(
 
 /// The first order that waits for a container: the one with the least number, or none. The same index finds it, and
 /// the orders behind it are not read.
-pub(crate) fn first_for<S: Alter>(
+pub(crate) fn first_for<P: Versioned, S: Alter>(
     alloc: Global,
-    conn: &mut Connection<S>,
+    tables: &mut Tables<P, S>,
     container: u64,
 ) -> Result<Option<WaitingOrder>, StoreFault>
-    requires inside { InOffice (state S.Store conn.old) }
     requires small { IsNumber container }
-    ensures { LooksUp S.Store (Holds tables.orders order_cells) conn.old conn.new result
+    ensures { LooksUp S.Store (Holds schema.orders order_cells) tables.old tables.new result
         (AreCounted (λ o. o.id)) (λ _. ⊤)
         (λ xs found. found ≡ option_map (λ (o : OrderRow). record { order = o.id; ticket = o.ticket })
         (find (waits_for container) xs)) }
 {
     find_one(
         alloc,
-        conn,
+        tables,
         "SELECT id, ticket FROM orders WHERE state = 1 AND container = ?1 ORDER BY id LIMIT 1",
         &[number(container)],
     )
 }
 
 /// How many orders wait for a container, counted by the same index.
-fn count_waiting<S: Alter>(conn: &mut Connection<S>, container: u64) -> Result<u32, StoreFault>
-    requires inside { InOffice (state S.Store conn.old) }
+fn count_waiting<P: Versioned, S: Alter>(
+    tables: &mut Tables<P, S>,
+    container: u64,
+) -> Result<u32, StoreFault>
     requires small { IsNumber container }
-    ensures { LooksUp S.Store (Holds tables.orders order_cells) conn.old conn.new result
+    ensures { LooksUp S.Store (Holds schema.orders order_cells) tables.old tables.new result
         (λ xs. length xs ≤ most_orders) (λ xs. length xs ≤ most_orders)
         (λ xs n. n ≡ count_by (waits_for container) xs) }
 {
     find_number(
-        conn,
+        tables,
         "SELECT count(*) FROM orders WHERE state = 1 AND container = ?1",
         &[number(container)],
     )
 }
 
 /// Whether an order waits for a container.
-pub(crate) fn is_awaited<S: Alter>(
-    conn: &mut Connection<S>,
+pub(crate) fn is_awaited<P: Versioned, S: Alter>(
+    tables: &mut Tables<P, S>,
     container: u64,
 ) -> Result<bool, StoreFault>
-    requires inside { InOffice (state S.Store conn.old) }
-    ensures tells { StoreAnswers S.Store RepresentsDeskAlone IsLegible conn.old conn.new result (λ _. IsNumber
+    ensures tells { StoreAnswers S.Store RepresentsDeskAlone IsLegible tables.old tables.new result (λ _. IsNumber
         container) (λ _ d awaited. awaited ≡ list_any (waits_for container) d.orders) }
 {
     if container >= NO_NUMBER {
         return Err(StoreFault::Schema);
     }
-    let waiting = count_waiting(conn, container)?;
+    let waiting = count_waiting(tables, container)?;
     Ok(waiting > 0)
 }

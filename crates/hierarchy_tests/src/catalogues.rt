@@ -1,15 +1,14 @@
 //! Rows of the catalogue's tables that no call writes, in either version. What is wrong is found, with its cause.
 
-ghost use Rattle.std.specs.Prelude.{OnOk};
 ghost use Rattle.sqlite.specs.Held.{state};
 ghost use Rattle.office_tables.specs.Step.{InTransaction};
 
-use crate::offices::new_office;
+use crate::offices::{new_office, still_open};
 use crate::{links, offices, spans};
-use catalogue_store::{LinkPlaces, Places, StoreFault};
+use catalogue_store::{LinkPlaces, StoreFault};
 use integrity_checks::{CheckedPlaces, load_check};
 use nested_sets::SpanPlaces;
-use office_tables::change;
+use office_tables::{Tables, Versioned, change};
 use sqlite::types::ValueRef;
 use sqlite::types::ValueRef::{Int, Null, Text};
 use sqlite::{Alter, Connection};
@@ -42,24 +41,20 @@ enum Row {
 type Write = (Row, &'static [ValueRef<'static>]);
 
 /// Writes a row with one of the catalogue's statements.
-#[tactic(auto, using(crate::proofs::Going::went_on))]
-fn put<P: Places, S: Alter>(
-    conn: &mut Connection<S>,
+fn put<P: Versioned, S: Alter>(
+    tables: &mut Tables<P, S>,
     row: Row,
     cells: &[ValueRef<'_>],
-) -> Result<(), StoreFault>
-    requires inside { InTransaction P.version (state S.Store conn.old) }
-    ensures inside { OnOk result (InTransaction P.version (state S.Store conn.new)) }
-{
+) -> Result<(), StoreFault> {
     match row {
-        Row::Unit => change(conn, PUT_UNIT, cells),
-        Row::Gone => change(conn, REMOVE_UNIT, cells),
-        Row::Level => change(conn, SET_LEVEL, cells),
-        Row::Draft => change(conn, SET_DRAFT, cells),
-        Row::Until => change(conn, SET_UNTIL, cells),
-        Row::Element => change(conn, PUT_ELEMENT, cells),
-        Row::Container => change(conn, PUT_CONTAINER, cells),
-        Row::Housing => change(conn, PUT_HOUSING, cells),
+        Row::Unit => change(tables, PUT_UNIT, cells),
+        Row::Gone => change(tables, REMOVE_UNIT, cells),
+        Row::Level => change(tables, SET_LEVEL, cells),
+        Row::Draft => change(tables, SET_DRAFT, cells),
+        Row::Until => change(tables, SET_UNTIL, cells),
+        Row::Element => change(tables, PUT_ELEMENT, cells),
+        Row::Container => change(tables, PUT_CONTAINER, cells),
+        Row::Housing => change(tables, PUT_HOUSING, cells),
     }
 }
 
@@ -82,16 +77,13 @@ const PUT_CONTAINER: &str =
 const PUT_HOUSING: &str = "INSERT INTO housing (unit, ord, container) VALUES (?1, ?2, ?3)";
 
 /// Writes rows, one after the other.
-fn put_all<P: Places, S: Alter>(
-    conn: &mut Connection<S>,
+fn put_all<P: Versioned, S: Alter>(
+    tables: &mut Tables<P, S>,
     writes: &[Write],
-) -> Result<(), StoreFault>
-    requires inside { InTransaction P.version (state S.Store conn.old) }
-    ensures inside { OnOk result (InTransaction P.version (state S.Store conn.new)) }
-{
+) -> Result<(), StoreFault> {
     for write in writes {
         let (row, cells) = *write;
-        put::<P, S>(conn, row, cells)?;
+        put(tables, row, cells)?;
     }
     Ok(())
 }
@@ -160,33 +152,57 @@ fn told<P: CheckedPlaces, S: Alter>(
     })
 }
 
-/// The same for the catalogue with these rows added.
-fn told_with<P: CheckedPlaces, S: Alter>(
-    alloc: Global,
-    conn: &mut Connection<S>,
+/// Writes the catalogue over links, with these places and then these rows added.
+fn put_over_links<S: Alter>(
+    tables: &mut Tables<LinkPlaces, S>,
+    places: &[offices::Row],
     writes: &[Write],
-    next: u64,
-) -> Result<u8, StoreFault>
-    requires inside { InTransaction P.version (state S.Store conn.old) }
-{
-    put_all::<P, S>(conn, &CATALOGUE)?;
-    put_all::<P, S>(conn, writes)?;
-    told::<P, S>(alloc, conn, next)
+) -> Result<(), StoreFault> {
+    links::put_all(tables, &LINKS)?;
+    links::put_all(tables, places)?;
+    put_all(tables, &CATALOGUE)?;
+    put_all(tables, writes)
 }
 
-fn told_over_links(alloc: Global, writes: &[Write], next: u64) -> Result<u8, Fail> {
-    let mut conn = Connection::open_in_memory(alloc)?;
-    new_office::<LinkPlaces, _>(alloc, &mut conn)?;
-    links::put_all(&mut conn, &LINKS)?;
-    let cause = told_with::<LinkPlaces, _>(alloc, &mut conn, writes, next)?;
+/// The same over spans.
+fn put_over_spans<S: Alter>(
+    tables: &mut Tables<SpanPlaces, S>,
+    places: &[offices::Row],
+    writes: &[Write],
+) -> Result<(), StoreFault> {
+    spans::put_all(tables, &SPANS)?;
+    spans::put_all(tables, places)?;
+    put_all(tables, &CATALOGUE)?;
+    put_all(tables, writes)
+}
+
+/// The cause that the check finds in a new office, or 0.
+fn told_over_links(
+    alloc: Global,
+    places: &[offices::Row],
+    writes: &[Write],
+    next: u64,
+) -> Result<u8, Fail> {
+    let mut tables = new_office::<LinkPlaces, _>(alloc, Connection::open_in_memory(alloc)?)?;
+    let outcome = put_over_links(&mut tables, places, writes);
+    let conn = still_open(tables);
+    outcome?;
+    let cause = told::<LinkPlaces, _>(alloc, &mut conn?, next)?;
     Ok(cause)
 }
 
-fn told_over_spans(alloc: Global, writes: &[Write], next: u64) -> Result<u8, Fail> {
-    let mut conn = Connection::open_in_memory(alloc)?;
-    new_office::<SpanPlaces, _>(alloc, &mut conn)?;
-    spans::put_all(&mut conn, &SPANS)?;
-    let cause = told_with::<SpanPlaces, _>(alloc, &mut conn, writes, next)?;
+/// The same over spans.
+fn told_over_spans(
+    alloc: Global,
+    places: &[offices::Row],
+    writes: &[Write],
+    next: u64,
+) -> Result<u8, Fail> {
+    let mut tables = new_office::<SpanPlaces, _>(alloc, Connection::open_in_memory(alloc)?)?;
+    let outcome = put_over_spans(&mut tables, places, writes);
+    let conn = still_open(tables);
+    outcome?;
+    let cause = told::<SpanPlaces, _>(alloc, &mut conn?, next)?;
     Ok(cause)
 }
 
@@ -195,9 +211,9 @@ type Case = (u64, &'static [Write], u8);
 
 fn see(rt: &impl Abort, alloc: Global, cases: &[Case]) -> Result<(), Fail> {
     for (at, &(next, writes, wanted)) in cases.iter().enumerate() {
-        let over_links = told_over_links(alloc, writes, next)?;
+        let over_links = told_over_links(alloc, &[], writes, next)?;
         assert_eq!(rt; over_links, wanted, "case {at} over links");
-        let over_spans = told_over_spans(alloc, writes, next)?;
+        let over_spans = told_over_spans(alloc, &[], writes, next)?;
         assert_eq!(rt; over_spans, wanted, "case {at} over spans");
     }
     Ok(())
@@ -486,24 +502,6 @@ const LOST: offices::Row = [Int(5), Int(9), Int(1)];
 /// Two units whose spans cross.
 const CROSSING: [offices::Row; 2] = [[Int(5), Int(9), Int(11)], [Int(6), Int(10), Int(12)]];
 
-fn told_of_lost_links(alloc: Global, writes: &[Write]) -> Result<u8, Fail> {
-    let mut conn = Connection::open_in_memory(alloc)?;
-    new_office::<LinkPlaces, _>(alloc, &mut conn)?;
-    links::put_all(&mut conn, &LINKS)?;
-    links::put_all(&mut conn, &[LOST])?;
-    let cause = told_with::<LinkPlaces, _>(alloc, &mut conn, writes, 5)?;
-    Ok(cause)
-}
-
-fn told_of_crossing_spans(alloc: Global, writes: &[Write]) -> Result<u8, Fail> {
-    let mut conn = Connection::open_in_memory(alloc)?;
-    new_office::<SpanPlaces, _>(alloc, &mut conn)?;
-    spans::put_all(&mut conn, &SPANS)?;
-    spans::put_all(&mut conn, &CROSSING)?;
-    let cause = told_with::<SpanPlaces, _>(alloc, &mut conn, writes, 5)?;
-    Ok(cause)
-}
-
 /// Of several causes the first is found, whichever was written first; that of the places comes before all others.
 #[test]
 fn the_first_defect_is_reported(rt: HostRuntime) -> Result<(), Fail> {
@@ -515,7 +513,7 @@ fn the_first_defect_is_reported(rt: HostRuntime) -> Result<(), Fail> {
     ];
     see(&rt, rt.alloc(), &cases)?;
     let all = [NO_PLACE, NO_ELEMENT, NO_STATUS];
-    assert_eq!(rt; told_of_lost_links(rt.alloc(), &all)?, 2);
-    assert_eq!(rt; told_of_crossing_spans(rt.alloc(), &all)?, 2);
+    assert_eq!(rt; told_over_links(rt.alloc(), &[LOST], &all, 5)?, 2);
+    assert_eq!(rt; told_over_spans(rt.alloc(), &CROSSING, &all, 5)?, 2);
     Ok(())
 }

@@ -1,14 +1,11 @@
 //! A forest that changes, in either version, and the answers about its places afterwards.
 
-ghost use Rattle.std.specs.Prelude.{OnOk};
-ghost use Rattle.sqlite.specs.Held.{state};
-ghost use Rattle.office_tables.specs.Step.{InTransaction};
-
-use crate::offices::{new_office, told};
+use crate::offices::{new_office, still_open, told};
 use crate::parents::{FOREST, Place, put_all};
 use catalogue_store::{LinkPlaces, Places, StoreFault};
 use integrity_checks::CheckedPlaces;
 use nested_sets::SpanPlaces;
+use office_tables::Tables;
 use sqlite::{Alter, Connection};
 use std::alloc::{AllocError, Global};
 use std::process::Abort;
@@ -37,35 +34,29 @@ enum Question {
     Judged,
 }
 
-#[tactic(auto, using(crate::proofs::Going::went_on))]
+/// Carries a change out.
 fn carry_out<P: Places, S: Alter>(
     alloc: Global,
-    conn: &mut Connection<S>,
+    tables: &mut Tables<P, S>,
     change: Change,
-) -> Result<(), StoreFault>
-    requires inside { InTransaction P.version (state S.Store conn.old) }
-    ensures inside { OnOk result (InTransaction P.version (state S.Store conn.new)) }
-{
+) -> Result<(), StoreFault> {
     match change {
-        Change::Move(unit, None) => P::shift(alloc, conn, u64::from(unit), None),
+        Change::Move(unit, None) => P::shift(alloc, tables, u64::from(unit), None),
         Change::Move(unit, Some(above)) => {
-            P::shift(alloc, conn, u64::from(unit), Some(u64::from(above)))
+            P::shift(alloc, tables, u64::from(unit), Some(u64::from(above)))
         }
-        Change::Cut(unit) => P::cut(alloc, conn, u64::from(unit)),
+        Change::Cut(unit) => P::cut(alloc, tables, u64::from(unit)),
     }
 }
 
 /// One change after another.
 fn change_all<P: Places, S: Alter>(
     alloc: Global,
-    conn: &mut Connection<S>,
+    tables: &mut Tables<P, S>,
     changes: &[Change],
-) -> Result<(), StoreFault>
-    requires inside { InTransaction P.version (state S.Store conn.old) }
-    ensures inside { OnOk result (InTransaction P.version (state S.Store conn.new)) }
-{
+) -> Result<(), StoreFault> {
     for it in changes {
-        carry_out::<P, S>(alloc, conn, *it)?;
+        carry_out(alloc, tables, *it)?;
     }
     Ok(())
 }
@@ -79,27 +70,38 @@ fn shown(alloc: Global, units: &[u64]) -> Result<String, AllocError> {
     Ok(text)
 }
 
-/// The answer to a question.
-fn answer<P: CheckedPlaces, S: Alter>(
+/// The answer of the places to a question, or none if it is for the check of the places.
+fn answer<P: Places, S: Alter>(
     alloc: Global,
-    conn: &mut Connection<S>,
+    tables: &mut Tables<P, S>,
     question: Question,
-) -> Result<String, Fail>
-    requires inside { InTransaction P.version (state S.Store conn.old) }
-{
+) -> Result<Option<String>, Fail> {
     let units = match question {
-        Question::All => P::all(alloc, conn)?,
-        Question::Path(unit) => P::path(alloc, conn, u64::from(unit))?,
-        Question::Branch(unit) => P::branch(alloc, conn, u64::from(unit))?,
-        Question::Below(None) => P::below(alloc, conn, None)?,
-        Question::Below(Some(above)) => P::below(alloc, conn, Some(u64::from(above)))?,
+        Question::All => P::all(alloc, tables)?,
+        Question::Path(unit) => P::path(alloc, tables, u64::from(unit))?,
+        Question::Branch(unit) => P::branch(alloc, tables, u64::from(unit))?,
+        Question::Below(None) => P::below(alloc, tables, None)?,
+        Question::Below(Some(above)) => P::below(alloc, tables, Some(u64::from(above)))?,
         Question::IsBelow(unit, other) => {
-            let is_below = P::is_below(alloc, conn, u64::from(unit), u64::from(other))?;
-            return Ok(format!(in alloc; "{is_below}")?);
+            let is_below = P::is_below(alloc, tables, u64::from(unit), u64::from(other))?;
+            return Ok(Some(format!(in alloc; "{is_below}")?));
         }
-        Question::Judged => return told::<P, S>(alloc, conn),
+        Question::Judged => return Ok(None),
     };
-    Ok(shown(alloc, &units)?)
+    Ok(Some(shown(alloc, &units)?))
+}
+
+/// The same, with a forest and after these changes.
+fn answer_after<P: Places, S: Alter>(
+    alloc: Global,
+    tables: &mut Tables<P, S>,
+    forest: &[Place],
+    changes: &[Change],
+    question: Question,
+) -> Result<Option<String>, Fail> {
+    put_all(alloc, tables, forest)?;
+    change_all(alloc, tables, changes)?;
+    answer(alloc, tables, question)
 }
 
 /// The answer in a new office with a forest, after these changes.
@@ -109,11 +111,13 @@ fn told_of<P: CheckedPlaces>(
     changes: &[Change],
     question: Question,
 ) -> Result<String, Fail> {
-    let mut conn = Connection::open_in_memory(alloc)?;
-    new_office::<P, _>(alloc, &mut conn)?;
-    put_all::<P, _>(alloc, &mut conn, forest)?;
-    change_all::<P, _>(alloc, &mut conn, changes)?;
-    answer::<P, _>(alloc, &mut conn, question)
+    let mut tables = new_office::<P, _>(alloc, Connection::open_in_memory(alloc)?)?;
+    let outcome = answer_after(alloc, &mut tables, forest, changes, question);
+    let conn = still_open(tables);
+    match outcome? {
+        Some(text) => Ok(text),
+        None => told::<P, _>(alloc, &mut conn?),
+    }
 }
 
 /// Changes, a question, and its answer in either version.

@@ -10,6 +10,7 @@ use catalogue_store::{OfficeRow, Places, StoreFault, begin, create};
 use desk_store::{create_desk, is_blank};
 use integrity_checks::{CheckedPlaces, Placed};
 use isad_core::{Day, Text};
+use office_tables::{Tables, Versioned};
 use sqlite::types::ValueRef;
 use sqlite::{Alter, Connection};
 use std::alloc::Global;
@@ -51,7 +52,7 @@ fn open_office<P: Places, S: Alter>(
 }
 
 /// Makes an office in a store that has nothing else.
-pub(crate) fn new_office<P: Places, S: Alter>(
+fn make_office<P: Places, S: Alter>(
     alloc: Global,
     conn: &mut Connection<S>,
 ) -> Result<(), StoreFault>
@@ -61,6 +62,29 @@ pub(crate) fn new_office<P: Places, S: Alter>(
         return Err(StoreFault::Schema);
     }
     open_office::<P, S>(alloc, conn)
+}
+
+/// The tables of a new office, in the transaction in which they were made.
+pub(crate) fn new_office<P: Places, S: Alter + Drop>(
+    alloc: Global,
+    conn: Connection<S>,
+) -> Result<Tables<P, S>, StoreFault> {
+    let mut conn = conn;
+    make_office::<P, S>(alloc, &mut conn)?;
+    Ok(Tables::inside(conn))
+}
+
+/// The connection of tables whose transaction is still open.
+pub(crate) fn still_open<P: Versioned, S: Alter + Drop>(
+    tables: Tables<P, S>,
+) -> Result<Connection<S>, StoreFault>
+    ensures inside { IfOk result (λ conn. InTransaction P.version (state S.Store conn)) }
+{
+    let conn = tables.into_connection();
+    if conn.is_autocommit() {
+        return Err(StoreFault::Schema);
+    }
+    Ok(conn)
 }
 
 /// The units and the height, or a dash if they are defective.

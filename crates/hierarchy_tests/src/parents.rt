@@ -1,14 +1,13 @@
 //! The units right above many, in either version.
 
-ghost use Rattle.std.specs.Prelude.{◌≡◌, true, OnOk};
+ghost use Rattle.std.specs.Prelude.{◌≡◌, true};
 ghost use Rattle.std.specs.List.{AllByRecursion};
-ghost use Rattle.sqlite.specs.Held.{state};
 ghost use Rattle.isad_core.specs.Limits.{IsNumber};
-ghost use Rattle.office_tables.specs.Step.{InTransaction};
 
 use crate::offices::new_office;
 use catalogue_store::{LinkPlaces, Places, StoreFault};
 use nested_sets::SpanPlaces;
+use office_tables::Tables;
 use office_tables::value::NO_NUMBER;
 use sqlite::{Alter, Connection};
 use std::alloc::Global;
@@ -33,34 +32,27 @@ pub(crate) const FOREST: [Place; 10] = [
 ];
 
 /// Puts a unit at its place.
-#[tactic(auto, using(crate::proofs::Going::went_on))]
 fn put<P: Places, S: Alter>(
     alloc: Global,
-    conn: &mut Connection<S>,
+    tables: &mut Tables<P, S>,
     place: Place,
-) -> Result<(), StoreFault>
-    requires inside { InTransaction P.version (state S.Store conn.old) }
-    ensures inside { OnOk result (InTransaction P.version (state S.Store conn.new)) }
-{
+) -> Result<(), StoreFault> {
     let (unit, above) = place;
     let parent = match above {
         Some(above) => Some(u64::from(above)),
         None => None,
     };
-    P::add(alloc, conn, parent, u64::from(unit))
+    P::add(alloc, tables, parent, u64::from(unit))
 }
 
 /// Puts the units of a forest at their places, one after another.
 pub(crate) fn put_all<P: Places, S: Alter>(
     alloc: Global,
-    conn: &mut Connection<S>,
+    tables: &mut Tables<P, S>,
     forest: &[Place],
-) -> Result<(), StoreFault>
-    requires inside { InTransaction P.version (state S.Store conn.old) }
-    ensures inside { OnOk result (InTransaction P.version (state S.Store conn.new)) }
-{
+) -> Result<(), StoreFault> {
     for place in forest {
-        put::<P, S>(alloc, conn, *place)?;
+        put(alloc, tables, *place)?;
     }
     Ok(())
 }
@@ -72,19 +64,18 @@ fn are_numbers(units: &[u64]) -> bool
     units.iter().all(|unit| *unit < NO_NUMBER)
 }
 
-/// The numbers of the units right above these, with a dash for none.
+/// The numbers of the units right above these in the forest, with a dash for none.
 fn told<P: Places, S: Alter>(
     alloc: Global,
-    conn: &mut Connection<S>,
+    tables: &mut Tables<P, S>,
     units: &[u64],
-) -> Result<String, Fail>
-    requires inside { InTransaction P.version (state S.Store conn.old) }
-{
+) -> Result<String, Fail> {
+    put_all(alloc, tables, &FOREST)?;
     let mut text = String::new(alloc);
     if !are_numbers(units) {
         return Ok(text);
     }
-    for above in &P::parents(alloc, conn, units)? {
+    for above in &P::parents(alloc, tables, units)? {
         match above {
             Some(above) => write!(text, "{above} ")?,
             None => write!(text, "- ")?,
@@ -93,12 +84,12 @@ fn told<P: Places, S: Alter>(
     Ok(text)
 }
 
-/// The same, in a new office with the forest.
+/// The same, in a new office.
 fn told_of<P: Places>(alloc: Global, units: &[u64]) -> Result<String, Fail> {
-    let mut conn = Connection::open_in_memory(alloc)?;
-    new_office::<P, _>(alloc, &mut conn)?;
-    put_all::<P, _>(alloc, &mut conn, &FOREST)?;
-    told::<P, _>(alloc, &mut conn, units)
+    let mut tables = new_office::<P, _>(alloc, Connection::open_in_memory(alloc)?)?;
+    let text = told(alloc, &mut tables, units);
+    let _ = tables.into_connection();
+    text
 }
 
 /// Units, and the units right above them in either version.

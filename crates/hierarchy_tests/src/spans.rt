@@ -1,28 +1,23 @@
 //! Spans that no call writes.
 
-ghost use Rattle.std.specs.Prelude.{OnOk};
-ghost use Rattle.sqlite.specs.Held.{state};
-ghost use Rattle.tree_core.specs.Versions.{Spans};
-ghost use Rattle.office_tables.specs.Step.{InTransaction};
-
-use crate::offices::{Row, new_office, told};
+use crate::offices::{Row, new_office, still_open, told};
 use catalogue_store::StoreFault;
 use nested_sets::SpanPlaces;
-use office_tables::change;
+use office_tables::{Tables, change};
 use sqlite::types::ValueRef::Int;
 use sqlite::{Alter, Connection};
 use std::alloc::Global;
 use std::process::Abort;
 use std::test::Fail;
 
-#[tactic(auto, using(crate::proofs::Going::went_on))]
-pub(crate) fn put_all<S: Alter>(conn: &mut Connection<S>, rows: &[Row]) -> Result<(), StoreFault>
-    requires inside { InTransaction Spans (state S.Store conn.old) }
-    ensures inside { OnOk result (InTransaction Spans (state S.Store conn.new)) }
-{
+/// Writes these rows.
+pub(crate) fn put_all<S: Alter>(
+    tables: &mut Tables<SpanPlaces, S>,
+    rows: &[Row],
+) -> Result<(), StoreFault> {
     for row in rows {
         change(
-            conn,
+            tables,
             "INSERT INTO span (id, lft, rgt) VALUES (?1, ?2, ?3)",
             row,
         )?;
@@ -32,10 +27,11 @@ pub(crate) fn put_all<S: Alter>(conn: &mut Connection<S>, rows: &[Row]) -> Resul
 
 /// The units and the height in a new office with these rows, or a dash if they are defective.
 fn told_of(alloc: Global, rows: &[Row]) -> Result<String, Fail> {
-    let mut conn = Connection::open_in_memory(alloc)?;
-    new_office::<SpanPlaces, _>(alloc, &mut conn)?;
-    put_all(&mut conn, rows)?;
-    told::<SpanPlaces, _>(alloc, &mut conn)
+    let mut tables = new_office::<SpanPlaces, _>(alloc, Connection::open_in_memory(alloc)?)?;
+    let outcome = put_all(&mut tables, rows);
+    let conn = still_open(tables);
+    outcome?;
+    told::<SpanPlaces, _>(alloc, &mut conn?)
 }
 
 fn told_of_all(alloc: Global, cases: &[&'static [Row]]) -> Result<String, Fail> {

@@ -198,5 +198,5 @@ module _ (old new : State) (known : HasCleanDisk old → Knows drop_text drop_co
     within = λ clean.
         let it = done clean in
         let inside = (known (early old new _ survives clean)).inside in
-        record { opened = it.is_open ∙ sym it.was_open; committed = it.committed_is ∙ ap (λ k. if k then old.committed else new.now) inside; was_inside = inside; is_inside = it.mode ∙ inside };
+        record { opened = it.is_open ∙ sym it.was_open; committed = it.committed_is ∙ ap (λ k. if k then old.committed else new.now) inside; mode = it.mode };
   }

@@ -1,18 +1,17 @@
 -- How a look-up of one step or several ends, by how its steps ended.
-use Rattle.std.proofs.Common.{◌≡◌, Ok, Err, Result, IfOk, IfErr, refl, sym, subst}
+use Rattle.std.proofs.Common.{◌≡◌, Ok, Err, Result, IfOk, IfErr, sym, subst}
 use Rattle.std.specs.Prelude.{IsErr, IsErrAnd}
 use Rattle.sqlite_trees.specs.declared.store.Store as store
 use Rattle.sqlite.specs.Held.{Held, state}
 use Rattle.sqlite.specs.State.{State, HasCleanDisk}
-use Rattle.tree_core.specs.Versions.{Spans}
 use Rattle.office_tables.specs.Faults.{IsUnlimited, HasCause, FaultsHaveCause}
 use Rattle.office_tables.specs.Query.{Reads}
-use Rattle.office_tables.specs.Step.{InTransaction, IsAborted, IsSame, LeavesUnchanged, Spares}
+use Rattle.office_tables.specs.Step.{IsAborted, IsSame, LeavesUnchanged, Spares}
 use Rattle.office_tables.specs.TableStatements.{LooksUp}
 use Rattle.office_tables.specs.declared.fault.StoreFault.{StoreFault}
 use Rattle.office_tables.specs.declared.fault.StoreFault.TheVariants as fault
 use Rattle.office_tables.proofs.CallEnds.{excused_then, read_not, read_well, same_fault}
-use Rattle.office_tables.proofs.Calls.{cut_after, cut_then, early, goes_nowhere, office_of}
+use Rattle.office_tables.proofs.Calls.{cut_after, cut_then, early}
 use Rattle.office_tables.proofs.Causes.{still_unlimited}
 use Rattle.office_tables.proofs.LaterCauses.{next_cause}
 use Rattle.office_tables.proofs.Outcomes.{if_ok_by}
@@ -81,7 +80,3 @@ module _ {S X M : Type 0} {g : store.Ghosts S} {holds : State → M → Type 0} 
     answers = λ clean m held up. if_ok_by r (LeavesUnchanged b (state g after)) (answer m) (λ went. told (early b (state g after) _ went.goes.on.crash clean) clean m held up) last.looks;
     faults = λ m held k. excused_then (state g before) b (state g after) looked.goes.on r last.cut (λ clean. why clean m held k);
   }
-
--- nothing is read
-pub looks_nowhere : (a : State) → InTransaction Spans a → LeavesUnchanged a a
-looks_nowhere a inside = record { goes = goes_nowhere a (office_of Spans a inside); same = λ clean. refl }

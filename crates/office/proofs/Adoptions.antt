@@ -16,7 +16,7 @@ use Rattle.office_core.specs.SoundOffice.{IsSoundOffice}
 use Rattle.adoption.specs.SoundTables.{AreSoundTables}
 use Rattle.adoption.specs.Tables.{SoundTablesRepresentTheirState}
 use Rattle.adoption.specs.OrderedTables.{StandInOrder}
-use Rattle.office_tables.specs.Faults.{BlamesDisk, HasCause}
+use Rattle.office_tables.specs.Faults.{BlamesDisk, HasOuterCause}
 use Rattle.office_tables.specs.Transactions.{IsStopped}
 use Rattle.office_tables.specs.declared.fault.StoreFault.{StoreFault}
 use Rattle.office_tables.specs.declared.fault.StoreFault.TheVariants as cause
@@ -58,10 +58,16 @@ module _ (version : Version) (old new : store.State) (told : Verdict) (none : re
         subst (λ (db : Database). RepresentsState places version db (state_in version old.now.trees)) (sym (back.now opened)) (law old.now (sound_tables live opened ordered)).represents
 
 -- a fault of the store: the disk is blamed for its own failures only, and the tables are not to blame if they are ordered
-pub store_cause : (version : Version) (old new : store.State) (f : StoreFault) → BlamesDisk old new f → (StandInOrder old.now → HasCause old new f) → HasAdoptCause version old new (open_fault_of f)
+pub store_cause : (version : Version) (old new : store.State) (f : StoreFault) → BlamesDisk old new f → (StandInOrder old.now → HasOuterCause old new f) → HasAdoptCause version old new (open_fault_of f)
 store_cause version old new cause.Memory blames why = tt
 store_cause version old new cause.Disk blames why = blames
 store_cause version old new cause.Schema blames why = λ ordered. absurd (why ordered)
+
+-- a fault of a whole transaction blames the disk for its own failures only
+pub outer_blames : (old new : store.State) (f : StoreFault) → HasOuterCause old new f → BlamesDisk old new f
+outer_blames old new cause.Memory why = tt
+outer_blames old new cause.Disk why = why
+outer_blames old new cause.Schema why = tt
 
 -- what was blamed inside the transaction is blamed of the whole call
 pub blames_outside : (before old new after : store.State) → before.faults ≤ old.faults → new.faults ≤ after.faults → IsTrue old.is_open → (f : StoreFault) → BlamesDisk old new f → BlamesDisk before after f
@@ -97,7 +103,7 @@ stopped_before a b d same settled (inr back) = record {
 }
 
 -- the cause of a fault after a call that committed nothing is one of both together
-pub caused_later : (a b d : store.State) → Survives a b (λ _. ⊥) → b.faults ≤ d.faults → HasCleanDisk b → (f : StoreFault) → HasCause b d f → HasCause a d f
+pub caused_later : (a b d : store.State) → Survives a b (λ _. ⊥) → b.faults ≤ d.faults → HasCleanDisk b → (f : StoreFault) → HasOuterCause b d f → HasOuterCause a d f
 caused_later a b d crash counts clean cause.Memory why = tt
 caused_later a b d crash counts clean cause.Disk (inl more) = inl (omega (arith, more, crash.counts, counts))
 caused_later a b d crash counts clean cause.Disk (inr shut) = elim (cases_Bool a.is_open) [

@@ -14,14 +14,14 @@ use Rattle.office_core.specs.State as office
 use Rattle.office_core.specs.declared.command.Command.{Command}
 use Rattle.office_tables.specs.Schema.{schema}
 use Rattle.office_tables.specs.Step.{GoesOn, Goes, IsAborted}
-use Rattle.office_tables.specs.Transactions.{Committed}
+use Rattle.office_tables.specs.Transactions.{Committed, IsEnded}
 use Rattle.office_tables.proofs.Calls.{early}
 use Rattle.refinement.specs.CommandSteps.{CarriesOutStep}
 use Rattle.refinement.specs.Representation.{RepresentsState}
 use Rattle.refinement.proofs.Crashes.{went}
 use Rattle.refinement.proofs.Doings.{refused}
 use Rattle.office.specs.OfficeCall.{MayFind, TakesStep}
-use Rattle.office.specs.IdleOffice.{IsAsBefore, IsAtRest, IsEnded, IsIn, IsOffice}
+use Rattle.office.specs.IdleOffice.{IsAsBefore, IsAtRest, IsIn, IsOffice}
 
 -- a step that is refused changes nothing
 pub refused_same : (s : office.State) (asked : Command) → IsErr (step s asked).1 → (step s asked).0 ≡ s
@@ -41,7 +41,7 @@ refused_at_once places version a s asked why is here =
 -- what was done was taken back: all is as it was before the transaction
 pub taken_back : (version : Version) (a b m z : State) → IsAtRest version a → Shows a b a.now a.committed true → GoesOn b m → IsEnded m z → IsAsBefore a z
 taken_back version a b m z rest begun on ended =
-    let back = ended.back on.is_inside in
+    let back = ended.back (on.mode ∙ begun.mode) in
     record {
       was_open = λ h. begun.was_open;
       now = λ h. back.now h ∙ on.committed ∙ begun.committed_is ∙ sym (rest.settled begun.was_open);

@@ -9,7 +9,7 @@ use Rattle.adoption.specs.Verdicts.{IsVerdict}
 use Rattle.adoption.specs.declared.verdict.Verdict.{Verdict}
 use Rattle.adoption.specs.declared.verdict.Verdict.TheVariants as verdict
 use Rattle.office_core.specs.State as office
-use Rattle.office_tables.specs.Faults.{BlamesDisk, HasCause}
+use Rattle.office_tables.specs.Faults.{BlamesDisk, HasOuterCause}
 use Rattle.office_tables.specs.Schema as tables
 use Rattle.office_tables.specs.Step.{OnlyTouches}
 use Rattle.office_tables.specs.declared.fault.StoreFault.{StoreFault}
@@ -53,7 +53,7 @@ module _ (db : Database) (told : Verdict) (none : refusal_of told ≡ None) (is 
 -- ---- why not
 
 -- a call that follows the judging blames the disk for its own failures only, and not the tables if they are ordered
-pub cause_of_call : (old mid new : State) (f : StoreFault) → BlamesDisk mid new f → (StandInOrder old.now → HasCause mid new f) → old.faults ≤ mid.faults → mid.is_open ≡ old.is_open
+pub cause_of_call : (old mid new : State) (f : StoreFault) → BlamesDisk mid new f → (StandInOrder old.now → HasOuterCause mid new f) → old.faults ≤ mid.faults → mid.is_open ≡ old.is_open
     → HasAdoptCause Links old new (open_fault_of f)
 cause_of_call old mid new store.Memory blames why counts opened = tt
 cause_of_call old mid new store.Disk blames why counts opened = elim blames [

@@ -10,7 +10,7 @@ use Rattle.adoption.specs.declared.verdict.Verdict.TheVariants as verdict
 use Rattle.office_core.specs.State.{State}
 use Rattle.state_encoding.specs.CellCauses.{rows_in}
 use Rattle.state_encoding.specs.OfficeRows.{state_of}
-use Rattle.office_tables.specs.Faults.{HasCause}
+use Rattle.office_tables.specs.Faults.{HasOuterCause}
 use Rattle.office_tables.specs.declared.fault.StoreFault.TheVariants as cause
 use Rattle.office.specs.declared.faults.OpenFault.{OpenFault}
 use Rattle.office.specs.declared.faults.OpenFault.TheVariants as fault
@@ -27,8 +27,8 @@ refusal_of (verdict.Unsound n) = Some (fault.Unsound n)
 -- The tables are as the fault says; or there was not enough memory, which may happen at any time; or the disk failed,
 -- or was shut before. If the rows of the tables do not stand in order, the cause of `Schema` is left open.
 abbrev pub HasAdoptCause : Version → store.State → store.State → OpenFault → Type 0
-HasAdoptCause version old new fault.Memory = HasCause old new cause.Memory
-HasAdoptCause version old new fault.Disk = HasCause old new cause.Disk
+HasAdoptCause version old new fault.Memory = HasOuterCause old new cause.Memory
+HasAdoptCause version old new fault.Disk = HasOuterCause old new cause.Disk
 HasAdoptCause version old new fault.Schema = StandInOrder old.now → IsVerdict version old.now verdict.OtherTables
 HasAdoptCause version old new fault.NoOffice = IsVerdict version old.now verdict.NoOffice
 HasAdoptCause version old new fault.OldVersion = IsVerdict version old.now verdict.OldVersion

@@ -11,8 +11,6 @@ use Rattle.office_core.specs.SoundOffice.{IsSoundOffice}
 use Rattle.office_core.specs.State.{State}
 use Rattle.office_tables.specs.Faults.{IsUnlimited}
 use Rattle.office_tables.specs.Schema.{schema}
-use Rattle.office_tables.specs.Step.{IsBack}
-use Rattle.office_tables.specs.Transactions.{IsStopped}
 use Rattle.refinement.specs.Representation.{RepresentsState}
 
 -- No transaction is open; and while the connection is open, it has our tables as they were committed.
@@ -48,8 +46,3 @@ pub record IsAsBefore (old new : store.State) : Type 0 where
   pub now : IsTrue new.is_open → new.now ≡ old.now
   pub committed : IsTrue new.is_open → new.committed ≡ old.committed
   pub ended : new.in_transaction ≡ false
-
--- a call has ended the transaction without a commit, whether one was open or not
-pub record IsEnded (old new : store.State) : Type 0 where
-  pub back : IsTrue old.in_transaction → IsBack old new
-  pub nothing : old.in_transaction ≡ false → IsStopped old new

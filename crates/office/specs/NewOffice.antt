@@ -9,7 +9,7 @@ use Rattle.catalogue_statements.specs.Representation.{Represents}
 use Rattle.catalogue_statements.specs.declared.office.OfficeRow.{OfficeRow}
 use Rattle.desk_core.specs.DeskRows.{Desk}
 use Rattle.desk_store.specs.Representation.{RepresentsDesk}
-use Rattle.office_tables.specs.Faults.{HasCause}
+use Rattle.office_tables.specs.Faults.{HasOuterCause}
 use Rattle.office_tables.specs.declared.fault.StoreFault.{StoreFault}
 use Rattle.office_tables.specs.declared.fault.StoreFault.TheVariants as store
 use Rattle.office.specs.declared.faults.OpenFault.{OpenFault}
@@ -31,9 +31,9 @@ open_fault_of store.Schema = fault.Schema
 
 -- memory may run out at any time, the disk is blamed for its own failures only, and existing tables are never blamed
 abbrev pub HasOpenCause : State → State → OpenFault → Type 0
-HasOpenCause old new fault.Memory = HasCause old new store.Memory
-HasOpenCause old new fault.Disk = HasCause old new store.Disk
-HasOpenCause old new fault.Schema = HasCause old new store.Schema
+HasOpenCause old new fault.Memory = HasOuterCause old new store.Memory
+HasOpenCause old new fault.Disk = HasOuterCause old new store.Disk
+HasOpenCause old new fault.Schema = HasOuterCause old new store.Schema
 HasOpenCause old new fault.NoOffice = ⊥
 HasOpenCause old new fault.OldVersion = ⊥
 HasOpenCause old new fault.NewVersion = ⊥

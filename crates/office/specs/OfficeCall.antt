@@ -10,7 +10,7 @@ use Rattle.office_core.specs.State.{State}
 use Rattle.office_core.specs.declared.command.Command.{Command}
 use Rattle.office_core.specs.declared.machine.Busy.{Busy}
 use Rattle.office_core.specs.declared.machine.Busy.TheVariants as busy
-use Rattle.office_tables.specs.Faults.{HasCause}
+use Rattle.office_tables.specs.Faults.{HasOuterCause}
 use Rattle.office_tables.specs.Schema.{schema}
 use Rattle.office_tables.specs.declared.fault.StoreFault.{StoreFault}
 use Rattle.office_tables.specs.declared.fault.StoreFault.TheVariants as fault
@@ -35,6 +35,6 @@ busy_for fault.Schema = busy.Schema
 -- Memory may run out at any time. The disk failed in the call, or an earlier failure had shut the connection. The
 -- tables are never blamed.
 abbrev pub HasBusyCause : store.State → store.State → Busy → Type 0
-HasBusyCause old new busy.Memory = HasCause old new fault.Memory
-HasBusyCause old new busy.Disk = HasCause old new fault.Disk
-HasBusyCause old new busy.Schema = HasCause old new fault.Schema
+HasBusyCause old new busy.Memory = HasOuterCause old new fault.Memory
+HasBusyCause old new busy.Disk = HasOuterCause old new fault.Disk
+HasBusyCause old new busy.Schema = HasOuterCause old new fault.Schema

@@ -5,7 +5,7 @@ ghost use Rattle.sqlite.specs.Held.{state};
 ghost use Rattle.sqlite.specs.State.{HasCleanDisk, Shows, Survives};
 ghost use Rattle.adoption.specs.OrderedTables.{StandInOrder};
 ghost use Rattle.adoption.specs.Verdicts.{IsVerdict};
-ghost use Rattle.office_tables.specs.Faults.{BlamesDisk, HasCause, IsUnlimited};
+ghost use Rattle.office_tables.specs.Faults.{BlamesDisk, HasOuterCause, IsUnlimited};
 ghost use Rattle.office_tables.specs.Transactions.{IsStopped};
 ghost use Rattle.office.specs.IdleOffice.{IsAsBefore};
 
@@ -30,7 +30,7 @@ fn judge_apart<P: CheckedPlaces, S: Alter>(
     ensures disk { HasCleanDisk (state S.Store conn.new)
         → IfErr result (BlamesDisk (state S.Store conn.old) (state S.Store conn.new)) }
     ensures faults { HasCleanDisk (state S.Store conn.new) → StandInOrder (state S.Store conn.old).now
-        → IfErr result (HasCause (state S.Store conn.old) (state S.Store conn.new)) }
+        → IfErr result (HasOuterCause (state S.Store conn.old) (state S.Store conn.new)) }
     ensures crash { Survives (state S.Store conn.old) (state S.Store conn.new) (λ _. ⊥) }
 {
     // Outside a transaction a connection that is open shows what was committed.
@@ -50,7 +50,7 @@ fn confirm_open<S: Alter>(conn: &mut Connection<S>) -> Result<(), StoreFault>
     ensures stopped { HasCleanDisk (state S.Store conn.new)
         → OnErr result (IsStopped (state S.Store conn.old) (state S.Store conn.new)) }
     ensures faults { HasCleanDisk (state S.Store conn.new) → (state S.Store conn.old).in_transaction ≡ false
-        → IfErr result (HasCause (state S.Store conn.old) (state S.Store conn.new)) }
+        → IfErr result (HasOuterCause (state S.Store conn.old) (state S.Store conn.new)) }
     ensures crash { Survives (state S.Store conn.old) (state S.Store conn.new) (λ _. ⊥) }
 {
     conn.prepare("BEGIN")?;
@@ -72,7 +72,7 @@ pub(crate) fn look_over<P: CheckedPlaces, S: Alter>(
     ensures disk { HasCleanDisk (state S.Store conn.new)
         → IfErr result (BlamesDisk (state S.Store conn.old) (state S.Store conn.new)) }
     ensures faults { HasCleanDisk (state S.Store conn.new) → StandInOrder (state S.Store conn.old).now
-        → IfErr result (HasCause (state S.Store conn.old) (state S.Store conn.new)) }
+        → IfErr result (HasOuterCause (state S.Store conn.old) (state S.Store conn.new)) }
     ensures crash { Survives (state S.Store conn.old) (state S.Store conn.new) (λ _. ⊥) }
 {
     let verdict = judge_apart::<P, S>(alloc, conn)?;

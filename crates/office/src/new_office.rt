@@ -4,7 +4,7 @@ ghost use Rattle.std.specs.Prelude.{◌≡◌, false, IsTrue, IfErr, OnErr, OnOk
 ghost use Rattle.sqlite.specs.Held.{state};
 ghost use Rattle.sqlite.specs.State.{HasCleanDisk, Survives};
 ghost use Rattle.isad_core.specs.Limits.{IsNumber};
-ghost use Rattle.office_tables.specs.Faults.{FaultsHaveCause, HasCause, IsUnlimited};
+ghost use Rattle.office_tables.specs.Faults.{FaultsHaveCause, HasOuterCause, IsUnlimited};
 ghost use Rattle.office_tables.specs.Schema.{no_schema, schema};
 ghost use Rattle.office_tables.specs.Step.{Continues, IsAborted};
 ghost use Rattle.office.specs.NewOffice.{RepresentsNew};
@@ -52,7 +52,7 @@ pub(crate) fn found<P: Places, S: Alter>(
     ensures back { HasCleanDisk (state S.Store conn.new)
         → OnErr result (IsAsBefore (state S.Store conn.old) (state S.Store conn.new)) }
     ensures faults { HasCleanDisk (state S.Store conn.new)
-        → IfErr result (HasCause (state S.Store conn.old) (state S.Store conn.new)) }
+        → IfErr result (HasOuterCause (state S.Store conn.old) (state S.Store conn.new)) }
     ensures crash { Survives (state S.Store conn.old) (state S.Store conn.new)
         (λ db. RepresentsNew P.represents P.version (record { schema = schema P.version; trees = db }) row.now) }
 {

@@ -1,10 +1,8 @@
 //! The office's own row.
 
 ghost use Rattle.std.specs.Prelude.{◌≡◌, ⊤};
-ghost use Rattle.sqlite.specs.Held.{state};
 ghost use Rattle.office_core.specs.SoundOffice.{IsSoundOffice};
 ghost use Rattle.office_tables.specs.Calls.{Answers};
-ghost use Rattle.office_tables.specs.Step.{InTransaction};
 ghost use Rattle.office.specs.Rows.{limits_told};
 ghost use Rattle.refinement.specs.AccessConditions.{RepresentsWhole};
 ghost use Rattle.refinement.specs.Representation.{office_of};
@@ -12,20 +10,19 @@ ghost use Rattle.refinement.specs.Representation.{office_of};
 use catalogue_statements::OfficeRow;
 use catalogue_store::{Places, settings};
 use desk_core::Limits;
-use office_tables::StoreFault;
-use sqlite::{Alter, Connection};
+use office_tables::{StoreFault, Tables};
+use sqlite::Alter;
 use std::alloc::Global;
 
 /// Reads the office's own row: its settings, its day, and the number of its next unit.
 pub(crate) fn own_row<P: Places, S: Alter>(
     alloc: Global,
-    conn: &mut Connection<S>,
+    tables: &mut Tables<P, S>,
 ) -> Result<OfficeRow, StoreFault>
-    requires inside { InTransaction P.version (state S.Store conn.old) }
-    ensures tells { Answers S.Store (RepresentsWhole P.represents P.version) IsSoundOffice conn.old conn.new result
+    ensures tells { Answers S.Store (RepresentsWhole P.represents P.version) IsSoundOffice tables.old tables.new result
         (λ _. ⊤) (λ _ s row. row ≡ office_of s) }
 {
-    settings::<P, S>(alloc, conn)
+    settings(alloc, tables)
 }
 
 /// The settings in the row, as the desk's limits.

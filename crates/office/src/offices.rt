@@ -36,15 +36,15 @@ use desk_store::is_blank;
 use integrity_checks::CheckedPlaces;
 use nested_sets::SpanPlaces;
 use office_core::{Answer, Busy, Command, Query, Reply};
+use office_tables::Closed;
 use sqlite::{Alter, Connection};
 use std::alloc::Global;
-use std::marker::{Model, PhantomData};
+use std::marker::Model;
 
 /// An office over its tables, which stores the places of its units as `P` does. Between its calls no transaction is
 /// open, and the connection has the tables of an office, as they were committed.
 pub struct Office<P: Places, S: Alter> {
-    conn: Connection<S>,
-    places: PhantomData<P>,
+    closed: Closed<P, S>,
 }
 
 impl<P: Places, S: Alter> Model for Office<P, S> {
@@ -55,9 +55,9 @@ impl<P: Places, S: Alter> Model for Office<P, S> {
 
     ghost coded = { held_code S.code };
 
-    ghost view = { λ o. o.conn };
+    ghost view = { λ o. o.closed };
 
-    ghost invariant = { λ o. IsOffice P.version (state S.Store o.conn) };
+    ghost invariant = { λ o. IsOffice P.version (state S.Store o.closed) };
 }
 
 impl<P: Places, S: Alter> Office<P, S> {
@@ -97,8 +97,7 @@ impl<P: Places, S: Alter> Office<P, S> {
         }
         match found::<P, S>(&mut conn, &row) {
             Ok(()) => Ok(Office {
-                conn,
-                places: PhantomData,
+                closed: Closed::of(conn),
             }),
             Err(fault) => Err((OpenFault::from(fault), conn)),
         }
@@ -133,7 +132,7 @@ impl<P: Places, S: Alter> Office<P, S> {
             self.old self.new (applied command.now result) }
     {
         names_days_and_texts(command);
-        match apply_to::<P, S>(alloc, &mut self.conn, command) {
+        match apply_to(alloc, &mut self.closed, command) {
             Ok(reply) => Ok(reply),
             Err(fault) => Err(busy(fault)),
         }
@@ -154,7 +153,7 @@ impl<P: Places, S: Alter> Office<P, S> {
         ensures call { IsCall (is_shown S.Store P.represents P.version) (is_clean S.Store) (is_still_open S.Store)
             self.old self.new (answered query result) }
     {
-        match ask_in::<P, S>(alloc, &mut self.conn, query) {
+        match ask_in(alloc, &mut self.closed, query) {
             Ok(answer) => Ok(answer),
             Err(fault) => Err(busy(fault)),
         }
@@ -166,8 +165,8 @@ impl<P: Places, S: Alter> Office<P, S> {
         ensures ended { HasCleanDisk (state S.Store result) → (state S.Store result).in_transaction ≡ false }
         ensures unlimited { IsUnlimited (state S.Store result) }
     {
-        let Office { conn, places: _ } = self;
-        conn
+        let Office { closed } = self;
+        closed.into_connection()
     }
 }
 
@@ -194,18 +193,16 @@ impl<S: Alter> Office<LinkPlaces, S> {
         ensures crash_back { IfErr result (λ e. Survives (state S.Store self) (state S.Store e.1)
             (MayFindSpans (state S.Store self))) }
     {
-        let Office { conn, places: _ } = self;
-        let mut conn = conn;
+        let Office { closed } = self;
+        let mut conn = closed.into_connection();
         match bring_to_spans(alloc, &mut conn) {
             Ok(()) => Ok(Office {
-                conn,
-                places: PhantomData,
+                closed: Closed::of(conn),
             }),
             Err(fault) => Err((
                 OpenFault::from(fault),
                 Office {
-                    conn,
-                    places: PhantomData,
+                    closed: Closed::of(conn),
                 },
             )),
         }
@@ -250,8 +247,7 @@ impl<P: CheckedPlaces, S: Alter> Office<P, S> {
         match refusal(verdict) {
             Some(fault) => Err((fault, conn)),
             None => Ok(Office {
-                conn,
-                places: PhantomData,
+                closed: Closed::of(conn),
             }),
         }
     }

@@ -25,7 +25,7 @@ both_open a b p q = q ∙ sym p
 -- ---- one step after another
 
 on_then : (a b c : State) → GoesOn a b → GoesOn b c → GoesOn a c
-on_then a b c p q = record { opened = q.opened ∙ p.opened; committed = q.committed ∙ p.committed; was_inside = p.was_inside; is_inside = q.is_inside }
+on_then a b c p q = record { opened = q.opened ∙ p.opened; committed = q.committed ∙ p.committed; mode = q.mode ∙ p.mode }
 
 pub back_then : (a b c : State) → GoesOn a b → IsBack b c → IsBack a c
 back_then a b c p q = record { was_open = λ h. subst IsTrue p.opened (q.was_open h); now = λ h. q.now h ∙ p.committed; committed = λ h. q.committed h ∙ p.committed; ended = q.ended }
@@ -60,7 +60,7 @@ pub cut_after : (a b : State) → Continues a b → IsAborted a b
 cut_after a b p = record { crash = p.crash; cut = λ clean. inl (p.within clean) }
 
 pub still : (version : Version) (a b : State) → InTransaction version a → Goes a b → InTransaction version b
-still version a b inside p clean = (p.schema clean ∙ (inside (early a b _ p.on.crash clean)).0, (p.on.within clean).is_inside)
+still version a b inside p clean = (p.schema clean ∙ (inside (early a b _ p.on.crash clean)).0, (p.on.within clean).mode ∙ (inside (early a b _ p.on.crash clean)).1)
 
 pub looks_then : (a b c : State) → LeavesUnchanged a b → LeavesUnchanged b c → LeavesUnchanged a c
 looks_then a b c p q = record { goes = goes_then a b c p.goes q.goes; same = λ clean. q.same clean ∙ p.same (early b c _ q.goes.on.crash clean) }
@@ -69,9 +69,9 @@ looks_then a b c p q = record { goes = goes_then a b c p.goes q.goes; same = λ 
 stays : (a : State) → Survives a a (λ _. ⊥)
 stays a = record { clean = omega arith; shield = λ h. h; counts = omega arith; limit = refl; closes = λ clean is. inl is; crash = λ clean db h. inl h }
 
-pub goes_nowhere : (a : State) → InOffice a → Goes a a
-goes_nowhere a inside = record {
-  on = record { crash = stays a; within = λ clean. let it = (inside clean).2 in record { opened = refl; committed = refl; was_inside = it; is_inside = it } };
+pub goes_nowhere : (a : State) → Goes a a
+goes_nowhere a = record {
+  on = record { crash = stays a; within = λ clean. record { opened = refl; committed = refl; mode = refl } };
   schema = λ clean. refl;
 }
 
@@ -87,7 +87,7 @@ is_write _ = false
 
 pub unchanged_on : (a b : State) → IsTrue a.in_transaction → IsUnchanged a b → GoesOn a b
 unchanged_on a b inside same =
-    record { opened = both_open a b same.0.was_open same.0.is_open; committed = same.0.committed_is; was_inside = inside; is_inside = same.0.mode ∙ inside }
+    record { opened = both_open a b same.0.was_open same.0.is_open; committed = same.0.committed_is; mode = same.0.mode }
 
 pub stopped : (a b : State) → IsTrue a.in_transaction → IsStopped a b → GoesOn a b ⊎ IsBack a b
 stopped a b inside (inl same) = inl (unchanged_on a b inside same)
@@ -97,8 +97,7 @@ shown_on : (a b : State) → IsTrue a.in_transaction → Shows a b b.now (if a.i
 shown_on a b inside it = record {
   opened = both_open a b it.was_open it.is_open;
   committed = it.committed_is ∙ ap (λ k. if k then a.committed else b.now) inside;
-  was_inside = inside;
-  is_inside = it.mode ∙ inside;
+  mode = it.mode;
 }
 
 -- the text means this command, and a transaction is open
@@ -117,9 +116,6 @@ known_in schema sql command old has inside is plain = record {
 pub in_office : (sql : List ℕ) (command : Command) (old : State) → InOffice old → ((v : Version) → command_of (understood (schema v) sql) ≡ command) → ((v : Version) → IsPlain (understood (schema v) sql))
     → HasCleanDisk old → Knows sql command old
 in_office sql command old office is plain clean = let it = office clean in known_in (schema it.0) sql command old it.1 it.2 (is it.0) (plain it.0)
-
-pub still_office : (a b : State) → InOffice a → Goes a b → InOffice b
-still_office a b inside p clean = let it = inside (early a b _ p.on.crash clean) in (it.0, p.schema clean ∙ it.1, (p.on.within clean).is_inside)
 
 pub office_of : (v : Version) (a : State) → InTransaction v a → InOffice a
 office_of v a inside clean = (v, (inside clean).0, (inside clean).1)
@@ -205,5 +201,5 @@ pub on_ok_both : {X E : Type 0} (r : Result X E) (P Q R : Type 0) → (P → Q �
 on_ok_both (Ok x) P Q R f p q = f p q
 on_ok_both (Err e) P Q R f p q = tt
 
-pub looks_nowhere : (a : State) → InOffice a → LeavesUnchanged a a
-looks_nowhere a inside = record { goes = goes_nowhere a inside; same = λ clean. refl }
+pub looks_nowhere : (a : State) → LeavesUnchanged a a
+looks_nowhere a = record { goes = goes_nowhere a; same = λ clean. refl }

@@ -1,5 +1,5 @@
 -- Why a statement fails on our tables, where the disk is clean and no limit is set.
-use Rattle.std.proofs.Common.{◌≡◌, ◌⊎◌, inl, inr, ℕ, zero, suc, ◌<◌, List, [], ◌∷◌, length, get_or, true, false, Option, Some, None, IsSome, Any, sym, ap, subst, subst₂, ◌∙◌, append-nil, arith}
+use Rattle.std.proofs.Common.{◌≡◌, ◌⊎◌, inl, inr, ℕ, zero, suc, ◌<◌, List, [], ◌∷◌, length, get_or, true, false, IsTrue, Option, Some, None, IsSome, Any, sym, ap, subst, subst₂, ◌∙◌, append-nil, arith}
 use Rattle.sqlite.specs.Order.{Row}
 use Rattle.sqlite.specs.Schema.{Schema}
 use Rattle.sqlite.specs.Tree.{Trees}
@@ -15,7 +15,7 @@ use Rattle.sqlite_schema.specs.declared.program.Program.{Program}
 use Rattle.sqlite.specs.Term.{Env}
 use Rattle.sqlite_sql.specs.Group.{Aggregate, Overflows, value_over}
 use Rattle.sqlite.proofs.Callers.{IsPlain, command_of}
-use Rattle.office_tables.specs.Faults.{fault_of, IsUnlimited, HasCause}
+use Rattle.office_tables.specs.Faults.{fault_of, IsUnlimited, HasCause, HasOuterCause}
 use Rattle.office_tables.specs.Step.{Continues}
 use Rattle.office_tables.specs.declared.fault.StoreFault.{StoreFault}
 use Rattle.office_tables.specs.declared.fault.StoreFault.TheVariants as fault
@@ -25,7 +25,13 @@ use Rattle.office_tables.proofs.Failures.{IsWhole, no_statement}
 -- ---- causes
 
 module _ (old new : State) where
-  by_cause : (too_big : Type 0) (cause : StoreError) → state.HasCause old new too_big cause → HasCause old new (fault_of (store_error cause))
+  -- no statement is worse off than a whole transaction
+  pub inner_cause : (e : StoreFault) → HasOuterCause old new e → HasCause old new e
+  inner_cause fault.Memory why = tt
+  inner_cause fault.Disk why = why
+  inner_cause fault.Schema why = absurd why
+
+  by_cause : (too_big : Type 0) (cause : StoreError) → state.HasCause old new too_big cause → HasOuterCause old new (fault_of (store_error cause))
   by_cause too_big OutOfMemory why = tt
   by_cause too_big Io why = inl why
   by_cause too_big Corrupt why = inl why
@@ -34,15 +40,24 @@ module _ (old new : State) where
   by_cause too_big Unstorable why = tt
 
   -- a failure of the store has its cause
+  pub failed_outer : {too_big : Type 0} (e : Error) → Fails old new too_big e → HasOuterCause old new (fault_of e)
+  failed_outer {too_big} e failed = subst (λ e. HasOuterCause old new (fault_of e)) (sym failed.1) (by_cause too_big failed.0 failed.2)
+
   pub failed_cause : {too_big : Type 0} (e : Error) → Fails old new too_big e → HasCause old new (fault_of e)
-  failed_cause {too_big} e failed = subst (λ e. HasCause old new (fault_of e)) (sym failed.1) (by_cause too_big failed.0 failed.2)
+  failed_cause e failed = inner_cause (fault_of e) (failed_outer e failed)
+
+-- while a transaction is open, no statement blames the tables
+pub outer_cause : (old new : State) → IsTrue old.in_transaction → (e : StoreFault) → HasCause old new e → HasOuterCause old new e
+outer_cause old new inside fault.Memory why = tt
+outer_cause old new inside fault.Disk why = why
+outer_cause old new inside fault.Schema why = absurd (let clash : true ≡ false = sym inside ∙ why in cc)
 
 -- a later step's fault is the whole call's
 pub cause_then : (a b c : State) → Continues a b → HasCleanDisk b → (e : StoreFault) → HasCause b c e → HasCause a c e
 cause_then a b c p clean fault.Memory h = tt
 cause_then a b c p clean fault.Disk (inl more) = inl (omega (arith, more, p.crash.counts))
 cause_then a b c p clean fault.Disk (inr shut) = inr (sym (p.within clean).opened ∙ shut)
-cause_then a b c p clean fault.Schema h = absurd h
+cause_then a b c p clean fault.Schema h = sym (p.within clean).mode ∙ h
 
 pub still_unlimited : (a b : State) → Continues a b → IsUnlimited a → IsUnlimited b
 still_unlimited a b p free = p.crash.limit ∙ free

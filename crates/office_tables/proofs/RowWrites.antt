@@ -15,7 +15,7 @@ use Rattle.office_tables.specs.ChangeStatement.{IsOurs, changes_rows, Ran}
 use Rattle.office_tables.specs.StatementMeaning.{Means}
 use Rattle.office_tables.specs.Faults.{fault_of, HasCause, BlamesDisk}
 use Rattle.office_tables.specs.Schema.{Version, schema}
-use Rattle.office_tables.specs.Step.{Goes, IsAborted, InOffice, InTransaction, Spares, IsSame}
+use Rattle.office_tables.specs.Step.{Goes, IsAborted, InOffice, Spares, IsSame}
 use Rattle.office_tables.specs.declared.fault.StoreFault.{StoreFault}
 use Rattle.office_tables.proofs.Calls.{early, Knows, known_in, is_write, write_cut, write_continues}
 use Rattle.office_tables.proofs.Steps.{went, same_value}
@@ -85,7 +85,3 @@ ran_badly sql params old new (Err fault) ran h = subst (HasCause old new) (sym r
 -- a text that means the same with the tables of either version
 pub ours : (sql : List ℕ) (count : ℕ) (command : Command) (s : State) → changes_rows command ≡ true → ((v : Version) → Means v sql count command) → InOffice s → IsOurs sql s
 ours sql count command s changes means inside = record { count = count; command = command; changes = changes; here = λ clean. let it = inside clean in (it.0, it.1, it.2, means it.0) }
-
--- a text for the tables of one version
-pub ours_in : (v : Version) (sql : List ℕ) (count : ℕ) (command : Command) (s : State) → changes_rows command ≡ true → Means v sql count command → InTransaction v s → IsOurs sql s
-ours_in v sql count command s changes means inside = record { count = count; command = command; changes = changes; here = λ clean. let it = inside clean in (v, it.0, it.1, means) }

@@ -10,8 +10,8 @@ use Rattle.sqlite.specs.Listing.{understood}
 use Rattle.sqlite.specs.State.{State, Executes, Shows, IsRolledBack, CommitsBy, MayCommit, IsMisplaced}
 use Rattle.sqlite.proofs.Callers.{IsPlain, command_of, statement_of, runs_as}
 use Rattle.office_tables.specs.Transactions.{Committed, IsStopped}
-use Rattle.office_tables.specs.Faults.{fault_of, HasCause}
-use Rattle.office_tables.proofs.Causes.{failed_cause}
+use Rattle.office_tables.specs.Faults.{fault_of, HasOuterCause}
+use Rattle.office_tables.proofs.Causes.{failed_outer}
 use Rattle.office_tables.proofs.Failures.{IsWhole, fails_as}
 use Rattle.office_tables.proofs.Errors.{stops}
 use Rattle.office_tables.specs.Step.{IsBack}
@@ -105,17 +105,17 @@ rolls_back old new (Err e) h inside = elim (fails_as roll_back_text [] old new o
 ]
 
 -- a begin outside a transaction fails with the store alone
-pub begin_cause : (old new : State) (e : Error) → Executes begin_text [] old new (Err e) → old.in_transaction ≡ false → HasCause old new (fault_of e)
+pub begin_cause : (old new : State) (e : Error) → Executes begin_text [] old new (Err e) → old.in_transaction ≡ false → HasOuterCause old new (fault_of e)
 begin_cause old new e h outside = elim (fails_as begin_text [] old new old.now.schema refl Begin (begin_is old.now.schema).0 (begin_is old.now.schema).1 (begin_whole old.now.schema) refl e h) [
   | inl refused ↦ absurd (elim refused.why [ inl out ↦ begins_outside old e outside out | inr write ↦ write.0 ])
-  | inr failed ↦ failed_cause old new e failed.1
+  | inr failed ↦ failed_outer old new e failed.1
 ]
 
 -- a commit inside a transaction fails with the store alone
-pub commit_cause : (old new : State) (e : Error) → Executes commit_text [] old new (Err e) → IsTrue old.in_transaction → HasCause old new (fault_of e)
+pub commit_cause : (old new : State) (e : Error) → Executes commit_text [] old new (Err e) → IsTrue old.in_transaction → HasOuterCause old new (fault_of e)
 commit_cause old new e h inside = elim (fails_as commit_text [] old new old.now.schema refl Commit (commit_is old.now.schema).0 (commit_is old.now.schema).1 (commit_whole old.now.schema) refl e h) [
   | inl refused ↦ absurd (elim refused.why [ inl out ↦ ends_inside old Commit e (inl refl) inside out | inr write ↦ write.0 ])
-  | inr failed ↦ failed_cause old new e failed.1
+  | inr failed ↦ failed_outer old new e failed.1
 ]
 
 pub begin_commits : (s : State) (db : Trees) → CommitsBy begin_text [] s db → ⊥

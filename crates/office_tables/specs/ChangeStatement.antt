@@ -1,5 +1,5 @@
 -- One of our statements that change rows: what it leaves.
-use Rattle.std.specs.Prelude.{◌≡◌, ℕ, Bool, true, false, List, Result, Ok, Err, IfErr, OnOk, OnErr, IsTrue}
+use Rattle.std.specs.Prelude.{◌≡◌, ◌⊎◌, ℕ, Bool, true, false, List, Result, Ok, Err, IfErr, OnOk, OnErr, IsTrue}
 use Rattle.sqlite.specs.Effect.{Database}
 use Rattle.sqlite.specs.Order.{Row}
 use Rattle.sqlite.specs.Command.{Command}
@@ -11,6 +11,7 @@ use Rattle.office_tables.specs.StatementMeaning.{Means}
 use Rattle.office_tables.specs.Schema.{Version, schema}
 use Rattle.office_tables.specs.Step.{Goes, IsAborted, Spares, IsSame}
 use Rattle.office_tables.specs.declared.fault.StoreFault.{StoreFault}
+use Rattle.office_tables.specs.declared.fault.StoreFault.TheVariants as fault
 
 abbrev pub changes_rows : Command → Bool
 changes_rows (Insert at from) = true
@@ -24,6 +25,13 @@ pub record IsOurs (sql : List ℕ) (s : State) : Type 0 where
   pub command : Command
   pub changes : changes_rows command ≡ true
   pub here : HasCleanDisk s → (v : Version) × (s.now.schema ≡ schema v) × IsTrue s.in_transaction × Means v sql count command
+
+-- The text is a statement that changes rows. With the tables of this version it means this command.
+pub record IsChange (version : Version) (sql : List ℕ) : Type 0 where
+  pub count : ℕ
+  pub command : Command
+  pub changes : changes_rows command ≡ true
+  pub means : Means version sql count command
 
 -- What a call that changes rows leaves: the transaction goes on; or the call fails, the disk is blamed for its own
 -- failures only, and the rows are as `Left` says or the transaction was rolled back.
@@ -41,3 +49,12 @@ Leaves old new r = LeavesOr IsSame old new r
 abbrev pub Ran : List ℕ → Row → State → State → Result Unit StoreFault → Type 0
 Ran sql params old new (Ok done) = (count : ℕ) × Executes sql params old new (Ok count)
 Ran sql params old new (Err fault) = (e : Error) × (fault ≡ fault_of e) × Executes sql params old new (Err e)
+
+-- no transaction is open, so nothing ran
+abbrev pub IsOutside : {X : Type 0} → State → Result X StoreFault → Type 0
+IsOutside old r = (old.in_transaction ≡ false) × (r ≡ Err fault.Schema)
+
+-- the statement was carried out over the tables of this version, or refused for a reason that the fault gives; or no
+-- transaction is open
+abbrev pub RanInside : Version → List ℕ → Row → State → State → Result Unit StoreFault → Type 0
+RanInside version sql params old new r = IsOutside old r ⊎ ((old.now.schema ≡ schema version) × Ran sql params old new r)

@@ -24,12 +24,18 @@ fault_of _ = fault.Schema
 abbrev pub IsUnlimited : State → Type 0
 IsUnlimited s = s.step_limit ≡ None
 
--- The cause of a fault: the disk failed in the call, or an earlier failure had shut it. Memory may run out at any time,
--- and the tables are never blamed.
+-- The cause of a fault of a statement: the disk failed in the call, or an earlier failure had shut it; or no transaction is
+-- open, and so nothing ran. Memory may run out at any time.
 abbrev pub HasCause : State → State → StoreFault → Type 0
 HasCause old new fault.Memory = ⊤
 HasCause old new fault.Disk = MoreFaults old.faults new.faults ⊎ (old.is_open ≡ false)
-HasCause old new fault.Schema = ⊥
+HasCause old new fault.Schema = old.in_transaction ≡ false
+
+-- The cause of a fault of a whole transaction: the same, but the tables are never blamed.
+abbrev pub HasOuterCause : State → State → StoreFault → Type 0
+HasOuterCause old new fault.Memory = ⊤
+HasOuterCause old new fault.Disk = HasCause old new fault.Disk
+HasOuterCause old new fault.Schema = ⊥
 
 -- every fault has its cause, if the disk is clean and no limit is set
 abbrev pub FaultsHaveCause : {X : Type 0} → State → State → Result X StoreFault → Type 0

@@ -5,6 +5,7 @@ pub mod Cells
 pub mod CatalogueCells
 pub mod DeskCells
 pub mod Transactions
+pub mod Lending
 pub mod OrderedInsertion
 pub mod RowCounts
 pub mod Creation

@@ -1,11 +1,12 @@
 -- One of our queries: what it returns, and what it leaves.
-use Rattle.std.specs.Prelude.{◌≡◌, ◌⊎◌, ℕ, pos, List, [], ◌∷◌, map, slice_index_or, Result, IfErr, OnOk, OnErr, IsTrue}
+use Rattle.std.specs.Prelude.{◌≡◌, ◌⊎◌, ℕ, pos, List, [], ◌∷◌, map, slice_index_or, Result, IfOk, IfErr, OnOk, OnErr, IsTrue}
 use Rattle.std.specs.List.{AllByRecursion}
 use Rattle.sqlite.specs.Order.{Row}
 use Rattle.sqlite.specs.Command.{Command}
 use Rattle.sqlite.specs.State.{State, HasCleanDisk, Shown, FailsToQuery, IsUnchanged, Survives}
 use Rattle.sqlite.specs.declared.error.Error.{Error}
 use Rattle.sqlite.specs.declared.types.Value.TheVariants.{Int}
+use Rattle.office_tables.specs.ChangeStatement.{IsOutside}
 use Rattle.office_tables.specs.Faults.{fault_of}
 use Rattle.office_tables.specs.StatementMeaning.{Means}
 use Rattle.office_tables.specs.Schema.{Version, schema}
@@ -18,6 +19,12 @@ pub record IsOurQuery (sql : List ℕ) (s : State) : Type 0 where
   pub count : ℕ
   pub command : Command
   pub here : HasCleanDisk s → (v : Version) × (s.now.schema ≡ schema v) × IsTrue s.in_transaction × Means v sql count command
+
+-- The text is a query. With the tables of this version it means this command.
+pub record IsQuery (version : Version) (sql : List ℕ) : Type 0 where
+  pub count : ℕ
+  pub command : Command
+  pub means : Means version sql count command
 
 -- What a call that reads leaves: nothing is changed; or the call fails, the disk is blamed for its own failures only,
 -- and every row is as it was or the transaction was rolled back.
@@ -55,3 +62,7 @@ pub record Gathers {G : Type 0} (Holds : List Row → G → Type 0) (sql : List 
 abbrev pub StopsShort : List ℕ → Row → State → State → StoreFault → Type 0
 StopsShort sql params old new e =
     ((e ≡ fault.Memory) × IsUnchanged old new) ⊎ ((why : Error) × (e ≡ fault_of why) × FailsToQuery sql params old new why)
+
+-- what a query over the tables of this version returned, or why it failed; or no transaction is open
+abbrev pub FoundInside : {X : Type 0} → Version → State → (X → Type 0) → (StoreFault → Type 0) → Result X StoreFault → Type 0
+FoundInside version old Found Missed r = IsOutside old r ⊎ ((old.now.schema ≡ schema version) × IfOk r Found × IfErr r Missed)

@@ -21,12 +21,15 @@ InTransaction version s = HasCleanDisk s → (s.now.schema ≡ schema version) �
 abbrev pub InOffice : State → Type 0
 InOffice s = HasCleanDisk s → (version : Version) × (s.now.schema ≡ schema version) × IsTrue s.in_transaction
 
--- the transaction goes on, and nothing was committed
+-- while the disk is clean and a transaction is open, the connection has our tables
+abbrev pub AreTables : Version → State → Type 0
+AreTables version s = HasCleanDisk s → IsTrue s.in_transaction → s.now.schema ≡ schema version
+
+-- the transaction goes on, if one is open, and nothing was committed
 pub record GoesOn (old new : State) : Type 0 where
   pub opened : new.is_open ≡ old.is_open
   pub committed : new.committed ≡ old.committed
-  pub was_inside : old.in_transaction ≡ true
-  pub is_inside : new.in_transaction ≡ true
+  pub mode : new.in_transaction ≡ old.in_transaction
 
 -- the transaction has ended, and the database is as the last commit left it
 pub record IsBack (old new : State) : Type 0 where

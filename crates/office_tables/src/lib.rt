@@ -7,12 +7,16 @@ pub mod from_row;
 mod query;
 mod streamed_rows;
 pub mod table_creation;
+mod table_statements;
+mod tables;
 mod transaction;
 pub mod value;
+mod versions;
 
-pub use change_statement::change;
 pub use fault::StoreFault;
-pub use query::{find, find_number, find_one};
 pub use streamed_rows::{Gathering, gather};
 pub use table_creation::{create_index, create_table};
+pub use table_statements::{change, find, find_number, find_one};
+pub use tables::{Closed, Tables};
 pub use transaction::{begin, commit, roll_back};
+pub use versions::Versioned;

@@ -3,7 +3,7 @@
 ghost use Rattle.std.specs.Prelude.{◌≡◌, true, false, OnOk, OnErr, IfErr, IsTrue};
 ghost use Rattle.sqlite.specs.Held.{state};
 ghost use Rattle.sqlite.specs.State.{HasCleanDisk, Shows, Survives};
-ghost use Rattle.office_tables.specs.Faults.{HasCause};
+ghost use Rattle.office_tables.specs.Faults.{HasOuterCause};
 ghost use Rattle.office_tables.specs.Step.{IsBack};
 ghost use Rattle.office_tables.specs.Transactions.{Committed, IsStopped};
 
@@ -20,7 +20,7 @@ pub fn begin<S: Alter>(conn: &mut Connection<S>) -> Result<(), StoreFault>
     ensures stopped { HasCleanDisk (state S.Store conn.new)
         → OnErr result (IsStopped (state S.Store conn.old) (state S.Store conn.new)) }
     ensures faults { HasCleanDisk (state S.Store conn.new) → (state S.Store conn.old).in_transaction ≡ false
-        → IfErr result (HasCause (state S.Store conn.old) (state S.Store conn.new)) }
+        → IfErr result (HasOuterCause (state S.Store conn.old) (state S.Store conn.new)) }
     ensures crash { Survives (state S.Store conn.old) (state S.Store conn.new) (λ _. ⊥) }
 {
     conn.execute("BEGIN", &[])?;
@@ -36,7 +36,7 @@ pub fn commit<S: Alter>(conn: &mut Connection<S>) -> Result<(), StoreFault>
     ensures stopped { HasCleanDisk (state S.Store conn.new)
         → OnErr result (IsStopped (state S.Store conn.old) (state S.Store conn.new)) }
     ensures faults { HasCleanDisk (state S.Store conn.new) → IsTrue (state S.Store conn.old).in_transaction
-        → IfErr result (HasCause (state S.Store conn.old) (state S.Store conn.new)) }
+        → IfErr result (HasOuterCause (state S.Store conn.old) (state S.Store conn.new)) }
     ensures crash { Survives (state S.Store conn.old) (state S.Store conn.new)
         (λ db. db ≡ (state S.Store conn.old).now.trees) }
 {

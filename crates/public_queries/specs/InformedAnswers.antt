@@ -7,7 +7,6 @@ use Rattle.sqlite.specs.State.{HasCleanDisk}
 use Rattle.sqlite.specs.Tree.{Trees}
 use Rattle.tree_core.specs.Forest.{Forest}
 use Rattle.tree_core.specs.Versions.{Version}
-use Rattle.catalogue_store.specs.declared.places.Places as house
 use Rattle.office_core.specs.Queries.{answer}
 use Rattle.office_core.specs.SoundOffice.{IsSoundOffice}
 use Rattle.office_core.specs.State.{State}
@@ -28,5 +27,5 @@ pub record AnswersKnowing (places : Trees → Forest ℕ → Type 0) (version : 
   pub faults : (s : State) → IsSoundOffice s → known s → RepresentsState places version old.now s → FaultsHaveCause old new r
 
 -- the same, of a call that has a connection: a public question's contract
-abbrev pub RespondsKnowing : {P S : Type 0} → house.Ghosts P → trees.Ghosts S → (State → Type 0) → Query → Held S → Held S → Result Answer StoreFault → Type 0
-RespondsKnowing p g known asked before after r = AnswersKnowing p.represents p.version known asked (state g before) (state g after) r
+abbrev pub RespondsKnowing : {S : Type 0} → (Trees → Forest ℕ → Type 0) → Version → trees.Ghosts S → (State → Type 0) → Query → Held S → Held S → Result Answer StoreFault → Type 0
+RespondsKnowing places version g known asked before after r = AnswersKnowing places version known asked (state g before) (state g after) r

@@ -1,14 +1,12 @@
 //! The finding aid of a unit, printed as it is read.
 
 ghost use Rattle.std.specs.Prelude.{◌≡◌, ◌++◌, ◌∷◌, [], ⊤, List, length, map, OnOk, IfOk};
-ghost use Rattle.sqlite.specs.Held.{state};
 ghost use Rattle.isad_core.specs.Limits.{IsNumber};
 ghost use Rattle.isad_core.specs.PrintedDescriptions.{aid as printed, unit_lines};
 ghost use Rattle.tree_core.specs.Forest.{HasDistinctIds, each, tree, walk};
 ghost use Rattle.catalogue_core.specs.Bounds.{IsKept};
 ghost use Rattle.catalogue_core.specs.Units.{has_id};
 ghost use Rattle.office_tables.specs.Calls.{Answers};
-ghost use Rattle.office_tables.specs.Step.{InTransaction};
 ghost use Rattle.catalogue_statements.specs.Representation.{Represents};
 ghost use Rattle.catalogue_core.specs.Aids.{shown_below};
 ghost use Rattle.catalogue_core.specs.PublicForest.{public_of};
@@ -24,9 +22,9 @@ use crate::visible_unit::{Seen, seen_unit};
 use catalogue_store::{OfficeRow, Places, branch_marks, path_heads};
 use isad_core::{Day, List, Shown, Text, aid_text, join_code};
 use office_core::{Answer, Refusal};
-use office_tables::StoreFault;
 use office_tables::value::NO_NUMBER;
-use sqlite::{Alter, Connection};
+use office_tables::{StoreFault, Tables};
+use sqlite::Alter;
 use std::alloc::{AllocError, Global};
 use tree_core::{Kept, prune};
 
@@ -36,16 +34,15 @@ const MOST_MARKS: usize = 1 << 30;
 /// The units of a branch that the public sees, if nothing above the branch is withheld.
 fn kept_of<P: Places, S: Alter>(
     alloc: Global,
-    conn: &mut Connection<S>,
+    tables: &mut Tables<P, S>,
     unit: u64,
     today: Day,
 ) -> Result<Vec<Kept>, StoreFault>
-    requires inside { InTransaction P.version (state S.Store conn.old) }
     requires small { IsNumber unit }
-    ensures tells { Answers S.Store (Represents P.represents P.version) IsKept conn.old conn.new result (λ _. ⊤)
+    ensures tells { Answers S.Store (Represents P.represents P.version) IsKept tables.old tables.new result (λ _. ⊤)
         (λ _ c kept. kept.items ≡ map kept_row (walk 0 (public_units today (tree (has_id unit) c.forest)))) }
 {
-    let marks = branch_marks::<P, S>(alloc, conn, Some(unit))?;
+    let marks = branch_marks(alloc, tables, Some(unit))?;
     if marks.len() > MOST_MARKS {
         return Err(StoreFault::Schema);
     }
@@ -84,13 +81,12 @@ fn unit_text(
 /// The lines of these units, which must be in walk order, below others with these identifiers.
 fn units_text<P: Places, S: Alter>(
     alloc: Global,
-    conn: &mut Connection<S>,
+    tables: &mut Tables<P, S>,
     known: &OfficeRow,
     above: Vec<Text>,
     kept: &[Kept],
 ) -> Result<List<u8>, StoreFault>
-    requires inside { InTransaction P.version (state S.Store conn.old) }
-    ensures tells { Answers S.Store (Represents P.represents P.version) IsKept conn.old conn.new result
+    ensures tells { Answers S.Store (Represents P.represents P.version) IsKept tables.old tables.new result
         (λ c. IsTellable c × (rows : List Walked) × KeepsUnits known.now.day c kept.now rows)
         (λ _ c text. IsTellable c → (rows : List Walked) → KeepsUnits known.now.day c kept.now rows → text
         ≡ printed (along (repository_of known.now) c.containers (length above.items) above.items rows)) }
@@ -100,7 +96,7 @@ fn units_text<P: Places, S: Alter>(
     let mut out = Vec::new(alloc);
     for unit in kept {
         ids.truncate(base + unit.depth as usize);
-        let seen = seen_unit::<P, S>(alloc, conn, *unit, known.day)?;
+        let seen = seen_unit(alloc, tables, *unit, known.day)?;
         let text = unit_text(alloc, known, &mut ids, unit.depth, seen)?;
         out.extend_from_slice(text.as_slice())?;
     }
@@ -110,43 +106,41 @@ fn units_text<P: Places, S: Alter>(
 /// The finding aid of a unit that the public is shown, below units with these identifiers.
 fn branch_text<P: Places, S: Alter>(
     alloc: Global,
-    conn: &mut Connection<S>,
+    tables: &mut Tables<P, S>,
     known: &OfficeRow,
     unit: u64,
     above: Vec<Text>,
 ) -> Result<List<u8>, StoreFault>
-    requires inside { InTransaction P.version (state S.Store conn.old) }
     requires small { IsNumber unit }
-    ensures tells { Answers S.Store (Represents P.represents P.version) IsKept conn.old conn.new result
+    ensures tells { Answers S.Store (Represents P.represents P.version) IsKept tables.old tables.new result
         (λ c. IsTellable c × HasDistinctIds (each (λ u. u.id) c.forest))
         (λ _ c text. IsTellable c → HasDistinctIds (each (λ u. u.id) c.forest)
         → text ≡ printed (shown_below (repository_of known.now) c.containers above.items 0
         (public_of known.now.day (tree (has_id unit) c.forest)))) }
 {
-    let kept = kept_of::<P, S>(alloc, conn, unit, known.day)?;
-    units_text::<P, S>(alloc, conn, known, above, &kept)
+    let kept = kept_of(alloc, tables, unit, known.day)?;
+    units_text(alloc, tables, known, above, &kept)
 }
 
 /// Answers with the finding aid of a unit, or with `UnknownUnit` if the public is shown no such
 /// unit. `known` must be the office's row.
 pub fn aid<P: Places, S: Alter>(
     alloc: Global,
-    conn: &mut Connection<S>,
+    tables: &mut Tables<P, S>,
     known: &OfficeRow,
     unit: u64,
 ) -> Result<Answer, StoreFault>
-    requires inside { InTransaction P.version (state S.Store conn.old) }
-    ensures { RespondsKnowing P.Places S.Store (λ s. known.now ≡ office_of s) (query.Aid unit)
-        conn.old conn.new result }
+    ensures { RespondsKnowing P.represents P.version S.Store (λ s. known.now ≡ office_of s) (query.Aid unit)
+        tables.old tables.new result }
 {
     if unit >= NO_NUMBER {
         return Ok(Answer::Unknown(Refusal::UnknownUnit));
     }
-    let way = path_heads::<P, S>(alloc, conn, unit)?;
+    let way = path_heads(alloc, tables, unit)?;
     if !shows_last(&way, known.day) {
         return Ok(Answer::Unknown(Refusal::UnknownUnit));
     }
     let above = identifiers_above(alloc, &way)?;
-    let text = branch_text::<P, S>(alloc, conn, known, unit, above)?;
+    let text = branch_text(alloc, tables, known, unit, above)?;
     Ok(Answer::Text(text))
 }

@@ -1,7 +1,6 @@
 //! The page of a unit.
 
 ghost use Rattle.std.specs.Prelude.{◌≡◌, [], find, map, Some, IfOk};
-ghost use Rattle.sqlite.specs.Held.{state};
 ghost use Rattle.isad_core.specs.Limits.{IsNumber};
 ghost use Rattle.isad_core.specs.PrintedDescriptions.{page as printed};
 ghost use Rattle.tree_core.specs.Forest.{nodes};
@@ -10,7 +9,6 @@ ghost use Rattle.catalogue_core.specs.Units.{«Unit» as Described, has_id};
 ghost use Rattle.catalogue_statements.specs.Representation.{Represents};
 ghost use Rattle.office_core.specs.declared.query.Query.TheVariants as query;
 ghost use Rattle.office_tables.specs.Calls.{Answers};
-ghost use Rattle.office_tables.specs.Step.{InTransaction};
 ghost use Rattle.refinement.specs.Representation.{office_of};
 ghost use Rattle.public_queries.specs.HeadLines.{all_bare, repository_of};
 ghost use Rattle.public_queries.specs.InformedAnswers.{RespondsKnowing};
@@ -25,20 +23,19 @@ use crate::path_values::coded;
 use catalogue_store::{Head, OfficeRow, Places, UnitValues, heads_below, path_heads, values};
 use isad_core::{List, Shown, Text};
 use office_core::{Answer, Refusal};
-use office_tables::StoreFault;
 use office_tables::value::NO_NUMBER;
+use office_tables::{StoreFault, Tables};
 use refinement::is_closed;
-use sqlite::{Alter, Connection};
+use sqlite::Alter;
 use std::alloc::{AllocError, Global};
 
 /// The values of a unit, which must exist.
 fn values_there<P: Places, S: Alter>(
     alloc: Global,
-    conn: &mut Connection<S>,
+    tables: &mut Tables<P, S>,
     unit: u64,
 ) -> Result<UnitValues, StoreFault>
-    requires inside { InTransaction P.version (state S.Store conn.old) }
-    ensures tells { Answers S.Store (Represents P.represents P.version) IsKept conn.old conn.new result
+    ensures tells { Answers S.Store (Represents P.represents P.version) IsKept tables.old tables.new result
         (λ c. IsTellable c × (u : Described) × (find (has_id unit) (nodes c.forest) ≡ Some u))
         (λ _ c told. IsTellable c → (u : Described) → find (has_id unit) (nodes c.forest) ≡ Some u
         → told ≡ unit_values c.containers u) }
@@ -46,7 +43,7 @@ fn values_there<P: Places, S: Alter>(
     if unit >= NO_NUMBER {
         return Err(StoreFault::Schema);
     }
-    let Some(told) = values(alloc, conn, unit)? else {
+    let Some(told) = values(alloc, tables, unit)? else {
         return Err(StoreFault::Schema);
     };
     Ok(told)
@@ -55,18 +52,17 @@ fn values_there<P: Places, S: Alter>(
 /// The values of each of these units.
 fn values_of_all<P: Places, S: Alter>(
     alloc: Global,
-    conn: &mut Connection<S>,
+    tables: &mut Tables<P, S>,
     way: &[Head],
 ) -> Result<Vec<UnitValues>, StoreFault>
-    requires inside { InTransaction P.version (state S.Store conn.old) }
-    ensures tells { Answers S.Store (Represents P.represents P.version) IsKept conn.old conn.new result
+    ensures tells { Answers S.Store (Represents P.represents P.version) IsKept tables.old tables.new result
         (λ c. IsTellable c × AreHeadsOf c way.now)
         (λ _ c units. IsTellable c → (of : AreHeadsOf c way.now)
         → units.items ≡ map (unit_values c.containers) of.units) }
 {
     let mut units = Vec::new(alloc);
     for head in way {
-        units.push(values_there::<P, S>(alloc, conn, head.id)?)?;
+        units.push(values_there(alloc, tables, head.id)?)?;
     }
     Ok(units)
 }
@@ -92,15 +88,14 @@ fn print_way(
 /// The page of the last unit of a path. The public must be shown this unit.
 fn shown_page<P: Places, S: Alter>(
     alloc: Global,
-    conn: &mut Connection<S>,
+    tables: &mut Tables<P, S>,
     known: &OfficeRow,
     unit: u64,
     way: &[Head],
 ) -> Result<Answer, StoreFault>
-    requires inside { InTransaction P.version (state S.Store conn.old) }
     requires small { IsNumber unit }
-    ensures { RespondsKnowing P.Places S.Store (RepresentsUnit known.now unit way.now) (query.Page unit)
-        conn.old conn.new result }
+    ensures { RespondsKnowing P.represents P.version S.Store (RepresentsUnit known.now unit way.now) (query.Page unit)
+        tables.old tables.new result }
 {
     let Some((last, _above)) = way.split_last() else {
         return Err(StoreFault::Schema);
@@ -111,8 +106,8 @@ fn shown_page<P: Places, S: Alter>(
         let text = print_closed(alloc, head)?;
         return Ok(Answer::Text(text));
     }
-    let told = values_of_all::<P, S>(alloc, conn, way)?;
-    let heads = heads_below::<P, S>(alloc, conn, Some(unit))?;
+    let told = values_of_all(alloc, tables, way)?;
+    let heads = heads_below(alloc, tables, Some(unit))?;
     let text = print_way(alloc, known, ids, head, told, heads.as_slice())?;
     Ok(Answer::Text(text))
 }
@@ -121,20 +116,19 @@ fn shown_page<P: Places, S: Alter>(
 /// `known` must be the office's row.
 pub fn page<P: Places, S: Alter>(
     alloc: Global,
-    conn: &mut Connection<S>,
+    tables: &mut Tables<P, S>,
     known: &OfficeRow,
     unit: u64,
 ) -> Result<Answer, StoreFault>
-    requires inside { InTransaction P.version (state S.Store conn.old) }
-    ensures { RespondsKnowing P.Places S.Store (λ s. known.now ≡ office_of s) (query.Page unit)
-        conn.old conn.new result }
+    ensures { RespondsKnowing P.represents P.version S.Store (λ s. known.now ≡ office_of s) (query.Page unit)
+        tables.old tables.new result }
 {
     if unit >= NO_NUMBER {
         return Ok(Answer::Unknown(Refusal::UnknownUnit));
     }
-    let way = path_heads::<P, S>(alloc, conn, unit)?;
+    let way = path_heads(alloc, tables, unit)?;
     if !shows_last(way.as_slice(), known.day) {
         return Ok(Answer::Unknown(Refusal::UnknownUnit));
     }
-    shown_page::<P, S>(alloc, conn, known, unit, way.as_slice())
+    shown_page(alloc, tables, known, unit, way.as_slice())
 }

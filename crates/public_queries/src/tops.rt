@@ -1,10 +1,8 @@
 //! The tops, with their head lines.
 
 ghost use Rattle.std.specs.Prelude.{◌≡◌, [], IfOk};
-ghost use Rattle.sqlite.specs.Held.{state};
 ghost use Rattle.catalogue_core.specs.Pages.{tops_text};
 ghost use Rattle.office_core.specs.declared.query.Query.TheVariants as query;
-ghost use Rattle.office_tables.specs.Step.{InTransaction};
 ghost use Rattle.refinement.specs.Representation.{office_of};
 ghost use Rattle.public_queries.specs.HeadLines.{all_bare, repository_of};
 ghost use Rattle.public_queries.specs.InformedAnswers.{RespondsKnowing};
@@ -13,8 +11,8 @@ use crate::head_lines::bare_units;
 use catalogue_store::{Head, OfficeRow, Places, heads_below};
 use isad_core::{List, list_text};
 use office_core::Answer;
-use office_tables::StoreFault;
-use sqlite::{Alter, Connection};
+use office_tables::{StoreFault, Tables};
+use sqlite::Alter;
 use std::alloc::{AllocError, Global};
 
 /// A line for each of these tops that is not a draft.
@@ -30,13 +28,13 @@ fn print_tops(alloc: Global, known: &OfficeRow, heads: &[Head]) -> Result<List<u
 /// Answers with a line for each top that is not a draft. `known` must be the office's row.
 pub fn fonds<P: Places, S: Alter>(
     alloc: Global,
-    conn: &mut Connection<S>,
+    tables: &mut Tables<P, S>,
     known: &OfficeRow,
 ) -> Result<Answer, StoreFault>
-    requires inside { InTransaction P.version (state S.Store conn.old) }
-    ensures { RespondsKnowing P.Places S.Store (λ s. known.now ≡ office_of s) query.Fonds conn.old conn.new result }
+    ensures { RespondsKnowing P.represents P.version S.Store (λ s. known.now ≡ office_of s) query.Fonds tables.old
+        tables.new result }
 {
-    let heads = heads_below::<P, S>(alloc, conn, None)?;
+    let heads = heads_below(alloc, tables, None)?;
     let text = print_tops(alloc, known, heads.as_slice())?;
     Ok(Answer::Text(text))
 }

@@ -1,7 +1,6 @@
 //! What the public sees of one unit: its own description, or only a stub if it is closed.
 
 ghost use Rattle.std.specs.Prelude.{◌≡◌, ℤ, find, IfOk, Some};
-ghost use Rattle.sqlite.specs.Held.{state};
 ghost use Rattle.isad_core.specs.Limits.{IsNumber};
 ghost use Rattle.isad_core.specs.Values.{identifier};
 ghost use Rattle.tree_core.specs.Forest.{nodes};
@@ -9,7 +8,6 @@ ghost use Rattle.catalogue_core.specs.Bounds.{IsKept};
 ghost use Rattle.catalogue_core.specs.PublicForest.{«Told» as IsTold, Stub as IsClosed, public_unit};
 ghost use Rattle.catalogue_core.specs.Units.{«Unit» as Described, has_id};
 ghost use Rattle.office_tables.specs.Calls.{Answers};
-ghost use Rattle.office_tables.specs.Step.{InTransaction};
 ghost use Rattle.catalogue_statements.specs.Representation.{Represents};
 ghost use Rattle.public_queries.specs.FindingAids.{IsOf, Walked, kept_row, seen_of, seen_values, with_numbers};
 ghost use Rattle.public_queries.specs.KnownPaths.{IsTellable};
@@ -17,9 +15,9 @@ ghost use Rattle.public_queries.specs.KnownPaths.{IsTellable};
 use crate::path_values::text_or_empty;
 use catalogue_store::{Places, UnitValues, find_head, values};
 use isad_core::{Body, BoxKey, Day, Element, List, Text};
-use office_tables::StoreFault;
 use office_tables::value::NO_NUMBER;
-use sqlite::{Alter, Connection};
+use office_tables::{StoreFault, Tables};
+use sqlite::Alter;
 use std::alloc::{AllocError, Global};
 use tree_core::Kept;
 
@@ -67,17 +65,16 @@ fn described(alloc: Global, unit: &UnitValues) -> Result<Seen, AllocError>
 /// What is seen of a unit that is not closed.
 fn told<P: Places, S: Alter>(
     alloc: Global,
-    conn: &mut Connection<S>,
+    tables: &mut Tables<P, S>,
     unit: u64,
 ) -> Result<Seen, StoreFault>
-    requires inside { InTransaction P.version (state S.Store conn.old) }
     requires small { IsNumber unit }
-    ensures tells { Answers S.Store (Represents P.represents P.version) IsKept conn.old conn.new result
+    ensures tells { Answers S.Store (Represents P.represents P.version) IsKept tables.old tables.new result
         (λ c. IsTellable c × (u : Described) × (find (has_id unit) (nodes c.forest) ≡ Some u))
         (λ _ c seen. IsTellable c → (u : Described) → find (has_id unit) (nodes c.forest) ≡ Some u
         → seen ≡ seen_of c.containers (IsTold u.id u.values)) }
 {
-    let Some(found) = values(alloc, conn, unit)? else {
+    let Some(found) = values(alloc, tables, unit)? else {
         return Err(StoreFault::Schema);
     };
     Ok(described(alloc, &found)?)
@@ -86,17 +83,16 @@ fn told<P: Places, S: Alter>(
 /// What is seen of a unit that is closed.
 fn closed<P: Places, S: Alter>(
     alloc: Global,
-    conn: &mut Connection<S>,
+    tables: &mut Tables<P, S>,
     unit: u64,
 ) -> Result<Seen, StoreFault>
-    requires inside { InTransaction P.version (state S.Store conn.old) }
     requires small { IsNumber unit }
-    ensures tells { Answers S.Store (Represents P.represents P.version) IsKept conn.old conn.new result
+    ensures tells { Answers S.Store (Represents P.represents P.version) IsKept tables.old tables.new result
         (λ c. (u : Described) × (until : ℤ) × (find (has_id unit) (nodes c.forest) ≡ Some u) × (u.until ≡ Some until))
         (λ _ c seen. (u : Described) (until : ℤ) → find (has_id unit) (nodes c.forest) ≡ Some u → u.until ≡ Some until
         → seen ≡ seen_of c.containers (IsClosed u.id (identifier u.values) u.values.level until)) }
 {
-    let Some(head) = find_head::<P, S>(alloc, conn, unit)? else {
+    let Some(head) = find_head(alloc, tables, unit)? else {
         return Err(StoreFault::Schema);
     };
     let Some(until) = head.until else {
@@ -113,12 +109,11 @@ fn closed<P: Places, S: Alter>(
 /// What is seen of a unit of an aid.
 pub(crate) fn seen_unit<P: Places, S: Alter>(
     alloc: Global,
-    conn: &mut Connection<S>,
+    tables: &mut Tables<P, S>,
     unit: Kept,
     today: Day,
 ) -> Result<Seen, StoreFault>
-    requires inside { InTransaction P.version (state S.Store conn.old) }
-    ensures tells { Answers S.Store (Represents P.represents P.version) IsKept conn.old conn.new result
+    ensures tells { Answers S.Store (Represents P.represents P.version) IsKept tables.old tables.new result
         (λ c. IsTellable c × (row : Walked) × IsOf today c row × (unit ≡ kept_row row))
         (λ _ c seen. IsTellable c → (row : Walked) → IsOf today c row → unit ≡ kept_row row
         → seen ≡ seen_of c.containers (public_unit row.0)) }
@@ -127,8 +122,8 @@ pub(crate) fn seen_unit<P: Places, S: Alter>(
         return Err(StoreFault::Schema);
     }
     if unit.stub {
-        closed::<P, S>(alloc, conn, unit.id)
+        closed(alloc, tables, unit.id)
     } else {
-        told::<P, S>(alloc, conn, unit.id)
+        told(alloc, tables, unit.id)
     }
 }

@@ -8,7 +8,6 @@ use Rattle.sqlite.specs.State.{HasCleanDisk}
 use Rattle.sqlite.specs.Tree.{Trees}
 use Rattle.tree_core.specs.Forest.{Forest}
 use Rattle.tree_core.specs.Versions.{Version}
-use Rattle.catalogue_store.specs.declared.places.Places as house
 use Rattle.office_core.specs.Rules.{Reply, step}
 use Rattle.office_core.specs.SoundOffice.{IsSoundOffice}
 use Rattle.office_core.specs.State.{State}
@@ -33,5 +32,5 @@ pub record CarriesOut (places : Trees → Forest ℕ → Type 0) (version : Vers
   pub faults : (s : State) → IsSoundOffice s → known s → RepresentsState places version old.now s → FaultsHaveCause old new r
 
 -- the same, of a call that has a connection: a command's contract
-abbrev pub Performs : {P S : Type 0} → house.Ghosts P → trees.Ghosts S → (State → Type 0) → Command → Held S → Held S → Result Reply StoreFault → Type 0
-Performs p g known asked before after r = CarriesOut p.represents p.version known asked (state g before) (state g after) r
+abbrev pub Performs : {S : Type 0} → (Trees → Forest ℕ → Type 0) → Version → trees.Ghosts S → (State → Type 0) → Command → Held S → Held S → Result Reply StoreFault → Type 0
+Performs places version g known asked before after r = CarriesOut places version known asked (state g before) (state g after) r

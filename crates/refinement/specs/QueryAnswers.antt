@@ -7,7 +7,6 @@ use Rattle.sqlite.specs.State.{HasCleanDisk}
 use Rattle.sqlite.specs.Tree.{Trees}
 use Rattle.tree_core.specs.Forest.{Forest}
 use Rattle.tree_core.specs.Versions.{Version}
-use Rattle.catalogue_store.specs.declared.places.Places as house
 use Rattle.office_core.specs.Queries.{answer}
 use Rattle.office_core.specs.SoundOffice.{IsSoundOffice}
 use Rattle.office_core.specs.State.{State}
@@ -27,5 +26,5 @@ pub record AnswersQuery (places : Trees → Forest ℕ → Type 0) (version : Ve
   pub faults : (s : State) → IsSoundOffice s → RepresentsState places version old.now s → FaultsHaveCause old new r
 
 -- the same, of a call that has a connection: a question's contract
-abbrev pub Responds : {P S : Type 0} → house.Ghosts P → trees.Ghosts S → Query → Held S → Held S → Result Answer StoreFault → Type 0
-Responds p g asked before after r = AnswersQuery p.represents p.version asked (state g before) (state g after) r
+abbrev pub Responds : {S : Type 0} → (Trees → Forest ℕ → Type 0) → Version → trees.Ghosts S → Query → Held S → Held S → Result Answer StoreFault → Type 0
+Responds places version g asked before after r = AnswersQuery places version asked (state g before) (state g after) r

@@ -14,16 +14,15 @@ ghost use Rattle.catalogue_core.specs.Units.{«Unit» as Described, is_later};
 ghost use Rattle.catalogue_statements.specs.Representation.{Represents};
 ghost use Rattle.office_tables.specs.Calls.{Answers, StoreAnswers};
 ghost use Rattle.office_tables.specs.Faults.{BlamesDisk};
-ghost use Rattle.office_tables.specs.Step.{InTransaction};
 ghost use Rattle.refinement.specs.AccessConditions.{CanBeJudged, RepresentsWhole};
 ghost use Rattle.refinement.specs.Openness.{AreClean, AreTheirs, TellsClean, allows, are_clean_for, is_same_row};
 
 use catalogue_store::{Attached, Places, attached_rows};
 use desk_store::{Permit, permits};
 use isad_core::Day;
-use office_tables::StoreFault;
 use office_tables::value::NO_NUMBER;
-use sqlite::{Alter, Connection};
+use office_tables::{StoreFault, Tables};
+use sqlite::Alter;
 use std::alloc::{AllocError, Global};
 use tree_core::{Mark, Span, clean_contents, clean_path};
 
@@ -99,19 +98,18 @@ fn is_clean(
 /// that is withheld ends the reading. Of each path only what the one before lacks is read.
 pub(crate) fn are_clean<P: Places, S: Alter>(
     alloc: Global,
-    conn: &mut Connection<S>,
+    tables: &mut Tables<P, S>,
     rows: &[Span],
     permits: &[Permit],
     today: Day,
 ) -> Result<bool, StoreFault>
-    requires inside { InTransaction P.version (state S.Store conn.old) }
-    ensures tells { StoreAnswers S.Store (Represents P.represents P.version) IsKept conn.old conn.new result
+    ensures tells { StoreAnswers S.Store (Represents P.represents P.version) IsKept tables.old tables.new result
         (λ c. AllByRecursion (P.stands (each (λ (u : Described). u.id) c.forest)) rows.now)
         (λ _ c yes. AreTheirs P.stands c rows.now → yes ≡ are_clean_for today permits.now c rows.now) }
 {
     let mut known = Vec::new(alloc);
     for row in rows {
-        let found = P::marks_after(alloc, conn, &known, *row)?;
+        let found = P::marks_after(alloc, tables, &known, *row)?;
         if !is_clean(alloc, &found, permits, today)? {
             return Ok(false);
         }
@@ -148,14 +146,13 @@ fn is_for_all(is_open: bool, permits: &[Permit]) -> bool
 /// again.
 fn judge_rows<P: Places, S: Alter>(
     alloc: Global,
-    conn: &mut Connection<S>,
+    tables: &mut Tables<P, S>,
     rows: Vec<Span>,
     permits: &[Permit],
     today: Day,
     clean: Vec<Span>,
 ) -> Result<Judgement, StoreFault>
-    requires inside { InTransaction P.version (state S.Store conn.old) }
-    ensures tells { StoreAnswers S.Store (Represents P.represents P.version) IsKept conn.old conn.new result
+    ensures tells { StoreAnswers S.Store (Represents P.represents P.version) IsKept tables.old tables.new result
         (λ c. AllByRecursion (P.stands (each (λ (u : Described). u.id) c.forest)) rows.items)
         (λ _ c found. AreTheirs P.stands c rows.items → are_clean_for today [] c clean.items ≡ true
         → (found.is_open ≡ are_clean_for today permits.now c rows.items)
@@ -167,7 +164,7 @@ fn judge_rows<P: Places, S: Alter>(
             clean,
         });
     }
-    let is_open = are_clean::<P, S>(alloc, conn, &rows, permits, today)?;
+    let is_open = are_clean(alloc, tables, &rows, permits, today)?;
     if is_for_all(is_open, permits) {
         return Ok(Judgement {
             is_open,
@@ -182,18 +179,17 @@ fn judge_rows<P: Places, S: Alter>(
 /// reader.
 pub(crate) fn judge<P: Places, S: Alter>(
     alloc: Global,
-    conn: &mut Connection<S>,
+    tables: &mut Tables<P, S>,
     container: u64,
     ticket: u64,
     today: Day,
     clean: Vec<Span>,
 ) -> Result<Judgement, StoreFault>
-    requires inside { InTransaction P.version (state S.Store conn.old) }
-    ensures tells { Answers S.Store (RepresentsWhole P.represents P.version) CanBeJudged conn.old conn.new result
+    ensures tells { Answers S.Store (RepresentsWhole P.represents P.version) CanBeJudged tables.old tables.new result
         (λ _. ⊤) (λ _ s found. CanBeJudged s → today ≡ s.day → AreClean s clean.items
         → (found.is_open ≡ opens s ticket container) × AreClean s found.clean.items) }
-    ensures disk { HasCleanDisk (state S.Store conn.new)
-        → IfErr result (BlamesDisk (state S.Store conn.old) (state S.Store conn.new)) }
+    ensures disk { HasCleanDisk (state S.Store tables.new)
+        → IfErr result (BlamesDisk (state S.Store tables.old) (state S.Store tables.new)) }
 {
     if container >= NO_NUMBER {
         return Ok(Judgement {
@@ -201,15 +197,15 @@ pub(crate) fn judge<P: Places, S: Alter>(
             clean,
         });
     }
-    let rows = attached_rows::<P, S>(alloc, conn, container)?;
+    let rows = attached_rows(alloc, tables, container)?;
     if rows.is_empty() {
         return Ok(Judgement {
             is_open: false,
             clean,
         });
     }
-    let permits = permits(alloc, conn, ticket)?;
-    let judged = judge_rows::<P, S>(alloc, conn, rows, &permits, today, clean)?;
+    let permits = permits(alloc, tables, ticket)?;
+    let judged = judge_rows(alloc, tables, rows, &permits, today, clean)?;
     Ok(judged)
 }
 
@@ -217,17 +213,16 @@ pub(crate) fn judge<P: Places, S: Alter>(
 /// public.
 pub fn is_open_to<P: Places, S: Alter>(
     alloc: Global,
-    conn: &mut Connection<S>,
+    tables: &mut Tables<P, S>,
     container: u64,
     ticket: u64,
     today: Day,
 ) -> Result<bool, StoreFault>
-    requires inside { InTransaction P.version (state S.Store conn.old) }
-    ensures tells { Answers S.Store (RepresentsWhole P.represents P.version) CanBeJudged conn.old conn.new result
+    ensures tells { Answers S.Store (RepresentsWhole P.represents P.version) CanBeJudged tables.old tables.new result
         (λ _. ⊤) (λ _ s yes. CanBeJudged s → today ≡ s.day → yes ≡ opens s ticket container) }
-    ensures disk { HasCleanDisk (state S.Store conn.new)
-        → IfErr result (BlamesDisk (state S.Store conn.old) (state S.Store conn.new)) }
+    ensures disk { HasCleanDisk (state S.Store tables.new)
+        → IfErr result (BlamesDisk (state S.Store tables.old) (state S.Store tables.new)) }
 {
-    let found = judge::<P, S>(alloc, conn, container, ticket, today, Vec::new(alloc))?;
+    let found = judge(alloc, tables, container, ticket, today, Vec::new(alloc))?;
     Ok(found.is_open)
 }

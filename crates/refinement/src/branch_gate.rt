@@ -4,12 +4,10 @@
 
 ghost use Rattle.std.specs.Prelude.{◌≡◌, ◌<◌, ⊤, IfOk, Some, filter, length};
 ghost use Rattle.std.specs.List.Sorted.{IsNonDecreasing};
-ghost use Rattle.sqlite.specs.Held.{state};
 ghost use Rattle.isad_core.specs.Limits.{IsNumber};
 ghost use Rattle.desk_store.specs.Holdings.{issued_of};
 ghost use Rattle.state_encoding.specs.OfficeRows.{tables as tables_of};
 ghost use Rattle.office_tables.specs.Calls.{Answers};
-ghost use Rattle.office_tables.specs.Step.{InTransaction};
 ghost use Rattle.office_core.specs.Rules.{kept};
 ghost use Rattle.refinement.specs.Gate.{AreAsked, AreEnough, AreNear, IsHoused, IsWithheldAt, OthersAreOpen};
 ghost use Rattle.refinement.specs.Gate.{gated, is_one_of};
@@ -22,8 +20,8 @@ use catalogue_store::Places;
 use desk_store::{Loan, issued};
 use isad_core::Day;
 use office_core::{Done, Refusal};
-use office_tables::StoreFault;
-use sqlite::{Alter, Connection};
+use office_tables::{StoreFault, Tables};
+use sqlite::Alter;
 use std::alloc::{AllocError, Global};
 
 /// If at most this many containers are out, all of them are checked. Each check takes a fifth of a millisecond, and
@@ -34,17 +32,16 @@ const FEW: usize = 8;
 /// The containers in which the unit or one below it lies. `housed` has those of the unit.
 fn containers_near<P: Places, S: Alter>(
     alloc: Global,
-    conn: &mut Connection<S>,
+    tables: &mut Tables<P, S>,
     unit: u64,
     housed: &HousedUnit,
 ) -> Result<Vec<u64>, StoreFault>
-    requires inside { InTransaction P.version (state S.Store conn.old) }
     requires small { IsNumber unit }
-    ensures tells { Answers S.Store (RepresentsWhole P.represents P.version) CanBeJudged conn.old conn.new result
+    ensures tells { Answers S.Store (RepresentsWhole P.represents P.version) CanBeJudged tables.old tables.new result
         (λ _. ⊤) (λ _ s found. IsHoused unit s housed.now → AreNear unit s found.items) }
 {
-    let branch = P::branch(alloc, conn, unit)?;
-    let mut containers = containers_of_each(alloc, conn, &branch)?;
+    let branch = P::branch(alloc, tables, unit)?;
+    let mut containers = containers_of_each(alloc, tables, &branch)?;
     containers.extend_from_slice(&housed.containers)?;
     Ok(containers)
 }
@@ -68,17 +65,16 @@ fn loans_of(alloc: Global, loans: &[Loan], ascending: &[u64]) -> Result<Vec<Loan
 /// describes it.
 fn loans_in_branch<P: Places, S: Alter>(
     alloc: Global,
-    conn: &mut Connection<S>,
+    tables: &mut Tables<P, S>,
     unit: u64,
     housed: &HousedUnit,
     loans: &[Loan],
 ) -> Result<Vec<Loan>, StoreFault>
-    requires inside { InTransaction P.version (state S.Store conn.old) }
     requires small { IsNumber unit }
-    ensures tells { Answers S.Store (RepresentsWhole P.represents P.version) CanBeJudged conn.old conn.new result
+    ensures tells { Answers S.Store (RepresentsWhole P.represents P.version) CanBeJudged tables.old tables.new result
         (λ _. ⊤) (λ _ s found. IsHoused unit s housed.now → AreAsked unit s loans.now found.items) }
 {
-    let mut containers = containers_near::<P, S>(alloc, conn, unit, housed)?;
+    let mut containers = containers_near(alloc, tables, unit, housed)?;
     containers.sort_unstable();
     Ok(loans_of(alloc, loans, &containers)?)
 }
@@ -87,53 +83,50 @@ fn loans_in_branch<P: Places, S: Alter>(
 /// there are few loans, these are all of them.
 fn loans_to_ask<P: Places, S: Alter>(
     alloc: Global,
-    conn: &mut Connection<S>,
+    tables: &mut Tables<P, S>,
     unit: u64,
     housed: &HousedUnit,
     loans: Vec<Loan>,
 ) -> Result<Vec<Loan>, StoreFault>
-    requires inside { InTransaction P.version (state S.Store conn.old) }
     requires small { IsNumber unit }
-    ensures tells { Answers S.Store (RepresentsWhole P.represents P.version) CanBeJudged conn.old conn.new result
+    ensures tells { Answers S.Store (RepresentsWhole P.represents P.version) CanBeJudged tables.old tables.new result
         (λ _. ⊤) (λ _ s found. IsHoused unit s housed.now → AreAsked unit s loans.items found.items) }
 {
     if loans.len() <= FEW {
         return Ok(loans);
     }
-    loans_in_branch::<P, S>(alloc, conn, unit, housed, &loans)
+    loans_in_branch(alloc, tables, unit, housed, &loans)
 }
 
 /// The loans of all containers that a change near the unit may withhold, by number of the container. Other loans may be
 /// among them.
 pub fn loans_near<P: Places, S: Alter>(
     alloc: Global,
-    conn: &mut Connection<S>,
+    tables: &mut Tables<P, S>,
     unit: u64,
 ) -> Result<Vec<Loan>, StoreFault>
-    requires inside { InTransaction P.version (state S.Store conn.old) }
     requires small { IsNumber unit }
-    ensures tells { Answers S.Store (RepresentsWhole P.represents P.version) CanBeJudged conn.old conn.new result
+    ensures tells { Answers S.Store (RepresentsWhole P.represents P.version) CanBeJudged tables.old tables.new result
         (λ _. ⊤) (λ _ s found. AreAsked unit s (issued_of (tables_of P.version s).desk) found.items) }
 {
-    let loans = issued(alloc, conn)?;
-    let housed = housed_unit::<P, S>(alloc, conn, unit)?;
-    loans_to_ask::<P, S>(alloc, conn, unit, &housed, loans)
+    let loans = issued(alloc, tables)?;
+    let housed = housed_unit(alloc, tables, unit)?;
+    loans_to_ask(alloc, tables, unit, &housed, loans)
 }
 
 /// The outcome of a change that the tables already show and that affects only these loans: what was done, or a refusal
 /// if it would close a container to the reader who has it.
 pub fn pass_of<P: Places, S: Alter>(
     alloc: Global,
-    conn: &mut Connection<S>,
+    tables: &mut Tables<P, S>,
     today: Day,
     loans: &[Loan],
     done: Done,
 ) -> Result<Result<Done, Refusal>, StoreFault>
-    requires inside { InTransaction P.version (state S.Store conn.old) }
-    ensures tells { Answers S.Store (RepresentsWhole P.represents P.version) CanBeJudged conn.old conn.new result
+    ensures tells { Answers S.Store (RepresentsWhole P.represents P.version) CanBeJudged tables.old tables.new result
         (λ _. ⊤) (λ _ s reply. CanBeJudged s → today ≡ s.day → AreEnough loans.now s → reply ≡ gated s done) }
 {
-    match first_closed::<P, S>(alloc, conn, loans, today)? {
+    match first_closed(alloc, tables, loans, today)? {
         Some(container) => Ok(Err(Refusal::WithReader { container })),
         None => Ok(Ok(done)),
     }
@@ -143,20 +136,19 @@ pub fn pass_of<P: Places, S: Alter>(
 /// they are few, and few units name their containers, the units of the branch are not read.
 fn lower_loans<P: Places, S: Alter>(
     alloc: Global,
-    conn: &mut Connection<S>,
+    tables: &mut Tables<P, S>,
     unit: u64,
     housed: &HousedUnit,
     loans: &[Loan],
 ) -> Result<Vec<Loan>, StoreFault>
-    requires inside { InTransaction P.version (state S.Store conn.old) }
     requires small { IsNumber unit }
     requires rise { IsNonDecreasing housed.now.containers.items }
-    ensures tells { Answers S.Store (RepresentsWhole P.represents P.version) CanBeJudged conn.old conn.new result
+    ensures tells { Answers S.Store (RepresentsWhole P.represents P.version) CanBeJudged tables.old tables.new result
         (λ _. ⊤)
         (λ _ s found. CanBeJudged s → IsHoused unit s housed.now → AreAsked unit s loans.now found.items) }
 {
-    let Some(apart) = containers_apart::<P, S>(alloc, conn, unit, housed, loans)? else {
-        return loans_in_branch::<P, S>(alloc, conn, unit, housed, loans);
+    let Some(apart) = containers_apart(alloc, tables, unit, housed, loans)? else {
+        return loans_in_branch(alloc, tables, unit, housed, loans);
     };
     Ok(loans_without(alloc, loans, &apart)?)
 }
@@ -165,24 +157,23 @@ fn lower_loans<P: Places, S: Alter>(
 /// such a one, since the unit is withheld from its reader; so only those before it are checked.
 fn lowest_closed<P: Places, S: Alter>(
     alloc: Global,
-    conn: &mut Connection<S>,
+    tables: &mut Tables<P, S>,
     today: Day,
     unit: u64,
     housed: &HousedUnit,
     loans: &[Loan],
     place: usize,
 ) -> Result<u64, StoreFault>
-    requires inside { InTransaction P.version (state S.Store conn.old) }
     requires small { IsNumber unit }
     requires rise { IsNonDecreasing housed.now.containers.items }
     requires there { place < length loans.now }
-    ensures tells { Answers S.Store (RepresentsWhole P.represents P.version) CanBeJudged conn.old conn.new result
+    ensures tells { Answers S.Store (RepresentsWhole P.represents P.version) CanBeJudged tables.old tables.new result
         (λ _. ⊤) (λ _ s container. CanBeJudged s → today ≡ s.day → OthersAreOpen unit s
         → IsHoused unit s housed.now → IsWithheldAt s housed.now loans.now place
         → loans.now ≡ issued_of (tables_of P.version s).desk → kept s ≡ Some container) }
 {
-    let lower = lower_loans::<P, S>(alloc, conn, unit, housed, &loans[..place])?;
-    match first_closed::<P, S>(alloc, conn, &lower, today)? {
+    let lower = lower_loans(alloc, tables, unit, housed, &loans[..place])?;
+    match first_closed(alloc, tables, &lower, today)? {
         Some(container) => Ok(container),
         None => Ok(loans[place].container),
     }
@@ -193,25 +184,24 @@ fn lowest_closed<P: Places, S: Alter>(
 /// has a container in which it lies, the change is refused, and only lower containers are checked.
 pub fn pass_near<P: Places, S: Alter>(
     alloc: Global,
-    conn: &mut Connection<S>,
+    tables: &mut Tables<P, S>,
     today: Day,
     unit: u64,
     done: Done,
 ) -> Result<Result<Done, Refusal>, StoreFault>
-    requires inside { InTransaction P.version (state S.Store conn.old) }
     requires small { IsNumber unit }
-    ensures tells { Answers S.Store (RepresentsWhole P.represents P.version) CanBeJudged conn.old conn.new result
+    ensures tells { Answers S.Store (RepresentsWhole P.represents P.version) CanBeJudged tables.old tables.new result
         (λ _. ⊤) (λ _ s reply. CanBeJudged s → today ≡ s.day → OthersAreOpen unit s → reply ≡ gated s done) }
 {
-    let loans = issued(alloc, conn)?;
+    let loans = issued(alloc, tables)?;
     if loans.is_empty() {
         return Ok(Ok(done));
     }
-    let housed = housed_unit::<P, S>(alloc, conn, unit)?;
-    let Some(place) = first_withheld::<P, S>(alloc, conn, &housed, &loans, today)? else {
-        let asked = loans_to_ask::<P, S>(alloc, conn, unit, &housed, loans)?;
-        return pass_of::<P, S>(alloc, conn, today, &asked, done);
+    let housed = housed_unit(alloc, tables, unit)?;
+    let Some(place) = first_withheld(alloc, tables, &housed, &loans, today)? else {
+        let asked = loans_to_ask(alloc, tables, unit, &housed, loans)?;
+        return pass_of(alloc, tables, today, &asked, done);
     };
-    let container = lowest_closed::<P, S>(alloc, conn, today, unit, &housed, &loans, place)?;
+    let container = lowest_closed(alloc, tables, today, unit, &housed, &loans, place)?;
     Ok(Err(Refusal::WithReader { container }))
 }

@@ -4,9 +4,7 @@
 ghost use Rattle.std.specs.Prelude.{◌≡◌, ⊤, IfOk, IfSome, Some, false, filter, not, true};
 ghost use Rattle.std.specs.List.{list_any};
 ghost use Rattle.std.specs.List.Sorted.{IsNonDecreasing};
-ghost use Rattle.sqlite.specs.Held.{state};
 ghost use Rattle.office_tables.specs.Calls.{Answers};
-ghost use Rattle.office_tables.specs.Step.{InTransaction};
 ghost use Rattle.refinement.specs.Gate.{AreApart, IsHoused, is_named_near, is_on_path, is_one_of};
 ghost use Rattle.refinement.specs.AccessConditions.{CanBeJudged, RepresentsWhole};
 
@@ -14,9 +12,9 @@ use crate::housed_units::{HousedUnit, is_among};
 use catalogue_statements::containers::housed_in;
 use catalogue_store::Places;
 use desk_store::Loan;
-use office_tables::StoreFault;
 use office_tables::value::NO_NUMBER;
-use sqlite::{Alter, Connection};
+use office_tables::{StoreFault, Tables};
+use sqlite::Alter;
 use std::alloc::{AllocError, Global};
 
 /// If more containers than these are asked, or more units name one of them, the units of the branch are read instead. To
@@ -26,12 +24,11 @@ const FEW: usize = 8;
 /// Whether one of these units is the other or lies below it. A number that no unit can have counts as one.
 fn is_some_below<P: Places, S: Alter>(
     alloc: Global,
-    conn: &mut Connection<S>,
+    tables: &mut Tables<P, S>,
     units: &[u64],
     other: u64,
 ) -> Result<bool, StoreFault>
-    requires inside { InTransaction P.version (state S.Store conn.old) }
-    ensures tells { Answers S.Store (RepresentsWhole P.represents P.version) CanBeJudged conn.old conn.new result
+    ensures tells { Answers S.Store (RepresentsWhole P.represents P.version) CanBeJudged tables.old tables.new result
         (λ _. ⊤) (λ _ s found. found ≡ false → list_any (is_on_path other s) units.now ≡ false) }
 {
     for unit in units {
@@ -39,7 +36,7 @@ fn is_some_below<P: Places, S: Alter>(
         if unit >= NO_NUMBER {
             return Ok(true);
         }
-        if P::is_below(alloc, conn, unit, other)? {
+        if P::is_below(alloc, tables, unit, other)? {
             return Ok(true);
         }
     }
@@ -50,14 +47,13 @@ fn is_some_below<P: Places, S: Alter>(
 /// unit is in its containers as `housed` describes it.
 fn lies_apart<P: Places, S: Alter>(
     alloc: Global,
-    conn: &mut Connection<S>,
+    tables: &mut Tables<P, S>,
     unit: u64,
     housed: &HousedUnit,
     container: u64,
 ) -> Result<Option<bool>, StoreFault>
-    requires inside { InTransaction P.version (state S.Store conn.old) }
     requires rise { IsNonDecreasing housed.now.containers.items }
-    ensures tells { Answers S.Store (RepresentsWhole P.represents P.version) CanBeJudged conn.old conn.new result
+    ensures tells { Answers S.Store (RepresentsWhole P.represents P.version) CanBeJudged tables.old tables.new result
         (λ _. ⊤) (λ _ s found. CanBeJudged s → IsHoused unit s housed.now → found ≡ Some true
         → is_named_near unit s container ≡ false) }
 {
@@ -67,11 +63,11 @@ fn lies_apart<P: Places, S: Alter>(
     if is_among(&housed.containers, container) {
         return Ok(Some(false));
     }
-    let units = housed_in(alloc, conn, container)?;
+    let units = housed_in(alloc, tables, container)?;
     if units.len() > FEW {
         return Ok(None);
     }
-    let is_near = is_some_below::<P, S>(alloc, conn, &units, unit)?;
+    let is_near = is_some_below(alloc, tables, &units, unit)?;
     Ok(Some(!is_near))
 }
 
@@ -80,14 +76,13 @@ fn lies_apart<P: Places, S: Alter>(
 /// it.
 pub(crate) fn containers_apart<P: Places, S: Alter>(
     alloc: Global,
-    conn: &mut Connection<S>,
+    tables: &mut Tables<P, S>,
     unit: u64,
     housed: &HousedUnit,
     loans: &[Loan],
 ) -> Result<Option<Vec<u64>>, StoreFault>
-    requires inside { InTransaction P.version (state S.Store conn.old) }
     requires rise { IsNonDecreasing housed.now.containers.items }
-    ensures tells { Answers S.Store (RepresentsWhole P.represents P.version) CanBeJudged conn.old conn.new result
+    ensures tells { Answers S.Store (RepresentsWhole P.represents P.version) CanBeJudged tables.old tables.new result
         (λ _. ⊤) (λ _ s found. CanBeJudged s → IsHoused unit s housed.now
         → IfSome found (λ apart. AreApart unit s apart.items)) }
 {
@@ -97,7 +92,7 @@ pub(crate) fn containers_apart<P: Places, S: Alter>(
     let mut apart = Vec::new(alloc);
     for loan in loans {
         let container = loan.container;
-        let Some(is_apart) = lies_apart::<P, S>(alloc, conn, unit, housed, container)? else {
+        let Some(is_apart) = lies_apart(alloc, tables, unit, housed, container)? else {
             return Ok(None);
         };
         if is_apart {

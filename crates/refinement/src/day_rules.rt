@@ -11,7 +11,6 @@ ghost use Rattle.desk_store.specs.declared.taken_seats.TakenSeat.{TakenSeat as T
 ghost use Rattle.desk_store.specs.Representation.{RepresentsDeskAlone, IsLegible};
 ghost use Rattle.office_tables.specs.Calls.{Answers};
 ghost use Rattle.office_tables.specs.Faults.{BlamesDisk};
-ghost use Rattle.office_tables.specs.Step.{InOffice, InTransaction};
 ghost use Rattle.refinement.specs.DayRules.{are_against_rules as are_against_rules_of, breaks_day_rules};
 ghost use Rattle.refinement.specs.DayRules.{has_no_row, has_too_many, occurs_more_than};
 ghost use Rattle.refinement.specs.AccessConditions.{CanBeJudged, RepresentsWhole};
@@ -20,8 +19,8 @@ use crate::joint_walk::is_one_closed;
 use catalogue_store::Places;
 use desk_store::{Loan, TakenSeat, issued, seats};
 use isad_core::Day;
-use office_tables::StoreFault;
-use sqlite::{Alter, Connection};
+use office_tables::{StoreFault, Tables, Versioned};
+use sqlite::Alter;
 use std::alloc::{AllocError, Global};
 
 /// The tickets that have these containers: one for each container, in ascending order.
@@ -74,60 +73,57 @@ fn lacks_seat(loans: &[Loan], taken: &[TakenSeat]) -> bool
 }
 
 /// Whether a reader who has one of these containers has no seat.
-fn is_one_without_seat<S: Alter>(
+fn is_one_without_seat<P: Versioned, S: Alter>(
     alloc: Global,
-    conn: &mut Connection<S>,
+    tables: &mut Tables<P, S>,
     loans: &[Loan],
 ) -> Result<bool, StoreFault>
-    requires inside { InOffice (state S.Store conn.old) }
-    ensures tells { Answers S.Store RepresentsDeskAlone IsLegible conn.old conn.new result (λ _. ⊤)
+    ensures tells { Answers S.Store RepresentsDeskAlone IsLegible tables.old tables.new result (λ _. ⊤)
         (λ _ d yes. yes ≡ list_any (has_no_row d) loans.now) }
-    ensures disk { HasCleanDisk (state S.Store conn.new)
-        → IfErr result (BlamesDisk (state S.Store conn.old) (state S.Store conn.new)) }
+    ensures disk { HasCleanDisk (state S.Store tables.new)
+        → IfErr result (BlamesDisk (state S.Store tables.old) (state S.Store tables.new)) }
 {
-    let taken = seats(alloc, conn)?;
+    let taken = seats(alloc, tables)?;
     Ok(lacks_seat(loans, &taken))
 }
 
 /// Whether one of these containers is out against a rule of the day, given that no others are out.
 fn are_against_rules<P: Places, S: Alter>(
     alloc: Global,
-    conn: &mut Connection<S>,
+    tables: &mut Tables<P, S>,
     loans: &[Loan],
     hands: u32,
     today: Day,
 ) -> Result<bool, StoreFault>
-    requires inside { InTransaction P.version (state S.Store conn.old) }
-    ensures tells { Answers S.Store (RepresentsWhole P.represents P.version) CanBeJudged conn.old conn.new result
+    ensures tells { Answers S.Store (RepresentsWhole P.represents P.version) CanBeJudged tables.old tables.new result
         (λ _. ⊤) (λ _ s broken. CanBeJudged s → today ≡ s.day → hands ≡ s.settings.hands
         → broken ≡ are_against_rules_of s loans.now) }
-    ensures disk { HasCleanDisk (state S.Store conn.new)
-        → IfErr result (BlamesDisk (state S.Store conn.old) (state S.Store conn.new)) }
+    ensures disk { HasCleanDisk (state S.Store tables.new)
+        → IfErr result (BlamesDisk (state S.Store tables.old) (state S.Store tables.new)) }
 {
     if are_too_many(alloc, loans, hands)? {
         return Ok(true);
     }
-    if is_one_without_seat(alloc, conn, loans)? {
+    if is_one_without_seat(alloc, tables, loans)? {
         return Ok(true);
     }
-    let closed = is_one_closed::<P, S>(alloc, conn, loans, today)?;
+    let closed = is_one_closed(alloc, tables, loans, today)?;
     Ok(closed)
 }
 
 /// Whether some container is out against a rule of the day.
 pub fn breaks_day_rules<P: Places, S: Alter>(
     alloc: Global,
-    conn: &mut Connection<S>,
+    tables: &mut Tables<P, S>,
     hands: u32,
     today: Day,
 ) -> Result<bool, StoreFault>
-    requires inside { InTransaction P.version (state S.Store conn.old) }
-    ensures tells { Answers S.Store (RepresentsWhole P.represents P.version) CanBeJudged conn.old conn.new result
+    ensures tells { Answers S.Store (RepresentsWhole P.represents P.version) CanBeJudged tables.old tables.new result
         (λ _. ⊤)
         (λ _ s broken. CanBeJudged s → today ≡ s.day → hands ≡ s.settings.hands → broken ≡ breaks_day_rules s) }
-    ensures disk { HasCleanDisk (state S.Store conn.new)
-        → IfErr result (BlamesDisk (state S.Store conn.old) (state S.Store conn.new)) }
+    ensures disk { HasCleanDisk (state S.Store tables.new)
+        → IfErr result (BlamesDisk (state S.Store tables.old) (state S.Store tables.new)) }
 {
-    let loans = issued(alloc, conn)?;
-    are_against_rules::<P, S>(alloc, conn, &loans, hands, today)
+    let loans = issued(alloc, tables)?;
+    are_against_rules(alloc, tables, &loans, hands, today)
 }

@@ -6,7 +6,6 @@ ghost use Rattle.sqlite.specs.State.{HasCleanDisk};
 ghost use Rattle.office_core.specs.Rules.{kept};
 ghost use Rattle.office_tables.specs.Calls.{Answers};
 ghost use Rattle.office_tables.specs.Faults.{BlamesDisk};
-ghost use Rattle.office_tables.specs.Step.{InTransaction};
 ghost use Rattle.refinement.specs.Gate.{first_closed as first_closed_of, gated};
 ghost use Rattle.refinement.specs.AccessConditions.{CanBeJudged, RepresentsWhole};
 
@@ -15,28 +14,27 @@ use catalogue_store::Places;
 use desk_store::{Loan, issued};
 use isad_core::Day;
 use office_core::{Done, Refusal};
-use office_tables::StoreFault;
-use sqlite::{Alter, Connection};
+use office_tables::{StoreFault, Tables};
+use sqlite::Alter;
 use std::alloc::Global;
 
 /// The first of these containers that is not open on this day to the reader who has it. Containers that follow one
 /// another and lie in the same units are judged once.
 pub(crate) fn first_closed<P: Places, S: Alter>(
     alloc: Global,
-    conn: &mut Connection<S>,
+    tables: &mut Tables<P, S>,
     loans: &[Loan],
     today: Day,
 ) -> Result<Option<u64>, StoreFault>
-    requires inside { InTransaction P.version (state S.Store conn.old) }
-    ensures tells { Answers S.Store (RepresentsWhole P.represents P.version) CanBeJudged conn.old conn.new result
+    ensures tells { Answers S.Store (RepresentsWhole P.represents P.version) CanBeJudged tables.old tables.new result
         (λ _. ⊤) (λ _ s found. CanBeJudged s → today ≡ s.day → found ≡ first_closed_of s loans.now) }
-    ensures disk { HasCleanDisk (state S.Store conn.new)
-        → IfErr result (BlamesDisk (state S.Store conn.old) (state S.Store conn.new)) }
+    ensures disk { HasCleanDisk (state S.Store tables.new)
+        → IfErr result (BlamesDisk (state S.Store tables.old) (state S.Store tables.new)) }
 {
     let mut clean = Vec::new(alloc);
     for loan in loans {
         let loan = *loan;
-        let found = judge::<P, S>(alloc, conn, loan.container, loan.ticket, today, clean)?;
+        let found = judge(alloc, tables, loan.container, loan.ticket, today, clean)?;
         if !found.is_open {
             return Ok(Some(loan.container));
         }
@@ -48,30 +46,28 @@ pub(crate) fn first_closed<P: Places, S: Alter>(
 /// The lowest container that is out and not open on this day to the reader who has it.
 pub fn kept_back<P: Places, S: Alter>(
     alloc: Global,
-    conn: &mut Connection<S>,
+    tables: &mut Tables<P, S>,
     today: Day,
 ) -> Result<Option<u64>, StoreFault>
-    requires inside { InTransaction P.version (state S.Store conn.old) }
-    ensures tells { Answers S.Store (RepresentsWhole P.represents P.version) CanBeJudged conn.old conn.new result
+    ensures tells { Answers S.Store (RepresentsWhole P.represents P.version) CanBeJudged tables.old tables.new result
         (λ _. ⊤) (λ _ s found. CanBeJudged s → today ≡ s.day → found ≡ kept s) }
 {
-    let loans = issued(alloc, conn)?;
-    first_closed::<P, S>(alloc, conn, &loans, today)
+    let loans = issued(alloc, tables)?;
+    first_closed(alloc, tables, &loans, today)
 }
 
 /// The outcome of a change that the tables already show: what was done, or a refusal if it would close a container to
 /// the reader who has it.
 pub fn pass<P: Places, S: Alter>(
     alloc: Global,
-    conn: &mut Connection<S>,
+    tables: &mut Tables<P, S>,
     today: Day,
     done: Done,
 ) -> Result<Result<Done, Refusal>, StoreFault>
-    requires inside { InTransaction P.version (state S.Store conn.old) }
-    ensures tells { Answers S.Store (RepresentsWhole P.represents P.version) CanBeJudged conn.old conn.new result
+    ensures tells { Answers S.Store (RepresentsWhole P.represents P.version) CanBeJudged tables.old tables.new result
         (λ _. ⊤) (λ _ s reply. CanBeJudged s → today ≡ s.day → reply ≡ gated s done) }
 {
-    match kept_back::<P, S>(alloc, conn, today)? {
+    match kept_back(alloc, tables, today)? {
         Some(container) => Ok(Err(Refusal::WithReader { container })),
         None => Ok(Ok(done)),
     }

@@ -1,9 +1,9 @@
 //! The check of the desk's tables, in memory and in a file. Rows that no call writes are found, with their cause.
 
-ghost use Rattle.std.specs.Prelude.{OnOk};
+ghost use Rattle.std.specs.Prelude.{IfOk};
 ghost use Rattle.sqlite.specs.Held.{state};
 ghost use Rattle.tree_core.specs.Versions.{Links};
-ghost use Rattle.office_tables.specs.Step.{InTransaction};
+ghost use Rattle.office_tables.specs.Step.{AreTables};
 
 use crate::desk::{day_after, next_turn};
 use crate::reading_room::furnished;
@@ -12,7 +12,7 @@ use catalogue_store::{LinkPlaces, StoreFault};
 use desk_core::Limits;
 use desk_store::{FirstOrder, OrderState, append_order, end_order, grant, record_run, set_seat};
 use integrity_checks::load_check_desk;
-use office_tables::change;
+use office_tables::{Tables, change};
 use sqlite::types::ValueRef;
 use sqlite::types::ValueRef::{Int, Null, Text};
 use sqlite::{Alter, Connection};
@@ -22,23 +22,22 @@ use std::process::Abort;
 use std::test::Fail;
 
 /// Ann has a seat and may see unit 1. She had container 1, which the first run brought, and returned it.
-#[tactic(auto, using(crate::proofs::Going::went_on))]
-fn serve_reader<S: Alter>(alloc: Global, conn: &mut Connection<S>) -> Result<(), StoreFault>
-    requires inside { InTransaction Links (state S.Store conn.old) }
-    ensures inside { OnOk result (InTransaction Links (state S.Store conn.new)) }
-{
+fn serve_reader<S: Alter>(
+    alloc: Global,
+    tables: &mut Tables<LinkPlaces, S>,
+) -> Result<(), StoreFault> {
     let mut text = String::new(alloc);
-    furnished(alloc, conn, &mut text)?;
-    grant(conn, 1, 1, day_after(0)?)?;
-    set_seat(conn, 1, Some(1))?;
-    append_order(conn, 1, 1, 1, day_after(0)?)?;
+    furnished(alloc, tables, &mut text)?;
+    grant(tables, 1, 1, day_after(0)?)?;
+    set_seat(tables, 1, Some(1))?;
+    append_order(tables, 1, 1, 1, day_after(0)?)?;
     let taken = [FirstOrder {
         container: 1,
         order: 1,
         ticket: 1,
     }];
-    record_run(conn, day_after(0)?, &taken)?;
-    end_order(conn, 1, OrderState::Done)
+    record_run(tables, day_after(0)?, &taken)?;
+    end_order(tables, 1, OrderState::Done)
 }
 
 /// What a statement writes.
@@ -66,24 +65,20 @@ enum Row {
 type Write = (Row, &'static [ValueRef<'static>]);
 
 /// Writes a row with one of the desk's statements.
-#[tactic(auto, using(crate::proofs::Going::went_on))]
 fn put<S: Alter>(
-    conn: &mut Connection<S>,
+    tables: &mut Tables<LinkPlaces, S>,
     row: Row,
     cells: &[ValueRef<'_>],
-) -> Result<(), StoreFault>
-    requires inside { InTransaction Links (state S.Store conn.old) }
-    ensures inside { OnOk result (InTransaction Links (state S.Store conn.new)) }
-{
+) -> Result<(), StoreFault> {
     match row {
-        Row::Reader => change(conn, PUT_READER, cells),
-        Row::Seat => change(conn, PUT_SEAT, cells),
-        Row::Permit => change(conn, PUT_PERMIT, cells),
-        Row::Order => change(conn, PUT_ORDER, cells),
-        Row::State => change(conn, SET_STATE, cells),
-        Row::Holding => change(conn, PUT_HOLDING, cells),
-        Row::Run => change(conn, PUT_RUN, cells),
-        Row::Line => change(conn, PUT_LINE, cells),
+        Row::Reader => change(tables, PUT_READER, cells),
+        Row::Seat => change(tables, PUT_SEAT, cells),
+        Row::Permit => change(tables, PUT_PERMIT, cells),
+        Row::Order => change(tables, PUT_ORDER, cells),
+        Row::State => change(tables, SET_STATE, cells),
+        Row::Holding => change(tables, PUT_HOLDING, cells),
+        Row::Run => change(tables, PUT_RUN, cells),
+        Row::Line => change(tables, PUT_LINE, cells),
     }
 }
 
@@ -106,28 +101,47 @@ const PUT_LINE: &str =
     "INSERT INTO run_line (run, container, order_no, ticket) VALUES (?1, ?2, ?3, ?4)";
 
 /// Writes rows, one after the other.
-fn put_all<S: Alter>(conn: &mut Connection<S>, writes: &[Write]) -> Result<(), StoreFault>
-    requires inside { InTransaction Links (state S.Store conn.old) }
-    ensures inside { OnOk result (InTransaction Links (state S.Store conn.new)) }
-{
+fn put_all<S: Alter>(
+    tables: &mut Tables<LinkPlaces, S>,
+    writes: &[Write],
+) -> Result<(), StoreFault> {
     for write in writes {
         let (row, cells) = *write;
-        put(conn, row, cells)?;
+        put(tables, row, cells)?;
     }
     Ok(())
 }
 
-/// The cause that the check finds in a sound desk with these rows added, once they are committed, or 0.
-#[tactic(auto, using(crate::proofs::Going::in_some))]
-fn told<S: Alter>(
+/// Ann is served, and then these rows are written.
+fn write_desk<S: Alter>(
     alloc: Global,
-    conn: &mut Connection<S>,
+    tables: &mut Tables<LinkPlaces, S>,
     writes: &[Write],
-) -> Result<u8, StoreFault>
-    requires inside { InTransaction Links (state S.Store conn.old) }
+) -> Result<(), StoreFault> {
+    serve_reader(alloc, tables)?;
+    put_all(tables, writes)
+}
+
+/// A sound desk in a new office, with these rows added.
+fn desk_with<S: Alter + Drop>(
+    alloc: Global,
+    conn: Connection<S>,
+    writes: &[Write],
+) -> Result<Connection<S>, StoreFault>
+    ensures are { IfOk result (λ conn. AreTables Links (state S.Store conn)) }
 {
-    serve_reader(alloc, conn)?;
-    put_all(conn, writes)?;
+    let mut tables = new_office::<LinkPlaces, S>(alloc, conn)?;
+    let outcome = write_desk(alloc, &mut tables, writes);
+    let conn = tables.into_connection();
+    outcome?;
+    Ok(conn)
+}
+
+/// The cause that the check finds in a desk once it is committed, or 0.
+#[tactic(auto, using(office_tables::proofs::Calls::office_of))]
+fn cause_in<S: Alter>(alloc: Global, conn: &mut Connection<S>) -> Result<u8, StoreFault>
+    requires are { AreTables Links (state S.Store conn.old) }
+{
     next_turn(conn)?;
     let limits = Limits {
         seats: 2,
@@ -142,22 +156,12 @@ fn told<S: Alter>(
     })
 }
 
-fn told_in_new<S: Alter>(
-    alloc: Global,
-    conn: &mut Connection<S>,
-    writes: &[Write],
-) -> Result<u8, Fail> {
-    new_office::<LinkPlaces, S>(alloc, conn)?;
-    let cause = told(alloc, conn, writes)?;
-    Ok(cause)
-}
-
 /// The causes of these desks, each in a store of its own.
 fn causes(alloc: Global, desks: &[&'static [Write]]) -> Result<String, Fail> {
     let mut text = String::new(alloc);
     for &writes in desks {
-        let mut conn = Connection::open_in_memory(alloc)?;
-        let cause = told_in_new(alloc, &mut conn, writes)?;
+        let mut conn = desk_with(alloc, Connection::open_in_memory(alloc)?, writes)?;
+        let cause = cause_in(alloc, &mut conn)?;
         write!(text, "{cause}")?;
     }
     Ok(text)
@@ -344,8 +348,8 @@ const FILE: &str = "doubtful-desk-of-the-tests.db";
 const LOG: &str = "doubtful-desk-of-the-tests.db-wal";
 
 fn cause_in_file(rt: &HostRuntime, writes: &[Write]) -> Result<u8, Fail> {
-    let mut conn = Connection::open(rt, FILE)?;
-    let cause = told_in_new(rt.alloc(), &mut conn, writes)?;
+    let mut conn = desk_with(rt.alloc(), Connection::open(rt, FILE)?, writes)?;
+    let cause = cause_in(rt.alloc(), &mut conn)?;
     conn.close()?;
     Ok(cause)
 }

@@ -5,9 +5,9 @@
 ghost use Rattle.std.specs.Prelude.{OnOk};
 ghost use Rattle.sqlite.specs.Held.{state};
 ghost use Rattle.tree_core.specs.Versions.{Links};
-ghost use Rattle.office_tables.specs.Step.{InTransaction};
+ghost use Rattle.office_tables.specs.Step.{AreTables, InTransaction};
 
-use crate::tests::{Query, new_office, show_rows, two_units};
+use crate::tests::{Query, make_office, show_rows, two_units};
 use catalogue_store::{LinkPlaces, StoreFault, begin, commit};
 use desk_core::Place;
 use desk_store::{
@@ -16,7 +16,7 @@ use desk_store::{
     set_place, set_seat, ticket_holder,
 };
 use isad_core::{Day, Text};
-use office_tables::roll_back;
+use office_tables::{Tables, roll_back};
 use sqlite::{Alter, Connection};
 use std::alloc::Global;
 use std::process::Abort;
@@ -31,38 +31,31 @@ pub(crate) fn day_after(days: u8) -> Result<Day, StoreFault> {
 }
 
 /// Registers a reader with a ticket for the first day only, and writes the ticket.
-#[tactic(auto, using(crate::proofs::Going::went_on))]
 pub(crate) fn register<S: Alter>(
     alloc: Global,
-    conn: &mut Connection<S>,
+    tables: &mut Tables<LinkPlaces, S>,
     name: &str,
     text: &mut String,
-) -> Result<(), StoreFault>
-    requires inside { InTransaction Links (state S.Store conn.old) }
-    ensures inside { OnOk result (InTransaction Links (state S.Store conn.new)) }
-{
+) -> Result<(), StoreFault> {
     let name = Text::new(alloc, name)?;
-    let ticket = add_reader(conn, &name, day_after(0)?)?.unwrap_or(0);
+    let ticket = add_reader(tables, &name, day_after(0)?)?.unwrap_or(0);
     write!(text, "{ticket}\n")?;
     Ok(())
 }
 
 /// Ann's ticket 1 is renewed. Bob takes a seat and leaves it; Ann takes the second seat.
-#[tactic(auto, using(crate::proofs::Going::went_on))]
 fn take_seats<S: Alter>(
     alloc: Global,
-    conn: &mut Connection<S>,
+    tables: &mut Tables<LinkPlaces, S>,
     text: &mut String,
-) -> Result<(), StoreFault>
-    requires inside { InTransaction Links (state S.Store conn.old) }
-{
-    register(alloc, conn, "Ann", text)?;
-    register(alloc, conn, "Bob", text)?;
-    renew(conn, 1, day_after(9)?)?;
-    set_seat(conn, 1, Some(2))?;
-    set_seat(conn, 2, Some(1))?;
-    set_seat(conn, 1, None)?;
-    for taken in &seats(alloc, conn)? {
+) -> Result<(), StoreFault> {
+    register(alloc, tables, "Ann", text)?;
+    register(alloc, tables, "Bob", text)?;
+    renew(tables, 1, day_after(9)?)?;
+    set_seat(tables, 1, Some(2))?;
+    set_seat(tables, 2, Some(1))?;
+    set_seat(tables, 1, None)?;
+    for taken in &seats(alloc, tables)? {
         let (seat, ticket) = (taken.seat, taken.ticket);
         write!(text, "{seat} {ticket}\n")?;
     }
@@ -70,35 +63,28 @@ fn take_seats<S: Alter>(
 }
 
 /// Ann orders containers 1 and 2, and has the first.
-#[tactic(auto, using(crate::proofs::Going::went_on))]
 fn place_orders<S: Alter>(
     alloc: Global,
-    conn: &mut Connection<S>,
+    tables: &mut Tables<LinkPlaces, S>,
     text: &mut String,
-) -> Result<(), StoreFault>
-    requires inside { InTransaction Links (state S.Store conn.old) }
-    ensures inside { OnOk result (InTransaction Links (state S.Store conn.new)) }
-{
-    register(alloc, conn, "Ann", text)?;
-    append_order(conn, 1, 1, 1, day_after(0)?)?;
-    append_order(conn, 2, 1, 2, day_after(1)?)?;
-    end_order(conn, 1, OrderState::Out)?;
-    set_place(conn, 2, Place::Desk)?;
-    set_place(conn, 1, Place::Out(1))
+) -> Result<(), StoreFault> {
+    register(alloc, tables, "Ann", text)?;
+    append_order(tables, 1, 1, 1, day_after(0)?)?;
+    append_order(tables, 2, 1, 2, day_after(1)?)?;
+    end_order(tables, 1, OrderState::Out)?;
+    set_place(tables, 2, Place::Desk)?;
+    set_place(tables, 1, Place::Out(1))
 }
 
 /// Ann's card on the second day, and that nobody has ticket 9.
-#[tactic(auto, using(crate::proofs::Going::looked_on))]
 fn read_card<S: Alter>(
     alloc: Global,
-    conn: &mut Connection<S>,
+    tables: &mut Tables<LinkPlaces, S>,
     text: &mut String,
-) -> Result<(), StoreFault>
-    requires inside { InTransaction Links (state S.Store conn.old) }
-{
-    place_orders(alloc, conn, text)?;
+) -> Result<(), StoreFault> {
+    place_orders(alloc, tables, text)?;
     let day = day_after(1)?;
-    if let Some(card) = &reader(alloc, conn, 1, day)? {
+    if let Some(card) = &reader(alloc, tables, 1, day)? {
         let (held, placed, orders) = (card.reader.held, card.placed, card.orders);
         write!(text, "{held} {placed} {orders}\n")?;
         for live in card.live.as_slice() {
@@ -106,23 +92,19 @@ fn read_card<S: Alter>(
             write!(text, "{order} {container} {is_out}\n")?;
         }
     }
-    let is_unknown = reader(alloc, conn, 9, day)?.is_none();
+    let is_unknown = reader(alloc, tables, 9, day)?.is_none();
     write!(text, "{is_unknown}\n")?;
     Ok(())
 }
 
 /// The seat and the number of containers of the reader who has a ticket.
-#[tactic(auto, using(crate::proofs::Going::looked_on))]
 fn show_holder<S: Alter>(
     alloc: Global,
-    conn: &mut Connection<S>,
+    tables: &mut Tables<LinkPlaces, S>,
     ticket: u64,
     text: &mut String,
-) -> Result<(), StoreFault>
-    requires inside { InTransaction Links (state S.Store conn.old) }
-    ensures inside { OnOk result (InTransaction Links (state S.Store conn.new)) }
-{
-    let Some(holder) = ticket_holder(alloc, conn, ticket)? else {
+) -> Result<(), StoreFault> {
+    let Some(holder) = ticket_holder(alloc, tables, ticket)? else {
         text.push_str("nobody\n")?;
         return Ok(());
     };
@@ -132,59 +114,50 @@ fn show_holder<S: Alter>(
 }
 
 /// Ann has container 1 and no seat, Bob has seat 2 and no container, and nobody has ticket 3.
-#[tactic(auto, using(crate::proofs::Going::went_on))]
 fn held<S: Alter>(
     alloc: Global,
-    conn: &mut Connection<S>,
+    tables: &mut Tables<LinkPlaces, S>,
     text: &mut String,
-) -> Result<(), StoreFault>
-    requires inside { InTransaction Links (state S.Store conn.old) }
-{
-    place_orders(alloc, conn, text)?;
-    register(alloc, conn, "Bob", text)?;
-    set_seat(conn, 2, Some(2))?;
-    show_holder(alloc, conn, 1, text)?;
-    show_holder(alloc, conn, 2, text)?;
-    show_holder(alloc, conn, 3, text)
+) -> Result<(), StoreFault> {
+    place_orders(alloc, tables, text)?;
+    register(alloc, tables, "Bob", text)?;
+    set_seat(tables, 2, Some(2))?;
+    show_holder(alloc, tables, 1, text)?;
+    show_holder(alloc, tables, 2, text)?;
+    show_holder(alloc, tables, 3, text)
 }
 
 /// Ann returns container 1, and order 2 is cancelled: whether order 1 is done, and order 3 unknown.
-#[tactic(auto, using(crate::proofs::Going::went_on))]
 fn end_orders<S: Alter>(
     alloc: Global,
-    conn: &mut Connection<S>,
+    tables: &mut Tables<LinkPlaces, S>,
     text: &mut String,
-) -> Result<(), StoreFault>
-    requires inside { InTransaction Links (state S.Store conn.old) }
-{
-    place_orders(alloc, conn, text)?;
-    end_order(conn, 1, OrderState::Done)?;
-    set_place(conn, 1, Place::Shelf)?;
-    end_order(conn, 2, OrderState::Cancelled)?;
-    let is_done = order(alloc, conn, 1)?.is_some_and(|placed| placed.state == OrderState::Done);
-    let is_unknown = order(alloc, conn, 3)?.is_none();
+) -> Result<(), StoreFault> {
+    place_orders(alloc, tables, text)?;
+    end_order(tables, 1, OrderState::Done)?;
+    set_place(tables, 1, Place::Shelf)?;
+    end_order(tables, 2, OrderState::Cancelled)?;
+    let is_done = order(alloc, tables, 1)?.is_some_and(|placed| placed.state == OrderState::Done);
+    let is_unknown = order(alloc, tables, 3)?.is_none();
     write!(text, "{is_done} {is_unknown}\n")?;
     Ok(())
 }
 
 /// Records a run that brought container 2 for order 2, and lists what is out.
-#[tactic(auto, using(crate::proofs::Going::went_on))]
 fn brought<S: Alter>(
     alloc: Global,
-    conn: &mut Connection<S>,
+    tables: &mut Tables<LinkPlaces, S>,
     text: &mut String,
-) -> Result<(), StoreFault>
-    requires inside { InTransaction Links (state S.Store conn.old) }
-{
-    place_orders(alloc, conn, text)?;
+) -> Result<(), StoreFault> {
+    place_orders(alloc, tables, text)?;
     let taken = [FirstOrder {
         container: 2,
         order: 2,
         ticket: 1,
     }];
-    let run = record_run(conn, day_after(1)?, &taken)?.unwrap_or(0);
+    let run = record_run(tables, day_after(1)?, &taken)?.unwrap_or(0);
     write!(text, "{run}\n")?;
-    for loan in &issued(alloc, conn)? {
+    for loan in &issued(alloc, tables)? {
         let (container, order, ticket) = (loan.container, loan.order, loan.ticket);
         write!(text, "{container} {order} {ticket}\n")?;
     }
@@ -192,20 +165,17 @@ fn brought<S: Alter>(
 }
 
 /// Ann has permits for units 1 and 2; the second is extended and the first is revoked.
-#[tactic(auto, using(crate::proofs::Going::went_on))]
 fn grant_permits<S: Alter>(
     alloc: Global,
-    conn: &mut Connection<S>,
+    tables: &mut Tables<LinkPlaces, S>,
     text: &mut String,
-) -> Result<(), StoreFault>
-    requires inside { InTransaction Links (state S.Store conn.old) }
-{
-    two_units::<LinkPlaces, S>(alloc, conn)?;
-    grant(conn, 1, 1, day_after(0)?)?;
-    grant(conn, 1, 2, day_after(0)?)?;
-    grant(conn, 1, 2, day_after(9)?)?;
-    revoke(conn, 1, 1)?;
-    for permit in &permits(alloc, conn, 1)? {
+) -> Result<(), StoreFault> {
+    two_units(alloc, tables)?;
+    grant(tables, 1, 1, day_after(0)?)?;
+    grant(tables, 1, 2, day_after(0)?)?;
+    grant(tables, 1, 2, day_after(9)?)?;
+    revoke(tables, 1, 1)?;
+    for permit in &permits(alloc, tables, 1)? {
         let (unit, until) = (permit.unit, permit.until.number());
         write!(text, "{unit} {until}\n")?;
     }
@@ -214,44 +184,38 @@ fn grant_permits<S: Alter>(
 
 /// Orders 1 to 4 wait for containers 2, 1, 2 and 3, and container 3 is at the desk: what a run may take, what is at the
 /// desk, and that container 1 and run 1 are unknown.
-#[tactic(auto, using(crate::proofs::Going::went_on, crate::proofs::Going::looked_on))]
 fn pick_run<S: Alter>(
     alloc: Global,
-    conn: &mut Connection<S>,
+    tables: &mut Tables<LinkPlaces, S>,
     text: &mut String,
-) -> Result<(), StoreFault>
-    requires inside { InTransaction Links (state S.Store conn.old) }
-{
-    append_order(conn, 1, 7, 2, day_after(0)?)?;
-    append_order(conn, 2, 7, 1, day_after(0)?)?;
-    append_order(conn, 3, 8, 2, day_after(0)?)?;
-    append_order(conn, 4, 8, 3, day_after(0)?)?;
-    set_place(conn, 3, Place::Desk)?;
-    for first in &candidates(alloc, conn)? {
+) -> Result<(), StoreFault> {
+    append_order(tables, 1, 7, 2, day_after(0)?)?;
+    append_order(tables, 2, 7, 1, day_after(0)?)?;
+    append_order(tables, 3, 8, 2, day_after(0)?)?;
+    append_order(tables, 4, 8, 3, day_after(0)?)?;
+    set_place(tables, 3, Place::Desk)?;
+    for first in &candidates(alloc, tables)? {
         let (container, order, ticket) = (first.container, first.order, first.ticket);
         write!(text, "{container} {order} {ticket}\n")?;
     }
-    for &(container, awaited) in &at_desk(alloc, conn)? {
+    for &(container, awaited) in &at_desk(alloc, tables)? {
         write!(text, "{container} {awaited}\n")?;
     }
-    let is_unknown = queue(alloc, conn, 1)?.is_none();
-    let is_unmade = run(alloc, conn, 1)?.is_none();
+    let is_unknown = queue(alloc, tables, 1)?.is_none();
+    let is_unmade = run(alloc, tables, 1)?.is_none();
     write!(text, "{is_unknown} {is_unmade}\n")?;
     Ok(())
 }
 
 /// Bob takes a seat, and the next day begins.
-#[tactic(auto, using(crate::proofs::Going::went_on))]
 fn open_next_day<S: Alter>(
     alloc: Global,
-    conn: &mut Connection<S>,
+    tables: &mut Tables<LinkPlaces, S>,
     text: &mut String,
-) -> Result<(), StoreFault>
-    requires inside { InTransaction Links (state S.Store conn.old) }
-{
-    register(alloc, conn, "Bob", text)?;
-    set_seat(conn, 2, Some(1))?;
-    open_day(conn, day_after(1)?)
+) -> Result<(), StoreFault> {
+    register(alloc, tables, "Bob", text)?;
+    set_seat(tables, 2, Some(1))?;
+    open_day(tables, day_after(1)?)
 }
 
 /// What is done in a new office.
@@ -270,27 +234,25 @@ enum Act {
 /// Does it, and writes the results of the calls.
 fn carry_out<S: Alter>(
     alloc: Global,
-    conn: &mut Connection<S>,
+    tables: &mut Tables<LinkPlaces, S>,
     done: Act,
     text: &mut String,
-) -> Result<(), StoreFault>
-    requires inside { InTransaction Links (state S.Store conn.old) }
-{
+) -> Result<(), StoreFault> {
     match done {
-        Act::Sit => take_seats(alloc, conn, text),
-        Act::Card => read_card(alloc, conn, text),
-        Act::Hold => held(alloc, conn, text),
-        Act::End => end_orders(alloc, conn, text),
-        Act::Run => brought(alloc, conn, text),
-        Act::Permit => grant_permits(alloc, conn, text),
-        Act::Pick => pick_run(alloc, conn, text),
-        Act::Open => open_next_day(alloc, conn, text),
+        Act::Sit => take_seats(alloc, tables, text),
+        Act::Card => read_card(alloc, tables, text),
+        Act::Hold => held(alloc, tables, text),
+        Act::End => end_orders(alloc, tables, text),
+        Act::Run => brought(alloc, tables, text),
+        Act::Permit => grant_permits(alloc, tables, text),
+        Act::Pick => pick_run(alloc, tables, text),
+        Act::Open => open_next_day(alloc, tables, text),
     }
 }
 
 /// Commits what was done, and begins another transaction.
 pub(crate) fn next_turn<S: Alter>(conn: &mut Connection<S>) -> Result<(), StoreFault>
-    requires inside { InTransaction Links (state S.Store conn.old) }
+    requires are { AreTables Links (state S.Store conn.old) }
     ensures inside { OnOk result (InTransaction Links (state S.Store conn.new)) }
 {
     commit(conn)?;
@@ -321,28 +283,22 @@ fn taken_back<S: Alter>(
     }
 }
 
-/// The results of the calls, and then the rows of these queries.
-fn told<S: Alter>(
-    alloc: Global,
-    conn: &mut Connection<S>,
-    done: Act,
-    queries: &[Query],
-) -> Result<String, Fail> {
+/// The results of the calls in a new office, and then the rows of these queries.
+fn told(alloc: Global, done: Act, queries: &[Query]) -> Result<String, Fail> {
     let mut text = String::new(alloc);
-    new_office::<LinkPlaces, S>(alloc, conn)?;
-    next_turn(conn)?;
-    if let Err(fault) = carry_out(alloc, conn, done, &mut text) {
-        taken_back(alloc, conn, fault)?;
+    let mut conn = Connection::open_in_memory(alloc)?;
+    make_office::<LinkPlaces, _>(alloc, &mut conn)?;
+    next_turn(&mut conn)?;
+    let mut tables = Tables::<LinkPlaces, _>::inside(conn);
+    let outcome = carry_out(alloc, &mut tables, done, &mut text);
+    let mut conn = tables.into_connection();
+    if let Err(fault) = outcome {
+        taken_back(alloc, &mut conn, fault)?;
     }
     for query in queries {
-        show_rows(&mut text, conn, *query)?;
+        show_rows(&mut text, &mut conn, *query)?;
     }
     Ok(text)
-}
-
-fn told_in_memory(alloc: Global, done: Act, queries: &[Query]) -> Result<String, Fail> {
-    let mut conn = Connection::open_in_memory(alloc)?;
-    told(alloc, &mut conn, done, queries)
 }
 
 /// What is done, the queries that are then asked, and the expected text.
@@ -350,7 +306,7 @@ type Case = (Act, &'static [Query], &'static str);
 
 fn see(rt: &impl Abort, alloc: Global, cases: &[Case]) -> Result<(), Fail> {
     for &(done, queries, wanted) in cases {
-        let text = told_in_memory(alloc, done, queries)?;
+        let text = told(alloc, done, queries)?;
         assert_eq!(rt; text.as_str(), wanted);
     }
     Ok(())

@@ -1,10 +1,7 @@
 //! Days in the reading room, by the desk's calls: their results and the rows in the tables, in memory and in a file.
 
-ghost use Rattle.std.specs.Prelude.{◌<◌, ◌^◌, OnOk};
+ghost use Rattle.std.specs.Prelude.{◌<◌, ◌^◌};
 ghost use Rattle.std.specs.List.{AllByRecursion};
-ghost use Rattle.sqlite.specs.Held.{state};
-ghost use Rattle.tree_core.specs.Versions.{Links};
-ghost use Rattle.office_tables.specs.Step.{InTransaction};
 ghost use Rattle.desk_store.specs.Runs.{IsNumbered};
 
 use crate::desk::{day_after, register};
@@ -16,6 +13,7 @@ use desk_store::{
     reader, record_run, renew, run, seats, set_place, set_seat,
 };
 use isad_core::{BoxKey, List, Text, Values};
+use office_tables::Tables;
 use sqlite::{Alter, Connection};
 use std::alloc::{AllocError, Global};
 use std::process::Abort;
@@ -38,17 +36,14 @@ fn one_box(alloc: Global, name: &str, location: &str) -> Result<Values, AllocErr
 }
 
 /// Adds a published top in a container of its own.
-#[tactic(auto, using(crate::proofs::Going::went_on))]
 fn add_boxed<S: Alter>(
     alloc: Global,
-    conn: &mut Connection<S>,
+    tables: &mut Tables<LinkPlaces, S>,
     id: u64,
     name: &str,
     location: &str,
 ) -> Result<(), StoreFault>
-    requires inside { InTransaction Links (state S.Store conn.old) }
     requires small { id < 2 ^ 62 }
-    ensures inside { OnOk result (InTransaction Links (state S.Store conn.new)) }
 {
     let values = one_box(alloc, name, location)?;
     let source = Text::new(alloc, "a")?;
@@ -60,36 +55,29 @@ fn add_boxed<S: Alter>(
         values: &values,
         draft: false,
     };
-    add_unit::<LinkPlaces, S>(alloc, conn, None, &unit)
+    add_unit(alloc, tables, None, &unit)
 }
 
 /// Containers 1 to 3 in two strongrooms, and Ann, with ticket 1.
 pub(crate) fn furnished<S: Alter>(
     alloc: Global,
-    conn: &mut Connection<S>,
+    tables: &mut Tables<LinkPlaces, S>,
     text: &mut String,
-) -> Result<(), StoreFault>
-    requires inside { InTransaction Links (state S.Store conn.old) }
-    ensures inside { OnOk result (InTransaction Links (state S.Store conn.new)) }
-{
-    add_boxed(alloc, conn, 1, "Box 1", "Strongroom 2")?;
-    add_boxed(alloc, conn, 2, "Box 2", "Strongroom 1")?;
-    add_boxed(alloc, conn, 3, "Box 3", "Strongroom 1")?;
-    register(alloc, conn, "Ann", text)
+) -> Result<(), StoreFault> {
+    add_boxed(alloc, tables, 1, "Box 1", "Strongroom 2")?;
+    add_boxed(alloc, tables, 2, "Box 2", "Strongroom 1")?;
+    add_boxed(alloc, tables, 3, "Box 3", "Strongroom 1")?;
+    register(alloc, tables, "Ann", text)
 }
 
 /// Who waits for a container, and where it is.
-#[tactic(auto, using(crate::proofs::Going::looked_on))]
 fn show_queue<S: Alter>(
     alloc: Global,
-    conn: &mut Connection<S>,
+    tables: &mut Tables<LinkPlaces, S>,
     container: u64,
     text: &mut String,
-) -> Result<(), StoreFault>
-    requires inside { InTransaction Links (state S.Store conn.old) }
-    ensures inside { OnOk result (InTransaction Links (state S.Store conn.new)) }
-{
-    let Some(known) = queue(alloc, conn, container)? else {
+) -> Result<(), StoreFault> {
+    let Some(known) = queue(alloc, tables, container)? else {
         text.push_str("unknown\n")?;
         return Ok(());
     };
@@ -108,16 +96,12 @@ fn show_queue<S: Alter>(
 }
 
 /// The containers that a run may take, each with its first order and that order's ticket.
-#[tactic(auto, using(crate::proofs::Going::looked_on))]
 fn show_candidates<S: Alter>(
     alloc: Global,
-    conn: &mut Connection<S>,
+    tables: &mut Tables<LinkPlaces, S>,
     text: &mut String,
-) -> Result<(), StoreFault>
-    requires inside { InTransaction Links (state S.Store conn.old) }
-    ensures inside { OnOk result (InTransaction Links (state S.Store conn.new)) }
-{
-    for first in &candidates(alloc, conn)? {
+) -> Result<(), StoreFault> {
+    for first in &candidates(alloc, tables)? {
         let (container, order, ticket) = (first.container, first.order, first.ticket);
         write!(text, "{container} {order} {ticket}\n")?;
     }
@@ -125,33 +109,26 @@ fn show_candidates<S: Alter>(
 }
 
 /// Records a run on the first day that brings these containers to the desk, and returns its number.
-#[tactic(auto, using(crate::proofs::Going::went_on))]
 fn fetch<S: Alter>(
-    conn: &mut Connection<S>,
+    tables: &mut Tables<LinkPlaces, S>,
     taken: &[FirstOrder],
     text: &mut String,
 ) -> Result<(), StoreFault>
-    requires inside { InTransaction Links (state S.Store conn.old) }
     requires lines { AllByRecursion IsNumbered taken.now }
-    ensures inside { OnOk result (InTransaction Links (state S.Store conn.new)) }
 {
-    let run = record_run(conn, day_after(0)?, taken)?.unwrap_or(0);
+    let run = record_run(tables, day_after(0)?, taken)?.unwrap_or(0);
     write!(text, "run {run}\n")?;
     Ok(())
 }
 
 /// The slip of a run.
-#[tactic(auto, using(crate::proofs::Going::looked_on))]
 fn show_slip<S: Alter>(
     alloc: Global,
-    conn: &mut Connection<S>,
+    tables: &mut Tables<LinkPlaces, S>,
     number: u64,
     text: &mut String,
-) -> Result<(), StoreFault>
-    requires inside { InTransaction Links (state S.Store conn.old) }
-    ensures inside { OnOk result (InTransaction Links (state S.Store conn.new)) }
-{
-    let Some(brought) = run(alloc, conn, number)? else {
+) -> Result<(), StoreFault> {
+    let Some(brought) = run(alloc, tables, number)? else {
         text.push_str("no run\n")?;
         return Ok(());
     };
@@ -163,50 +140,47 @@ fn show_slip<S: Alter>(
 }
 
 /// Issues a container for an order.
-fn lend<S: Alter>(conn: &mut Connection<S>, container: u64, order: u64) -> Result<(), StoreFault>
-    requires inside { InTransaction Links (state S.Store conn.old) }
+fn lend<S: Alter>(
+    tables: &mut Tables<LinkPlaces, S>,
+    container: u64,
+    order: u64,
+) -> Result<(), StoreFault>
     requires container { container < 2 ^ 63 }
     requires order { order < 2 ^ 63 }
-    ensures inside { OnOk result (InTransaction Links (state S.Store conn.new)) }
 {
-    end_order(conn, order, OrderState::Out)?;
-    set_place(conn, container, Place::Out(order))
+    end_order(tables, order, OrderState::Out)?;
+    set_place(tables, container, Place::Out(order))
 }
 
 /// Returns a container that was out with an order to the desk.
 fn give_back<S: Alter>(
-    conn: &mut Connection<S>,
+    tables: &mut Tables<LinkPlaces, S>,
     container: u64,
     order: u64,
 ) -> Result<(), StoreFault>
-    requires inside { InTransaction Links (state S.Store conn.old) }
     requires container { container < 2 ^ 63 }
     requires order { order < 2 ^ 63 }
-    ensures inside { OnOk result (InTransaction Links (state S.Store conn.new)) }
 {
-    end_order(conn, order, OrderState::Done)?;
-    set_place(conn, container, Place::Desk)
+    end_order(tables, order, OrderState::Done)?;
+    set_place(tables, container, Place::Desk)
 }
 
 /// Two orders wait for container 1. A run brings it; it is issued for the first and, once returned, waits for the
 /// second.
 fn lent_in_turn<S: Alter>(
     alloc: Global,
-    conn: &mut Connection<S>,
+    tables: &mut Tables<LinkPlaces, S>,
     text: &mut String,
-) -> Result<(), StoreFault>
-    requires inside { InTransaction Links (state S.Store conn.old) }
-    ensures inside { OnOk result (InTransaction Links (state S.Store conn.new)) }
-{
-    place_two(alloc, conn, text)?;
-    show_candidates(alloc, conn, text)?;
-    fetch(conn, &[FIRST], text)?;
-    set_place(conn, 1, Place::Desk)?;
-    show_queue(alloc, conn, 1, text)?;
-    lend(conn, 1, 1)?;
-    show_queue(alloc, conn, 1, text)?;
-    give_back(conn, 1, 1)?;
-    show_queue(alloc, conn, 1, text)
+) -> Result<(), StoreFault> {
+    place_two(alloc, tables, text)?;
+    show_candidates(alloc, tables, text)?;
+    fetch(tables, &[FIRST], text)?;
+    set_place(tables, 1, Place::Desk)?;
+    show_queue(alloc, tables, 1, text)?;
+    lend(tables, 1, 1)?;
+    show_queue(alloc, tables, 1, text)?;
+    give_back(tables, 1, 1)?;
+    show_queue(alloc, tables, 1, text)
 }
 
 /// Order 1 for container 1, with Ann's ticket.
@@ -217,56 +191,45 @@ const FIRST: FirstOrder = FirstOrder {
 };
 
 /// Ann and Bob order container 1.
-#[tactic(auto, using(crate::proofs::Going::went_on))]
 fn place_two<S: Alter>(
     alloc: Global,
-    conn: &mut Connection<S>,
+    tables: &mut Tables<LinkPlaces, S>,
     text: &mut String,
-) -> Result<(), StoreFault>
-    requires inside { InTransaction Links (state S.Store conn.old) }
-    ensures inside { OnOk result (InTransaction Links (state S.Store conn.new)) }
-{
-    furnished(alloc, conn, text)?;
-    register(alloc, conn, "Bob", text)?;
-    append_order(conn, 1, 1, 1, day_after(0)?)?;
-    append_order(conn, 2, 2, 1, day_after(0)?)
+) -> Result<(), StoreFault> {
+    furnished(alloc, tables, text)?;
+    register(alloc, tables, "Bob", text)?;
+    append_order(tables, 1, 1, 1, day_after(0)?)?;
+    append_order(tables, 2, 2, 1, day_after(0)?)
 }
 
 /// Ann orders containers 1, 2 and 3.
-#[tactic(auto, using(crate::proofs::Going::went_on))]
 fn place_three<S: Alter>(
     alloc: Global,
-    conn: &mut Connection<S>,
+    tables: &mut Tables<LinkPlaces, S>,
     text: &mut String,
-) -> Result<(), StoreFault>
-    requires inside { InTransaction Links (state S.Store conn.old) }
-    ensures inside { OnOk result (InTransaction Links (state S.Store conn.new)) }
-{
-    furnished(alloc, conn, text)?;
-    append_order(conn, 1, 1, 1, day_after(0)?)?;
-    append_order(conn, 2, 1, 2, day_after(0)?)?;
-    append_order(conn, 3, 1, 3, day_after(0)?)
+) -> Result<(), StoreFault> {
+    furnished(alloc, tables, text)?;
+    append_order(tables, 1, 1, 1, day_after(0)?)?;
+    append_order(tables, 2, 1, 2, day_after(0)?)?;
+    append_order(tables, 3, 1, 3, day_after(0)?)
 }
 
 /// The first run takes two of three containers, the second the last; each with its slip.
 fn fetched_in_two_runs<S: Alter>(
     alloc: Global,
-    conn: &mut Connection<S>,
+    tables: &mut Tables<LinkPlaces, S>,
     text: &mut String,
-) -> Result<(), StoreFault>
-    requires inside { InTransaction Links (state S.Store conn.old) }
-    ensures inside { OnOk result (InTransaction Links (state S.Store conn.new)) }
-{
-    place_three(alloc, conn, text)?;
-    show_candidates(alloc, conn, text)?;
-    fetch(conn, &[FIRST, SECOND], text)?;
-    set_place(conn, 1, Place::Desk)?;
-    set_place(conn, 2, Place::Desk)?;
-    show_candidates(alloc, conn, text)?;
-    fetch(conn, &[THIRD], text)?;
-    show_slip(alloc, conn, 1, text)?;
-    show_slip(alloc, conn, 2, text)?;
-    show_slip(alloc, conn, 3, text)
+) -> Result<(), StoreFault> {
+    place_three(alloc, tables, text)?;
+    show_candidates(alloc, tables, text)?;
+    fetch(tables, &[FIRST, SECOND], text)?;
+    set_place(tables, 1, Place::Desk)?;
+    set_place(tables, 2, Place::Desk)?;
+    show_candidates(alloc, tables, text)?;
+    fetch(tables, &[THIRD], text)?;
+    show_slip(alloc, tables, 1, text)?;
+    show_slip(alloc, tables, 2, text)?;
+    show_slip(alloc, tables, 3, text)
 }
 
 const SECOND: FirstOrder = FirstOrder {
@@ -282,17 +245,13 @@ const THIRD: FirstOrder = FirstOrder {
 };
 
 /// How many orders Ann placed on a day, the last day of her ticket, and how many orders there are.
-#[tactic(auto, using(crate::proofs::Going::looked_on))]
 fn show_card<S: Alter>(
     alloc: Global,
-    conn: &mut Connection<S>,
+    tables: &mut Tables<LinkPlaces, S>,
     days: u8,
     text: &mut String,
-) -> Result<(), StoreFault>
-    requires inside { InTransaction Links (state S.Store conn.old) }
-    ensures inside { OnOk result (InTransaction Links (state S.Store conn.new)) }
-{
-    let Some(card) = reader(alloc, conn, 1, day_after(days)?)? else {
+) -> Result<(), StoreFault> {
+    let Some(card) = reader(alloc, tables, 1, day_after(days)?)? else {
         text.push_str("no reader\n")?;
         return Ok(());
     };
@@ -303,36 +262,28 @@ fn show_card<S: Alter>(
 
 /// Ended orders count on the day on which they were placed, and not on the next; a ticket keeps its last day until it
 /// is renewed.
-#[tactic(auto, using(crate::proofs::Going::went_on))]
 fn counted_by_day<S: Alter>(
     alloc: Global,
-    conn: &mut Connection<S>,
+    tables: &mut Tables<LinkPlaces, S>,
     text: &mut String,
-) -> Result<(), StoreFault>
-    requires inside { InTransaction Links (state S.Store conn.old) }
-    ensures inside { OnOk result (InTransaction Links (state S.Store conn.new)) }
-{
-    place_three(alloc, conn, text)?;
-    end_order(conn, 1, OrderState::Cancelled)?;
-    show_card(alloc, conn, 0, text)?;
-    open_day(conn, day_after(1)?)?;
-    show_card(alloc, conn, 1, text)?;
-    renew(conn, 1, day_after(200)?)?;
-    append_order(conn, 4, 1, 1, day_after(1)?)?;
-    show_card(alloc, conn, 1, text)
+) -> Result<(), StoreFault> {
+    place_three(alloc, tables, text)?;
+    end_order(tables, 1, OrderState::Cancelled)?;
+    show_card(alloc, tables, 0, text)?;
+    open_day(tables, day_after(1)?)?;
+    show_card(alloc, tables, 1, text)?;
+    renew(tables, 1, day_after(200)?)?;
+    append_order(tables, 4, 1, 1, day_after(1)?)?;
+    show_card(alloc, tables, 1, text)
 }
 
 /// The seats that are taken, each with its ticket.
-#[tactic(auto, using(crate::proofs::Going::looked_on))]
 fn show_seats<S: Alter>(
     alloc: Global,
-    conn: &mut Connection<S>,
+    tables: &mut Tables<LinkPlaces, S>,
     text: &mut String,
-) -> Result<(), StoreFault>
-    requires inside { InTransaction Links (state S.Store conn.old) }
-    ensures inside { OnOk result (InTransaction Links (state S.Store conn.new)) }
-{
-    for taken in &seats(alloc, conn)? {
+) -> Result<(), StoreFault> {
+    for taken in &seats(alloc, tables)? {
         let (seat, ticket) = (taken.seat, taken.ticket);
         write!(text, "{seat} {ticket}\n")?;
     }
@@ -340,40 +291,32 @@ fn show_seats<S: Alter>(
 }
 
 /// Ann and Bob have the two seats; Ann leaves, Cy takes hers, and a day later all seats are free.
-#[tactic(auto, using(crate::proofs::Going::went_on))]
 fn seated_in_turn<S: Alter>(
     alloc: Global,
-    conn: &mut Connection<S>,
+    tables: &mut Tables<LinkPlaces, S>,
     text: &mut String,
-) -> Result<(), StoreFault>
-    requires inside { InTransaction Links (state S.Store conn.old) }
-    ensures inside { OnOk result (InTransaction Links (state S.Store conn.new)) }
-{
-    place_two(alloc, conn, text)?;
-    register(alloc, conn, "Cy", text)?;
-    set_seat(conn, 1, Some(1))?;
-    set_seat(conn, 2, Some(2))?;
-    set_seat(conn, 1, None)?;
-    set_seat(conn, 1, Some(3))?;
-    show_seats(alloc, conn, text)?;
-    open_day(conn, day_after(1)?)?;
-    show_seats(alloc, conn, text)
+) -> Result<(), StoreFault> {
+    place_two(alloc, tables, text)?;
+    register(alloc, tables, "Cy", text)?;
+    set_seat(tables, 1, Some(1))?;
+    set_seat(tables, 2, Some(2))?;
+    set_seat(tables, 1, None)?;
+    set_seat(tables, 1, Some(3))?;
+    show_seats(alloc, tables, text)?;
+    open_day(tables, day_after(1)?)?;
+    show_seats(alloc, tables, text)
 }
 
 /// The containers at the desk, and whether somebody waits for each.
-#[tactic(auto, using(crate::proofs::Going::looked_on))]
 fn show_desk<S: Alter>(
     alloc: Global,
-    conn: &mut Connection<S>,
+    tables: &mut Tables<LinkPlaces, S>,
     text: &mut String,
-) -> Result<(), StoreFault>
-    requires inside { InTransaction Links (state S.Store conn.old) }
-    ensures inside { OnOk result (InTransaction Links (state S.Store conn.new)) }
-{
-    for &(container, awaited) in &at_desk(alloc, conn)? {
+) -> Result<(), StoreFault> {
+    for &(container, awaited) in &at_desk(alloc, tables)? {
         write!(text, "{container} {awaited}\n")?;
     }
-    let out = issued(alloc, conn)?.len();
+    let out = issued(alloc, tables)?.len();
     write!(text, "{out} out\n")?;
     Ok(())
 }
@@ -381,22 +324,19 @@ fn show_desk<S: Alter>(
 /// One of two containers at the desk is issued and returned; nobody waits for it, and it goes to the shelf.
 fn reshelve<S: Alter>(
     alloc: Global,
-    conn: &mut Connection<S>,
+    tables: &mut Tables<LinkPlaces, S>,
     text: &mut String,
-) -> Result<(), StoreFault>
-    requires inside { InTransaction Links (state S.Store conn.old) }
-    ensures inside { OnOk result (InTransaction Links (state S.Store conn.new)) }
-{
-    place_three(alloc, conn, text)?;
-    set_place(conn, 1, Place::Desk)?;
-    set_place(conn, 2, Place::Desk)?;
-    lend(conn, 1, 1)?;
-    show_desk(alloc, conn, text)?;
-    give_back(conn, 1, 1)?;
-    show_desk(alloc, conn, text)?;
-    set_place(conn, 1, Place::Shelf)?;
-    show_desk(alloc, conn, text)?;
-    show_queue(alloc, conn, 2, text)
+) -> Result<(), StoreFault> {
+    place_three(alloc, tables, text)?;
+    set_place(tables, 1, Place::Desk)?;
+    set_place(tables, 2, Place::Desk)?;
+    lend(tables, 1, 1)?;
+    show_desk(alloc, tables, text)?;
+    give_back(tables, 1, 1)?;
+    show_desk(alloc, tables, text)?;
+    set_place(tables, 1, Place::Shelf)?;
+    show_desk(alloc, tables, text)?;
+    show_queue(alloc, tables, 2, text)
 }
 
 /// A day in the reading room of a new office.
@@ -409,23 +349,35 @@ enum Visit {
     Reshelve,
 }
 
-/// The results of the calls of that day. Commits what they did.
-#[tactic(auto, using(crate::proofs::Going::went_on))]
-fn spend<S: Alter>(
+/// The results of the calls of that day.
+fn carry_out<S: Alter>(
     alloc: Global,
-    conn: &mut Connection<S>,
+    tables: &mut Tables<LinkPlaces, S>,
     visit: Visit,
     text: &mut String,
 ) -> Result<(), StoreFault> {
-    new_office::<LinkPlaces, S>(alloc, conn)?;
     match visit {
-        Visit::Lend => lent_in_turn(alloc, conn, text)?,
-        Visit::Fetch => fetched_in_two_runs(alloc, conn, text)?,
-        Visit::Count => counted_by_day(alloc, conn, text)?,
-        Visit::Sit => seated_in_turn(alloc, conn, text)?,
-        Visit::Reshelve => reshelve(alloc, conn, text)?,
+        Visit::Lend => lent_in_turn(alloc, tables, text),
+        Visit::Fetch => fetched_in_two_runs(alloc, tables, text),
+        Visit::Count => counted_by_day(alloc, tables, text),
+        Visit::Sit => seated_in_turn(alloc, tables, text),
+        Visit::Reshelve => reshelve(alloc, tables, text),
     }
-    commit(conn)
+}
+
+/// Spends that day in a new office, and commits what its calls did.
+fn spend<S: Alter + Drop>(
+    alloc: Global,
+    conn: Connection<S>,
+    visit: Visit,
+    text: &mut String,
+) -> Result<Connection<S>, StoreFault> {
+    let mut tables = new_office::<LinkPlaces, S>(alloc, conn)?;
+    let outcome = carry_out(alloc, &mut tables, visit, text);
+    let mut conn = tables.into_connection();
+    outcome?;
+    commit(&mut conn)?;
+    Ok(conn)
 }
 
 /// A day, the expected results of its calls, and the queries and rows expected afterwards.
@@ -492,21 +444,12 @@ fn rows_of<S: Alter>(
     Ok(text)
 }
 
-fn said_in<S: Alter>(
-    alloc: Global,
-    conn: &mut Connection<S>,
-    visit: Visit,
-) -> Result<String, Fail> {
-    let mut text = String::new(alloc);
-    spend(alloc, conn, visit, &mut text)?;
-    Ok(text)
-}
-
 #[test]
 fn days_in_the_reading_room(rt: HostRuntime) -> Result<(), Fail> {
     for &(visit, said, queries, kept) in &DAYS {
-        let mut conn = Connection::open_in_memory(rt.alloc())?;
-        let text = said_in(rt.alloc(), &mut conn, visit)?;
+        let mut text = String::new(rt.alloc());
+        let conn = Connection::open_in_memory(rt.alloc())?;
+        let mut conn = spend(rt.alloc(), conn, visit, &mut text)?;
         assert_eq!(rt; text.as_str(), said);
         let rows = rows_of(rt.alloc(), &mut conn, queries)?;
         assert_eq!(rt; rows.as_str(), kept);
@@ -519,8 +462,8 @@ const FILE: &str = "reading-room-of-the-tests.db";
 const LOG: &str = "reading-room-of-the-tests.db-wal";
 
 fn said_in_file(rt: &HostRuntime, visit: Visit) -> Result<String, Fail> {
-    let mut conn = Connection::open(rt, FILE)?;
-    let text = said_in(rt.alloc(), &mut conn, visit)?;
+    let mut text = String::new(rt.alloc());
+    let conn = spend(rt.alloc(), Connection::open(rt, FILE)?, visit, &mut text)?;
     conn.close()?;
     Ok(text)
 }

@@ -1,14 +1,12 @@
 //! Calls that the catalogue's store does not accept, in either version: each blames the schema and changes no row.
 
-ghost use Rattle.sqlite.specs.Held.{state};
-ghost use Rattle.office_tables.specs.Step.{InTransaction};
-
 use crate::tests::{
     ELEMENTS, FOUR, HOUSING, LATER, LINKS, MAPS, Query, SPANS, add, four_units, new_office,
     show_rows, values_of,
 };
 use catalogue_store::{LinkPlaces, Places, StoreFault, move_unit, replace_values};
 use nested_sets::SpanPlaces;
+use office_tables::Tables;
 use sqlite::{Alter, Connection};
 use std::alloc::Global;
 use std::process::Abort;
@@ -28,33 +26,30 @@ enum Slip {
 /// Makes the call.
 fn attempt<P: Places, S: Alter>(
     alloc: Global,
-    conn: &mut Connection<S>,
+    tables: &mut Tables<P, S>,
     done: Slip,
-) -> Result<(), StoreFault>
-    requires inside { InTransaction P.version (state S.Store conn.old) }
-{
+) -> Result<(), StoreFault> {
     match done {
-        Slip::AddBelowNone => add::<P, S>(alloc, conn, 5, Some(9), MAPS),
+        Slip::AddBelowNone => add(alloc, tables, 5, Some(9), MAPS),
         Slip::ReplaceNone => {
             let later = values_of(alloc, LATER)?;
-            replace_values::<P, S>(alloc, conn, 9, &later)
+            replace_values(alloc, tables, 9, &later)
         }
-        Slip::MoveNone => move_unit::<P, S>(alloc, conn, 9, None),
-        Slip::MoveBelowNone => move_unit::<P, S>(alloc, conn, 2, Some(9)),
-        Slip::MoveBelowItself => move_unit::<P, S>(alloc, conn, 2, Some(2)),
-        Slip::MoveIntoItsBranch => move_unit::<P, S>(alloc, conn, 1, Some(2)),
+        Slip::MoveNone => move_unit(alloc, tables, 9, None),
+        Slip::MoveBelowNone => move_unit(alloc, tables, 2, Some(9)),
+        Slip::MoveBelowItself => move_unit(alloc, tables, 2, Some(2)),
+        Slip::MoveIntoItsBranch => move_unit(alloc, tables, 1, Some(2)),
     }
 }
 
-/// The result of the call in a new office with four units.
-fn attempt_in_new_office<P: Places, S: Alter>(
+/// The result of the call with four units.
+fn attempt_with_four<P: Places, S: Alter>(
     alloc: Global,
-    conn: &mut Connection<S>,
+    tables: &mut Tables<P, S>,
     done: Slip,
 ) -> Result<(), StoreFault> {
-    new_office::<P, S>(alloc, conn)?;
-    four_units::<P, S>(alloc, conn)?;
-    attempt::<P, S>(alloc, conn, done)
+    four_units(alloc, tables)?;
+    attempt(alloc, tables, done)
 }
 
 /// Checks that the call blames the schema and that these rows are there afterwards.
@@ -65,9 +60,10 @@ fn see_over<P: Places>(
     places: Query,
     rows: &str,
 ) -> Result<(), Fail> {
-    let mut conn = Connection::open_in_memory(alloc)?;
-    let blames = attempt_in_new_office::<P, _>(alloc, &mut conn, done) == Err(StoreFault::Schema);
-    assert!(rt; blames);
+    let mut tables = new_office::<P, _>(alloc, Connection::open_in_memory(alloc)?)?;
+    let outcome = attempt_with_four(alloc, &mut tables, done);
+    let mut conn = tables.into_connection();
+    assert!(rt; outcome == Err(StoreFault::Schema));
     let mut text = String::new(alloc);
     for query in [ELEMENTS, HOUSING, places] {
         show_rows(&mut text, &mut conn, query)?;

@@ -4,7 +4,7 @@ ghost use Rattle.std.specs.Prelude.{◌≡◌, ◌<◌, ◌^◌, IfOk, IfSome, O
 ghost use Rattle.sqlite.specs.Held.{state};
 ghost use Rattle.sqlite.specs.State.{HasCleanDisk};
 ghost use Rattle.office_tables.specs.Schema.{no_schema};
-ghost use Rattle.office_tables.specs.Step.{InTransaction};
+ghost use Rattle.office_tables.specs.Step.{AreTables};
 
 use crate::mark_lines::{show_branch, show_marks, show_statuses, show_walk};
 use catalogue_store::{
@@ -15,6 +15,7 @@ use catalogue_store::{
 use desk_store::{create_desk, is_blank};
 use isad_core::{BoxKey, Day, List, Text, Values};
 use nested_sets::SpanPlaces;
+use office_tables::Tables;
 use sqlite::{Alter, Connection, Row};
 use std::alloc::{AllocError, Global};
 use std::process::Abort;
@@ -46,7 +47,7 @@ fn open_office<P: Places, S: Alter>(
     conn: &mut Connection<S>,
 ) -> Result<(), StoreFault>
     requires blank { HasCleanDisk (state S.Store conn.old) → (state S.Store conn.old).now.schema ≡ no_schema }
-    ensures inside { OnOk result (InTransaction P.version (state S.Store conn.new)) }
+    ensures are { OnOk result (AreTables P.version (state S.Store conn.new)) }
 {
     let row = settings(alloc)?;
     begin(conn)?;
@@ -55,16 +56,26 @@ fn open_office<P: Places, S: Alter>(
 }
 
 /// Makes an office in a store that has nothing else.
-pub(crate) fn new_office<P: Places, S: Alter>(
+pub(crate) fn make_office<P: Places, S: Alter>(
     alloc: Global,
     conn: &mut Connection<S>,
 ) -> Result<(), StoreFault>
-    ensures inside { OnOk result (InTransaction P.version (state S.Store conn.new)) }
+    ensures are { OnOk result (AreTables P.version (state S.Store conn.new)) }
 {
     if !is_blank(conn) {
         return Err(StoreFault::Schema);
     }
     open_office::<P, S>(alloc, conn)
+}
+
+/// The tables of a new office, in the transaction in which they were made.
+pub(crate) fn new_office<P: Places, S: Alter + Drop>(
+    alloc: Global,
+    conn: Connection<S>,
+) -> Result<Tables<P, S>, StoreFault> {
+    let mut conn = conn;
+    make_office::<P, S>(alloc, &mut conn)?;
+    Ok(Tables::inside(conn))
 }
 
 /// A description by its level and title, a creator and a container.
@@ -127,18 +138,15 @@ pub(crate) fn values_of(alloc: Global, unit: Described) -> Result<Values, AllocE
 }
 
 /// Adds a published unit, which has the same number in source `a`.
-#[tactic(auto, using(crate::proofs::Going::went_on))]
 pub(crate) fn add<P: Places, S: Alter>(
     alloc: Global,
-    conn: &mut Connection<S>,
+    tables: &mut Tables<P, S>,
     id: u64,
     parent: Option<u64>,
     unit: Described,
 ) -> Result<(), StoreFault>
-    requires inside { InTransaction P.version (state S.Store conn.old) }
     requires small { id < 2 ^ 62 }
     requires low { IfSome parent (λ p. p < 2 ^ 63) }
-    ensures inside { OnOk result (InTransaction P.version (state S.Store conn.new)) }
 {
     let values = values_of(alloc, unit)?;
     let source = Text::new(alloc, "a")?;
@@ -150,106 +158,87 @@ pub(crate) fn add<P: Places, S: Alter>(
         values: &values,
         draft: false,
     };
-    add_unit::<P, S>(alloc, conn, parent, &unit)
+    add_unit(alloc, tables, parent, &unit)
 }
 
 /// Unit 1, a fonds in Box 1, with unit 2 below it.
 pub(crate) fn two_units<P: Places, S: Alter>(
     alloc: Global,
-    conn: &mut Connection<S>,
-) -> Result<(), StoreFault>
-    requires inside { InTransaction P.version (state S.Store conn.old) }
-    ensures inside { OnOk result (InTransaction P.version (state S.Store conn.new)) }
-{
-    add::<P, S>(alloc, conn, 1, None, DOCKS)?;
-    add::<P, S>(alloc, conn, 2, Some(1), MINUTES)
+    tables: &mut Tables<P, S>,
+) -> Result<(), StoreFault> {
+    add(alloc, tables, 1, None, DOCKS)?;
+    add(alloc, tables, 2, Some(1), MINUTES)
 }
 
 /// The same, with unit 3, in Box 2, also below unit 1, and unit 4, in Box 1, at the top.
 pub(crate) fn four_units<P: Places, S: Alter>(
     alloc: Global,
-    conn: &mut Connection<S>,
-) -> Result<(), StoreFault>
-    requires inside { InTransaction P.version (state S.Store conn.old) }
-    ensures inside { OnOk result (InTransaction P.version (state S.Store conn.new)) }
-{
-    two_units::<P, S>(alloc, conn)?;
-    add::<P, S>(alloc, conn, 3, Some(1), PLANS)?;
-    add::<P, S>(alloc, conn, 4, None, MAPS)
+    tables: &mut Tables<P, S>,
+) -> Result<(), StoreFault> {
+    two_units(alloc, tables)?;
+    add(alloc, tables, 3, Some(1), PLANS)?;
+    add(alloc, tables, 4, None, MAPS)
 }
 
 /// Unit 2 is moved.
-#[tactic(auto, using(crate::proofs::Going::went_on))]
 fn move_second<P: Places, S: Alter>(
     alloc: Global,
-    conn: &mut Connection<S>,
+    tables: &mut Tables<P, S>,
     parent: Option<u64>,
 ) -> Result<(), StoreFault>
-    requires inside { InTransaction P.version (state S.Store conn.old) }
     requires low { IfSome parent (λ p. p < 2 ^ 63) }
-    ensures inside { OnOk result (InTransaction P.version (state S.Store conn.new)) }
 {
-    move_unit::<P, S>(alloc, conn, 2, parent)
+    move_unit(alloc, tables, 2, parent)
 }
 
 /// Unit 2 is moved to the top and back.
 fn moved_back<P: Places, S: Alter>(
     alloc: Global,
-    conn: &mut Connection<S>,
-) -> Result<(), StoreFault>
-    requires inside { InTransaction P.version (state S.Store conn.old) }
-{
-    two_units::<P, S>(alloc, conn)?;
-    move_second::<P, S>(alloc, conn, None)?;
-    move_second::<P, S>(alloc, conn, Some(1))
+    tables: &mut Tables<P, S>,
+) -> Result<(), StoreFault> {
+    two_units(alloc, tables)?;
+    move_second(alloc, tables, None)?;
+    move_second(alloc, tables, Some(1))
 }
 
 /// Unit 2 is moved to the top.
-fn moved_up<P: Places, S: Alter>(alloc: Global, conn: &mut Connection<S>) -> Result<(), StoreFault>
-    requires inside { InTransaction P.version (state S.Store conn.old) }
-{
-    two_units::<P, S>(alloc, conn)?;
-    move_second::<P, S>(alloc, conn, None)
+fn moved_up<P: Places, S: Alter>(
+    alloc: Global,
+    tables: &mut Tables<P, S>,
+) -> Result<(), StoreFault> {
+    two_units(alloc, tables)?;
+    move_second(alloc, tables, None)
 }
 
 /// Unit 2 is moved below unit 4.
 fn moved_below<P: Places, S: Alter>(
     alloc: Global,
-    conn: &mut Connection<S>,
-) -> Result<(), StoreFault>
-    requires inside { InTransaction P.version (state S.Store conn.old) }
-    ensures inside { OnOk result (InTransaction P.version (state S.Store conn.new)) }
-{
-    four_units::<P, S>(alloc, conn)?;
-    move_second::<P, S>(alloc, conn, Some(4))
+    tables: &mut Tables<P, S>,
+) -> Result<(), StoreFault> {
+    four_units(alloc, tables)?;
+    move_second(alloc, tables, Some(4))
 }
 
 /// Unit 1 is removed with all below it: how many units were removed.
 fn remove_first<P: Places, S: Alter>(
     alloc: Global,
-    conn: &mut Connection<S>,
+    tables: &mut Tables<P, S>,
     text: &mut String,
-) -> Result<(), StoreFault>
-    requires inside { InTransaction P.version (state S.Store conn.old) }
-{
-    four_units::<P, S>(alloc, conn)?;
-    let removed = remove_branch::<P, S>(alloc, conn, 1)?;
+) -> Result<(), StoreFault> {
+    four_units(alloc, tables)?;
+    let removed = remove_branch(alloc, tables, 1)?;
     write!(text, "{removed}\n")?;
     Ok(())
 }
 
 /// Whether unit 1 has this description, and is in this container only.
-#[tactic(auto, using(crate::proofs::Going::looked_on))]
 fn is_described<P: Places, S: Alter>(
     alloc: Global,
-    conn: &mut Connection<S>,
+    tables: &mut Tables<P, S>,
     wanted: &Values,
     container: u64,
-) -> Result<bool, StoreFault>
-    requires inside { InTransaction P.version (state S.Store conn.old) }
-    ensures inside { OnOk result (InTransaction P.version (state S.Store conn.new)) }
-{
-    let found = values::<S>(alloc, conn, 1)?;
+) -> Result<bool, StoreFault> {
+    let found = values(alloc, tables, 1)?;
     Ok(match &found {
         Some(unit) => unit.values == *wanted
             && unit.containers.as_slice() == [container].as_slice(),
@@ -258,35 +247,28 @@ fn is_described<P: Places, S: Alter>(
 }
 
 /// Unit 1 gets other values: whether it has the first ones before and the others afterwards.
-#[tactic(auto, using(crate::proofs::Going::went_on))]
 fn revise_unit<P: Places, S: Alter>(
     alloc: Global,
-    conn: &mut Connection<S>,
+    tables: &mut Tables<P, S>,
     text: &mut String,
-) -> Result<(), StoreFault>
-    requires inside { InTransaction P.version (state S.Store conn.old) }
-{
-    two_units::<P, S>(alloc, conn)?;
+) -> Result<(), StoreFault> {
+    two_units(alloc, tables)?;
     let first = values_of(alloc, DOCKS)?;
-    let before = is_described::<P, S>(alloc, conn, &first, 1)?;
+    let before = is_described(alloc, tables, &first, 1)?;
     let later = values_of(alloc, LATER)?;
-    replace_values::<P, S>(alloc, conn, 1, &later)?;
-    let after = is_described::<P, S>(alloc, conn, &later, 2)?;
+    replace_values(alloc, tables, 1, &later)?;
+    let after = is_described(alloc, tables, &later, 2)?;
     write!(text, "{before} {after}\n")?;
     Ok(())
 }
 
 /// The marks of the units that Box 1 is attached to.
-#[tactic(auto, using(crate::proofs::Going::looked_on))]
 fn show_contents<P: Places, S: Alter>(
     alloc: Global,
-    conn: &mut Connection<S>,
+    tables: &mut Tables<P, S>,
     text: &mut String,
-) -> Result<(), StoreFault>
-    requires inside { InTransaction P.version (state S.Store conn.old) }
-    ensures inside { OnOk result (InTransaction P.version (state S.Store conn.new)) }
-{
-    for attached in &contents_marks::<P, S>(alloc, conn, 1)? {
+) -> Result<(), StoreFault> {
+    for attached in &contents_marks(alloc, tables, 1)? {
         show_statuses(text, &attached.path)?;
         show_branch(text, &attached.branch)?;
     }
@@ -294,33 +276,27 @@ fn show_contents<P: Places, S: Alter>(
 }
 
 /// The marks of unit 2's path.
-#[tactic(auto, using(crate::proofs::Going::looked_on))]
 fn show_path<P: Places, S: Alter>(
     alloc: Global,
-    conn: &mut Connection<S>,
+    tables: &mut Tables<P, S>,
     text: &mut String,
-) -> Result<(), StoreFault>
-    requires inside { InTransaction P.version (state S.Store conn.old) }
-    ensures inside { OnOk result (InTransaction P.version (state S.Store conn.new)) }
-{
-    show_marks(text, &path_marks::<P, S>(alloc, conn, 2)?)
+) -> Result<(), StoreFault> {
+    show_marks(text, &path_marks(alloc, tables, 2)?)
 }
 
-/// Unit 2 is moved below unit 4, it and unit 3 are closed, and the marks of Box 1, of unit 2's path and of all units are read.
-#[tactic(auto, using(crate::proofs::Going::went_on))]
+/// Unit 2 is moved below unit 4, it and unit 3 are closed, and the marks of Box 1, of unit 2's path and of all units
+/// are read.
 fn read_marks<P: Places, S: Alter>(
     alloc: Global,
-    conn: &mut Connection<S>,
+    tables: &mut Tables<P, S>,
     text: &mut String,
-) -> Result<(), StoreFault>
-    requires inside { InTransaction P.version (state S.Store conn.old) }
-{
-    moved_below::<P, S>(alloc, conn)?;
-    set_closure::<P, S>(conn, 2, Day::from_number(21915))?;
-    set_closure::<P, S>(conn, 3, Day::from_number(21916))?;
-    show_contents::<P, S>(alloc, conn, text)?;
-    show_path::<P, S>(alloc, conn, text)?;
-    show_walk(text, &branch_marks::<P, S>(alloc, conn, None)?)
+) -> Result<(), StoreFault> {
+    moved_below(alloc, tables)?;
+    set_closure(tables, 2, Day::from_number(21915))?;
+    set_closure(tables, 3, Day::from_number(21916))?;
+    show_contents(alloc, tables, text)?;
+    show_path(alloc, tables, text)?;
+    show_walk(text, &branch_marks(alloc, tables, None)?)
 }
 
 fn show_heads(text: &mut String, heads: &[Head]) -> Result<(), StoreFault> {
@@ -334,82 +310,53 @@ fn show_heads(text: &mut String, heads: &[Head]) -> Result<(), StoreFault> {
 }
 
 /// Unit 2 is moved below unit 4: the tops, the units right below unit 4, and the path of unit 2, each with its title.
-#[tactic(auto, using(crate::proofs::Going::looked_on))]
 fn read_heads<P: Places, S: Alter>(
     alloc: Global,
-    conn: &mut Connection<S>,
+    tables: &mut Tables<P, S>,
     text: &mut String,
-) -> Result<(), StoreFault>
-    requires inside { InTransaction P.version (state S.Store conn.old) }
-{
-    moved_below::<P, S>(alloc, conn)?;
-    show_heads(text, &heads_below::<P, S>(alloc, conn, None)?)?;
-    show_heads(text, &heads_below::<P, S>(alloc, conn, Some(4))?)?;
-    show_heads(text, &path_heads::<P, S>(alloc, conn, 2)?)
+) -> Result<(), StoreFault> {
+    moved_below(alloc, tables)?;
+    show_heads(text, &heads_below(alloc, tables, None)?)?;
+    show_heads(text, &heads_below(alloc, tables, Some(4))?)?;
+    show_heads(text, &path_heads(alloc, tables, 2)?)
 }
 
 /// Unit 1 and all below it become drafts, then unit 2 is published: how many units were set each time.
-#[tactic(auto, using(crate::proofs::Going::went_on))]
 fn set<P: Places, S: Alter>(
     alloc: Global,
-    conn: &mut Connection<S>,
+    tables: &mut Tables<P, S>,
     text: &mut String,
-) -> Result<(), StoreFault>
-    requires inside { InTransaction P.version (state S.Store conn.old) }
-{
-    four_units::<P, S>(alloc, conn)?;
-    let branch = set_status::<P, S>(alloc, conn, 1, true, true)?;
-    let one = set_status::<P, S>(alloc, conn, 2, false, false)?;
+) -> Result<(), StoreFault> {
+    four_units(alloc, tables)?;
+    let branch = set_status(alloc, tables, 1, true, true)?;
+    let one = set_status(alloc, tables, 2, false, false)?;
     write!(text, "{branch} {one}\n")?;
     Ok(())
 }
 
 /// Which unit has number 2 in this source.
-#[tactic(auto, using(crate::proofs::Going::looked_on))]
 fn known_as_two<P: Places, S: Alter>(
     alloc: Global,
-    conn: &mut Connection<S>,
+    tables: &mut Tables<P, S>,
     source: &str,
-) -> Result<Option<u64>, StoreFault>
-    requires inside { InTransaction P.version (state S.Store conn.old) }
-    ensures inside { OnOk result (InTransaction P.version (state S.Store conn.new)) }
-{
+) -> Result<Option<u64>, StoreFault> {
     let source = Text::new(alloc, source)?;
     let legacy = Text::new(alloc, "2")?;
-    known(alloc, conn, &source, &legacy)
+    known(alloc, tables, &source, &legacy)
 }
 
 /// Which unit has number 2 in source `a`, whether none has it in source `b`, and the counts of the catalogue.
-#[tactic(auto, using(crate::proofs::Going::in_some))]
 fn looked_up<P: Places, S: Alter>(
     alloc: Global,
-    conn: &mut Connection<S>,
+    tables: &mut Tables<P, S>,
     text: &mut String,
-) -> Result<(), StoreFault>
-    requires inside { InTransaction P.version (state S.Store conn.old) }
-{
-    four_units::<P, S>(alloc, conn)?;
-    let here = known_as_two::<P, S>(alloc, conn, "a")?.unwrap_or(0);
-    let is_new = known_as_two::<P, S>(alloc, conn, "b")?.is_none();
-    let office = office_row::<P, S>(alloc, conn)?;
+) -> Result<(), StoreFault> {
+    four_units(alloc, tables)?;
+    let here = known_as_two(alloc, tables, "a")?.unwrap_or(0);
+    let is_new = known_as_two(alloc, tables, "b")?.is_none();
+    let office = office_row(alloc, tables)?;
     let (units, containers, next) = (office.units, office.containers, office.row.next_unit);
     write!(text, "{here} {is_new} {units} {containers} {next}\n")?;
-    Ok(())
-}
-
-/// Both kinds of tables exist and are made again: whether each call blames the schema.
-fn made_again<P: Places, S: Alter>(
-    alloc: Global,
-    conn: &mut Connection<S>,
-    text: &mut String,
-) -> Result<(), StoreFault>
-    requires inside { InTransaction P.version (state S.Store conn.old) }
-{
-    two_units::<P, S>(alloc, conn)?;
-    let row = settings(alloc)?;
-    let desk = create_desk(conn) == Err(StoreFault::Schema);
-    let catalogue = create::<P, S>(conn, &row) == Err(StoreFault::Schema);
-    write!(text, "{desk} {catalogue}\n")?;
     Ok(())
 }
 
@@ -426,30 +373,26 @@ pub(crate) enum Act {
     Head,
     Set,
     LookUp,
-    MakeAgain,
 }
 
 /// Does it, and writes the results of the calls.
 fn carry_out<P: Places, S: Alter>(
     alloc: Global,
-    conn: &mut Connection<S>,
+    tables: &mut Tables<P, S>,
     done: Act,
     text: &mut String,
-) -> Result<(), StoreFault>
-    requires inside { InTransaction P.version (state S.Store conn.old) }
-{
+) -> Result<(), StoreFault> {
     match done {
-        Act::Add => four_units::<P, S>(alloc, conn),
-        Act::MoveUp => moved_up::<P, S>(alloc, conn),
-        Act::MoveBack => moved_back::<P, S>(alloc, conn),
-        Act::MoveBelow => moved_below::<P, S>(alloc, conn),
-        Act::Remove => remove_first::<P, S>(alloc, conn, text),
-        Act::Revise => revise_unit::<P, S>(alloc, conn, text),
-        Act::Mark => read_marks::<P, S>(alloc, conn, text),
-        Act::Head => read_heads::<P, S>(alloc, conn, text),
-        Act::Set => set::<P, S>(alloc, conn, text),
-        Act::LookUp => looked_up::<P, S>(alloc, conn, text),
-        Act::MakeAgain => made_again::<P, S>(alloc, conn, text),
+        Act::Add => four_units(alloc, tables),
+        Act::MoveUp => moved_up(alloc, tables),
+        Act::MoveBack => moved_back(alloc, tables),
+        Act::MoveBelow => moved_below(alloc, tables),
+        Act::Remove => remove_first(alloc, tables, text),
+        Act::Revise => revise_unit(alloc, tables, text),
+        Act::Mark => read_marks(alloc, tables, text),
+        Act::Head => read_heads(alloc, tables, text),
+        Act::Set => set(alloc, tables, text),
+        Act::LookUp => looked_up(alloc, tables, text),
     }
 }
 
@@ -481,32 +424,23 @@ fn show_row(text: &mut String, row: &Row, width: usize) -> Result<(), Fail> {
     Ok(())
 }
 
-/// The results of the calls, the rows of these queries, and then those of the places.
-fn told<P: Places, S: Alter>(
+/// The results of the calls in a new office, the rows of these queries, and then those of the places.
+fn told<P: Places>(
     alloc: Global,
-    conn: &mut Connection<S>,
     done: Act,
     queries: &[Query],
     places: Query,
 ) -> Result<String, Fail> {
     let mut text = String::new(alloc);
-    new_office::<P, S>(alloc, conn)?;
-    carry_out::<P, S>(alloc, conn, done, &mut text)?;
+    let mut tables = new_office::<P, _>(alloc, Connection::open_in_memory(alloc)?)?;
+    let outcome = carry_out(alloc, &mut tables, done, &mut text);
+    let mut conn = tables.into_connection();
+    outcome?;
     for query in queries {
-        show_rows(&mut text, conn, *query)?;
+        show_rows(&mut text, &mut conn, *query)?;
     }
-    show_rows(&mut text, conn, places)?;
+    show_rows(&mut text, &mut conn, places)?;
     Ok(text)
-}
-
-fn told_in_memory<P: Places>(
-    alloc: Global,
-    done: Act,
-    queries: &[Query],
-    places: Query,
-) -> Result<String, Fail> {
-    let mut conn = Connection::open_in_memory(alloc)?;
-    told::<P, _>(alloc, &mut conn, done, queries, places)
 }
 
 pub(crate) const LINKS: Query = ("SELECT id, parent, ord FROM link ORDER BY id", 3);
@@ -535,7 +469,7 @@ fn see_over<P: Places>(
     places: Query,
     rows: &str,
 ) -> Result<(), Fail> {
-    let told = told_in_memory::<P>(alloc, case.done, case.queries, places)?;
+    let told = told::<P>(alloc, case.done, case.queries, places)?;
     let wanted = format!(in alloc; "{}{rows}", case.told)?;
     assert_eq!(rt; told.as_str(), wanted.as_str());
     Ok(())
@@ -665,15 +599,41 @@ const OFFICE: Query = (
     8,
 );
 
+/// Both kinds of tables exist and are made again: whether each call blames the schema.
+fn make_again<P: Places, S: Alter>(
+    alloc: Global,
+    conn: &mut Connection<S>,
+    text: &mut String,
+) -> Result<(), StoreFault> {
+    let row = settings(alloc)?;
+    let desk = create_desk(conn) == Err(StoreFault::Schema);
+    let catalogue = create::<P, S>(conn, &row) == Err(StoreFault::Schema);
+    write!(text, "{desk} {catalogue}\n")?;
+    Ok(())
+}
+
+/// The same in a new office with two units, and then the office's row and the rows of the places.
+fn told_again<P: Places>(alloc: Global, places: Query) -> Result<String, Fail> {
+    let mut text = String::new(alloc);
+    let mut tables = new_office::<P, _>(alloc, Connection::open_in_memory(alloc)?)?;
+    let outcome = two_units(alloc, &mut tables);
+    let mut conn = tables.into_connection();
+    outcome?;
+    make_again::<P, _>(alloc, &mut conn, &mut text)?;
+    show_rows(&mut text, &mut conn, OFFICE)?;
+    show_rows(&mut text, &mut conn, places)?;
+    Ok(text)
+}
+
 /// The office's row has the number of its version.
 #[test]
 fn tables_are_made_once(rt: HostRuntime) -> Result<(), Fail> {
-    let over_links = told_in_memory::<LinkPlaces>(rt.alloc(), Act::MakeAgain, &[OFFICE], LINKS)?;
+    let over_links = told_again::<LinkPlaces>(rt.alloc(), LINKS)?;
     assert_eq!(&rt;
         over_links.as_str(),
         "true true\n 1 1 2 3 1 2 19783 3\n 1 - 1\n 2 1 1\n"
     );
-    let over_spans = told_in_memory::<SpanPlaces>(rt.alloc(), Act::MakeAgain, &[OFFICE], SPANS)?;
+    let over_spans = told_again::<SpanPlaces>(rt.alloc(), SPANS)?;
     assert_eq!(&rt;
         over_spans.as_str(),
         "true true\n 1 2 2 3 1 2 19783 3\n 1 1 4\n 2 2 3\n"
@@ -681,17 +641,15 @@ fn tables_are_made_once(rt: HostRuntime) -> Result<(), Fail> {
     Ok(())
 }
 
-/// An office with four units, in which unit 3 is moved below unit 2 and unit 4 is removed.
-#[tactic(auto, using(crate::proofs::Going::went_on))]
-fn changed_office<P: Places, S: Alter>(
+/// Four units, of which unit 3 is moved below unit 2 and unit 4 is removed.
+fn changed_units<P: Places, S: Alter>(
     alloc: Global,
-    conn: &mut Connection<S>,
+    tables: &mut Tables<P, S>,
 ) -> Result<(), StoreFault> {
-    new_office::<P, S>(alloc, conn)?;
-    four_units::<P, S>(alloc, conn)?;
-    move_unit::<P, S>(alloc, conn, 3, Some(2))?;
-    remove_branch::<P, S>(alloc, conn, 4)?;
-    commit(conn)
+    four_units(alloc, tables)?;
+    move_unit(alloc, tables, 3, Some(2))?;
+    remove_branch(alloc, tables, 4)?;
+    Ok(())
 }
 
 const FILE: &str = "office-of-the-tests.db";
@@ -699,8 +657,11 @@ const FILE: &str = "office-of-the-tests.db";
 const LOG: &str = "office-of-the-tests.db-wal";
 
 fn write_office<P: Places>(rt: &HostRuntime) -> Result<(), Fail> {
-    let mut conn = Connection::open(rt, FILE)?;
-    changed_office::<P, _>(rt.alloc(), &mut conn)?;
+    let mut tables = new_office::<P, _>(rt.alloc(), Connection::open(rt, FILE)?)?;
+    let outcome = changed_units(rt.alloc(), &mut tables);
+    let mut conn = tables.into_connection();
+    outcome?;
+    commit(&mut conn)?;
     conn.close()?;
     Ok(())
 }
@@ -714,7 +675,7 @@ fn reopen<P: Places, S: Alter>(
     let mut text = String::new(alloc);
     show_rows(&mut text, conn, places)?;
     show_rows(&mut text, conn, HOUSING)?;
-    let refused = new_office::<P, S>(alloc, conn) == Err(StoreFault::Schema);
+    let refused = make_office::<P, S>(alloc, conn) == Err(StoreFault::Schema);
     write!(text, "{refused}\n")?;
     Ok(text)
 }

@@ -4,4 +4,4 @@ use Rattle.adoption.proofs.tables.ShownTables.{good_state}
 
 pub returns : goal.returns
 returns g c = λ db good.
-    good_state g.P.Places.represents g.P.Places.version db good (catalogue_shown g.P.Places.version db good g.P.Places.represents g.met.P.CheckedPlaces.shows_said)
+    good_state g.P.Places.represents g.P.Versioned.version db good (catalogue_shown g.P.Versioned.version db good g.P.Places.represents g.met.P.CheckedPlaces.shows_said)

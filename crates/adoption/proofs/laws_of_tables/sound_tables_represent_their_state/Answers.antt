@@ -4,5 +4,5 @@ use Rattle.adoption.proofs.tables.ShownTables.{sound_are_good, sound_state}
 
 pub returns : goal.returns
 returns g c = λ db sound.
-    sound_state g.P.Places.represents g.P.Places.version db sound
-    (catalogue_shown g.P.Places.version db (sound_are_good g.P.Places.version db sound) g.P.Places.represents g.met.P.CheckedPlaces.shows_said)
+    sound_state g.P.Places.represents g.P.Versioned.version db sound
+    (catalogue_shown g.P.Versioned.version db (sound_are_good g.P.Versioned.version db sound) g.P.Places.represents g.met.P.CheckedPlaces.shows_said)

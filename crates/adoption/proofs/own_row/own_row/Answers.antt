@@ -10,7 +10,7 @@ use Rattle.adoption.proofs.own_row.own_row.Goals as goal
 
 pub gather-requires-clause-ours : goal.gather-requires-clause-ours
 gather-requires-clause-ours g c =
-    let v = g.P.Places.version in
+    let v = g.P.Versioned.version in
     asks_in v own_text 0 own_command (state g.S.Store c.args.conn.now) (own_means v) c.requires.inside
 
 pub returns-in_err-all : goal.returns-in_err-all
@@ -20,11 +20,11 @@ returns-in_err-all g c =
     let stopped = c.in_err-all.ensures in
     passes_of c.in_err-all.field-0.0 c.from_residual.ensures stopped.reads.cut (λ clean. (stopped.reads.spares clean).disk) (λ known clean free.
     let at = c.requires.inside (early old new _ stopped.reads.crash clean) in
-    stop_cause own_text old new c.in_err-all.field-0.0 (own_cause old new g.P.Places.version at.0 free) (stopped.stops clean))
+    stop_cause own_text old new c.in_err-all.field-0.0 (own_cause old new g.P.Versioned.version at.0 free) (stopped.stops clean))
 
 pub returns-then-all-ne1 : goal.returns-then-all-ne1
 returns-then-all-ne1 g c = judged c.in_ok-all.ensures.reads.looks (λ clean.
-    let v = g.P.Places.version in
+    let v = g.P.Versioned.version in
     let old = state g.S.Store c.args.conn.now in
     let new = state g.S.Store c.gather.new.conn in
     let at = c.requires.inside (early old new _ c.in_ok-all.ensures.reads.crash clean) in
@@ -36,7 +36,7 @@ returns-then-all-ne1 g c = judged c.in_ok-all.ensures.reads.looks (λ clean.
 
 pub returns : goal.returns
 returns g c = judged c.in_ok-all.ensures.reads.looks (λ clean.
-    let v = g.P.Places.version in
+    let v = g.P.Versioned.version in
     let old = state g.S.Store c.args.conn.now in
     let new = state g.S.Store c.gather.new.conn in
     let at = c.requires.inside (early old new _ c.in_ok-all.ensures.reads.crash clean) in

@@ -10,7 +10,7 @@ use Rattle.adoption.proofs.JudgmentEnds.{as_judged, judged, passes, passes_later
 use Rattle.adoption.proofs.verdicts.desk_cause.Goals as goal
 
 pub load_check_desk-requires : goal.load_check_desk-requires
-load_check_desk-requires g c = record { inside = office_of g.P.Places.version (state g.S.Store c.args.conn.now) c.requires.inside }
+load_check_desk-requires g c = record { inside = office_of g.P.Versioned.version (state g.S.Store c.args.conn.now) c.requires.inside }
 
 pub returns-in_err-defect : goal.returns-in_err-defect
 returns-in_err-defect g c = passes c.from_residual.ensures (as_judged c.in_err-defect.ensures) (λ _. tt)
@@ -19,7 +19,7 @@ pub returns-in-Some : goal.returns-in-Some
 returns-in-Some g c = judged c.in_ok-defect.ensures.reads.looks (λ clean known.
     let db = (state g.S.Store c.args.conn.now).now.trees in
     ap Some c.cause.ensures
-    ∙ sym (told_desk g.P.Places.version db c.args.own.now (sym known.own_row) known.catalogue c.in-Some.defect (sym c.in-Some.is ∙ c.in_ok-defect.ensures.answers clean)))
+    ∙ sym (told_desk g.P.Versioned.version db c.args.own.now (sym known.own_row) known.catalogue c.in-Some.defect (sym c.in-Some.is ∙ c.in_ok-defect.ensures.answers clean)))
 
 pub returns-in_err-breaks_day_rules : goal.returns-in_err-breaks_day_rules
 returns-in_err-breaks_day_rules g c =
@@ -28,12 +28,12 @@ returns-in_err-breaks_day_rules g c =
     still_before_the_day one.reads.looks clean (record {
       opened = known.opened;
       ordered = known.ordered;
-      none = fine_desk g.P.Places.version (state g.S.Store c.args.conn.now).now.trees c.args.own.now (sym known.own_row) known.catalogue (sym c.in_default.is ∙ one.answers clean);
+      none = fine_desk g.P.Versioned.version (state g.S.Store c.args.conn.now).now.trees c.args.own.now (sym known.own_row) known.catalogue (sym c.in_default.is ∙ one.answers clean);
     }))
 
 pub returns-then-branch : goal.returns-then-branch
 returns-then-branch g c =
-    let v = g.P.Places.version in
+    let v = g.P.Versioned.version in
     let old = state g.S.Store c.args.conn.now in
     let one = c.in_ok-defect.ensures in
     let two = c.in_ok-breaks_day_rules.ensures in
@@ -46,7 +46,7 @@ returns-then-branch g c =
 
 pub returns : goal.returns
 returns g c =
-    let v = g.P.Places.version in
+    let v = g.P.Versioned.version in
     let old = state g.S.Store c.args.conn.now in
     let one = c.in_ok-defect.ensures in
     let two = c.in_ok-breaks_day_rules.ensures in

@@ -14,7 +14,7 @@ returns-in_err-verdict g c = passes c.from_residual.ensures c.in_err-verdict.ens
 
 pub returns-in-Some : goal.returns-in-Some
 returns-in-Some g c =
-    let v = g.P.Places.version in
+    let v = g.P.Versioned.version in
     let one = c.in_ok-verdict.ensures in
     judged one.reads.looks (λ clean. subst (IsVersionVerdict v (state g.S.Store c.args.conn.now).now) c.in-Some.is (one.answers clean))
 
@@ -23,7 +23,7 @@ returns-in_err-are_ours g c = is_full c.from_residual-in_err-are_ours.ensures c.
 
 pub returns-then-not-branch : goal.returns-then-not-branch
 returns-then-not-branch g c =
-    let v = g.P.Places.version in
+    let v = g.P.Versioned.version in
     let one = c.in_ok-verdict.ensures in
     judged one.reads.looks (λ clean. record {
       version_is = subst (IsVersionVerdict v (state g.S.Store c.args.conn.now).now) c.in_default.is (one.answers clean);
@@ -40,7 +40,7 @@ returns-in_err-cause g c =
 
 pub returns-in-Some-2 : goal.returns-in-Some-2
 returns-in-Some-2 g c =
-    let v = g.P.Places.version in
+    let v = g.P.Versioned.version in
     let old = state g.S.Store c.args.conn.now in
     let one = c.in_ok-verdict.ensures in
     let two = c.in_ok-cause.ensures in
@@ -57,7 +57,7 @@ returns-in-Some-2 g c =
 
 pub returns-in-None : goal.returns-in-None
 returns-in-None g c =
-    let v = g.P.Places.version in
+    let v = g.P.Versioned.version in
     let old = state g.S.Store c.args.conn.now in
     let one = c.in_ok-verdict.ensures in
     let two = c.in_ok-cause.ensures in

@@ -18,14 +18,14 @@ returns-in_err-own g c = passes c.from_residual.ensures c.in_err-own.ensures (λ
 pub returns-in_default : goal.returns-in_default
 returns-in_default g c =
     let one = c.in_ok-own.ensures in
-    judged one.reads.looks (λ clean ordered. sym (no_own_row g.P.Places.version (state g.S.Store c.args.conn.now).now.trees (sym c.in_default.is ∙ (one.answers clean).1 ordered)))
+    judged one.reads.looks (λ clean ordered. sym (no_own_row g.P.Versioned.version (state g.S.Store c.args.conn.now).now.trees (sym c.in_default.is ∙ (one.answers clean).1 ordered)))
 
 pub returns-in_err-defect : goal.returns-in_err-defect
 returns-in_err-defect g c = passes_later c.from_residual-in_err-defect.ensures c.in_ok-own.ensures.reads.looks (as_judged c.in_err-defect.ensures) (λ _ _. tt)
 
 pub returns-in-Some-2 : goal.returns-in-Some-2
 returns-in-Some-2 g c =
-    let v = g.P.Places.version in
+    let v = g.P.Versioned.version in
     let own = c.in-Some.own in
     let old = state g.S.Store c.args.conn.now in
     let one = c.in_ok-own.ensures in
@@ -36,7 +36,7 @@ returns-in-Some-2 g c =
 
 pub returns : goal.returns
 returns g c =
-    let v = g.P.Places.version in
+    let v = g.P.Versioned.version in
     let own = c.in-Some.own in
     let old = state g.S.Store c.args.conn.now in
     let one = c.in_ok-own.ensures in

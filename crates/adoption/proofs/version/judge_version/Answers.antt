@@ -24,7 +24,7 @@ returns-then-len-ne1 g c =
 
 pub returns : goal.returns
 returns g c = judged c.in_ok-rows.ensures.reads.looks (λ clean.
-    let version = g.P.Places.version in
+    let version = g.P.Versioned.version in
     let db = (state g.S.Store c.args.conn.now).now in
     let rows = c.in-Some.rows.items in
     let row = c.index.result.now in

@@ -21,11 +21,11 @@ returns-in_err-units g c =
 
 pub returns : goal.returns
 returns g c =
-    let a = state g.S.Store c.args.conn.now in
-    let b = state g.S.Store c.remove_branch.new.conn in
+    let a = state g.S.Store c.args.tables.now in
+    let b = state g.S.Store c.remove_branch.new.tables in
     let u = c.args.unit in
-    let v = g.P.Places.version in
+    let v = g.P.Versioned.version in
     let loans = c.args.loans.now in
-    passed_where g.S.Store g.P.Places.represents v (λ s. (c.args.today ≡ s.day) × (has_unit s.catalogue.forest u ≡ true) × AreAsked u s (issued_of (tables v s).desk) loans) (command.Remove u) c.args.today (done.Remove c.in_ok-units.units) a c.remove_branch.new.conn c.pass_of.new.conn c.pass_of.result (AreEnough loans)
+    passed_where g.S.Store g.P.Places.represents v (λ s. (c.args.today ≡ s.day) × (has_unit s.catalogue.forest u ≡ true) × AreAsked u s (issued_of (tables v s).desk) loans) (command.Remove u) c.args.today (done.Remove c.in_ok-units.units) a c.remove_branch.new.tables c.pass_of.new.tables c.pass_of.result (AreEnough loans)
     (removes u v loans g.P.Places.represents a b c.args.today c.in_ok-units.units c.in_ok-units.ensures.removes c.in_ok-units.ensures.count)
     (λ s sound so. removes_near u v loans s sound so.1 so.2) c.in_ok-units.ensures.goes c.pass_of.ensures.tells

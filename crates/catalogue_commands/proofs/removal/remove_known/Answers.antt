@@ -12,4 +12,4 @@ pub returns : goal.returns
 returns g c =
     let told = c.in_ok-loans.ensures.tells in
     does_then told.looks c.remove_beside.ensures
-    (λ clean s sound so it. (so.0, so.1, subst (AreAsked c.args.unit s (issued_of (tables g.P.Places.version s).desk)) (sym c.deref.ensures.value) (told.answers clean tt s it)))
+    (λ clean s sound so it. (so.0, so.1, subst (AreAsked c.args.unit s (issued_of (tables g.P.Versioned.version s).desk)) (sym c.deref.ensures.value) (told.answers clean tt s it)))

@@ -15,20 +15,20 @@ returns-in_err-units g c = let made = c.in_err-units.ensures.makes in catalogue_
 
 pub returns-then-not-draft : goal.returns-then-not-draft
 returns-then-not-draft g c =
-    let a = state g.S.Store c.args.conn.now in
-    let b = state g.S.Store c.set_status.new.conn in
+    let a = state g.S.Store c.args.tables.now in
+    let b = state g.S.Store c.set_status.new.tables in
     let u = c.args.unit in
     let made = c.in_ok-units.ensures.makes in
-    passed_freely g.P.Places.represents g.P.Places.version (λ s. (c.args.today ≡ s.day) × (has_unit s.catalogue.forest u ≡ true)) (command.SetStatus u c.args.draft c.args.whole) c.args.today (done.SetStatus c.in_ok-units.units) a b
-    (sets u c.args.draft c.args.whole g.P.Places.represents g.P.Places.version a b c.args.today c.in_ok-units.units made.represents_updated made.only c.in_ok-units.ensures.count)
+    passed_freely g.P.Places.represents g.P.Versioned.version (λ s. (c.args.today ≡ s.day) × (has_unit s.catalogue.forest u ≡ true)) (command.SetStatus u c.args.draft c.args.whole) c.args.today (done.SetStatus c.in_ok-units.units) a b
+    (sets u c.args.draft c.args.whole g.P.Places.represents g.P.Versioned.version a b c.args.today c.in_ok-units.units made.represents_updated made.only c.in_ok-units.ensures.count)
     (λ s sound so. subst (λ (draft : Bool). gate (after s (command.SetStatus u draft c.args.whole)) ≡ None) (sym c.if-not-draft.true) (publishes u c.args.whole s sound)) made.goes
 
 pub returns : goal.returns
 returns g c =
-    let a = state g.S.Store c.args.conn.now in
-    let b = state g.S.Store c.set_status.new.conn in
+    let a = state g.S.Store c.args.tables.now in
+    let b = state g.S.Store c.set_status.new.tables in
     let u = c.args.unit in
     let made = c.in_ok-units.ensures.makes in
-    passed_where g.S.Store g.P.Places.represents g.P.Places.version (λ s. (c.args.today ≡ s.day) × (has_unit s.catalogue.forest u ≡ true)) (command.SetStatus u c.args.draft c.args.whole) c.args.today (done.SetStatus c.in_ok-units.units) a c.set_status.new.conn c.pass_near.new.conn c.pass_near.result (OthersAreOpen u)
-    (sets u c.args.draft c.args.whole g.P.Places.represents g.P.Places.version a b c.args.today c.in_ok-units.units made.represents_updated made.only c.in_ok-units.ensures.count)
+    passed_where g.S.Store g.P.Places.represents g.P.Versioned.version (λ s. (c.args.today ≡ s.day) × (has_unit s.catalogue.forest u ≡ true)) (command.SetStatus u c.args.draft c.args.whole) c.args.today (done.SetStatus c.in_ok-units.units) a c.set_status.new.tables c.pass_near.new.tables c.pass_near.result (OthersAreOpen u)
+    (sets u c.args.draft c.args.whole g.P.Places.represents g.P.Versioned.version a b c.args.today c.in_ok-units.units made.represents_updated made.only c.in_ok-units.ensures.count)
     (λ s sound so. sets_near u c.args.draft c.args.whole s sound so.1) made.goes c.pass_near.ensures.tells

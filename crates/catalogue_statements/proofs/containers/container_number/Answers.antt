@@ -1,17 +1,15 @@
 use Rattle.std.proofs.Common.{Ok, [], slice_get, ap, ◌∙◌}
 use Rattle.std.proofs.lemmas.Result.{IfOk-weaker}
-use Rattle.sqlite.specs.Held.{state}
-use Rattle.office_tables.proofs.RowReads.{asks}
-use Rattle.catalogue_statements.proofs.ContainerStatements.{container_number_text, container_number_command, container_number_means, container_number_finds, container_number_faults}
+use Rattle.catalogue_statements.proofs.ContainerStatements.{container_number_command, container_number_means, container_number_finds, container_number_faults}
 use Rattle.office_tables.proofs.StatementEnds.{looks_up}
 use Rattle.catalogue_statements.proofs.containers.container_number.Goals as goal
 
 pub find_one-requires : goal.find_one-requires
-find_one-requires g c = asks container_number_text 3 container_number_command (state g.S.Store c.args.conn.now) container_number_means c.requires.inside
+find_one-requires g c = record { count = 3; command = container_number_command; means = container_number_means g.P.Versioned.version }
 
 pub returns : goal.returns
 returns g c =
-    looks_up c.requires.inside c.find_one.ensures.reads (rw (c.words.ensures, c.words-2.ensures, c.words-3.ensures) at c.find_one.ensures.found) (rw (c.words.ensures, c.words-2.ensures, c.words-3.ensures) at c.find_one.ensures.missed)
+    looks_up g.P.Versioned.version c.find_one.ensures.reads (rw (c.words.ensures, c.words-2.ensures, c.words-3.ensures) at c.find_one.ensures.ran)
     (λ v has found xs stored _. IfOk-weaker c.find_one.result _ _ (λ first it.
     let all = container_number_finds _ _ v has xs stored c.args.key.now (λ l. l) (Ok it.0) it.1 in
     (all.0, all.1, it.2 ∙ ap (λ l. slice_get l 0) all.2)) found)

@@ -1,15 +1,13 @@
 use Rattle.std.proofs.Common.{refl}
-use Rattle.sqlite.specs.Held.{state}
-use Rattle.office_tables.proofs.RowWrites.{ours}
 use Rattle.office_tables.proofs.StatementEnds.{puts_numbered}
-use Rattle.catalogue_statements.proofs.HousingStatements.{insert_housing_text, insert_housing_command, insert_housing_means, insert_housing_puts, insert_housing_faults}
+use Rattle.catalogue_statements.proofs.HousingStatements.{insert_housing_command, insert_housing_means, insert_housing_puts, insert_housing_faults}
 use Rattle.catalogue_statements.proofs.containers.insert_housing.Goals as goal
 
 pub change-requires : goal.change-requires
-change-requires g c = ours insert_housing_text 3 insert_housing_command (state g.S.Store c.args.conn.now) refl insert_housing_means c.requires.inside
+change-requires g c = record { count = 3; command = insert_housing_command; changes = refl; means = insert_housing_means g.P.Versioned.version }
 
 pub returns : goal.returns
 returns g c =
-    puts_numbered c.requires.inside c.change.ensures.leaves (rw (c.number.ensures, c.number-2.ensures, c.number-3.ensures) at c.change.ensures.ran)
+    puts_numbered g.P.Versioned.version c.change.ensures.leaves (rw (c.number.ensures, c.number-2.ensures, c.number-3.ensures) at c.change.ensures.ran)
     (λ v has ran. insert_housing_puts _ _ c.args.unit c.args.ord c.args.container v has c.change.result ran)
     (λ v has ran xs stored room free. insert_housing_faults _ _ c.args.unit c.args.ord c.args.container v has room.0 xs stored room.1 room.2 free c.change.ensures.live c.change.result ran)

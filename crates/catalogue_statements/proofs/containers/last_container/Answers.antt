@@ -1,9 +1,7 @@
 use Rattle.std.proofs.Common.{◌≡◌, ℕ, Ok, List, [], ◌∷◌, map, take, slice_get, refl, ap, ◌∙◌}
 use Rattle.std.proofs.lemmas.Result.{IfOk-weaker}
 use Rattle.isad_core.specs.declared.values.BoxKey.{BoxKey}
-use Rattle.sqlite.specs.Held.{state}
-use Rattle.office_tables.proofs.RowReads.{asks}
-use Rattle.catalogue_statements.proofs.ContainerStatements.{last_container_text, last_container_command, last_container_means, last_container_finds, last_container_faults}
+use Rattle.catalogue_statements.proofs.ContainerStatements.{last_container_command, last_container_means, last_container_finds, last_container_faults}
 use Rattle.office_tables.proofs.StatementEnds.{looks_up}
 use Rattle.catalogue_statements.proofs.containers.last_container.Goals as goal
 
@@ -12,11 +10,11 @@ first_of_one [] = refl
 first_of_one (x ∷ xs) = refl
 
 pub find_one-requires : goal.find_one-requires
-find_one-requires g c = asks last_container_text 0 last_container_command (state g.S.Store c.args.conn.now) last_container_means c.requires.inside
+find_one-requires g c = record { count = 0; command = last_container_command; means = last_container_means g.P.Versioned.version }
 
 pub returns : goal.returns
 returns g c =
-    looks_up c.requires.inside c.find_one.ensures.reads c.find_one.ensures.found c.find_one.ensures.missed
+    looks_up g.P.Versioned.version c.find_one.ensures.reads c.find_one.ensures.ran
     (λ v has found xs stored _. IfOk-weaker c.find_one.result _ _ (λ first it.
     let all = last_container_finds _ _ v has xs stored (λ l. l) (Ok it.0) it.1 in
     (all.0, all.1, it.2 ∙ ap (λ l. slice_get l 0) all.2 ∙ first_of_one (map (λ (c : ℕ × BoxKey). c.0) all.0))) found)

@@ -1,15 +1,13 @@
 use Rattle.std.proofs.Common.{refl}
-use Rattle.sqlite.specs.Held.{state}
-use Rattle.office_tables.proofs.RowWrites.{ours}
 use Rattle.office_tables.proofs.StatementEnds.{puts_numbered}
-use Rattle.catalogue_statements.proofs.ElementStatements.{insert_element_text, insert_element_command, insert_element_means, insert_element_puts, insert_element_faults}
+use Rattle.catalogue_statements.proofs.ElementStatements.{insert_element_command, insert_element_means, insert_element_puts, insert_element_faults}
 use Rattle.catalogue_statements.proofs.elements.insert_element.Goals as goal
 
 pub change-requires : goal.change-requires
-change-requires g c = ours insert_element_text 3 insert_element_command (state g.S.Store c.args.conn.now) refl insert_element_means c.requires.inside
+change-requires g c = record { count = 3; command = insert_element_command; changes = refl; means = insert_element_means g.P.Versioned.version }
 
 pub returns : goal.returns
 returns g c =
-    puts_numbered c.requires.inside c.change.ensures.leaves (rw (c.number.ensures, c.number-2.ensures, c.words.ensures) at c.change.ensures.ran)
+    puts_numbered g.P.Versioned.version c.change.ensures.leaves (rw (c.number.ensures, c.number-2.ensures, c.words.ensures) at c.change.ensures.ran)
     (λ v has ran. insert_element_puts _ _ c.args.unit c.args.k c.args.value.now v has c.change.result ran)
     (λ v has ran xs texts room free. insert_element_faults _ _ c.args.unit c.args.k c.args.value.now v has room.0 xs (record { rows = texts }) room.1 free c.change.ensures.live c.change.result ran)

@@ -1,6 +1,7 @@
 use Rattle.office_tables.specs.Schema as tables
-use Rattle.std.proofs.Common.{◌≡◌, ℤ, List, [], ◌∷◌, ap, sym, subst, option_copied, false, nat_eq, ◌&&◌}
+use Rattle.std.proofs.Common.{◌≡◌, ℤ, None, List, [], ◌∷◌, ap, sym, subst, option_copied, false, nat_eq, ◌&&◌}
 use Rattle.std.specs.List.{list_any}
+use Rattle.std.proofs.lemmas.List.Sorted.{IsPermutation-refl}
 use Rattle.sqlite.specs.Held.{state}
 use Rattle.sqlite.specs.Edit.{next_rowid}
 use Rattle.catalogue_statements.specs.DescriptionRows.{AreElements, WithTexts, text_cells}
@@ -13,8 +14,8 @@ use Rattle.catalogue_statements.proofs.elements.insert_text.Goals as goal
 
 pub returns-in-Some-clause-adds : goal.returns-in-Some-clause-adds
 returns-in-Some-clause-adds g c clean xs at =
-    let a = state g.S.Store c.args.conn.now in
-    let b = state g.S.Store c.insert_element.new.conn in
+    let a = state g.S.Store c.args.tables.now in
+    let b = state g.S.Store c.insert_element.new.tables in
     let value = c.in-Some.text.now in
     let unit = c.args.unit in
     let row : ℤ × ElementRow = (next_rowid (a.now.trees tables.element.tree), record { unit = unit; k = c.element_number.result; value = value }) in
@@ -32,3 +33,8 @@ returns-in-Some-clause-faults g c known xs at none clean free =
 
 pub returns-in-Some-clause-spares : goal.returns-in-Some-clause-spares
 returns-in-Some-clause-spares g c clean = c.insert_element.ensures.leaves.spares clean
+
+pub returns-in-None-clause-adds : goal.returns-in-None-clause-adds
+returns-in-None-clause-adds g c clean xs at =
+    let none : WithTexts c.args.unit (text_cells c.args.place None) xs xs = record { more = []; are = IsPermutation-refl xs; tell = IsPermutation-refl []; theirs = tt } in
+    (xs, at, subst (λ t. WithTexts c.args.unit (text_cells c.args.place (option_copied t)) xs xs) (sym c.in-None.is) none)

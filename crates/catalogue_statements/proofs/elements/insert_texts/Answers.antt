@@ -19,9 +19,9 @@ use Rattle.catalogue_statements.proofs.elements.insert_texts.Goals as goal
 
 pub loop-text-preserved : goal.loop-text-preserved
 loop-text-preserved g c =
-    let a = state g.S.Store c.args.conn.now in
-    let b = state g.S.Store c.loop-text.conn in
-    let d = state g.S.Store c.insert_text.new.conn in
+    let a = state g.S.Store c.args.tables.now in
+    let b = state g.S.Store c.loop-text.tables in
+    let d = state g.S.Store c.insert_text.new.tables in
     let unit = c.args.unit in
     let texts = c.args.values.now.texts in
     let i = c.loop-text.text-index in
@@ -33,33 +33,30 @@ loop-text-preserved g c =
     (c.as_ref.ensures.value ∙ c.text-item.is ∙ ap (λ (l : List (Option Bytes)). get_or l i c.text-item.result) c.as_slice-text-items.ensures ∙ ap (get_or texts i) (sym c.as_ref.ensures.value)) in (
       ap (λ n. n + 1) invariant.0,
       (
-        invariant.1.0,
+        goes_then a b d invariant.1.0 last,
         (
-          goes_then a b d invariant.1.1.0 last,
-          (
-            λ clean. touched_again (tables.element.tree ∷ []) a.now b.now d.now (invariant.1.1.1.0 (early b d _ last.on.crash clean)) (c.in_ok-insert_text.ensures.only clean),
-            λ clean xs at.
-                let before = invariant.1.1.1.1 (early b d _ last.on.crash clean) xs at in
-                let one = c.in_ok-insert_text.ensures.adds clean before.0 before.1 in
-                (one.0, one.1, subst (λ cells. WithTexts unit cells xs one.0) cells (cells_then (λ (e : ElementRow). e.unit) cell_of unit (first_cells i texts) (text_cells c.loop-text.place text) xs before.0 one.0 before.2 one.2)),
-          ),
+          λ clean. touched_again (tables.element.tree ∷ []) a.now b.now d.now (invariant.1.1.0 (early b d _ last.on.crash clean)) (c.in_ok-insert_text.ensures.only clean),
+          λ clean xs at.
+              let before = invariant.1.1.1 (early b d _ last.on.crash clean) xs at in
+              let one = c.in_ok-insert_text.ensures.adds clean before.0 before.1 in
+              (one.0, one.1, subst (λ cells. WithTexts unit cells xs one.0) cells (cells_then (λ (e : ElementRow). e.unit) cell_of unit (first_cells i texts) (text_cells c.loop-text.place text) xs before.0 one.0 before.2 one.2)),
         ),
       ),
     )
 
 pub returns-in_err-insert_text-clause-faults : goal.returns-in_err-insert_text-clause-faults
 returns-in_err-insert_text-clause-faults g c known xs at none long clean free =
-    let a = state g.S.Store c.args.conn.now in
-    let b = state g.S.Store c.loop-text.conn in
-    let d = state g.S.Store c.insert_text.new.conn in
+    let a = state g.S.Store c.args.tables.now in
+    let b = state g.S.Store c.loop-text.tables in
+    let d = state g.S.Store c.insert_text.new.tables in
     let unit = c.args.unit in
     let texts = c.args.values.now.texts in
     let i = c.loop-text.text-index in
     let invariant = c.loop-text.invariant in
-    let so_far = invariant.1.1.0 in
+    let so_far = invariant.1.0 in
     let before = early b d _ c.in_err-insert_text.ensures.cut.crash clean in
-    let told = invariant.1.1.1.1 before xs at in
-    let here = unit_still a.now.trees b.now.trees unit ((invariant.1.1.1.0 before) tables.unit.tree refl refl) known in
+    let told = invariant.1.1.1 before xs at in
+    let here = unit_still a.now.trees b.now.trees unit ((invariant.1.1.0 before) tables.unit.tree refl refl) known in
     let low : i < length texts = subst (λ (l : List (Option Bytes)). i < length l) c.as_slice-text-items.ensures c.loop-text-test.true in
     let next = text_free unit i texts xs told.0 (omega (arith, low)) told.2 none in
     let none_yet = subst (λ k. list_any (λ (e : ElementRow). nat_eq unit e.unit && nat_eq (element_number k) e.k) told.0 ≡ false) (sym invariant.0) next in
@@ -75,16 +72,16 @@ pub returns-clause-adds : goal.returns-clause-adds
 returns-clause-adds g c clean xs at =
     let texts = c.args.values.now.texts in
     let i = c.loop-text.text-index in
-    let got = c.loop-text.invariant.1.1.1.1 clean xs at in
+    let got = c.loop-text.invariant.1.1.1 clean xs at in
     let all : take i texts ≡ texts = take_all i texts (omega (arith, c.loop-text-test.false, ap length c.as_slice-text-items.ensures)) in
     (got.0, got.1, subst (λ l. WithTexts c.args.unit (map (λ t. (element_number t.0, t.1)) (texts_from 0 l)) xs got.0) all got.2)
 
 pub returns-in_err-insert_text-clause-spares : goal.returns-in_err-insert_text-clause-spares
 returns-in_err-insert_text-clause-spares g c clean =
-    let a = state g.S.Store c.args.conn.now in
-    let b = state g.S.Store c.loop-text.conn in
-    let d = state g.S.Store c.insert_text.new.conn in
-    let so_far = c.loop-text.invariant.1.1 in
+    let a = state g.S.Store c.args.tables.now in
+    let b = state g.S.Store c.loop-text.tables in
+    let d = state g.S.Store c.insert_text.new.tables in
+    let so_far = c.loop-text.invariant.1 in
     let last = c.in_err-insert_text.ensures in
     let before = early b d _ last.cut.crash clean in
     let touched = tables.element.tree ∷ [] in
@@ -92,4 +89,4 @@ returns-in_err-insert_text-clause-spares g c clean =
     search (rules, all)
 
 pub returns-then-place-ge25-clause-spares : goal.returns-then-place-ge25-clause-spares
-returns-then-place-ge25-clause-spares g c clean = record { disk = tt; rows = inl (c.loop-text.invariant.1.1.1.0 clean) }
+returns-then-place-ge25-clause-spares g c clean = record { disk = tt; rows = inl (c.loop-text.invariant.1.1.0 clean) }

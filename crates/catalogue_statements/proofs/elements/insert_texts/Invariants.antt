@@ -4,15 +4,14 @@ use Rattle.sqlite.specs.Held.{state}
 use Rattle.sqlite.specs.State.{HasCleanDisk}
 use Rattle.catalogue_statements.specs.DescriptionRows.{AreElements, WithTexts}
 use Rattle.catalogue_statements.specs.Rows.{ElementRow}
-use Rattle.office_tables.specs.Step.{InOffice, Goes, OnlyTouches}
+use Rattle.office_tables.specs.Step.{Goes, OnlyTouches}
 use Rattle.catalogue_statements.proofs.TextLemmas.{first_cells}
 use Rattle.catalogue_statements.proofs.elements.insert_texts.Given as goal
 
 abbrev pub invariant-loop-text : goal.invariant-loop-text
 invariant-loop-text g l =
     (l.place ≡ l.text-index)
-    × (InOffice (state g.S.Store l.initial.conn)
-    × (Goes (state g.S.Store l.initial.conn) (state g.S.Store l.conn)
-    × ((HasCleanDisk (state g.S.Store l.conn) → OnlyTouches (tables.element.tree ∷ []) (state g.S.Store l.initial.conn).now (state g.S.Store l.conn).now)
-    × (HasCleanDisk (state g.S.Store l.conn) → (xs : List ElementRow) → AreElements (state g.S.Store l.initial.conn).now.trees xs
-    → (ys : List ElementRow) × AreElements (state g.S.Store l.conn).now.trees ys × WithTexts l.unit (first_cells l.text-index l.values.texts) xs ys))))
+    × (Goes (state g.S.Store l.initial.tables) (state g.S.Store l.tables)
+    × ((HasCleanDisk (state g.S.Store l.tables) → OnlyTouches (tables.element.tree ∷ []) (state g.S.Store l.initial.tables).now (state g.S.Store l.tables).now)
+    × (HasCleanDisk (state g.S.Store l.tables) → (xs : List ElementRow) → AreElements (state g.S.Store l.initial.tables).now.trees xs
+    → (ys : List ElementRow) × AreElements (state g.S.Store l.tables).now.trees ys × WithTexts l.unit (first_cells l.text-index l.values.texts) xs ys)))

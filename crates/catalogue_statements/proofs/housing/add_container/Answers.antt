@@ -14,9 +14,9 @@ use Rattle.catalogue_statements.proofs.housing.add_container.Goals as goal
 
 pub returns-clause-numbers : goal.returns-clause-numbers
 returns-clause-numbers g c clean boxes at =
-    let a = state g.S.Store c.args.conn.now in
-    let b = state g.S.Store c.next_number.new.conn in
-    let d = state g.S.Store c.insert_container.new.conn in
+    let a = state g.S.Store c.args.tables.now in
+    let b = state g.S.Store c.next_number.new.tables in
+    let d = state g.S.Store c.insert_container.new.tables in
     let before = early b d _ c.in_ok-insert_container.ensures.leaves.goes.on.crash clean in
     let is = c.in_ok-number.ensures.next before boxes at in
     let same : b.now ≡ a.now = c.in_ok-number.ensures.looks.same before in
@@ -25,9 +25,9 @@ returns-clause-numbers g c clean boxes at =
 
 pub returns-in_err-insert_container-clause-faults : goal.returns-in_err-insert_container-clause-faults
 returns-in_err-insert_container-clause-faults g c boxes at new clean free =
-    let a = state g.S.Store c.args.conn.now in
-    let b = state g.S.Store c.next_number.new.conn in
-    let d = state g.S.Store c.insert_container.new.conn in
+    let a = state g.S.Store c.args.tables.now in
+    let b = state g.S.Store c.next_number.new.tables in
+    let d = state g.S.Store c.insert_container.new.tables in
     let n = c.in_ok-number.number in
     let looked = c.in_ok-number.ensures.looks in
     let before = early b d _ c.in_err-insert_container.ensures.leaves.cut.crash clean in
@@ -39,9 +39,9 @@ returns-in_err-insert_container-clause-faults g c boxes at new clean free =
 
 pub returns-in_err-insert_container-clause-spares : goal.returns-in_err-insert_container-clause-spares
 returns-in_err-insert_container-clause-spares g c clean =
-    let a = state g.S.Store c.args.conn.now in
-    let b = state g.S.Store c.next_number.new.conn in
-    let d = state g.S.Store c.insert_container.new.conn in
+    let a = state g.S.Store c.args.tables.now in
+    let b = state g.S.Store c.next_number.new.tables in
+    let d = state g.S.Store c.insert_container.new.tables in
     let last = c.in_err-insert_container.ensures.leaves in
     let all : Spares IsSame a d c.in_err-insert_container.field-0.0 = looked_spares a b d c.in_ok-number.ensures.looks (early b d _ last.cut.crash clean) _ (last.spares clean) in
     search (rules, all)

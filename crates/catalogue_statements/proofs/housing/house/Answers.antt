@@ -20,9 +20,9 @@ use Rattle.catalogue_statements.proofs.housing.house.Goals as goal
 
 pub returns-clause-adds : goal.returns-clause-adds
 returns-clause-adds g c clean boxes xs at =
-    let a = state g.S.Store c.args.conn.now in
-    let b = state g.S.Store c.number_of.new.conn in
-    let d = state g.S.Store c.insert_housing.new.conn in
+    let a = state g.S.Store c.args.tables.now in
+    let b = state g.S.Store c.number_of.new.tables in
+    let d = state g.S.Store c.insert_housing.new.tables in
     let key = c.args.key.now in
     let all = with_boxes boxes (key ∷ []) in
     let row : ℤ × HousingRow = (next_rowid (b.now.trees tables.housing.tree), record { unit = c.args.unit; ord = c.args.place; container = c.in_ok-number.number }) in
@@ -35,9 +35,9 @@ returns-clause-adds g c clean boxes xs at =
 
 pub returns-clause-faults : goal.returns-clause-faults
 returns-clause-faults g c known boxes xs at small place_free number_free clean free =
-    let a = state g.S.Store c.args.conn.now in
-    let b = state g.S.Store c.number_of.new.conn in
-    let d = state g.S.Store c.insert_housing.new.conn in
+    let a = state g.S.Store c.args.tables.now in
+    let b = state g.S.Store c.number_of.new.tables in
+    let d = state g.S.Store c.insert_housing.new.tables in
     let unit = c.args.unit in
     let went = c.in_ok-number.ensures.goes in
     last_cause a b d went.on c.insert_housing.result c.insert_housing.ensures.leaves.cut clean (λ before.
@@ -49,17 +49,17 @@ returns-clause-faults g c known boxes xs at small place_free number_free clean f
 
 pub returns-in_err-number-clause-spares : goal.returns-in_err-number-clause-spares
 returns-in_err-number-clause-spares g c clean =
-    let a = state g.S.Store c.args.conn.now in
-    let b = state g.S.Store c.number_of.new.conn in
+    let a = state g.S.Store c.args.tables.now in
+    let b = state g.S.Store c.number_of.new.tables in
     let touched = tables.container.tree ∷ tables.housing.tree ∷ [] in
     let all : Spares (OnlyTouches touched) a b c.in_err-number.field-0.0 = untouched touched a b _ (c.in_err-number.ensures.spares clean) in
     search (rules, all)
 
 pub returns-clause-spares : goal.returns-clause-spares
 returns-clause-spares g c clean =
-    let a = state g.S.Store c.args.conn.now in
-    let b = state g.S.Store c.number_of.new.conn in
-    let d = state g.S.Store c.insert_housing.new.conn in
+    let a = state g.S.Store c.args.tables.now in
+    let b = state g.S.Store c.number_of.new.tables in
+    let d = state g.S.Store c.insert_housing.new.tables in
     let touched = tables.container.tree ∷ tables.housing.tree ∷ [] in
     let last = c.insert_housing.ensures.leaves in
     last_touched touched a b d c.in_ok-number.ensures.goes.on (λ before. touched_wider (tables.container.tree ∷ []) touched a.now b.now refl (c.in_ok-number.ensures.only before))

@@ -22,9 +22,9 @@ use Rattle.catalogue_statements.proofs.housing.insert_housings.Goals as goal
 
 pub loop-key-preserved : goal.loop-key-preserved
 loop-key-preserved g c =
-    let a = state g.S.Store c.args.conn.now in
-    let b = state g.S.Store c.loop-key.conn in
-    let d = state g.S.Store c.house.new.conn in
+    let a = state g.S.Store c.args.tables.now in
+    let b = state g.S.Store c.loop-key.tables in
+    let d = state g.S.Store c.house.new.tables in
     let unit = c.args.unit in
     let told = c.args.values.now.boxes in
     let i = c.loop-key.key-index in
@@ -38,40 +38,37 @@ loop-key-preserved g c =
     let place : c.loop-key.place ≡ length seen = invariant.0 ∙ sym (length-take-le i told (omega (arith, low))) in (
       ap (λ n. n + 1) invariant.0,
       (
-        invariant.1.0,
+        goes_then a b d invariant.1.0 last,
         (
-          goes_then a b d invariant.1.1.0 last,
-          (
-            λ clean. touched_again (tables.container.tree ∷ tables.housing.tree ∷ []) a.now b.now d.now (invariant.1.1.1.0 (early b d _ last.on.crash clean)) (c.in_ok-house.ensures.only clean),
-            λ clean boxes xs at.
-                let before = invariant.1.1.1.1 (early b d _ last.on.crash clean) boxes xs at in
-                let now = with_boxes boxes seen in
-                let one = c.in_ok-house.ensures.adds clean now before.0 before.1 in
-                let ys = one.0 in
-                let cells = cells_in now seen ++ (c.loop-key.place + 1, box_number (with_boxes now (key ∷ [])) key) ∷ [] in
-                let more : WithHousings unit cells xs ys = cells_then (λ (h : HousingRow). h.unit) housing_cell unit (cells_in now seen) ((c.loop-key.place + 1, box_number (with_boxes now (key ∷ [])) key) ∷ []) xs before.0 ys before.2 one.2 in
-                subst (λ l. (ys : List HousingRow) × AreHoused d.now.trees (with_boxes boxes l) ys × WithHousings unit (cells_in (with_boxes boxes l) l) xs ys) (sym taken)
-                (ys, subst (λ cs. AreHoused d.now.trees cs ys) (boxes_more boxes seen key at.apart) one.1, subst (λ l. WithHousings unit l xs ys) (housing_more boxes seen key c.loop-key.place at.apart place) more),
-          ),
+          λ clean. touched_again (tables.container.tree ∷ tables.housing.tree ∷ []) a.now b.now d.now (invariant.1.1.0 (early b d _ last.on.crash clean)) (c.in_ok-house.ensures.only clean),
+          λ clean boxes xs at.
+              let before = invariant.1.1.1 (early b d _ last.on.crash clean) boxes xs at in
+              let now = with_boxes boxes seen in
+              let one = c.in_ok-house.ensures.adds clean now before.0 before.1 in
+              let ys = one.0 in
+              let cells = cells_in now seen ++ (c.loop-key.place + 1, box_number (with_boxes now (key ∷ [])) key) ∷ [] in
+              let more : WithHousings unit cells xs ys = cells_then (λ (h : HousingRow). h.unit) housing_cell unit (cells_in now seen) ((c.loop-key.place + 1, box_number (with_boxes now (key ∷ [])) key) ∷ []) xs before.0 ys before.2 one.2 in
+              subst (λ l. (ys : List HousingRow) × AreHoused d.now.trees (with_boxes boxes l) ys × WithHousings unit (cells_in (with_boxes boxes l) l) xs ys) (sym taken)
+              (ys, subst (λ cs. AreHoused d.now.trees cs ys) (boxes_more boxes seen key at.apart) one.1, subst (λ l. WithHousings unit l xs ys) (housing_more boxes seen key c.loop-key.place at.apart place) more),
         ),
       ),
     )
 
 pub returns-in_err-house-clause-faults : goal.returns-in_err-house-clause-faults
 returns-in_err-house-clause-faults g c known boxes xs at small once none clean free =
-    let a = state g.S.Store c.args.conn.now in
-    let b = state g.S.Store c.loop-key.conn in
-    let d = state g.S.Store c.house.new.conn in
+    let a = state g.S.Store c.args.tables.now in
+    let b = state g.S.Store c.loop-key.tables in
+    let d = state g.S.Store c.house.new.tables in
     let unit = c.args.unit in
     let told = c.args.values.now.boxes in
     let i = c.loop-key.key-index in
     let key = c.key-item.result in
     let seen = take i told in
     let invariant = c.loop-key.invariant in
-    let so_far = invariant.1.1.0 in
+    let so_far = invariant.1.0 in
     let before = early b d _ c.in_err-house.ensures.cut.crash clean in
-    let housed = invariant.1.1.1.1 before boxes xs at in
-    let here = unit_still a.now.trees b.now.trees unit ((invariant.1.1.1.0 before) tables.unit.tree refl refl) known in
+    let housed = invariant.1.1.1 before boxes xs at in
+    let here = unit_still a.now.trees b.now.trees unit ((invariant.1.1.0 before) tables.unit.tree refl refl) known in
     let low : i < length told = subst (λ (l : List BoxKey). i < length l) c.as_slice-key-items.ensures c.loop-key-test.true in
     let is : key ≡ get_or told i key = c.key-item.is ∙ ap (λ (l : List BoxKey). get_or l i key) c.as_slice-key-items.ensures in
     let now = with_boxes boxes seen in
@@ -84,37 +81,34 @@ returns-in_err-house-clause-faults g c known boxes xs at small once none clean f
 
 pub loop-key-init : goal.loop-key-init
 loop-key-init g c =
-    let a = state g.S.Store c.args.conn.now in (
+    let a = state g.S.Store c.args.tables.now in (
       refl,
       (
-        c.requires.inside,
+        goes_nowhere a,
         (
-          goes_nowhere a c.requires.inside,
-          (
-            λ clean. nothing_touched (tables.container.tree ∷ tables.housing.tree ∷ []) a.now,
-            λ clean boxes xs at.
-                let same : with_boxes boxes [] ≡ boxes = ap distinct (append-nil boxes) ∙ at.apart in
-                (xs, subst (λ cs. AreHoused a.now.trees cs xs) (sym same) at, record { more = []; are = IsPermutation-refl xs; tell = IsPermutation-refl []; theirs = tt }),
-          ),
+          λ clean. nothing_touched (tables.container.tree ∷ tables.housing.tree ∷ []) a.now,
+          λ clean boxes xs at.
+              let same : with_boxes boxes [] ≡ boxes = ap distinct (append-nil boxes) ∙ at.apart in
+              (xs, subst (λ cs. AreHoused a.now.trees cs xs) (sym same) at, record { more = []; are = IsPermutation-refl xs; tell = IsPermutation-refl []; theirs = tt }),
         ),
       ),
     )
 
 pub returns-clause-adds : goal.returns-clause-adds
 returns-clause-adds g c clean boxes xs at =
-    let d = state g.S.Store c.loop-key.conn in
+    let d = state g.S.Store c.loop-key.tables in
     let told = c.args.values.now.boxes in
     let i = c.loop-key.key-index in
-    let got = c.loop-key.invariant.1.1.1.1 clean boxes xs at in
+    let got = c.loop-key.invariant.1.1.1 clean boxes xs at in
     let all : take i told ≡ told = take_all i told (omega (arith, c.loop-key-test.false, ap length c.as_slice-key-items.ensures)) in
     subst (λ l. (ys : List HousingRow) × AreHoused d.now.trees (with_boxes boxes l) ys × WithHousings c.args.unit (cells_in (with_boxes boxes l) l) xs ys) all got
 
 pub returns-in_err-house-clause-spares : goal.returns-in_err-house-clause-spares
 returns-in_err-house-clause-spares g c clean =
-    let a = state g.S.Store c.args.conn.now in
-    let b = state g.S.Store c.loop-key.conn in
-    let d = state g.S.Store c.house.new.conn in
-    let so_far = c.loop-key.invariant.1.1 in
+    let a = state g.S.Store c.args.tables.now in
+    let b = state g.S.Store c.loop-key.tables in
+    let d = state g.S.Store c.house.new.tables in
+    let so_far = c.loop-key.invariant.1 in
     let last = c.in_err-house.ensures in
     let before = early b d _ last.cut.crash clean in
     let touched = tables.container.tree ∷ tables.housing.tree ∷ [] in

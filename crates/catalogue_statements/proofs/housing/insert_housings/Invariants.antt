@@ -6,15 +6,14 @@ use Rattle.isad_core.specs.declared.values.BoxKey.{BoxKey}
 use Rattle.catalogue_statements.specs.DescriptionRows.{AreHoused, WithHousings}
 use Rattle.catalogue_core.specs.Descriptions.{with_boxes}
 use Rattle.catalogue_statements.specs.Rows.{HousingRow}
-use Rattle.office_tables.specs.Step.{InOffice, Goes, OnlyTouches}
+use Rattle.office_tables.specs.Step.{Goes, OnlyTouches}
 use Rattle.catalogue_statements.proofs.HousingLemmas.{cells_in}
 use Rattle.catalogue_statements.proofs.housing.insert_housings.Given as goal
 
 abbrev pub invariant-loop-key : goal.invariant-loop-key
 invariant-loop-key g l =
     (l.place ≡ l.key-index)
-    × (InOffice (state g.S.Store l.initial.conn)
-    × (Goes (state g.S.Store l.initial.conn) (state g.S.Store l.conn)
-    × ((HasCleanDisk (state g.S.Store l.conn) → OnlyTouches (tables.container.tree ∷ tables.housing.tree ∷ []) (state g.S.Store l.initial.conn).now (state g.S.Store l.conn).now)
-    × (HasCleanDisk (state g.S.Store l.conn) → (boxes : List BoxKey) (xs : List HousingRow) → AreHoused (state g.S.Store l.initial.conn).now.trees boxes xs
-    → let seen = take l.key-index l.values.boxes in (ys : List HousingRow) × AreHoused (state g.S.Store l.conn).now.trees (with_boxes boxes seen) ys × WithHousings l.unit (cells_in (with_boxes boxes seen) seen) xs ys))))
+    × (Goes (state g.S.Store l.initial.tables) (state g.S.Store l.tables)
+    × ((HasCleanDisk (state g.S.Store l.tables) → OnlyTouches (tables.container.tree ∷ tables.housing.tree ∷ []) (state g.S.Store l.initial.tables).now (state g.S.Store l.tables).now)
+    × (HasCleanDisk (state g.S.Store l.tables) → (boxes : List BoxKey) (xs : List HousingRow) → AreHoused (state g.S.Store l.initial.tables).now.trees boxes xs
+    → let seen = take l.key-index l.values.boxes in (ys : List HousingRow) × AreHoused (state g.S.Store l.tables).now.trees (with_boxes boxes seen) ys × WithHousings l.unit (cells_in (with_boxes boxes seen) seen) xs ys)))

@@ -20,9 +20,9 @@ use Rattle.catalogue_statements.proofs.housing.number_of.Goals as goal
 
 pub returns-in_default-clause-numbers : goal.returns-in_default-clause-numbers
 returns-in_default-clause-numbers g c clean boxes at apart =
-    let a = state g.S.Store c.args.conn.now in
-    let b = state g.S.Store c.container_number.new.conn in
-    let d = state g.S.Store c.add_container.new.conn in
+    let a = state g.S.Store c.args.tables.now in
+    let b = state g.S.Store c.container_number.new.tables in
+    let d = state g.S.Store c.add_container.new.tables in
     let key = c.args.key.now in
     let result = λ (n : ℕ). (n ≡ box_number (with_boxes boxes (key ∷ [])) key) × RepresentsContainers d.now.trees (with_boxes boxes (key ∷ [])) in
     if_ok_by c.add_container.result (Goes b d) result
@@ -40,7 +40,7 @@ returns-in_default-clause-numbers g c clean boxes at apart =
 
 pub returns-clause-numbers : goal.returns-clause-numbers
 returns-clause-numbers g c clean boxes at apart =
-    let b = state g.S.Store c.container_number.new.conn in
+    let b = state g.S.Store c.container_number.new.tables in
     let key = c.args.key.now in
     let got = c.in_ok-number.ensures.answers clean (counted_from 1 boxes) at tt in
     let some : number_in boxes key ≡ Some c.in-Some.number =
@@ -50,9 +50,9 @@ returns-clause-numbers g c clean boxes at apart =
 
 pub returns-in_default-clause-faults : goal.returns-in_default-clause-faults
 returns-in_default-clause-faults g c boxes at small clean free =
-    let a = state g.S.Store c.args.conn.now in
-    let b = state g.S.Store c.container_number.new.conn in
-    let d = state g.S.Store c.add_container.new.conn in
+    let a = state g.S.Store c.args.tables.now in
+    let b = state g.S.Store c.container_number.new.tables in
+    let d = state g.S.Store c.add_container.new.tables in
     let key = c.args.key.now in
     let looked = c.in_ok-number.ensures.reads.looks in
     last_cause a b d looked.goes.on c.add_container.result c.add_container.ensures.cut clean (λ before.
@@ -72,10 +72,10 @@ returns-then-number-ge-NO_NUMBER-clause-faults g c boxes at small clean free =
 
 pub returns-in_default-clause-spares : goal.returns-in_default-clause-spares
 returns-in_default-clause-spares g c clean =
-    let a = state g.S.Store c.args.conn.now in
-    let b = state g.S.Store c.container_number.new.conn in
-    let d = state g.S.Store c.add_container.new.conn in
+    let a = state g.S.Store c.args.tables.now in
+    let b = state g.S.Store c.container_number.new.tables in
+    let d = state g.S.Store c.add_container.new.tables in
     last_spares a b d c.in_ok-number.ensures.reads.looks c.add_container.result c.add_container.ensures.cut clean (c.add_container.ensures.spares clean)
 
 pub returns-then-number-ge-NO_NUMBER-clause-spares : goal.returns-then-number-ge-NO_NUMBER-clause-spares
-returns-then-number-ge-NO_NUMBER-clause-spares g c clean = spares_known (state g.S.Store c.args.conn.now) (state g.S.Store c.container_number.new.conn) c.in_ok-number.ensures.reads.looks clean
+returns-then-number-ge-NO_NUMBER-clause-spares g c clean = spares_known (state g.S.Store c.args.tables.now) (state g.S.Store c.container_number.new.tables) c.in_ok-number.ensures.reads.looks clean

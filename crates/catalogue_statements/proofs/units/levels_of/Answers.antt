@@ -1,6 +1,4 @@
-use Rattle.sqlite.specs.Held.{state}
 use Rattle.catalogue_core.specs.Units.{Unit}
-use Rattle.office_tables.proofs.RowReads.{asks}
 use Rattle.std.proofs.Common.{refl, ◌∷◌, []}
 use Rattle.std.specs.Prelude.{IsUtf8}
 use Rattle.sqlite.specs.declared.types.Value.TheVariants.{Text}
@@ -11,11 +9,11 @@ use Rattle.office_tables.proofs.StatementEnds.{looks_up}
 use Rattle.catalogue_statements.proofs.units.levels_of.Goals as goal
 
 pub find-requires : goal.find-requires
-find-requires g c = asks level_text 1 level_command (state g.S.Store c.args.conn.now) level_means c.requires.inside
+find-requires g c = record { count = 1; command = level_command; means = level_means g.P.Versioned.version }
 
 pub returns : goal.returns
 returns g c =
-    looks_up c.requires.inside c.find.ensures.reads (rw c.number.ensures at c.find.ensures.found) (rw c.number.ensures at c.find.ensures.missed)
+    looks_up g.P.Versioned.version c.find.ensures.reads (rw c.number.ensures at c.find.ensures.ran)
     (λ v has found xs stored _. numbered_finds _ _ c.args.id v has level_text level_columns level_names (level_means v) xs stored (λ t. Text t ∷ []) (λ found. found.items) (λ (u : Unit). u.values.level) (λ _. refl) c.find.result found)
     (λ v has missed xs stored legible free.
     numbered_faults _ _ c.args.id v has level_text level_columns level_names (level_means v) xs stored (λ t. Text t ∷ []) (λ found. found.items) (λ (u : Unit). u.values.level) (λ _. refl) c.find.result

@@ -4,15 +4,14 @@ use Rattle.sqlite.specs.State.{HasCleanDisk}
 use Rattle.office_tables.specs.Order.{Rises}
 use Rattle.catalogue_statements.specs.Removals.{AreListed, AreRemoved}
 use Rattle.catalogue_statements.specs.Rows.{unit_row, by_number}
-use Rattle.office_tables.specs.Step.{InOffice, Goes, OnlyTouches}
+use Rattle.office_tables.specs.Step.{Goes, OnlyTouches}
 use Rattle.catalogue_core.specs.Units.{Unit}
 use Rattle.office_tables.specs.Schema as tables
 use Rattle.catalogue_statements.proofs.units.remove_units.Given as goal
 
 abbrev pub invariant-loop-id : goal.invariant-loop-id
 invariant-loop-id g l =
-    InOffice (state g.S.Store l.initial.conn)
-    × (Goes (state g.S.Store l.initial.conn) (state g.S.Store l.conn)
-    × ((HasCleanDisk (state g.S.Store l.conn) → OnlyTouches (tables.permit.tree ∷ tables.unit.tree ∷ tables.element.tree ∷ tables.housing.tree ∷ []) (state g.S.Store l.initial.conn).now (state g.S.Store l.conn).now)
-    × (HasCleanDisk (state g.S.Store l.conn) → (xs : List Unit) → (state g.S.Store l.initial.conn).now.trees tables.unit.tree ≡ map unit_row xs → Rises by_number xs → AreListed l.ids xs
-    → AreRemoved (take l.id-index l.ids) (state g.S.Store l.initial.conn).now (state g.S.Store l.conn).now)))
+    Goes (state g.S.Store l.initial.tables) (state g.S.Store l.tables)
+    × ((HasCleanDisk (state g.S.Store l.tables) → OnlyTouches (tables.permit.tree ∷ tables.unit.tree ∷ tables.element.tree ∷ tables.housing.tree ∷ []) (state g.S.Store l.initial.tables).now (state g.S.Store l.tables).now)
+    × (HasCleanDisk (state g.S.Store l.tables) → (xs : List Unit) → (state g.S.Store l.initial.tables).now.trees tables.unit.tree ≡ map unit_row xs → Rises by_number xs → AreListed l.ids xs
+    → AreRemoved (take l.id-index l.ids) (state g.S.Store l.initial.tables).now (state g.S.Store l.tables).now))

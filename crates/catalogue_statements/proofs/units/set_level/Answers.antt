@@ -1,16 +1,14 @@
 use Rattle.std.proofs.Common.{refl}
-use Rattle.sqlite.specs.Held.{state}
-use Rattle.office_tables.proofs.RowWrites.{ours}
-use Rattle.catalogue_statements.proofs.UnitWrites.{set_level_text, set_level_command, set_level_means, set_level_leaves, set_level_only, set_level_faults}
+use Rattle.catalogue_statements.proofs.UnitWrites.{set_level_command, set_level_means, set_level_leaves, set_level_only, set_level_faults}
 use Rattle.office_tables.proofs.StatementEnds.{changes}
 use Rattle.catalogue_statements.proofs.units.set_level.Goals as goal
 
 pub change-requires : goal.change-requires
-change-requires g c = ours set_level_text 2 set_level_command (state g.S.Store c.args.conn.now) refl set_level_means c.requires.inside
+change-requires g c = record { count = 2; command = set_level_command; changes = refl; means = set_level_means g.P.Versioned.version }
 
 pub returns : goal.returns
 returns g c =
-    changes c.requires.inside c.change.ensures.leaves (rw (c.number.ensures, c.words.ensures) at c.change.ensures.ran)
+    changes g.P.Versioned.version c.change.ensures.leaves (rw (c.number.ensures, c.words.ensures) at c.change.ensures.ran)
     (λ v has ran xs stored up. set_level_leaves _ _ c.args.id c.args.values.now v has xs stored up c.change.result ran)
     (λ v has ran. set_level_only _ _ c.args.id v has c.change.result c.args.values.now ran)
     (λ v has ran xs stored up free. set_level_faults _ _ c.args.id c.args.values.now v has xs stored up c.change.result ran free c.change.ensures.live)

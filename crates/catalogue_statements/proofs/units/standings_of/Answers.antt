@@ -1,7 +1,6 @@
 use Rattle.std.proofs.Common.{refl, ◌≡◌, true, ◌∷◌, [], ap, ◌∙◌, filter, map}
 use Rattle.std.specs.Prelude.{IfSome, IsUtf8}
 use Rattle.std.proofs.lemmas.Result.{IfOk-weaker}
-use Rattle.sqlite.specs.Held.{state}
 use Rattle.sqlite.specs.Values.{or_null}
 use Rattle.sqlite.specs.declared.types.Value.TheVariants.{Int, Text}
 use Rattle.sqlite_trees.proofs.ListLemmas.{all_weaker, ascending-filter}
@@ -9,7 +8,6 @@ use Rattle.isad_core.specs.Days.{is_day_number}
 use Rattle.catalogue_core.specs.Bounds.{IsLegibleUnit}
 use Rattle.catalogue_core.specs.Units.{Unit, has_id}
 use Rattle.office_tables.specs.Flags.{flag}
-use Rattle.office_tables.proofs.RowReads.{asks}
 use Rattle.office_tables.proofs.Sorted.{only_order}
 use Rattle.catalogue_statements.specs.Rows.{by_number}
 use Rattle.catalogue_statements.specs.Standings.{standing_of}
@@ -19,11 +17,11 @@ use Rattle.office_tables.proofs.StatementEnds.{looks_up}
 use Rattle.catalogue_statements.proofs.units.standings_of.Goals as goal
 
 pub find-requires : goal.find-requires
-find-requires g c = asks standing_text 1 standing_command (state g.S.Store c.args.conn.now) standing_means c.requires.inside
+find-requires g c = record { count = 1; command = standing_command; means = standing_means g.P.Versioned.version }
 
 pub returns : goal.returns
 returns g c =
-    looks_up c.requires.inside c.find.ensures.reads (rw c.number.ensures at c.find.ensures.found) (rw c.number.ensures at c.find.ensures.missed)
+    looks_up g.P.Versioned.version c.find.ensures.reads (rw c.number.ensures at c.find.ensures.ran)
     (λ v has found xs stored up.
     let rising = ascending-filter _ (has_id c.args.id) xs up in
     IfOk-weaker c.find.result _ _ (λ all it. it.2 ∙ ap (map standing_of) (only_order by_number by_number_total (filter (has_id c.args.id) xs) it.0 rising it.1.1 it.1.0))

@@ -1,7 +1,5 @@
 use Rattle.std.proofs.Common.{map, filter, nat_eq}
-use Rattle.sqlite.specs.Held.{state}
 use Rattle.catalogue_core.specs.Units.{Unit}
-use Rattle.office_tables.proofs.RowReads.{asks}
 use Rattle.std.proofs.Common.{refl, ◌∷◌, [], ap, ◌∙◌, SFits}
 use Rattle.std.specs.Prelude.{IfSome}
 use Rattle.std.specs.Int.{w32}
@@ -22,11 +20,11 @@ abbrev status : Unit → Status
 status u = record { draft = u.draft; until = u.until }
 
 pub find-requires : goal.find-requires
-find-requires g c = asks status_text 1 status_command (state g.S.Store c.args.conn.now) status_means c.requires.inside
+find-requires g c = record { count = 1; command = status_command; means = status_means g.P.Versioned.version }
 
 pub returns : goal.returns
 returns g c =
-    looks_up c.requires.inside c.find.ensures.reads (rw c.number.ensures at c.find.ensures.found) (rw c.number.ensures at c.find.ensures.missed)
+    looks_up g.P.Versioned.version c.find.ensures.reads (rw c.number.ensures at c.find.ensures.ran)
     (λ v has found xs stored up.
     let rising = ascending-filter _ (λ (u : Unit). nat_eq c.args.id u.id) xs up in
     IfOk-weaker c.find.result _ _ (λ all it. it.2 ∙ ap (map status) (only_order by_number by_number_total (filter (λ (u : Unit). nat_eq c.args.id u.id) xs) it.0 rising it.1.1 it.1.0))

@@ -57,7 +57,7 @@ returns-clause-leaves g c start making =
     let a3 = state g.S.Store c.create.new.conn in
     let step3 = c.in_ok-create.ensures.made start step2.1 in
     let on3 = continues_then a0 a2 a3 on2 (c.in_ok-create.ensures.leaves start step2.1).goes in
-    let inside : InTransaction g.P.Places.version a3 = λ clean. ((step3 clean).0.schema_is, (step3 clean).1) in
+    let inside : InTransaction g.P.Versioned.version a3 = λ clean. ((step3 clean).0.schema_is, (step3 clean).1) in
     let a4 = state g.S.Store c.insert_office.new.conn in
     let left = c.insert_office.ensures.leaves inside in
     let r = c.insert_office.result in
@@ -74,14 +74,14 @@ returns-clause-represents g c start making clean =
     let a3 = state g.S.Store c.create.new.conn in
     let step3 = c.in_ok-create.ensures.made start step2.1 in
     let on3 = continues_then a0 a2 a3 on2 (c.in_ok-create.ensures.leaves start step2.1).goes in
-    let inside : InTransaction g.P.Places.version a3 = λ clean. ((step3 clean).0.schema_is, (step3 clean).1) in
+    let inside : InTransaction g.P.Versioned.version a3 = λ clean. ((step3 clean).0.schema_is, (step3 clean).1) in
     let a4 = state g.S.Store c.insert_office.new.conn in
     let left = c.insert_office.ensures.leaves inside in
-    on_ok_both c.insert_office.result (Goes a3 a4) (PutsRow tables.office.tree (office_row g.P.Places.version c.args.row.now) a3.now a4.now)
-    (Represents g.P.Places.represents g.P.Places.version a4.now c.args.row.now (record { forest = Empty; containers = []; next = c.args.row.now.next_unit }))
+    on_ok_both c.insert_office.result (Goes a3 a4) (PutsRow tables.office.tree (office_row g.P.Versioned.version c.args.row.now) a3.now a4.now)
+    (Represents g.P.Places.represents g.P.Versioned.version a4.now c.args.row.now (record { forest = Empty; containers = []; next = c.args.row.now.next_unit }))
     (λ last puts.
     let clean3 = early a3 a4 _ last.on.crash clean in
-    shows_beginning g.P.Places.version g.P.Places.represents g.met.P.Places.shows_same start a3.now a4.now c.args.row.now (step3 clean3).0 (last.schema clean) puts (c.in_ok-create.ensures.nothing start step2.1 clean3))
+    shows_beginning g.P.Versioned.version g.P.Places.represents g.met.P.Places.shows_same start a3.now a4.now c.args.row.now (step3 clean3).0 (last.schema clean) puts (c.in_ok-create.ensures.nothing start step2.1 clean3))
     left.goes (c.insert_office.ensures.puts inside clean)
 
 pub returns-clause-desk : goal.returns-clause-desk
@@ -95,9 +95,9 @@ returns-clause-desk g c start making clean =
     let a3 = state g.S.Store c.create.new.conn in
     let step3 = c.in_ok-create.ensures.made start step2.1 in
     let on3 = continues_then a0 a2 a3 on2 (c.in_ok-create.ensures.leaves start step2.1).goes in
-    let inside : InTransaction g.P.Places.version a3 = λ clean. ((step3 clean).0.schema_is, (step3 clean).1) in
+    let inside : InTransaction g.P.Versioned.version a3 = λ clean. ((step3 clean).0.schema_is, (step3 clean).1) in
     let a4 = state g.S.Store c.insert_office.new.conn in
     let left = c.insert_office.ensures.leaves inside in
-    on_ok_both c.insert_office.result (Goes a3 a4) (PutsRow tables.office.tree (office_row g.P.Places.version c.args.row.now) a3.now a4.now) (KeepsRows desk_tables start.trees a4.now.trees)
-    (λ last puts. desk_kept g.P.Places.version start a3.now a4.now c.args.row.now (step3 (early a3 a4 _ last.on.crash clean)).0 puts)
+    on_ok_both c.insert_office.result (Goes a3 a4) (PutsRow tables.office.tree (office_row g.P.Versioned.version c.args.row.now) a3.now a4.now) (KeepsRows desk_tables start.trees a4.now.trees)
+    (λ last puts. desk_kept g.P.Versioned.version start a3.now a4.now c.args.row.now (step3 (early a3 a4 _ last.on.crash clean)).0 puts)
     left.goes (c.insert_office.ensures.puts inside clean)

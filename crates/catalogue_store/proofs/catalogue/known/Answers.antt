@@ -14,7 +14,7 @@ returns-in_err-found g c =
     let handed = c.from_residual.ensures in
     let e = c.in_err-found.field-0.0 in
     record {
-      tells = tells_not g.S.Store (RepresentsAlone RepresentsUnits) (λ _. ⊤) (λ _. ⊤) c.args.conn.now c.units_from.new.conn c.from_residual.result (λ _ f. FindsUnit (is_from c.args.source.now c.args.legacy.now) f) e
+      tells = tells_not g.S.Store (RepresentsAlone RepresentsUnits) (λ _. ⊤) (λ _. ⊤) c.args.tables.now c.units_from.new.tables c.from_residual.result (λ _ f. FindsUnit (is_from c.args.source.now c.args.legacy.now) f) e
           (same_fault c.from_residual.result e handed.0 handed.1) c.in_err-found.ensures.reads.cut c.in_err-found.ensures.reads.spares
           (λ beside f shown may kept clean free. c.in_err-found.ensures.faults shown.units shown.rows tt clean free);
     }

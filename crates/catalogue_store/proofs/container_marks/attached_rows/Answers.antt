@@ -1,7 +1,6 @@
 use Rattle.std.proofs.Common.{sym, subst, ◌∙◌}
 use Rattle.std.specs.Prelude.{⊤}
 use Rattle.sqlite.specs.Effect.{Database}
-use Rattle.sqlite.specs.Held.{state}
 use Rattle.tree_core.specs.Forest.{each}
 use Rattle.catalogue_core.specs.Bounds.{IsBounded, IsKept}
 use Rattle.catalogue_core.specs.Units.{Unit}
@@ -10,20 +9,16 @@ use Rattle.catalogue_statements.specs.Representation.{Represents}
 use Rattle.catalogue_store.specs.Attachments.{AreAttachedRows, AreRowsOf, AreThere}
 use Rattle.office_tables.proofs.CallEnds.{same_fault}
 use Rattle.office_tables.proofs.StoreCalls.{tells_not}
-use Rattle.office_tables.proofs.Calls.{office_of}
 use Rattle.catalogue_store.proofs.AttachedRows.{attached_rows, attached_there}
 use Rattle.catalogue_store.proofs.LaterAnswers.{answers_later}
 use Rattle.catalogue_store.proofs.container_marks.attached_rows.Goals as goal
-
-pub attached_units-requires-clause-inside : goal.attached_units-requires-clause-inside
-attached_units-requires-clause-inside g c = office_of g.P.Places.version (state g.S.Store c.args.conn.now) c.requires.inside
 
 pub returns-in_err-units : goal.returns-in_err-units
 returns-in_err-units g c =
     let handed = c.from_residual.ensures in
     let e = c.in_err-units.field-0.0 in
     record {
-      tells = tells_not g.S.Store (Represents g.P.Places.represents g.P.Places.version) IsKept (λ _. ⊤) c.args.conn.now c.attached_units.new.conn c.from_residual.result (λ _ k rows. AreAttachedRows g.P.Places.stands k c.args.container rows.items) e
+      tells = tells_not g.S.Store (Represents g.P.Places.represents g.P.Versioned.version) IsKept (λ _. ⊤) c.args.tables.now c.attached_units.new.tables c.from_residual.result (λ _ k rows. AreAttachedRows g.P.Places.stands k c.args.container rows.items) e
           (same_fault c.from_residual.result e handed.0 handed.1) c.in_err-units.ensures.reads.cut c.in_err-units.ensures.reads.spares
           (λ o k it may kept clean free. c.in_err-units.ensures.faults k it.catalogue.housings clean free);
     }
@@ -33,9 +28,9 @@ returns g c =
     let looked = c.in_ok-units.ensures.reads.looks in
     let ids = c.deref.result.now in
     let stands = g.P.Places.stands in
-    let represents = Represents g.P.Places.represents g.P.Places.version in
+    let represents = Represents g.P.Places.represents g.P.Versioned.version in
     record {
-      tells = answers_later g.S.Store represents IsKept (λ _. ⊤) (RepresentsAlone g.P.Places.represents) IsBounded (AreThere ids) c.args.conn.now c.attached_units.new.conn c.walk.new.conn c.walk.result
+      tells = answers_later g.S.Store represents IsKept (λ _. ⊤) (RepresentsAlone g.P.Places.represents) IsBounded (AreThere ids) c.args.tables.now c.attached_units.new.tables c.walk.new.tables c.walk.result
           (λ _ k rows. AreAttachedRows stands k c.args.container rows.items) (λ _ f rows. AreThere ids f → AreRowsOf stands f ids rows.items) looked
           (λ o k it before.
           let got = c.in_ok-units.ensures.units before k it.catalogue.units it.catalogue.housings in

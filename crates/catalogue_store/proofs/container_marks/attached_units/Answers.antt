@@ -7,7 +7,7 @@ use Rattle.catalogue_store.proofs.container_marks.attached_units.Goals as goal
 
 pub returns-clause-units : goal.returns-clause-units
 returns-clause-units g c clean k units housings =
-    let a = state g.S.Store c.args.conn.now in
+    let a = state g.S.Store c.args.tables.now in
     let found = c.in_ok-ids.ensures.answers clean housings.housings housings.rows tt in
     attached a.now.trees k units housings c.args.container found.0 c.in_ok-ids.ids.items c.dedup.new.self.items found.1.0 found.1.1 found.2 (dedup_is eqb c.in_ok-ids.ids.items c.dedup.new.self.items c.dedup.ensures.filtered)
 

@@ -2,7 +2,6 @@ use Rattle.std.proofs.Common.{sym, subst, List, map}
 use Rattle.std.specs.Prelude.{⊤}
 use Rattle.std.specs.List.{AllByRecursion}
 use Rattle.sqlite.specs.Effect.{Database}
-use Rattle.sqlite.specs.Held.{state}
 use Rattle.tree_core.specs.Forest.{each}
 use Rattle.tree_core.specs.declared.rows.Span.{Span}
 use Rattle.catalogue_core.specs.Bounds.{IsKept}
@@ -11,12 +10,8 @@ use Rattle.catalogue_statements.specs.Representation.{Represents}
 use Rattle.catalogue_store.specs.Attachments.{AreAttachedRows, AreMarksOfEach, AreMarksOfContents}
 use Rattle.office_tables.proofs.CallEnds.{same_fault}
 use Rattle.office_tables.proofs.StoreCalls.{tells_not}
-use Rattle.office_tables.proofs.Calls.{still}
 use Rattle.catalogue_store.proofs.LaterAnswers.{answers_later}
 use Rattle.catalogue_store.proofs.container_marks.contents_marks.Goals as goal
-
-pub marks_of_each-requires : goal.marks_of_each-requires
-marks_of_each-requires g c = record { inside = still g.P.Places.version (state g.S.Store c.args.conn.now) (state g.S.Store c.attached_rows.new.conn) c.requires.inside c.in_ok-rows.ensures.tells.looks.goes }
 
 pub returns-in_err-rows : goal.returns-in_err-rows
 returns-in_err-rows g c =
@@ -24,7 +19,7 @@ returns-in_err-rows g c =
     let e = c.in_err-rows.field-0.0 in
     let why = c.in_err-rows.ensures.tells in
     record {
-      tells = tells_not g.S.Store (Represents g.P.Places.represents g.P.Places.version) IsKept (λ _. ⊤) c.args.conn.now c.attached_rows.new.conn c.from_residual.result (λ _ k found. AreMarksOfContents k c.args.container found.items) e
+      tells = tells_not g.S.Store (Represents g.P.Places.represents g.P.Versioned.version) IsKept (λ _. ⊤) c.args.tables.now c.attached_rows.new.tables c.from_residual.result (λ _ k found. AreMarksOfContents k c.args.container found.items) e
           (same_fault c.from_residual.result e handed.0 handed.1) why.cut why.spares
           (λ o k it may kept clean free. why.faults o k it may kept clean free);
     }
@@ -34,9 +29,9 @@ returns g c =
     let told = c.in_ok-rows.ensures.tells in
     let rows = c.deref.result.now in
     let stands = g.P.Places.stands in
-    let represents = Represents g.P.Places.represents g.P.Places.version in
+    let represents = Represents g.P.Places.represents g.P.Versioned.version in
     record {
-      tells = answers_later g.S.Store represents IsKept (λ _. ⊤) represents IsKept (λ k. AllByRecursion (stands (each (λ (u : Unit). u.id) k.forest)) rows) c.args.conn.now c.attached_rows.new.conn c.marks_of_each.new.conn c.marks_of_each.result
+      tells = answers_later g.S.Store represents IsKept (λ _. ⊤) represents IsKept (λ k. AllByRecursion (stands (each (λ (u : Unit). u.id) k.forest)) rows) c.args.tables.now c.attached_rows.new.tables c.marks_of_each.new.tables c.marks_of_each.result
           (λ _ k found. AreMarksOfContents k c.args.container found.items)
           (λ _ k found. AllByRecursion (stands (each (λ (u : Unit). u.id) k.forest)) rows → AreMarksOfEach k.forest (map (λ (row : Span). row.id) rows) found.items) told.looks
           (λ o k it before.

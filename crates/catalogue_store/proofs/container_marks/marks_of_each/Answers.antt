@@ -13,47 +13,41 @@ use Rattle.catalogue_statements.specs.Representation.{Represents}
 use Rattle.catalogue_store.specs.Attachments.{AreMarksOfEach}
 use Rattle.office_tables.proofs.CallEnds.{same_fault}
 use Rattle.office_tables.proofs.StoreCalls.{tells_not, tells_cut}
-use Rattle.office_tables.proofs.Calls.{cut_after, early, looks_nowhere, looks_then, office_of, still}
+use Rattle.office_tables.proofs.Calls.{cut_after, early, looks_nowhere, looks_then}
 use Rattle.catalogue_store.proofs.MarkForests.{rows_more}
 use Rattle.office_tables.proofs.Sparing.{spares_full}
 use Rattle.catalogue_store.proofs.container_marks.marks_of_each.Goals as goal
 
 pub loop-row-init : goal.loop-row-init
 loop-row-init g c =
-    let a = state g.S.Store c.args.conn.now in
+    let a = state g.S.Store c.args.tables.now in
     record {
-      inside = c.requires.inside;
-      looks = looks_nowhere a (office_of g.P.Places.version a c.requires.inside);
+      looks = looks_nowhere a;
       so_far = λ clean o k it all. subst (AreMarksOfEach k.forest []) (sym c.new-found.ensures.items) tt;
       known = λ clean o k it all. subst (g.P.Places.knows k) (sym c.new-known.ensures.items) (g.met.P.Places.knows_none k);
     }
 
-pub marks_after-requires : goal.marks_after-requires
-marks_after-requires g c =
-    record { inside = still g.P.Places.version (state g.S.Store c.args.conn.now) (state g.S.Store c.loop-row.conn) c.loop-row.invariant.inside c.loop-row.invariant.looks.goes }
-
 pub loop-row-preserved : goal.loop-row-preserved
 loop-row-preserved g c =
-    let a = state g.S.Store c.args.conn.now in
-    let b = state g.S.Store c.loop-row.conn in
-    let d = state g.S.Store c.marks_after.new.conn in
+    let a = state g.S.Store c.args.tables.now in
+    let b = state g.S.Store c.loop-row.tables in
+    let d = state g.S.Store c.marks_after.new.tables in
     let rows = c.args.rows.now in
     let i = c.loop-row.row-index in
     let before = c.loop-row.invariant in
     let told = c.in_ok-one.ensures.tells in
     let one = c.in_ok-one.one in
     record {
-      inside = before.inside;
       looks = looks_then a b d before.looks told.looks;
       so_far = λ clean o k it all.
           let at_b = early b d _ told.looks.goes.on.crash clean in
-          let it_b = subst (λ (db : Database). Represents g.P.Places.represents g.P.Places.version db o k) (sym (before.looks.same at_b)) it in
+          let it_b = subst (λ (db : Database). Represents g.P.Places.represents g.P.Versioned.version db o k) (sym (before.looks.same at_b)) it in
           let known = subst (g.P.Places.knows k) (sym c.deref.ensures.value) (before.known at_b o k it all) in
           let own = told.answers clean o k it_b (all-get_or (g.P.Places.stands (each (λ (u : Unit). u.id) k.forest)) rows i _ all c.loop-row-test.true) known in
           rows_more k.forest rows i _ c.loop-row.found.items c.push.new.self.items one c.loop-row-test.true (before.so_far at_b o k it all) own.0 c.in_ok-push.ensures.items;
       known = λ clean o k it all.
           let at_b = early b d _ told.looks.goes.on.crash clean in
-          let it_b = subst (λ (db : Database). Represents g.P.Places.represents g.P.Places.version db o k) (sym (before.looks.same at_b)) it in
+          let it_b = subst (λ (db : Database). Represents g.P.Places.represents g.P.Versioned.version db o k) (sym (before.looks.same at_b)) it in
           let known = subst (g.P.Places.knows k) (sym c.deref.ensures.value) (before.known at_b o k it all) in
           let own = told.answers clean o k it_b (all-get_or (g.P.Places.stands (each (λ (u : Unit). u.id) k.forest)) rows i _ all c.loop-row-test.true) known in
           subst (g.P.Places.knows k) (sym (c.in_ok-known.ensures.items ∙ c.deref-in-loop-row.ensures.value)) own.1;
@@ -65,9 +59,9 @@ returns-in_err-one g c =
     let e = c.in_err-one.field-0.0 in
     let looked = c.loop-row.invariant.looks in
     let why = c.in_err-one.ensures.tells in
-    let represents = Represents g.P.Places.represents g.P.Places.version in
+    let represents = Represents g.P.Places.represents g.P.Versioned.version in
     record {
-      tells = tells_cut g.S.Store represents IsKept (λ k. AllByRecursion (g.P.Places.stands (each (λ (u : Unit). u.id) k.forest)) c.args.rows.now) c.args.conn.now c.loop-row.conn c.marks_after.new.conn c.from_residual.result
+      tells = tells_cut g.S.Store represents IsKept (λ k. AllByRecursion (g.P.Places.stands (each (λ (u : Unit). u.id) k.forest)) c.args.rows.now) c.args.tables.now c.loop-row.tables c.marks_after.new.tables c.from_residual.result
           (λ _ k found. AllByRecursion (g.P.Places.stands (each (λ (u : Unit). u.id) k.forest)) c.args.rows.now → AreMarksOfEach k.forest (map (λ (row : Span). row.id) c.args.rows.now) found.items) e
           (same_fault c.from_residual.result e handed.0 handed.1) looked why.cut why.spares
           (λ o k it all kept at_b clean free.
@@ -77,24 +71,24 @@ returns-in_err-one g c =
 
 pub returns-in_err-known : goal.returns-in_err-known
 returns-in_err-known g c =
-    let a = state g.S.Store c.args.conn.now in
-    let d = state g.S.Store c.marks_after.new.conn in
+    let a = state g.S.Store c.args.tables.now in
+    let d = state g.S.Store c.marks_after.new.tables in
     let handed = c.from_residual-in_err-known.ensures in
-    let looked = looks_then a (state g.S.Store c.loop-row.conn) d c.loop-row.invariant.looks c.in_ok-one.ensures.tells.looks in
+    let looked = looks_then a (state g.S.Store c.loop-row.tables) d c.loop-row.invariant.looks c.in_ok-one.ensures.tells.looks in
     record {
-      tells = tells_not g.S.Store (Represents g.P.Places.represents g.P.Places.version) IsKept (λ k. AllByRecursion (g.P.Places.stands (each (λ (u : Unit). u.id) k.forest)) c.args.rows.now) c.args.conn.now c.marks_after.new.conn c.from_residual-in_err-known.result
+      tells = tells_not g.S.Store (Represents g.P.Places.represents g.P.Versioned.version) IsKept (λ k. AllByRecursion (g.P.Places.stands (each (λ (u : Unit). u.id) k.forest)) c.args.rows.now) c.args.tables.now c.marks_after.new.tables c.from_residual-in_err-known.result
           (λ _ k found. AllByRecursion (g.P.Places.stands (each (λ (u : Unit). u.id) k.forest)) c.args.rows.now → AreMarksOfEach k.forest (map (λ (row : Span). row.id) c.args.rows.now) found.items) fault.Memory
           (same_fault c.from_residual-in_err-known.result fault.Memory handed.0 handed.1) (cut_after a d looked.goes.on) (spares_full a d looked) (λ o k it all kept clean free. tt);
     }
 
 pub returns-in_err-push : goal.returns-in_err-push
 returns-in_err-push g c =
-    let a = state g.S.Store c.args.conn.now in
-    let d = state g.S.Store c.marks_after.new.conn in
+    let a = state g.S.Store c.args.tables.now in
+    let d = state g.S.Store c.marks_after.new.tables in
     let handed = c.from_residual-in_err-push.ensures in
-    let looked = looks_then a (state g.S.Store c.loop-row.conn) d c.loop-row.invariant.looks c.in_ok-one.ensures.tells.looks in
+    let looked = looks_then a (state g.S.Store c.loop-row.tables) d c.loop-row.invariant.looks c.in_ok-one.ensures.tells.looks in
     record {
-      tells = tells_not g.S.Store (Represents g.P.Places.represents g.P.Places.version) IsKept (λ k. AllByRecursion (g.P.Places.stands (each (λ (u : Unit). u.id) k.forest)) c.args.rows.now) c.args.conn.now c.marks_after.new.conn c.from_residual-in_err-push.result
+      tells = tells_not g.S.Store (Represents g.P.Places.represents g.P.Versioned.version) IsKept (λ k. AllByRecursion (g.P.Places.stands (each (λ (u : Unit). u.id) k.forest)) c.args.rows.now) c.args.tables.now c.marks_after.new.tables c.from_residual-in_err-push.result
           (λ _ k found. AllByRecursion (g.P.Places.stands (each (λ (u : Unit). u.id) k.forest)) c.args.rows.now → AreMarksOfEach k.forest (map (λ (row : Span). row.id) c.args.rows.now) found.items) fault.Memory
           (same_fault c.from_residual-in_err-push.result fault.Memory handed.0 handed.1) (cut_after a d looked.goes.on) (spares_full a d looked) (λ o k it all kept clean free. tt);
     }

@@ -8,16 +8,15 @@ use Rattle.catalogue_core.specs.CatalogueMerge.{Catalogue}
 use Rattle.catalogue_core.specs.Units.{Unit}
 use Rattle.catalogue_statements.specs.Representation.{Represents}
 use Rattle.catalogue_store.specs.Attachments.{AreMarksOfEach}
-use Rattle.office_tables.specs.Step.{InTransaction, LeavesUnchanged}
+use Rattle.office_tables.specs.Step.{LeavesUnchanged}
 use Rattle.catalogue_statements.specs.declared.office.OfficeRow.{OfficeRow}
 use Rattle.catalogue_store.proofs.container_marks.marks_of_each.Given as goal
 
 abbrev pub invariant-loop-row : goal.invariant-loop-row
 invariant-loop-row g l = record {
-  inside : InTransaction g.P.Places.version (state g.S.Store l.initial.conn);
-  looks : LeavesUnchanged (state g.S.Store l.initial.conn) (state g.S.Store l.conn);
-  so_far : HasCleanDisk (state g.S.Store l.conn) → (o : OfficeRow) (c : Catalogue) → Represents g.P.Places.represents g.P.Places.version (state g.S.Store l.initial.conn).now o c
+  looks : LeavesUnchanged (state g.S.Store l.initial.tables) (state g.S.Store l.tables);
+  so_far : HasCleanDisk (state g.S.Store l.tables) → (o : OfficeRow) (c : Catalogue) → Represents g.P.Places.represents g.P.Versioned.version (state g.S.Store l.initial.tables).now o c
       → AllByRecursion (g.P.Places.stands (each (λ (u : Unit). u.id) c.forest)) l.rows → AreMarksOfEach c.forest (map (λ (row : Span). row.id) (take l.row-index l.rows)) l.found.items;
-  known : HasCleanDisk (state g.S.Store l.conn) → (o : OfficeRow) (c : Catalogue) → Represents g.P.Places.represents g.P.Places.version (state g.S.Store l.initial.conn).now o c
+  known : HasCleanDisk (state g.S.Store l.tables) → (o : OfficeRow) (c : Catalogue) → Represents g.P.Places.represents g.P.Versioned.version (state g.S.Store l.initial.tables).now o c
       → AllByRecursion (g.P.Places.stands (each (λ (u : Unit). u.id) c.forest)) l.rows → g.P.Places.knows c l.known.items;
 }

@@ -13,7 +13,7 @@ use Rattle.catalogue_statements.specs.Rows.{ElementRow, HousingRow, office_row}
 use Rattle.catalogue_statements.specs.Representation.{RepresentsNumbered, catalogue_trees}
 use Rattle.office_tables.proofs.CallEnds.{excused_then, same_fault}
 use Rattle.office_tables.proofs.StoreCalls.{makes_not, makes_cut}
-use Rattle.office_tables.proofs.Calls.{cut_then, early, goes_then, office_of, on_err_then, on_ok_then, still_office}
+use Rattle.office_tables.proofs.Calls.{cut_then, early, goes_then, on_err_then, on_ok_then}
 use Rattle.office_tables.proofs.Outcomes.{on_ok_by}
 use Rattle.office_tables.proofs.Touching.{touched_then, touched_wider}
 use Rattle.catalogue_statements.proofs.NewUnits.{no_unit, shows_added}
@@ -22,31 +22,13 @@ use Rattle.catalogue_store.proofs.Telling.{elements_shown, housed_shown, same_de
 use Rattle.office_tables.proofs.Sparing.{last_touched, untouched_last, wider_spares}
 use Rattle.catalogue_store.proofs.descriptions.add_placed.Goals as goal
 
-pub insert_unit-requires-clause-inside : goal.insert_unit-requires-clause-inside
-insert_unit-requires-clause-inside g c = office_of g.P.Places.version (state g.S.Store c.args.conn.now) c.requires.inside
-
-pub describe-requires-clause-inside : goal.describe-requires-clause-inside
-describe-requires-clause-inside g c =
-    let a = state g.S.Store c.args.conn.now in
-    let b = state g.S.Store c.insert_unit.new.conn in
-    let d = state g.S.Store c.add.new.conn in
-    still_office a d (office_of g.P.Places.version a c.requires.inside) (goes_then a b d c.in_ok-insert_unit.ensures.leaves.goes c.in_ok-add.ensures.makes.goes)
-
-pub set_next_unit-requires-clause-inside : goal.set_next_unit-requires-clause-inside
-set_next_unit-requires-clause-inside g c =
-    let a = state g.S.Store c.args.conn.now in
-    let b = state g.S.Store c.insert_unit.new.conn in
-    let d = state g.S.Store c.add.new.conn in
-    let e = state g.S.Store c.describe.new.conn in
-    still_office a e (office_of g.P.Places.version a c.requires.inside) (goes_then a d e (goes_then a b d c.in_ok-insert_unit.ensures.leaves.goes c.in_ok-add.ensures.makes.goes) c.in_ok-describe.ensures.goes)
-
 pub returns-in_err-insert_unit : goal.returns-in_err-insert_unit
 returns-in_err-insert_unit g c =
     let u = unit_of c.args.unit.now in
     let handed = c.from_residual.ensures in
     let e = c.in_err-insert_unit.field-0.0 in
     record {
-      makes = makes_not g.S.Store (RepresentsNumbered g.P.Places.represents g.P.Places.version) (λ k. IsKept k × IsNew (unit_of c.args.unit.now) k) (HasPlaceFor c.args.parent) c.args.conn.now c.insert_unit.new.conn c.from_residual.result (with_numbered c.args.parent (unit_of c.args.unit.now)) catalogue_trees e
+      makes = makes_not g.S.Store (RepresentsNumbered g.P.Places.represents g.P.Versioned.version) (λ k. IsKept k × IsNew (unit_of c.args.unit.now) k) (HasPlaceFor c.args.parent) c.args.tables.now c.insert_unit.new.tables c.from_residual.result (with_numbered c.args.parent (unit_of c.args.unit.now)) catalogue_trees e
           (same_fault c.from_residual.result e handed.0 handed.1) c.in_err-insert_unit.ensures.leaves.cut c.in_err-insert_unit.ensures.leaves.spares
           (λ o k it may kept clean free.
           let at = it.catalogue.units in
@@ -58,16 +40,16 @@ returns-in_err-insert_unit g c =
 
 pub returns-in_err-add : goal.returns-in_err-add
 returns-in_err-add g c =
-    let a = state g.S.Store c.args.conn.now in
-    let b = state g.S.Store c.insert_unit.new.conn in
+    let a = state g.S.Store c.args.tables.now in
+    let b = state g.S.Store c.insert_unit.new.tables in
     let u = unit_of c.args.unit.now in
     let handed = c.from_residual-in_err-add.ensures in
     let e = c.in_err-add.field-0.0 in
     record {
-      makes = makes_cut g.S.Store (RepresentsNumbered g.P.Places.represents g.P.Places.version) (λ k. IsKept k × IsNew (unit_of c.args.unit.now) k) (HasPlaceFor c.args.parent) c.args.conn.now c.insert_unit.new.conn c.add.new.conn c.from_residual-in_err-add.result (with_numbered c.args.parent (unit_of c.args.unit.now)) catalogue_trees e
+      makes = makes_cut g.S.Store (RepresentsNumbered g.P.Places.represents g.P.Versioned.version) (λ k. IsKept k × IsNew (unit_of c.args.unit.now) k) (HasPlaceFor c.args.parent) c.args.tables.now c.insert_unit.new.tables c.add.new.tables c.from_residual-in_err-add.result (with_numbered c.args.parent (unit_of c.args.unit.now)) catalogue_trees e
           (same_fault c.from_residual-in_err-add.result e handed.0 handed.1) c.in_ok-insert_unit.ensures.leaves.goes.on
           (λ at_b. touched_wider (tables.unit.tree ∷ []) catalogue_trees a.now b.now refl (c.in_ok-insert_unit.ensures.puts at_b).only) c.in_err-add.ensures.makes.cut
-          (λ clean. wider_spares (tables.link.tree ∷ []) catalogue_trees b (state g.S.Store c.add.new.conn) e refl (c.in_err-add.ensures.makes.spares clean))
+          (λ clean. wider_spares (tables.link.tree ∷ []) catalogue_trees b (state g.S.Store c.add.new.tables) e refl (c.in_err-add.ensures.makes.spares clean))
           (λ o k it may kept at_b clean free.
           let ids = each (λ (x : Unit). x.id) k.forest in
           let only = (c.in_ok-insert_unit.ensures.puts at_b).only in
@@ -78,22 +60,22 @@ returns-in_err-add g c =
 
 pub returns-in_err-describe : goal.returns-in_err-describe
 returns-in_err-describe g c =
-    let a = state g.S.Store c.args.conn.now in
-    let b = state g.S.Store c.insert_unit.new.conn in
-    let d = state g.S.Store c.add.new.conn in
+    let a = state g.S.Store c.args.tables.now in
+    let b = state g.S.Store c.insert_unit.new.tables in
+    let d = state g.S.Store c.add.new.tables in
     let u = unit_of c.args.unit.now in
     let handed = c.from_residual-in_err-describe.ensures in
     let e = c.in_err-describe.field-0.0 in
     let went = goes_then a b d c.in_ok-insert_unit.ensures.leaves.goes c.in_ok-add.ensures.makes.goes in
     record {
-      makes = makes_cut g.S.Store (RepresentsNumbered g.P.Places.represents g.P.Places.version) (λ k. IsKept k × IsNew (unit_of c.args.unit.now) k) (HasPlaceFor c.args.parent) c.args.conn.now c.add.new.conn c.describe.new.conn c.from_residual-in_err-describe.result (with_numbered c.args.parent (unit_of c.args.unit.now)) catalogue_trees e
+      makes = makes_cut g.S.Store (RepresentsNumbered g.P.Places.represents g.P.Versioned.version) (λ k. IsKept k × IsNew (unit_of c.args.unit.now) k) (HasPlaceFor c.args.parent) c.args.tables.now c.add.new.tables c.describe.new.tables c.from_residual-in_err-describe.result (with_numbered c.args.parent (unit_of c.args.unit.now)) catalogue_trees e
           (same_fault c.from_residual-in_err-describe.result e handed.0 handed.1) went.on
           (λ at_d. touched_wider (tables.unit.tree ∷ tables.link.tree ∷ []) catalogue_trees a.now d.now refl
           (touched_then (tables.unit.tree ∷ []) (tables.link.tree ∷ []) a.now b.now d.now (c.in_ok-insert_unit.ensures.puts (early b d _ c.in_ok-add.ensures.makes.goes.on.crash at_d)).only (c.in_ok-add.ensures.makes.only at_d)))
           c.in_err-describe.ensures.cut
-          (λ clean. wider_spares (tables.element.tree ∷ tables.container.tree ∷ tables.housing.tree ∷ []) catalogue_trees d (state g.S.Store c.describe.new.conn) e refl (c.in_err-describe.ensures.spares clean))
+          (λ clean. wider_spares (tables.element.tree ∷ tables.container.tree ∷ tables.housing.tree ∷ []) catalogue_trees d (state g.S.Store c.describe.new.tables) e refl (c.in_err-describe.ensures.spares clean))
           (λ o k it may kept at_d clean free.
-          let v = g.P.Places.version in
+          let v = g.P.Versioned.version in
           let shown = record o { next_unit = k.next } in
           let at = it.catalogue in
           let xs = at.elements.elements in
@@ -111,12 +93,12 @@ returns-in_err-describe g c =
 
 pub returns : goal.returns
 returns g c =
-    let a = state g.S.Store c.args.conn.now in
-    let b = state g.S.Store c.insert_unit.new.conn in
-    let d = state g.S.Store c.add.new.conn in
-    let e = state g.S.Store c.describe.new.conn in
-    let h = state g.S.Store c.set_next_unit.new.conn in
-    let v = g.P.Places.version in
+    let a = state g.S.Store c.args.tables.now in
+    let b = state g.S.Store c.insert_unit.new.tables in
+    let d = state g.S.Store c.add.new.tables in
+    let e = state g.S.Store c.describe.new.tables in
+    let h = state g.S.Store c.set_next_unit.new.tables in
+    let v = g.P.Versioned.version in
     let represents = g.P.Places.represents in
     let same = g.met.P.Places.shows_same in
     let u = unit_of c.args.unit.now in

@@ -15,17 +15,17 @@ use Rattle.catalogue_store.proofs.descriptions.clear.Goals as goal
 
 pub returns-clause-leaves : goal.returns-clause-leaves
 returns-clause-leaves g c =
-    let a = state g.S.Store c.args.conn.now in
-    let b = state g.S.Store c.clear_elements.new.conn in
-    let d = state g.S.Store c.clear_housings.new.conn in
+    let a = state g.S.Store c.args.tables.now in
+    let b = state g.S.Store c.clear_elements.new.tables in
+    let d = state g.S.Store c.clear_housings.new.tables in
     let gone = tables.element.tree ∷ tables.housing.tree ∷ [] in
     leaves_last gone a b d c.clear_housings.result c.in_ok-clear_elements.ensures.leaves.goes
     (λ before. touched_wider (tables.element.tree ∷ []) gone a.now b.now refl (c.in_ok-clear_elements.ensures.only before)) (leaves_part gone b d c.clear_housings.result c.clear_housings.ensures.leaves)
 
 pub returns-in_err-clear_elements-clause-leaves : goal.returns-in_err-clear_elements-clause-leaves
 returns-in_err-clear_elements-clause-leaves g c =
-    let a = state g.S.Store c.args.conn.now in
-    let b = state g.S.Store c.clear_elements.new.conn in
+    let a = state g.S.Store c.args.tables.now in
+    let b = state g.S.Store c.clear_elements.new.tables in
     let e = c.in_err-clear_elements.field-0.0 in
     let handed = c.from_residual.ensures in
     let left = c.in_err-clear_elements.ensures.leaves in
@@ -34,9 +34,9 @@ returns-in_err-clear_elements-clause-leaves g c =
 
 pub returns-clause-only : goal.returns-clause-only
 returns-clause-only g c clean =
-    let a = state g.S.Store c.args.conn.now in
-    let b = state g.S.Store c.clear_elements.new.conn in
-    let d = state g.S.Store c.clear_housings.new.conn in
+    let a = state g.S.Store c.args.tables.now in
+    let b = state g.S.Store c.clear_elements.new.tables in
+    let d = state g.S.Store c.clear_housings.new.tables in
     let all = OnlyTouches (tables.element.tree ∷ tables.housing.tree ∷ []) a.now d.now in
     on_ok_by c.clear_housings.result (Goes b d) all
     (λ last.
@@ -47,9 +47,9 @@ returns-clause-only g c clean =
 
 pub returns-clause-clears : goal.returns-clause-clears
 returns-clause-clears g c clean boxes xs hs texts housed =
-    let a = state g.S.Store c.args.conn.now in
-    let b = state g.S.Store c.clear_elements.new.conn in
-    let d = state g.S.Store c.clear_housings.new.conn in
+    let a = state g.S.Store c.args.tables.now in
+    let b = state g.S.Store c.clear_elements.new.tables in
+    let d = state g.S.Store c.clear_housings.new.tables in
     let unit = c.args.unit in
     let elements = filter (λ (x : ElementRow). not (nat_eq unit x.unit)) xs in
     let housings = filter (λ (x : HousingRow). not (nat_eq unit x.unit)) hs in

@@ -18,9 +18,9 @@ use Rattle.catalogue_store.proofs.descriptions.describe.Goals as goal
 
 pub returns-clause-tells : goal.returns-clause-tells
 returns-clause-tells g c clean boxes xs hs texts housed =
-    let a = state g.S.Store c.args.conn.now in
-    let b = state g.S.Store c.insert_texts.new.conn in
-    let d = state g.S.Store c.insert_housings.new.conn in
+    let a = state g.S.Store c.args.tables.now in
+    let b = state g.S.Store c.insert_texts.new.tables in
+    let d = state g.S.Store c.insert_housings.new.tables in
     let unit = c.args.unit in
     let values = c.args.values.now in
     let all = with_boxes boxes values.boxes in
@@ -49,9 +49,9 @@ returns-in_err-insert_texts-clause-faults g c known whole boxes xs hs texts hous
 
 pub returns-clause-faults : goal.returns-clause-faults
 returns-clause-faults g c known whole boxes xs hs texts housed small none other clean free =
-    let a = state g.S.Store c.args.conn.now in
-    let b = state g.S.Store c.insert_texts.new.conn in
-    let d = state g.S.Store c.insert_housings.new.conn in
+    let a = state g.S.Store c.args.tables.now in
+    let b = state g.S.Store c.insert_texts.new.tables in
+    let d = state g.S.Store c.insert_housings.new.tables in
     let went = c.in_ok-insert_texts.ensures.goes in
     last_cause a b d went.on c.insert_housings.result c.insert_housings.ensures.cut clean (λ before.
     let kept = c.in_ok-insert_texts.ensures.only before in
@@ -61,17 +61,17 @@ returns-clause-faults g c known whole boxes xs hs texts housed small none other 
 
 pub returns-in_err-insert_texts-clause-spares : goal.returns-in_err-insert_texts-clause-spares
 returns-in_err-insert_texts-clause-spares g c clean =
-    let a = state g.S.Store c.args.conn.now in
-    let b = state g.S.Store c.insert_texts.new.conn in
+    let a = state g.S.Store c.args.tables.now in
+    let b = state g.S.Store c.insert_texts.new.tables in
     let told = tables.element.tree ∷ tables.container.tree ∷ tables.housing.tree ∷ [] in
     let all : Spares (OnlyTouches told) a b c.in_err-insert_texts.field-0.0 = wider_spares (tables.element.tree ∷ []) told a b _ refl (c.in_err-insert_texts.ensures.spares clean) in
     search (rules, all)
 
 pub returns-clause-spares : goal.returns-clause-spares
 returns-clause-spares g c clean =
-    let a = state g.S.Store c.args.conn.now in
-    let b = state g.S.Store c.insert_texts.new.conn in
-    let d = state g.S.Store c.insert_housings.new.conn in
+    let a = state g.S.Store c.args.tables.now in
+    let b = state g.S.Store c.insert_texts.new.tables in
+    let d = state g.S.Store c.insert_housings.new.tables in
     let told = tables.element.tree ∷ tables.container.tree ∷ tables.housing.tree ∷ [] in
     last_touched told a b d c.in_ok-insert_texts.ensures.goes.on (λ before. touched_wider (tables.element.tree ∷ []) told a.now b.now refl (c.in_ok-insert_texts.ensures.only before))
     c.insert_housings.result c.insert_housings.ensures.cut clean (wider_last (tables.container.tree ∷ tables.housing.tree ∷ []) told b d c.insert_housings.result refl (c.insert_housings.ensures.spares clean))

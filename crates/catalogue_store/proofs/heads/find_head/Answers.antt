@@ -18,7 +18,7 @@ use Rattle.catalogue_statements.specs.declared.row_types.Element.{Element}
 use Rattle.catalogue_store.specs.Heads.{head_of}
 use Rattle.office_tables.proofs.CallEnds.{same_fault}
 use Rattle.office_tables.proofs.StoreCalls.{tells_not, tells_cut}
-use Rattle.office_tables.proofs.Calls.{cut_after, early, looks_then, office_of, still_office}
+use Rattle.office_tables.proofs.Calls.{cut_after, early, looks_then}
 use Rattle.office_tables.proofs.numbered.OwnNumbers.{still_numbered}
 use Rattle.office_tables.proofs.Sparing.{spares_full}
 use Rattle.catalogue_statements.proofs.FirstTexts.{text_among_first}
@@ -28,23 +28,20 @@ use Rattle.catalogue_store.proofs.MarkCauses.{legible_units}
 use Rattle.catalogue_store.proofs.ValueCauses.{legible_elements}
 use Rattle.catalogue_store.proofs.heads.find_head.Goals as goal
 
-pub standings_of-requires-clause-inside : goal.standings_of-requires-clause-inside
-standings_of-requires-clause-inside g c = office_of g.P.Places.version (state g.S.Store c.args.conn.now) c.requires.inside
-
 pub returns-in_err-found : goal.returns-in_err-found
 returns-in_err-found g c =
-    let a = state g.S.Store c.args.conn.now in
+    let a = state g.S.Store c.args.tables.now in
     let handed = c.from_residual.ensures in
     let e = c.in_err-found.field-0.0 in
     record {
-      tells = tells_not g.S.Store (Represents g.P.Places.represents g.P.Places.version) IsKept (λ _. ⊤) c.args.conn.now c.standings_of.new.conn c.from_residual.result (λ _ k head. head ≡ option_map head_of (find (has_id c.args.unit) (nodes k.forest))) e
+      tells = tells_not g.S.Store (Represents g.P.Places.represents g.P.Versioned.version) IsKept (λ _. ⊤) c.args.tables.now c.standings_of.new.tables c.from_residual.result (λ _ k head. head ≡ option_map head_of (find (has_id c.args.unit) (nodes k.forest))) e
           (same_fault c.from_residual.result e handed.0 handed.1) c.in_err-found.ensures.reads.cut c.in_err-found.ensures.reads.spares
           (λ o k it may kept clean free. let at = it.catalogue.units in c.in_err-found.ensures.faults at.units at.rows (legible_units a.now.trees k at kept) clean free);
     }
 
 pub returns-in_default : goal.returns-in_default
 returns-in_default g c =
-    let a = state g.S.Store c.args.conn.now in
+    let a = state g.S.Store c.args.tables.now in
     record {
       tells = record {
         answers = λ clean o k it.
@@ -60,20 +57,14 @@ returns-in_default g c =
       };
     }
 
-pub first_elements-requires-clause-inside : goal.first_elements-requires-clause-inside
-first_elements-requires-clause-inside g c =
-    let a = state g.S.Store c.args.conn.now in
-    let b = state g.S.Store c.standings_of.new.conn in
-    still_office a b (office_of g.P.Places.version a c.requires.inside) c.in_ok-found.ensures.reads.looks.goes
-
 pub returns-in_err-elements : goal.returns-in_err-elements
 returns-in_err-elements g c =
-    let a = state g.S.Store c.args.conn.now in
+    let a = state g.S.Store c.args.tables.now in
     let handed = c.from_residual-in_err-elements.ensures in
     let e = c.in_err-elements.field-0.0 in
     let looked = c.in_ok-found.ensures.reads.looks in
     record {
-      tells = tells_cut g.S.Store (Represents g.P.Places.represents g.P.Places.version) IsKept (λ _. ⊤) c.args.conn.now c.standings_of.new.conn c.first_elements.new.conn c.from_residual-in_err-elements.result (λ _ k head. head ≡ option_map head_of (find (has_id c.args.unit) (nodes k.forest))) e
+      tells = tells_cut g.S.Store (Represents g.P.Places.represents g.P.Versioned.version) IsKept (λ _. ⊤) c.args.tables.now c.standings_of.new.tables c.first_elements.new.tables c.from_residual-in_err-elements.result (λ _ k head. head ≡ option_map head_of (find (has_id c.args.unit) (nodes k.forest))) e
           (same_fault c.from_residual-in_err-elements.result e handed.0 handed.1) looked c.in_err-elements.ensures.reads.cut c.in_err-elements.ensures.reads.spares
           (λ o k it may kept at_b clean free.
           let at = it.catalogue.elements in
@@ -82,33 +73,33 @@ returns-in_err-elements g c =
 
 pub returns-in_err-identifier : goal.returns-in_err-identifier
 returns-in_err-identifier g c =
-    let a = state g.S.Store c.args.conn.now in
-    let b = state g.S.Store c.standings_of.new.conn in
-    let d = state g.S.Store c.first_elements.new.conn in
+    let a = state g.S.Store c.args.tables.now in
+    let b = state g.S.Store c.standings_of.new.tables in
+    let d = state g.S.Store c.first_elements.new.tables in
     let handed = c.from_residual-in_err-identifier.ensures in
     let looked = looks_then a b d c.in_ok-found.ensures.reads.looks c.in_ok-elements.ensures.reads.looks in
     record {
-      tells = tells_not g.S.Store (Represents g.P.Places.represents g.P.Places.version) IsKept (λ _. ⊤) c.args.conn.now c.first_elements.new.conn c.from_residual-in_err-identifier.result (λ _ k head. head ≡ option_map head_of (find (has_id c.args.unit) (nodes k.forest))) fault.Memory
+      tells = tells_not g.S.Store (Represents g.P.Places.represents g.P.Versioned.version) IsKept (λ _. ⊤) c.args.tables.now c.first_elements.new.tables c.from_residual-in_err-identifier.result (λ _ k head. head ≡ option_map head_of (find (has_id c.args.unit) (nodes k.forest))) fault.Memory
           (same_fault c.from_residual-in_err-identifier.result fault.Memory handed.0 handed.1) (cut_after a d looked.goes.on) (spares_full a d looked) (λ o k it may kept clean free. tt);
     }
 
 pub returns-in_err-title : goal.returns-in_err-title
 returns-in_err-title g c =
-    let a = state g.S.Store c.args.conn.now in
-    let b = state g.S.Store c.standings_of.new.conn in
-    let d = state g.S.Store c.first_elements.new.conn in
+    let a = state g.S.Store c.args.tables.now in
+    let b = state g.S.Store c.standings_of.new.tables in
+    let d = state g.S.Store c.first_elements.new.tables in
     let handed = c.from_residual-in_err-title.ensures in
     let looked = looks_then a b d c.in_ok-found.ensures.reads.looks c.in_ok-elements.ensures.reads.looks in
     record {
-      tells = tells_not g.S.Store (Represents g.P.Places.represents g.P.Places.version) IsKept (λ _. ⊤) c.args.conn.now c.first_elements.new.conn c.from_residual-in_err-title.result (λ _ k head. head ≡ option_map head_of (find (has_id c.args.unit) (nodes k.forest))) fault.Memory
+      tells = tells_not g.S.Store (Represents g.P.Places.represents g.P.Versioned.version) IsKept (λ _. ⊤) c.args.tables.now c.first_elements.new.tables c.from_residual-in_err-title.result (λ _ k head. head ≡ option_map head_of (find (has_id c.args.unit) (nodes k.forest))) fault.Memory
           (same_fault c.from_residual-in_err-title.result fault.Memory handed.0 handed.1) (cut_after a d looked.goes.on) (spares_full a d looked) (λ o k it may kept clean free. tt);
     }
 
 pub returns : goal.returns
 returns g c =
-    let a = state g.S.Store c.args.conn.now in
-    let b = state g.S.Store c.standings_of.new.conn in
-    let d = state g.S.Store c.first_elements.new.conn in
+    let a = state g.S.Store c.args.tables.now in
+    let b = state g.S.Store c.standings_of.new.tables in
+    let d = state g.S.Store c.first_elements.new.tables in
     let looked = c.in_ok-found.ensures.reads.looks in
     let among = λ (n : ℕ) (elements : List Element). unwrap_or (option_map (λ (e : Element). e.value) (find (λ (e : Element). nat_eq e.k n) elements)) [] in
     record {

@@ -25,15 +25,15 @@ returns-in_err-units g c =
     let e = c.from_residual.ensures in
     let why = c.in_err-units.ensures.tells in
     record {
-      tells = tells_not g.S.Store (Represents g.P.Places.represents g.P.Places.version) IsKept (λ _. ⊤) c.args.conn.now c.path.new.conn c.from_residual.result (λ _ k heads. heads.items ≡ map head_of (path (has_id c.args.unit) k.forest)) c.in_err-units.field-0.0
+      tells = tells_not g.S.Store (Represents g.P.Places.represents g.P.Versioned.version) IsKept (λ _. ⊤) c.args.tables.now c.path.new.tables c.from_residual.result (λ _ k heads. heads.items ≡ map head_of (path (has_id c.args.unit) k.forest)) c.in_err-units.field-0.0
           (same_fault c.from_residual.result c.in_err-units.field-0.0 e.0 e.1) why.cut why.spares (λ o k it may kept. why.faults tt (each (λ (u : Unit). u.id) k.forest) it.shown tt kept.places);
     }
 
 pub returns : goal.returns
 returns g c =
-    let a = state g.S.Store c.args.conn.now in
-    let b = state g.S.Store c.path.new.conn in
-    let d = state g.S.Store c.heads_of.new.conn in
+    let a = state g.S.Store c.args.tables.now in
+    let b = state g.S.Store c.path.new.tables in
+    let d = state g.S.Store c.heads_of.new.tables in
     let found = c.in_ok-units.ensures.tells in
     let looked = found.looks in
     let last = c.heads_of.ensures.tells in
@@ -44,7 +44,7 @@ returns g c =
             if_ok_by c.heads_of.result (LeavesUnchanged b d) (λ heads. heads.items ≡ map head_of units)
             (λ went.
             let before = early b d _ went.goes.on.crash clean in
-            let shown = subst (λ (db : Database). Represents g.P.Places.represents g.P.Places.version db o k) (sym (looked.same before)) it in
+            let shown = subst (λ (db : Database). Represents g.P.Places.represents g.P.Versioned.version db o k) (sym (looked.same before)) it in
             let ids = c.deref.ensures.value ∙ found.answers before tt (each (λ (u : Unit). u.id) k.forest) it.shown ∙ path_ids c.args.unit k.forest in
             IfOk-weaker c.heads_of.result _ (λ heads. heads.items ≡ map head_of units)
             (λ heads told. heads_are a.now.trees k.forest it.catalogue.units units heads.items (path_in (has_id c.args.unit) k.forest) (told ∙ ap (map _) ids))
@@ -55,7 +55,7 @@ returns g c =
         spares = λ clean. last_spares a b d looked c.heads_of.result last.cut clean (last.spares clean);
         faults = λ o k it may kept. excused_then a b d looked.goes.on c.heads_of.result last.cut
             (λ before.
-            let shown = subst (λ (db : Database). Represents g.P.Places.represents g.P.Places.version db o k) (sym (looked.same before)) it in
+            let shown = subst (λ (db : Database). Represents g.P.Places.represents g.P.Versioned.version db o k) (sym (looked.same before)) it in
             let ids = c.deref.ensures.value ∙ found.answers before tt (each (λ (u : Unit). u.id) k.forest) it.shown ∙ path_ids c.args.unit k.forest in
             last.faults o k shown (subst (AllByRecursion (λ unit. has_unit k.forest unit ≡ true)) (sym ids) (all_there k.forest (path (has_id c.args.unit) k.forest) (path_in (has_id c.args.unit) k.forest))) kept);
       };

@@ -13,7 +13,7 @@ use Rattle.catalogue_statements.specs.Rows.{ElementRow, HousingRow}
 use Rattle.catalogue_statements.specs.Representation.{RepresentsCatalogue, described_trees}
 use Rattle.office_tables.proofs.CallEnds.{excused_then, same_fault}
 use Rattle.office_tables.proofs.StoreCalls.{makes_not}
-use Rattle.office_tables.proofs.Calls.{cut_then, early, goes_then, on_err_then, on_ok_both, on_ok_then, still_office}
+use Rattle.office_tables.proofs.Calls.{cut_then, early, goes_then, on_err_then, on_ok_both, on_ok_then}
 use Rattle.office_tables.proofs.Outcomes.{on_ok_by}
 use Rattle.office_tables.proofs.Touching.{touched_then, touched_wider}
 use Rattle.catalogue_statements.proofs.Untold.{none_yet, unit_added}
@@ -23,16 +23,13 @@ use Rattle.catalogue_store.proofs.Telling.{elements_shown, housed_shown, same_el
 use Rattle.office_tables.proofs.Sparing.{last_touched, wider_last}
 use Rattle.catalogue_store.proofs.import_entries.enter_unit.Goals as goal
 
-pub describe-requires-clause-inside : goal.describe-requires-clause-inside
-describe-requires-clause-inside g c = still_office (state g.S.Store c.args.conn.now) (state g.S.Store c.insert_unit.new.conn) c.requires.inside c.in_ok-insert_unit.ensures.leaves.goes
-
 pub returns-in_err-insert_unit : goal.returns-in_err-insert_unit
 returns-in_err-insert_unit g c =
     let u = unit_of c.args.unit.now in
     let handed = c.from_residual.ensures in
     let e = c.in_err-insert_unit.field-0.0 in
     record {
-      makes = λ v parent. makes_not g.S.Store (RepresentsCatalogue v) (λ k. IsKept k × IsNew u k) (HasPlaceFor parent) c.args.conn.now c.insert_unit.new.conn c.from_residual.result (with_entered parent u) described_trees e
+      makes = λ v parent. makes_not g.S.Store (RepresentsCatalogue v) (λ k. IsKept k × IsNew u k) (HasPlaceFor parent) c.args.tables.now c.insert_unit.new.tables c.from_residual.result (with_entered parent u) described_trees e
           (same_fault c.from_residual.result e handed.0 handed.1) c.in_err-insert_unit.ensures.leaves.cut c.in_err-insert_unit.ensures.leaves.spares
           (λ o k it may kept clean free.
           let at = it.units in
@@ -44,9 +41,9 @@ returns-in_err-insert_unit g c =
 
 pub returns : goal.returns
 returns g c =
-    let a = state g.S.Store c.args.conn.now in
-    let b = state g.S.Store c.insert_unit.new.conn in
-    let d = state g.S.Store c.describe.new.conn in
+    let a = state g.S.Store c.args.tables.now in
+    let b = state g.S.Store c.insert_unit.new.tables in
+    let d = state g.S.Store c.describe.new.tables in
     let u = unit_of c.args.unit.now in
     let r = c.describe.result in
     let told = tables.element.tree ∷ tables.container.tree ∷ tables.housing.tree ∷ [] in

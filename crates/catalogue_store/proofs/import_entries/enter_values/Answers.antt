@@ -13,7 +13,7 @@ use Rattle.catalogue_statements.specs.Rows.{ElementRow, HousingRow}
 use Rattle.catalogue_statements.specs.Representation.{RepresentsCatalogue, described_trees}
 use Rattle.office_tables.proofs.CallEnds.{excused_then, same_fault}
 use Rattle.office_tables.proofs.StoreCalls.{makes_not, makes_cut}
-use Rattle.office_tables.proofs.Calls.{cut_then, early, goes_then, on_err_then, on_ok_both, on_ok_then, still_office}
+use Rattle.office_tables.proofs.Calls.{cut_then, early, goes_then, on_err_then, on_ok_both, on_ok_then}
 use Rattle.office_tables.proofs.Outcomes.{on_ok_by}
 use Rattle.office_tables.proofs.Touching.{touched_then, touched_wider}
 use Rattle.catalogue_statements.proofs.Untold.{none_left, unit_valued}
@@ -22,43 +22,27 @@ use Rattle.catalogue_store.proofs.Valued.{shows_valued}
 use Rattle.office_tables.proofs.Sparing.{last_touched, wider_last, wider_spares}
 use Rattle.catalogue_store.proofs.import_entries.enter_values.Goals as goal
 
-pub set_level-requires-clause-inside : goal.set_level-requires-clause-inside
-set_level-requires-clause-inside g c = c.requires.inside
-
-pub clear-requires-clause-inside : goal.clear-requires-clause-inside
-clear-requires-clause-inside g c =
-    let a = state g.S.Store c.args.conn.now in
-    let b = state g.S.Store c.set_level.new.conn in
-    still_office a b c.requires.inside c.in_ok-set_level.ensures.leaves.goes
-
-pub describe-requires-clause-inside : goal.describe-requires-clause-inside
-describe-requires-clause-inside g c =
-    let a = state g.S.Store c.args.conn.now in
-    let b = state g.S.Store c.set_level.new.conn in
-    let d = state g.S.Store c.clear.new.conn in
-    still_office a d c.requires.inside (goes_then a b d c.in_ok-set_level.ensures.leaves.goes c.in_ok-clear.ensures.leaves.goes)
-
 pub returns-in_err-set_level : goal.returns-in_err-set_level
 returns-in_err-set_level g c =
     let handed = c.from_residual.ensures in
     let e = c.in_err-set_level.field-0.0 in
     record {
-      makes = λ v. makes_not g.S.Store (RepresentsCatalogue v) (λ k. IsKept k × AreWhole c.args.values.now) (MayDescribe c.args.unit) c.args.conn.now c.set_level.new.conn c.from_residual.result (with_values c.args.unit c.args.values.now) described_trees e
+      makes = λ v. makes_not g.S.Store (RepresentsCatalogue v) (λ k. IsKept k × AreWhole c.args.values.now) (MayDescribe c.args.unit) c.args.tables.now c.set_level.new.tables c.from_residual.result (with_values c.args.unit c.args.values.now) described_trees e
           (same_fault c.from_residual.result e handed.0 handed.1) c.in_err-set_level.ensures.leaves.cut c.in_err-set_level.ensures.leaves.spares
           (λ o k it may kept clean free. let at = it.units in c.in_err-set_level.ensures.faults at.units at.rows at.rise clean free);
     }
 
 pub returns-in_err-clear : goal.returns-in_err-clear
 returns-in_err-clear g c =
-    let a = state g.S.Store c.args.conn.now in
-    let b = state g.S.Store c.set_level.new.conn in
+    let a = state g.S.Store c.args.tables.now in
+    let b = state g.S.Store c.set_level.new.tables in
     let handed = c.from_residual-in_err-clear.ensures in
     let e = c.in_err-clear.field-0.0 in
     record {
-      makes = λ v. makes_cut g.S.Store (RepresentsCatalogue v) (λ k. IsKept k × AreWhole c.args.values.now) (MayDescribe c.args.unit) c.args.conn.now c.set_level.new.conn c.clear.new.conn c.from_residual-in_err-clear.result (with_values c.args.unit c.args.values.now) described_trees e
+      makes = λ v. makes_cut g.S.Store (RepresentsCatalogue v) (λ k. IsKept k × AreWhole c.args.values.now) (MayDescribe c.args.unit) c.args.tables.now c.set_level.new.tables c.clear.new.tables c.from_residual-in_err-clear.result (with_values c.args.unit c.args.values.now) described_trees e
           (same_fault c.from_residual-in_err-clear.result e handed.0 handed.1) c.in_ok-set_level.ensures.leaves.goes.on
           (λ at_b. touched_wider (tables.unit.tree ∷ []) described_trees a.now b.now refl (c.in_ok-set_level.ensures.only at_b)) c.in_err-clear.ensures.leaves.cut
-          (λ clean. wider_spares (tables.element.tree ∷ tables.housing.tree ∷ []) described_trees b (state g.S.Store c.clear.new.conn) e refl (c.in_err-clear.ensures.leaves.spares clean))
+          (λ clean. wider_spares (tables.element.tree ∷ tables.housing.tree ∷ []) described_trees b (state g.S.Store c.clear.new.tables) e refl (c.in_err-clear.ensures.leaves.spares clean))
           (λ o k it may kept at_b clean free.
           let at = it in
           let xs = at.elements.elements in
@@ -71,10 +55,10 @@ returns-in_err-clear g c =
 
 pub returns : goal.returns
 returns g c =
-    let a = state g.S.Store c.args.conn.now in
-    let b = state g.S.Store c.set_level.new.conn in
-    let d = state g.S.Store c.clear.new.conn in
-    let e = state g.S.Store c.describe.new.conn in
+    let a = state g.S.Store c.args.tables.now in
+    let b = state g.S.Store c.set_level.new.tables in
+    let d = state g.S.Store c.clear.new.tables in
+    let e = state g.S.Store c.describe.new.tables in
     let unit = c.args.unit in
     let values = c.args.values.now in
     let r = c.describe.result in

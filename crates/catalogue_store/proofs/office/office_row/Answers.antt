@@ -14,37 +14,21 @@ use Rattle.catalogue_statements.specs.Representation.{RepresentsSettings}
 use Rattle.catalogue_store.specs.Offices.{told_office}
 use Rattle.office_tables.proofs.CallEnds.{same_fault}
 use Rattle.office_tables.proofs.StoreCalls.{tells_not, tells_cut}
-use Rattle.office_tables.proofs.Calls.{cut_after, early, office_of, still_office, goes_then, looks_then}
+use Rattle.office_tables.proofs.Calls.{cut_after, early, looks_then}
 use Rattle.catalogue_statements.proofs.Offices.{last_of, length-counted, same_number, not_refused}
 use Rattle.office_tables.proofs.Sparing.{spares_known, spares_own}
 use Rattle.catalogue_store.proofs.office.office_row.Goals as goal
 
-pub office_rows-requires : goal.office_rows-requires
-office_rows-requires g c = record { inside = office_of g.P.Places.version (state g.S.Store c.args.conn.now) c.requires.inside }
-
-pub count_units-requires : goal.count_units-requires
-count_units-requires g c =
-    let a = state g.S.Store c.args.conn.now in
-    let b = state g.S.Store c.office_rows.new.conn in
-    record { inside = still_office a b (office_of g.P.Places.version a c.requires.inside) c.in_ok-rows.ensures.reads.looks.goes }
-
-pub count_containers-requires : goal.count_containers-requires
-count_containers-requires g c =
-    let a = state g.S.Store c.args.conn.now in
-    let b = state g.S.Store c.office_rows.new.conn in
-    let d = state g.S.Store c.count_units.new.conn in
-    record { inside = still_office a d (office_of g.P.Places.version a c.requires.inside) (goes_then a b d c.in_ok-rows.ensures.reads.looks.goes c.in_ok-units.ensures.reads.looks.goes) }
-
 pub returns-in_err-containers : goal.returns-in_err-containers
 returns-in_err-containers g c =
-    let a = state g.S.Store c.args.conn.now in
-    let b = state g.S.Store c.office_rows.new.conn in
-    let d = state g.S.Store c.count_units.new.conn in
+    let a = state g.S.Store c.args.tables.now in
+    let b = state g.S.Store c.office_rows.new.tables in
+    let d = state g.S.Store c.count_units.new.tables in
     let handed = c.from_residual-in_err-containers.ensures in
     let e = c.in_err-containers.field-0.0 in
     let looked = looks_then a b d c.in_ok-rows.ensures.reads.looks c.in_ok-units.ensures.reads.looks in
     record {
-      tells = tells_cut g.S.Store (RepresentsSettings g.P.Places.represents g.P.Places.version) AreLegibleSettings (λ _. ⊤) c.args.conn.now c.count_units.new.conn c.count_containers.new.conn c.from_residual-in_err-containers.result (λ k o office. office ≡ told_office k o) e
+      tells = tells_cut g.S.Store (RepresentsSettings g.P.Places.represents g.P.Versioned.version) AreLegibleSettings (λ _. ⊤) c.args.tables.now c.count_units.new.tables c.count_containers.new.tables c.from_residual-in_err-containers.result (λ k o office. office ≡ told_office k o) e
           (same_fault c.from_residual-in_err-containers.result e handed.0 handed.1) looked c.in_err-containers.ensures.reads.cut c.in_err-containers.ensures.reads.spares
           (λ k o it may legible at_d clean free.
           c.in_err-containers.ensures.faults (counted_from 1 k.containers) (ap (λ (db : Database). db.trees tables.container.tree) (looked.same at_d) ∙ it.catalogue.containers) tt clean free);
@@ -52,31 +36,31 @@ returns-in_err-containers g c =
 
 pub returns-in_default : goal.returns-in_default
 returns-in_default g c =
-    let a = state g.S.Store c.args.conn.now in
-    let b = state g.S.Store c.office_rows.new.conn in
-    let d = state g.S.Store c.count_units.new.conn in
-    let e = state g.S.Store c.count_containers.new.conn in
+    let a = state g.S.Store c.args.tables.now in
+    let b = state g.S.Store c.office_rows.new.tables in
+    let d = state g.S.Store c.count_units.new.tables in
+    let e = state g.S.Store c.count_containers.new.tables in
     let looked = looks_then a d e (looks_then a b d c.in_ok-rows.ensures.reads.looks c.in_ok-units.ensures.reads.looks) c.in_ok-containers.ensures.reads.looks in
     record {
-      tells = tells_not g.S.Store (RepresentsSettings g.P.Places.represents g.P.Places.version) AreLegibleSettings (λ _. ⊤) c.args.conn.now c.count_containers.new.conn _ (λ k o office. office ≡ told_office k o) fault.Schema
+      tells = tells_not g.S.Store (RepresentsSettings g.P.Places.represents g.P.Versioned.version) AreLegibleSettings (λ _. ⊤) c.args.tables.now c.count_containers.new.tables _ (λ k o office. office ≡ told_office k o) fault.Schema
           refl (cut_after a e looked.goes.on) (spares_known a e looked)
           (λ k o it may legible clean free.
           let at_d = early d e _ c.in_ok-containers.ensures.reads.looks.goes.on.crash clean in
           let at_b = early b d _ c.in_ok-units.ensures.reads.looks.goes.on.crash at_d in
-          omega (arith, ap length (c.in_ok-rows.ensures.rows at_b g.P.Places.version o it.catalogue.office), c.in_default.ensures.cases.0));
+          absurd (omega (arith, ap length (c.in_ok-rows.ensures.rows at_b g.P.Versioned.version o it.catalogue.office), c.in_default.ensures.cases.0)));
     }
 
 pub returns-in_err-only_number : goal.returns-in_err-only_number
 returns-in_err-only_number g c =
-    let a = state g.S.Store c.args.conn.now in
-    let b = state g.S.Store c.office_rows.new.conn in
-    let d = state g.S.Store c.count_units.new.conn in
-    let e = state g.S.Store c.count_containers.new.conn in
+    let a = state g.S.Store c.args.tables.now in
+    let b = state g.S.Store c.office_rows.new.tables in
+    let d = state g.S.Store c.count_units.new.tables in
+    let e = state g.S.Store c.count_containers.new.tables in
     let handed = c.from_residual-in_err-only_number.ensures in
     let fault = c.in_err-only_number.field-0.0 in
     let looked = looks_then a d e (looks_then a b d c.in_ok-rows.ensures.reads.looks c.in_ok-units.ensures.reads.looks) c.in_ok-containers.ensures.reads.looks in
     record {
-      tells = tells_not g.S.Store (RepresentsSettings g.P.Places.represents g.P.Places.version) AreLegibleSettings (λ _. ⊤) c.args.conn.now c.count_containers.new.conn c.from_residual-in_err-only_number.result (λ k o office. office ≡ told_office k o) fault
+      tells = tells_not g.S.Store (RepresentsSettings g.P.Places.represents g.P.Versioned.version) AreLegibleSettings (λ _. ⊤) c.args.tables.now c.count_containers.new.tables c.from_residual-in_err-only_number.result (λ k o office. office ≡ told_office k o) fault
           (same_fault c.from_residual-in_err-only_number.result fault handed.0 handed.1) (cut_after a e looked.goes.on) (λ clean. spares_own a e looked clean fault c.in_err-only_number.ensures.fair)
           (λ k o it may legible clean free.
           let at_d = early d e _ c.in_ok-containers.ensures.reads.looks.goes.on.crash clean in
@@ -88,16 +72,16 @@ returns-in_err-only_number g c =
 
 pub returns-in_err-only_number-2 : goal.returns-in_err-only_number-2
 returns-in_err-only_number-2 g c =
-    let a = state g.S.Store c.args.conn.now in
-    let b = state g.S.Store c.office_rows.new.conn in
-    let d = state g.S.Store c.count_units.new.conn in
-    let e = state g.S.Store c.count_containers.new.conn in
+    let a = state g.S.Store c.args.tables.now in
+    let b = state g.S.Store c.office_rows.new.tables in
+    let d = state g.S.Store c.count_units.new.tables in
+    let e = state g.S.Store c.count_containers.new.tables in
     let handed = c.from_residual-in_err-only_number-2.ensures in
     let fault = c.in_err-only_number-2.field-0.0 in
     let looked_d = looks_then a b d c.in_ok-rows.ensures.reads.looks c.in_ok-units.ensures.reads.looks in
     let looked = looks_then a d e looked_d c.in_ok-containers.ensures.reads.looks in
     record {
-      tells = tells_not g.S.Store (RepresentsSettings g.P.Places.represents g.P.Places.version) AreLegibleSettings (λ _. ⊤) c.args.conn.now c.count_containers.new.conn c.from_residual-in_err-only_number-2.result (λ k o office. office ≡ told_office k o) fault
+      tells = tells_not g.S.Store (RepresentsSettings g.P.Places.represents g.P.Versioned.version) AreLegibleSettings (λ _. ⊤) c.args.tables.now c.count_containers.new.tables c.from_residual-in_err-only_number-2.result (λ k o office. office ≡ told_office k o) fault
           (same_fault c.from_residual-in_err-only_number-2.result fault handed.0 handed.1) (cut_after a e looked.goes.on) (λ clean. spares_own a e looked clean fault c.in_err-only_number-2.ensures.fair)
           (λ k o it may legible clean free.
           let at_d = early d e _ c.in_ok-containers.ensures.reads.looks.goes.on.crash clean in
@@ -107,10 +91,10 @@ returns-in_err-only_number-2 g c =
 
 pub returns : goal.returns
 returns g c =
-    let a = state g.S.Store c.args.conn.now in
-    let b = state g.S.Store c.office_rows.new.conn in
-    let d = state g.S.Store c.count_units.new.conn in
-    let e = state g.S.Store c.count_containers.new.conn in
+    let a = state g.S.Store c.args.tables.now in
+    let b = state g.S.Store c.office_rows.new.tables in
+    let d = state g.S.Store c.count_units.new.tables in
+    let e = state g.S.Store c.count_containers.new.tables in
     let looked_b = c.in_ok-rows.ensures.reads.looks in
     let looked_d = looks_then a b d looked_b c.in_ok-units.ensures.reads.looks in
     record {
@@ -119,7 +103,7 @@ returns g c =
             let at = it.catalogue in
             let at_d = early d e _ c.in_ok-containers.ensures.reads.looks.goes.on.crash clean in
             let at_b = early b d _ c.in_ok-units.ensures.reads.looks.goes.on.crash at_d in
-            let row = last_of c.pop.new.self.items c.in-Some.row o (sym (c.in_ok-rows.ensures.rows at_b g.P.Places.version o at.office) ∙ c.in-Some.ensures.items) in
+            let row = last_of c.pop.new.self.items c.in-Some.row o (sym (c.in_ok-rows.ensures.rows at_b g.P.Versioned.version o at.office) ∙ c.in-Some.ensures.items) in
             let counted = c.in_ok-units.ensures.answers at_d at.units.units (ap (λ (db : Database). db.trees tables.unit.tree) (looked_b.same at_b) ∙ at.units.rows) tt in
             let units = same_number (c.in_ok-only_number.ensures.value (capped (length at.units.units)) (c.deref.ensures.value ∙ counted))
             ∙ ap capped (length_permutation (nodes k.forest) at.units.units at.units.are ∙ length-nodes k.forest) in

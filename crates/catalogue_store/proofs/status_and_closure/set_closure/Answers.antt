@@ -4,29 +4,26 @@ use Rattle.catalogue_core.specs.Statuses.{with_closure}
 use Rattle.catalogue_core.specs.Units.{Unit, has_id}
 use Rattle.office_tables.specs.Schema as tables
 use Rattle.office_tables.specs.Step.{Goes, HasRows}
-use Rattle.office_tables.proofs.Calls.{on_ok_both, office_of}
+use Rattle.office_tables.proofs.Calls.{on_ok_both}
 use Rattle.catalogue_statements.specs.Rows.{unit_row}
 use Rattle.catalogue_statements.specs.Representation.{Represents}
 use Rattle.catalogue_statements.proofs.Statuses.{shows_changed, kept_by}
 use Rattle.office_tables.proofs.Sparing.{untouched_last}
 use Rattle.catalogue_store.proofs.status_and_closure.set_closure.Goals as goal
 
-pub set_until-requires-clause-inside : goal.set_until-requires-clause-inside
-set_until-requires-clause-inside g c = office_of g.P.Places.version (state g.S.Store c.args.conn.now) c.requires.inside
-
 pub returns-clause-makes : goal.returns-clause-makes
 returns-clause-makes g c =
-    let a = state g.S.Store c.args.conn.now in
-    let b = state g.S.Store c.set_until.new.conn in
+    let a = state g.S.Store c.args.tables.now in
+    let b = state g.S.Store c.set_until.new.tables in
     let left = c.set_until.ensures.leaves in
     let closed = λ (u : Unit). (let x : Unit = record u { until = c.args.until } in x) in
     let change = λ (u : Unit). if has_id c.args.unit u then closed u else u in
     record {
       represents_updated = λ clean o k it may.
           let at = it.catalogue.units in
-          on_ok_both c.set_until.result (Goes a b) (HasRows tables.unit.tree (map unit_row (map change at.units)) a.now b.now) (Represents g.P.Places.represents g.P.Places.version b.now o (with_closure c.args.unit c.args.until k))
+          on_ok_both c.set_until.result (Goes a b) (HasRows tables.unit.tree (map unit_row (map change at.units)) a.now b.now) (Represents g.P.Places.represents g.P.Versioned.version b.now o (with_closure c.args.unit c.args.until k))
           (λ last wrote. shows_changed change (λ u. kept_by (λ (u : Unit). u.id) (has_id c.args.unit u) (closed u) u refl) (λ u. kept_by (λ (u : Unit). u.values) (has_id c.args.unit u) (closed u) u refl)
-          g.P.Places.version g.P.Places.represents g.met.P.Places.shows_same a.now b.now o k it (last.schema clean) wrote)
+          g.P.Versioned.version g.P.Places.represents g.met.P.Places.shows_same a.now b.now o k it (last.schema clean) wrote)
           left.goes (c.set_until.ensures.rows clean at.units at.rows at.rise);
       only = c.set_until.ensures.only;
       goes = left.goes;

@@ -24,39 +24,39 @@ pub returns-in_err-units-clause-makes : goal.returns-in_err-units-clause-makes
 returns-in_err-units-clause-makes g c =
     let e = c.from_residual.ensures in
     let why = c.in_err-units.ensures.tells in
-    makes_not g.S.Store (Represents g.P.Places.represents g.P.Places.version) IsKept (λ _. ⊤) c.args.conn.now c.units_under.new.conn c.from_residual.result (λ k. with_status (chosen c.args.whole c.args.unit k) c.args.draft k) (tables.unit.tree ∷ []) c.in_err-units.field-0.0
+    makes_not g.S.Store (Represents g.P.Places.represents g.P.Versioned.version) IsKept (λ _. ⊤) c.args.tables.now c.units_under.new.tables c.from_residual.result (λ k. with_status (chosen c.args.whole c.args.unit k) c.args.draft k) (tables.unit.tree ∷ []) c.in_err-units.field-0.0
     (same_fault c.from_residual.result c.in_err-units.field-0.0 e.0 e.1) why.cut why.spares (λ o k it may kept. why.faults tt (each (λ (u : Unit). u.id) k.forest) it.shown tt kept.places)
 
 pub returns-in_err-set_drafts-clause-makes : goal.returns-in_err-set_drafts-clause-makes
 returns-in_err-set_drafts-clause-makes g c =
-    let a = state g.S.Store c.args.conn.now in
-    let b = state g.S.Store c.units_under.new.conn in
-    let d = state g.S.Store c.set_drafts.new.conn in
+    let a = state g.S.Store c.args.tables.now in
+    let b = state g.S.Store c.units_under.new.tables in
+    let d = state g.S.Store c.set_drafts.new.tables in
     let told = c.in_ok-units.ensures.tells in
     let cut = c.in_err-set_drafts.ensures.leaves.cut in
     let spares = c.in_err-set_drafts.ensures.leaves.spares in
     let last = c.from_residual-in_err-set_drafts.ensures in
     let e = c.in_err-set_drafts.field-0.0 in
-    makes_part g.S.Store (Represents g.P.Places.represents g.P.Places.version) IsKept (λ _. ⊤) c.args.conn.now c.set_drafts.new.conn c.from_residual-in_err-set_drafts.result (λ k. with_status (chosen c.args.whole c.args.unit k) c.args.draft k) (tables.unit.tree ∷ []) e
+    makes_part g.S.Store (Represents g.P.Places.represents g.P.Versioned.version) IsKept (λ _. ⊤) c.args.tables.now c.set_drafts.new.tables c.from_residual-in_err-set_drafts.result (λ k. with_status (chosen c.args.whole c.args.unit k) c.args.draft k) (tables.unit.tree ∷ []) e
     (same_fault c.from_residual-in_err-set_drafts.result e last.0 last.1) (cut_then a b d told.looks.goes.on cut) (λ clean. looked_spares a b d told.looks (early b d _ cut.crash clean) e (spares clean))
     (λ o k it may kept clean free. next_cause a b d told.looks.goes.on cut clean e
     (λ before.
     let f = each (λ (u : Unit). u.id) k.forest in
     let ids = c.deref.ensures.value ∙ told.answers before tt f it.shown in
     let low = subst (AllByRecursion IsNumber) (sym ids) (low_chosen c.args.whole c.args.unit f c.requires.small kept.places) in
-    let shown = subst (λ (db : Database). Represents g.P.Places.represents g.P.Places.version db o k) (sym (told.looks.same before)) it in
+    let shown = subst (λ (db : Database). Represents g.P.Places.represents g.P.Versioned.version db o k) (sym (told.looks.same before)) it in
     c.in_err-set_drafts.ensures.faults o k shown low clean (still_unlimited a b told.looks.goes.on free)))
 
 pub returns-clause-makes : goal.returns-clause-makes
 returns-clause-makes g c =
-    let a = state g.S.Store c.args.conn.now in
-    let b = state g.S.Store c.units_under.new.conn in
-    let d = state g.S.Store c.set_drafts.new.conn in
+    let a = state g.S.Store c.args.tables.now in
+    let b = state g.S.Store c.units_under.new.tables in
+    let d = state g.S.Store c.set_drafts.new.tables in
     let told = c.in_ok-units.ensures.tells in
     let went = c.in_ok-set_drafts.ensures.leaves.goes in
     record {
       represents_updated = λ clean o k it may.
-          let represents = λ (db : Database). Represents g.P.Places.represents g.P.Places.version db o in
+          let represents = λ (db : Database). Represents g.P.Places.represents g.P.Versioned.version db o in
           let before = early b d _ went.on.crash clean in
           let ids = c.deref.ensures.value ∙ told.answers before tt (each (λ (u : Unit). u.id) k.forest) it.shown in
           subst (λ (ids : List ℕ). represents d.now (with_status ids c.args.draft k)) ids
@@ -70,8 +70,8 @@ returns-clause-makes g c =
 
 pub returns-clause-count : goal.returns-clause-count
 returns-clause-count g c clean f it =
-    let b = state g.S.Store c.units_under.new.conn in
-    let d = state g.S.Store c.set_drafts.new.conn in
+    let b = state g.S.Store c.units_under.new.tables in
+    let d = state g.S.Store c.set_drafts.new.tables in
     let before = early b d _ c.in_ok-set_drafts.ensures.leaves.goes.on.crash clean in
     let long : c.len.result ≡ length c.in_ok-units.units.items = omega arith in
     long ∙ ap length (c.in_ok-units.ensures.tells.answers before tt f it)

@@ -7,7 +7,7 @@ use Rattle.office_tables.specs.Calls.{RepresentsAlone}
 use Rattle.office_tables.specs.declared.fault.StoreFault.TheVariants as fault
 use Rattle.office_tables.proofs.CallEnds.{same_fault}
 use Rattle.office_tables.proofs.StoreCalls.{tells_not}
-use Rattle.office_tables.proofs.Calls.{cut_after, looks_nowhere, office_of}
+use Rattle.office_tables.proofs.Calls.{cut_after, looks_nowhere}
 use Rattle.office_tables.proofs.Sparing.{spares_full}
 use Rattle.catalogue_store.proofs.status_and_closure.units_under.Goals as goal
 
@@ -26,20 +26,20 @@ returns-then-whole g c =
 
 pub returns-in_err-push : goal.returns-in_err-push
 returns-in_err-push g c =
-    let a = state g.S.Store c.args.conn.now in
+    let a = state g.S.Store c.args.tables.now in
     let e = c.from_residual.ensures in
     record {
-      tells = tells_not g.S.Store (RepresentsAlone g.P.Places.represents) IsBounded (λ _. ⊤) c.args.conn.now c.args.conn.now c.from_residual.result (λ _ f ids. ids.items ≡ chosen_units c.args.whole c.args.unit f) fault.Memory
-          (same_fault c.from_residual.result fault.Memory e.0 e.1) (cut_after a a (looks_nowhere a (office_of g.P.Places.version a c.requires.inside)).goes.on) (spares_full a a (looks_nowhere a (office_of g.P.Places.version a c.requires.inside))) (λ beside f it may kept clean free. tt);
+      tells = tells_not g.S.Store (RepresentsAlone g.P.Places.represents) IsBounded (λ _. ⊤) c.args.tables.now c.args.tables.now c.from_residual.result (λ _ f ids. ids.items ≡ chosen_units c.args.whole c.args.unit f) fault.Memory
+          (same_fault c.from_residual.result fault.Memory e.0 e.1) (cut_after a a (looks_nowhere a).goes.on) (spares_full a a (looks_nowhere a)) (λ beside f it may kept clean free. tt);
     }
 
 pub returns : goal.returns
 returns g c =
-    let a = state g.S.Store c.args.conn.now in
+    let a = state g.S.Store c.args.tables.now in
     record {
       tells = record {
         answers = λ clean beside f it. subst (λ (whole : Bool). c.push.new.self.items ≡ chosen_units whole c.args.unit f) (sym c.if-whole.false) (c.in_ok-push.ensures.items ∙ ap (λ l. l ++ c.args.unit ∷ []) c.new-one.ensures.items);
-        looks = looks_nowhere a (office_of g.P.Places.version a c.requires.inside);
+        looks = looks_nowhere a;
         cut = tt;
         spares = λ clean. tt;
         faults = λ beside f it may kept clean free. tt;

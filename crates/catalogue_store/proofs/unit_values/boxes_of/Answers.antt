@@ -17,50 +17,47 @@ use Rattle.catalogue_store.proofs.unit_values.boxes_of.Goals as goal
 
 pub loop-number-preserved : goal.loop-number-preserved
 loop-number-preserved g c =
-    let a = state g.S.Store c.args.conn.now in
-    let b = state g.S.Store c.loop-number.conn in
-    let d = state g.S.Store c.container_of.new.conn in
+    let a = state g.S.Store c.args.tables.now in
+    let b = state g.S.Store c.loop-number.tables in
+    let d = state g.S.Store c.container_of.new.tables in
     let i = c.loop-number.number-index in
     let key = c.in_ok-container_of.field-0 in
     let invariant = c.loop-number.invariant in
     let last = c.in_ok-container_of.ensures.reads.looks in (
-      invariant.0,
-      (
-        looks_then a b d invariant.1.0 last,
-        λ clean boxes at bs is.
-            let before = early b d _ last.goes.on.crash clean in
-            let there : RepresentsContainers b.now.trees boxes = ap (λ (db : Database). db.trees tables.container.tree) (invariant.1.0.same before) ∙ at in
-            let low : i < length bs = subst (λ n. i < n) (ap length is ∙ length-map bs (box_number boxes)) c.loop-number-test.true in
-            let number : get_or c.args.numbers.now i 0 ≡ box_number boxes (get_or bs i key) = ap (λ (l : List ℕ). get_or l i 0) is ∙ get_or-map (box_number boxes) bs i key 0 low in
-            let same : key ≡ get_or bs i key = c.in_ok-container_of.ensures.key clean boxes there (get_or bs i key) number in
-            c.in_ok-push.ensures.ok ∙ ap (λ (l : List BoxKey). l ++ key ∷ []) (invariant.1.1 before boxes at bs is) ∙ ap (λ (x : BoxKey). take i bs ++ x ∷ []) same ∙ sym (take_more bs i key low),
-      ),
+      looks_then a b d invariant.0 last,
+      λ clean boxes at bs is.
+          let before = early b d _ last.goes.on.crash clean in
+          let there : RepresentsContainers b.now.trees boxes = ap (λ (db : Database). db.trees tables.container.tree) (invariant.0.same before) ∙ at in
+          let low : i < length bs = subst (λ n. i < n) (ap length is ∙ length-map bs (box_number boxes)) c.loop-number-test.true in
+          let number : get_or c.args.numbers.now i 0 ≡ box_number boxes (get_or bs i key) = ap (λ (l : List ℕ). get_or l i 0) is ∙ get_or-map (box_number boxes) bs i key 0 low in
+          let same : key ≡ get_or bs i key = c.in_ok-container_of.ensures.key clean boxes there (get_or bs i key) number in
+          c.in_ok-push.ensures.ok ∙ ap (λ (l : List BoxKey). l ++ key ∷ []) (invariant.1 before boxes at bs is) ∙ ap (λ (x : BoxKey). take i bs ++ x ∷ []) same ∙ sym (take_more bs i key low),
     )
 
 pub returns-in_err-container_of-clause-reads : goal.returns-in_err-container_of-clause-reads
 returns-in_err-container_of-clause-reads g c =
-    let a = state g.S.Store c.args.conn.now in
-    let b = state g.S.Store c.loop-number.conn in
-    let d = state g.S.Store c.container_of.new.conn in
+    let a = state g.S.Store c.args.tables.now in
+    let b = state g.S.Store c.loop-number.tables in
+    let d = state g.S.Store c.container_of.new.tables in
     let handed = c.from_residual.ensures in
     read_cut a b d c.from_residual.result c.in_err-container_of.field-0.0 (same_fault c.from_residual.result c.in_err-container_of.field-0.0 handed.0 handed.1)
-    c.loop-number.invariant.1.0 c.in_err-container_of.ensures.reads.cut c.in_err-container_of.ensures.reads.spares
+    c.loop-number.invariant.0 c.in_err-container_of.ensures.reads.cut c.in_err-container_of.ensures.reads.spares
 
 pub returns-in_err-push-clause-reads : goal.returns-in_err-push-clause-reads
 returns-in_err-push-clause-reads g c =
-    let a = state g.S.Store c.args.conn.now in
-    let b = state g.S.Store c.loop-number.conn in
-    let d = state g.S.Store c.container_of.new.conn in
-    let looked = looks_then a b d c.loop-number.invariant.1.0 c.in_ok-container_of.ensures.reads.looks in
+    let a = state g.S.Store c.args.tables.now in
+    let b = state g.S.Store c.loop-number.tables in
+    let d = state g.S.Store c.container_of.new.tables in
+    let looked = looks_then a b d c.loop-number.invariant.0 c.in_ok-container_of.ensures.reads.looks in
     let handed = c.from_residual-in_err-push.ensures in
     read_not a d c.from_residual-in_err-push.result fault.Memory (same_fault c.from_residual-in_err-push.result fault.Memory handed.0 handed.1) (cut_after a d looked.goes.on) (spares_full a d looked)
 
 pub returns-in_err-container_of-clause-faults : goal.returns-in_err-container_of-clause-faults
 returns-in_err-container_of-clause-faults g c boxes at legible few bs known is clean free =
-    let a = state g.S.Store c.args.conn.now in
-    let b = state g.S.Store c.loop-number.conn in
-    let d = state g.S.Store c.container_of.new.conn in
-    let looked = c.loop-number.invariant.1.0 in
+    let a = state g.S.Store c.args.tables.now in
+    let b = state g.S.Store c.loop-number.tables in
+    let d = state g.S.Store c.container_of.new.tables in
+    let looked = c.loop-number.invariant.0 in
     let before = early b d _ c.in_err-container_of.ensures.reads.cut.crash clean in
     let free_b : IsUnlimited b = still_unlimited a b looked.goes.on free in
     let there : RepresentsContainers b.now.trees boxes = ap (λ (db : Database). db.trees tables.container.tree) (looked.same before) ∙ at in

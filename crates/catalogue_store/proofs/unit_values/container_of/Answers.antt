@@ -24,5 +24,5 @@ returns-in_err-found-clause-faults g c boxes at legible few b known is clean fre
 pub returns-in_default-clause-faults : goal.returns-in_default-clause-faults
 returns-in_default-clause-faults g c boxes at legible few b known is clean free =
     let got = c.in_ok-found.ensures.answers clean (counted_from 1 boxes) at tt in
-    box_found boxes b c.args.number got.0 known is got.1.0
-    (omega (arith, c.in_default.ensures.cases.0, c.in_ok-found.found.ok.0, ap length got.2, length-map got.0 (λ (x : ℕ × BoxKey). x.1)))
+    absurd (box_found boxes b c.args.number got.0 known is got.1.0
+    (omega (arith, c.in_default.ensures.cases.0, c.in_ok-found.found.ok.0, ap length got.2, length-map got.0 (λ (x : ℕ × BoxKey). x.1))))

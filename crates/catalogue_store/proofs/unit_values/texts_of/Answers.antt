@@ -25,15 +25,15 @@ pub returns-in_err-found : goal.returns-in_err-found
 returns-in_err-found g c =
     let handed = c.from_residual.ensures in
     record {
-      tells = tells_not g.S.Store (TellsTexts c.args.unit) (AllByRecursion (λ (e : ElementRow). IsUtf8 e.value)) (λ _. ⊤) c.args.conn.now c.elements_of.new.conn c.from_residual.result _ c.in_err-found.field-0.0
+      tells = tells_not g.S.Store (TellsTexts c.args.unit) (AllByRecursion (λ (e : ElementRow). IsUtf8 e.value)) (λ _. ⊤) c.args.tables.now c.elements_of.new.tables c.from_residual.result _ c.in_err-found.field-0.0
           (same_fault c.from_residual.result c.in_err-found.field-0.0 handed.0 handed.1) c.in_err-found.ensures.reads.cut c.in_err-found.ensures.reads.spares
           (λ values xs it may legible clean free. c.in_err-found.ensures.faults xs it.rows legible clean free);
     }
 
 pub returns : goal.returns
 returns g c =
-    let old = state g.S.Store c.args.conn.now in
-    let new = state g.S.Store c.elements_of.new.conn in
+    let old = state g.S.Store c.args.tables.now in
+    let new = state g.S.Store c.elements_of.new.tables in
     let looked = c.in_ok-found.ensures.reads.looks in
     let read = λ (e : ElementRow). (let x : Element = record { k = e.k; value = e.value } in x) in
     let told = map told_of c.in_ok-found.found.items in

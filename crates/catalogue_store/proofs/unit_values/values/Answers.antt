@@ -25,18 +25,18 @@ use Rattle.catalogue_store.proofs.unit_values.values.Goals as goal
 
 pub returns-in_err-levels : goal.returns-in_err-levels
 returns-in_err-levels g c =
-    let a = state g.S.Store c.args.conn.now in
+    let a = state g.S.Store c.args.tables.now in
     let handed = c.from_residual.ensures in
     let e = c.in_err-levels.field-0.0 in
     record {
-      tells = tells_not g.S.Store RepresentsValues IsKept KnowsItsContainers c.args.conn.now c.levels_of.new.conn c.from_residual.result (λ _ k found. found ≡ values_of c.args.unit k) e
+      tells = tells_not g.S.Store RepresentsValues IsKept KnowsItsContainers c.args.tables.now c.levels_of.new.tables c.from_residual.result (λ _ k found. found ≡ values_of c.args.unit k) e
           (same_fault c.from_residual.result e handed.0 handed.1) c.in_err-levels.ensures.reads.cut c.in_err-levels.ensures.reads.spares
           (λ o k it knows kept clean free. let at = it.catalogue.units in c.in_err-levels.ensures.faults at.units at.rows (legible_units a.now.trees k at kept) clean free);
     }
 
 pub returns-in_default : goal.returns-in_default
 returns-in_default g c =
-    let a = state g.S.Store c.args.conn.now in
+    let a = state g.S.Store c.args.tables.now in
     record {
       tells = record {
         answers = λ clean o k it.
@@ -54,12 +54,12 @@ returns-in_default g c =
 
 pub returns-in_err-texts : goal.returns-in_err-texts
 returns-in_err-texts g c =
-    let a = state g.S.Store c.args.conn.now in
+    let a = state g.S.Store c.args.tables.now in
     let handed = c.from_residual-in_err-texts.ensures in
     let e = c.in_err-texts.field-0.0 in
     let looked = c.in_ok-levels.ensures.reads.looks in
     record {
-      tells = tells_cut g.S.Store RepresentsValues IsKept KnowsItsContainers c.args.conn.now c.levels_of.new.conn c.texts_of.new.conn c.from_residual-in_err-texts.result (λ _ k found. found ≡ values_of c.args.unit k) e
+      tells = tells_cut g.S.Store RepresentsValues IsKept KnowsItsContainers c.args.tables.now c.levels_of.new.tables c.texts_of.new.tables c.from_residual-in_err-texts.result (λ _ k found. found ≡ values_of c.args.unit k) e
           (same_fault c.from_residual-in_err-texts.result e handed.0 handed.1) looked c.in_err-texts.ensures.tells.cut c.in_err-texts.ensures.tells.spares
           (λ o k it knows kept at_b clean free.
           let at = it.catalogue in
@@ -71,14 +71,14 @@ returns-in_err-texts g c =
 
 pub returns-in_err-containers : goal.returns-in_err-containers
 returns-in_err-containers g c =
-    let a = state g.S.Store c.args.conn.now in
-    let b = state g.S.Store c.levels_of.new.conn in
-    let d = state g.S.Store c.texts_of.new.conn in
+    let a = state g.S.Store c.args.tables.now in
+    let b = state g.S.Store c.levels_of.new.tables in
+    let d = state g.S.Store c.texts_of.new.tables in
     let handed = c.from_residual-in_err-containers.ensures in
     let e = c.in_err-containers.field-0.0 in
     let looked = looks_then a b d c.in_ok-levels.ensures.reads.looks c.in_ok-texts.ensures.tells.looks in
     record {
-      tells = tells_cut g.S.Store RepresentsValues IsKept KnowsItsContainers c.args.conn.now c.texts_of.new.conn c.containers_of.new.conn c.from_residual-in_err-containers.result (λ _ k found. found ≡ values_of c.args.unit k) e
+      tells = tells_cut g.S.Store RepresentsValues IsKept KnowsItsContainers c.args.tables.now c.texts_of.new.tables c.containers_of.new.tables c.from_residual-in_err-containers.result (λ _ k found. found ≡ values_of c.args.unit k) e
           (same_fault c.from_residual-in_err-containers.result e handed.0 handed.1) looked c.in_err-containers.ensures.reads.cut c.in_err-containers.ensures.reads.spares
           (λ o k it knows kept at_d clean free.
           let at = it.catalogue.housings in
@@ -87,16 +87,16 @@ returns-in_err-containers g c =
 
 pub returns-in_err-boxes : goal.returns-in_err-boxes
 returns-in_err-boxes g c =
-    let a = state g.S.Store c.args.conn.now in
-    let b = state g.S.Store c.levels_of.new.conn in
-    let d = state g.S.Store c.texts_of.new.conn in
-    let e = state g.S.Store c.containers_of.new.conn in
+    let a = state g.S.Store c.args.tables.now in
+    let b = state g.S.Store c.levels_of.new.tables in
+    let d = state g.S.Store c.texts_of.new.tables in
+    let e = state g.S.Store c.containers_of.new.tables in
     let handed = c.from_residual-in_err-boxes.ensures in
     let fault = c.in_err-boxes.field-0.0 in
     let looked_d = looks_then a b d c.in_ok-levels.ensures.reads.looks c.in_ok-texts.ensures.tells.looks in
     let looked = looks_then a d e looked_d c.in_ok-containers.ensures.reads.looks in
     record {
-      tells = tells_cut g.S.Store RepresentsValues IsKept KnowsItsContainers c.args.conn.now c.containers_of.new.conn c.boxes_of.new.conn c.from_residual-in_err-boxes.result (λ _ k found. found ≡ values_of c.args.unit k) fault
+      tells = tells_cut g.S.Store RepresentsValues IsKept KnowsItsContainers c.args.tables.now c.containers_of.new.tables c.boxes_of.new.tables c.from_residual-in_err-boxes.result (λ _ k found. found ≡ values_of c.args.unit k) fault
           (same_fault c.from_residual-in_err-boxes.result fault handed.0 handed.1) looked c.in_err-boxes.ensures.reads.cut c.in_err-boxes.ensures.reads.spares
           (λ o k it knows kept at_e clean free.
           let at = it.catalogue in
@@ -113,11 +113,11 @@ returns-in_err-boxes g c =
 
 pub returns : goal.returns
 returns g c =
-    let a = state g.S.Store c.args.conn.now in
-    let b = state g.S.Store c.levels_of.new.conn in
-    let d = state g.S.Store c.texts_of.new.conn in
-    let e = state g.S.Store c.containers_of.new.conn in
-    let h = state g.S.Store c.boxes_of.new.conn in
+    let a = state g.S.Store c.args.tables.now in
+    let b = state g.S.Store c.levels_of.new.tables in
+    let d = state g.S.Store c.texts_of.new.tables in
+    let e = state g.S.Store c.containers_of.new.tables in
+    let h = state g.S.Store c.boxes_of.new.tables in
     let looked_b = c.in_ok-levels.ensures.reads.looks in
     let looked_d = looks_then a b d looked_b c.in_ok-texts.ensures.tells.looks in
     let looked_e = looks_then a d e looked_d c.in_ok-containers.ensures.reads.looks in

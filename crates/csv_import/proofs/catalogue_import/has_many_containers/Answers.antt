@@ -5,14 +5,11 @@ use Rattle.isad_core.specs.Limits.{most_containers}
 use Rattle.catalogue_statements.specs.Rows.{counted_from}
 use Rattle.catalogue_statements.proofs.Offices.{length-counted, not_refused, same_number}
 use Rattle.office_tables.specs.RowCounts.{capped}
-use Rattle.office_tables.proofs.Calls.{cut_after, office_of}
+use Rattle.office_tables.proofs.Calls.{cut_after}
 use Rattle.refinement.proofs.Doings.{tells_passed}
 use Rattle.csv_import.proofs.Counting.{many_counted}
 use Rattle.csv_import.proofs.Tellings.{tells_so}
 use Rattle.csv_import.proofs.catalogue_import.has_many_containers.Goals as goal
-
-pub count_containers-requires : goal.count_containers-requires
-count_containers-requires g c = record { inside = office_of g.P.Places.version (state g.S.Store c.args.conn.now) c.requires.inside }
 
 pub returns-in_err-counted : goal.returns-in_err-counted
 returns-in_err-counted g c =
@@ -22,8 +19,8 @@ returns-in_err-counted g c =
 
 pub returns-in_err-containers : goal.returns-in_err-containers
 returns-in_err-containers g c =
-    let a = state g.S.Store c.args.conn.now in
-    let b = state g.S.Store c.count_containers.new.conn in
+    let a = state g.S.Store c.args.tables.now in
+    let b = state g.S.Store c.count_containers.new.tables in
     record {
       tells = tells_passed _ c.from_residual-in_err-containers.ensures (cut_after a b c.in_ok-counted.ensures.reads.looks.goes.on) (λ k o it may legible clean free.
           absurd (not_refused (c.in_err-containers.ensures.value (capped (length (counted_from 1 k.containers))) (c.deref.ensures.value ∙ c.in_ok-counted.ensures.answers clean (counted_from 1 k.containers) it.catalogue.containers tt))));

@@ -3,7 +3,7 @@ use Rattle.sqlite.specs.Held.{state}
 use Rattle.atom_csv.specs.FileContents.{file_of}
 use Rattle.atom_csv.specs.ReadProgress.{IsBad}
 use Rattle.atom_csv.specs.declared.file.FileFault.{FileFault}
-use Rattle.office_tables.proofs.Calls.{looks_nowhere, office_of}
+use Rattle.office_tables.proofs.Calls.{looks_nowhere}
 use Rattle.refinement.proofs.Doings.{is_refused}
 use Rattle.csv_import.proofs.FileBounds.{file_bounded}
 use Rattle.csv_import.proofs.Refused.{bad}
@@ -11,12 +11,12 @@ use Rattle.csv_import.proofs.catalogue_import.import.Goals as goal
 
 pub returns-in-Bad : goal.returns-in-Bad
 returns-in-Bad g c =
-    let v = g.P.Places.version in
-    let a = state g.S.Store c.args.conn.now in
+    let v = g.P.Versioned.version in
+    let a = state g.S.Store c.args.tables.now in
     let source = c.args.source.now in
     let bytes = c.args.file.now in
     let is : file_of bytes ≡ Err (c.in-Bad.row, c.in-Bad.cause) = subst (λ (e : FileFault). IsBad e (λ row cause. file_of c.args.file.now ≡ Err (row, cause))) c.in-Bad.is c.in-Err.ensures.bad in
-    is_refused (looks_nowhere a (office_of v a c.requires.inside)) (λ clean s sound so it. bad s source bytes c.in-Bad.row c.in-Bad.cause so.1 is)
+    is_refused (looks_nowhere a) (λ clean s sound so it. bad s source bytes c.in-Bad.row c.in-Bad.cause so.1 is)
 
-pub import_read-requires-clause-few : goal.import_read-requires-clause-few
-import_read-requires-clause-few g c = (file_bounded c.args.file.now c.in-Ok.read c.in-Ok.ensures.rows).rows
+pub import_read-requires : goal.import_read-requires
+import_read-requires g c = record { few = (file_bounded c.args.file.now c.in-Ok.read c.in-Ok.ensures.rows).rows }

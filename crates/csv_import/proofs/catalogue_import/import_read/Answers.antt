@@ -3,7 +3,6 @@ use Rattle.std.specs.Prelude.{◌≤◌, IfSome}
 use Rattle.sqlite.specs.Held.{state}
 use Rattle.isad_core.specs.Limits.{IsNumber, most_unit_numbers}
 use Rattle.office_core.proofs.KeptOffices.{office_settings}
-use Rattle.office_tables.proofs.Calls.{goes_then, looks_then, still}
 use Rattle.refinement.specs.Representation.{office_of}
 use Rattle.refinement.proofs.Doings.{catalogue_passed, does_pass}
 use Rattle.csv_import.proofs.Carried.{imports, ready_for, refused_full, refused_row, settings_shown, shown_legible, when_known, when_placed, when_roomy}
@@ -14,10 +13,7 @@ pub returns-in_err-catalogued : goal.returns-in_err-catalogued
 returns-in_err-catalogued g c bytes read =
     let told = c.in_err-catalogued.ensures.tells in
     does_pass _ c.from_residual.ensures told.cut
-    (λ s sound so it. told.faults (office_of s) s.catalogue (entering_of g.P.Places.version (state g.S.Store c.args.conn.now).now (office_of s) s.catalogue it.catalogue.catalogue) sound.sound.units tt)
-
-pub plan-requires-clause-inside : goal.plan-requires-clause-inside
-plan-requires-clause-inside g c = still g.P.Places.version (state g.S.Store c.args.conn.now) (state g.S.Store c.known_units.new.conn) c.requires.inside c.in_ok-catalogued.ensures.tells.looks.goes
+    (λ s sound so it. told.faults (office_of s) s.catalogue (entering_of g.P.Versioned.version (state g.S.Store c.args.tables.now).now (office_of s) s.catalogue it.catalogue.catalogue) sound.sound.units tt)
 
 pub returns-in_err-new : goal.returns-in_err-new
 returns-in_err-new g c bytes read =
@@ -29,11 +25,6 @@ pub returns-in-Faulty : goal.returns-in-Faulty
 returns-in-Faulty g c bytes read =
     when_known read c.as_slice-rows.ensures c.in_ok-catalogued.ensures.tells.looks c.in_ok-catalogued.ensures.tells.answers
     (refused_row read c.as_slice-rows.ensures c.in_ok-new.ensures.tells.looks c.in_ok-new.ensures.tells.answers c.in-Faulty.is)
-
-pub next_with_room-requires : goal.next_with_room-requires
-next_with_room-requires g c = record {
-  inside = still g.P.Places.version _ (state g.S.Store c.plan.new.conn) c.requires.inside (goes_then (state g.S.Store c.args.conn.now) (state g.S.Store c.known_units.new.conn) _ c.in_ok-catalogued.ensures.tells.looks.goes c.in_ok-new.ensures.tells.looks.goes);
-}
 
 pub returns-in_err-next : goal.returns-in_err-next
 returns-in_err-next g c bytes read =
@@ -58,15 +49,6 @@ invariant_of-import g c =
       small = λ legacy unit is. subst (λ o. IfSome o IsNumber) is (c.in_ok-catalogued.ensures.small legacy);
     }
 
-pub enter_rows-requires : goal.enter_rows-requires
-enter_rows-requires g c =
-    let a = state g.S.Store c.args.conn.now in
-    let b = state g.S.Store c.known_units.new.conn in
-    let d = state g.S.Store c.plan.new.conn in
-    let e = state g.S.Store c.next_with_room.new.conn in
-    let looked = looks_then a b e c.in_ok-catalogued.ensures.tells.looks (looks_then b d e c.in_ok-new.ensures.tells.looks c.in_ok-next.ensures.tells.looks) in
-    record { inside = still g.P.Places.version a e c.requires.inside looked.goes }
-
 pub returns-in_err-outcome : goal.returns-in_err-outcome
 returns-in_err-outcome g c bytes read =
     let made = c.in_err-outcome.ensures.makes in
@@ -74,17 +56,7 @@ returns-in_err-outcome g c bytes read =
     (when_placed read c.as_slice-rows.ensures c.in_ok-new.ensures.tells.looks c.in_ok-new.ensures.tells.answers c.in-Fits.is
     (when_roomy read c.as_slice-rows.ensures c.in_ok-next.ensures.tells.looks c.in_ok-next.ensures.tells.answers c.in-Some.is
     (does_pass _ c.from_residual-in_err-outcome.ensures made.cut (λ s sound so it.
-    made.faults (office_of s) s.catalogue (shown_legible g.P.Places.represents g.P.Places.version _ s sound it) (ready_for bytes read c.as_slice-rows.ensures s sound so) tt))))
-
-pub judge-requires-clause-inside : goal.judge-requires-clause-inside
-judge-requires-clause-inside g c =
-    let a = state g.S.Store c.args.conn.now in
-    let b = state g.S.Store c.known_units.new.conn in
-    let d = state g.S.Store c.plan.new.conn in
-    let e = state g.S.Store c.next_with_room.new.conn in
-    let f = state g.S.Store c.enter_rows.new.conn in
-    let looked = looks_then a b e c.in_ok-catalogued.ensures.tells.looks (looks_then b d e c.in_ok-new.ensures.tells.looks c.in_ok-next.ensures.tells.looks) in
-    still g.P.Places.version a f c.requires.inside (goes_then a e f looked.goes c.in_ok-outcome.ensures.makes.goes)
+    made.faults (office_of s) s.catalogue (shown_legible g.P.Places.represents g.P.Versioned.version _ s sound it) (ready_for bytes read c.as_slice-rows.ensures s sound so) tt))))
 
 pub returns : goal.returns
 returns g c bytes read =

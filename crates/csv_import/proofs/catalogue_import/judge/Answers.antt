@@ -36,8 +36,8 @@ returns-then-branch g c =
           sym (ap (λ (b : Bool). cond b (Err Full) (gated s (told_of source c.args.file.now c.args.outcome.now.counts s))) many));
     }
 
-pub remarks-requires-clause-small : goal.remarks-requires-clause-small
-remarks-requires-clause-small g c = subst (AllByRecursion IsNumber) (sym c.deref.ensures.value) c.requires.small
+pub remarks-requires : goal.remarks-requires
+remarks-requires g c = record { small = subst (AllByRecursion IsNumber) (sym c.deref.ensures.value) c.requires.small }
 
 pub returns-in_err-remarks : goal.returns-in_err-remarks
 returns-in_err-remarks g c =
@@ -45,31 +45,24 @@ returns-in_err-remarks g c =
     record {
       tells = λ source.
           let told = c.in_err-remarks.ensures.tells source in
-          tells_cut_later c.has_many_containers.new.conn _ c.from_residual-in_err-remarks.ensures counted.looks told.cut (λ beside s it may has at_b clean free.
+          tells_cut_later c.has_many_containers.new.tables _ c.from_residual-in_err-remarks.ensures counted.looks told.cut (λ beside s it may has at_b clean free.
           let within = few_containers s (counted.answers at_b s.catalogue (office_of s) it.catalogue) c.if-branch.false in
-          let still = subst (λ (db : Database). RepresentsState g.P.Places.represents g.P.Places.version db s) (sym (counted.looks.same at_b)) it in
+          let still = subst (λ (db : Database). RepresentsState g.P.Places.represents g.P.Versioned.version db s) (sym (counted.looks.same at_b)) it in
           told.faults (office_of s) s.catalogue still.catalogue (have_units source c.args.file.now c.args.outcome.now.units.items s within has _ c.as_slice.ensures _ c.deref.ensures.value) (has.imported.judged within).catalogue clean free);
     }
 
-pub pass-requires : goal.pass-requires
-pass-requires g c =
-    let a = state g.S.Store c.args.conn.now in
-    let b = state g.S.Store c.has_many_containers.new.conn in
-    let d = state g.S.Store c.remarks.new.conn in
-    record { inside = still g.P.Places.version a d c.requires.inside (looks_then a b d c.in_ok-has_many_containers.ensures.tells.looks (c.in_ok-remarks.ensures.tells []).looks).goes }
-
 pub returns : goal.returns
 returns g c =
-    let v = g.P.Places.version in
-    let b = state g.S.Store c.has_many_containers.new.conn in
-    let d = state g.S.Store c.remarks.new.conn in
+    let v = g.P.Versioned.version in
+    let b = state g.S.Store c.has_many_containers.new.tables in
+    let d = state g.S.Store c.remarks.new.tables in
     let counted = c.in_ok-has_many_containers.ensures.tells in
     let looks = looks_then _ b d counted.looks (c.in_ok-remarks.ensures.tells []).looks in
     let n = c.args.outcome.now.counts in
     record {
       tells = λ source.
           let told = c.in_ok-remarks.ensures.tells source in
-          let within = λ (clean : HasCleanDisk d) (s : State) (it : Represents g.P.Places.represents v (state g.S.Store c.args.conn.now).now (office_of s) s.catalogue). few_containers s (counted.answers (early b d _ told.looks.goes.on.crash clean) s.catalogue (office_of s) it) c.if-branch.false in
+          let within = λ (clean : HasCleanDisk d) (s : State) (it : Represents g.P.Places.represents v (state g.S.Store c.args.tables.now).now (office_of s) s.catalogue). few_containers s (counted.answers (early b d _ told.looks.goes.on.crash clean) s.catalogue (office_of s) it) c.if-branch.false in
           told_last (λ beside s. beside) (λ beside s. s) c.pass.ensures.tells looks
           (record {
             shown = λ clean beside s it. subst (λ (db : Database). RepresentsState g.P.Places.represents v db s) (sym (looks.same clean)) it;

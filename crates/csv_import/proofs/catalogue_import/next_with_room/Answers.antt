@@ -5,17 +5,11 @@ use Rattle.catalogue_statements.specs.declared.office.OfficeRow.{OfficeRow}
 use Rattle.catalogue_statements.proofs.Offices.{not_refused}
 use Rattle.office_tables.specs.RowCounts.{capped}
 use Rattle.office_tables.specs.Schema as tables
-use Rattle.office_tables.proofs.Calls.{cut_after, early, looks_then, office_of, still_office}
+use Rattle.office_tables.proofs.Calls.{cut_after, early, looks_then}
 use Rattle.refinement.proofs.Doings.{tells_passed, tells_passed_later}
 use Rattle.csv_import.proofs.Counting.{next_if, number_within, units_counted}
 use Rattle.csv_import.proofs.Tellings.{tells_so}
 use Rattle.csv_import.proofs.catalogue_import.next_with_room.Goals as goal
-
-pub count_units-requires : goal.count_units-requires
-count_units-requires g c =
-    let a = state g.S.Store c.args.conn.now in
-    let b = state g.S.Store c.settings.new.conn in
-    record { inside = still_office a b (office_of g.P.Places.version a c.requires.inside) c.in_ok-office.ensures.tells.looks.goes }
 
 pub returns-in_err-counted-clause-tells : goal.returns-in_err-counted-clause-tells
 returns-in_err-counted-clause-tells g c =
@@ -24,8 +18,8 @@ returns-in_err-counted-clause-tells g c =
 
 pub returns-in_err-units-clause-tells : goal.returns-in_err-units-clause-tells
 returns-in_err-units-clause-tells g c =
-    let b = state g.S.Store c.settings.new.conn in
-    let d = state g.S.Store c.count_units.new.conn in
+    let b = state g.S.Store c.settings.new.tables in
+    let d = state g.S.Store c.count_units.new.tables in
     let looked_b = c.in_ok-office.ensures.tells.looks in
     tells_passed _ c.from_residual-in_err-units.ensures (cut_after _ d (looks_then _ b d looked_b c.in_ok-counted.ensures.reads.looks).goes.on) (λ k o it may legible clean free.
     let at_b = early b d _ c.in_ok-counted.ensures.reads.looks.goes.on.crash clean in
@@ -35,8 +29,8 @@ returns-in_err-units-clause-tells g c =
 
 pub returns-then-has_space-clause-tells : goal.returns-then-has_space-clause-tells
 returns-then-has_space-clause-tells g c =
-    let b = state g.S.Store c.settings.new.conn in
-    let d = state g.S.Store c.count_units.new.conn in
+    let b = state g.S.Store c.settings.new.tables in
+    let d = state g.S.Store c.count_units.new.tables in
     let looked_b = c.in_ok-office.ensures.tells.looks in
     tells_so (looks_then _ b d looked_b c.in_ok-counted.ensures.reads.looks) (λ clean k o it.
     let at_b = early b d _ c.in_ok-counted.ensures.reads.looks.goes.on.crash clean in
@@ -50,8 +44,8 @@ returns-then-has_space-clause-low g c = number_within c.in_ok-units.units c.in_o
 
 pub returns-clause-tells : goal.returns-clause-tells
 returns-clause-tells g c =
-    let b = state g.S.Store c.settings.new.conn in
-    let d = state g.S.Store c.count_units.new.conn in
+    let b = state g.S.Store c.settings.new.tables in
+    let d = state g.S.Store c.count_units.new.tables in
     let looked_b = c.in_ok-office.ensures.tells.looks in
     tells_so (looks_then _ b d looked_b c.in_ok-counted.ensures.reads.looks) (λ clean k o it.
     let at_b = early b d _ c.in_ok-counted.ensures.reads.looks.goes.on.crash clean in

@@ -7,7 +7,7 @@ use Rattle.sqlite.specs.Effect.{Database}
 use Rattle.sqlite.specs.Held.{state}
 use Rattle.atom_csv.specs.declared.file.Row.{Row as RowTold}
 use Rattle.catalogue_core.proofs.EachOf.{all_append}
-use Rattle.office_tables.proofs.Calls.{early, looks_nowhere, looks_then, office_of, still}
+use Rattle.office_tables.proofs.Calls.{early, looks_nowhere, looks_then}
 use Rattle.refinement.proofs.Doings.{tells_passed_later}
 use Rattle.csv_import.specs.RowEntry.{RepresentsEntering}
 use Rattle.csv_import.specs.KnownUnits.{IsAsked}
@@ -17,10 +17,9 @@ use Rattle.csv_import.proofs.numbers.known_units.Goals as goal
 
 pub loop-row-init : goal.loop-row-init
 loop-row-init g c =
-    let a = state g.S.Store c.args.conn.now in
+    let a = state g.S.Store c.args.tables.now in
     record {
-      inside = c.requires.inside;
-      looks = looks_nowhere a (office_of g.P.Places.version a c.requires.inside);
+      looks = looks_nowhere a;
       low = λ legacy. rw (c.new-numbers.ensures.empty) tt;
       so_far = λ clean o k it good.
           (asked_nothing k c.args.source.now (contains_text c.new-asked.result) (get_by_text c.new-numbers.result) (λ q. rw (c.new-asked.ensures.empty) refl) (λ q. rw (c.new-numbers.ensures.empty) refl), tt);
@@ -34,10 +33,10 @@ returns-in_err-look_up_row-clause-tells g c =
 
 pub loop-row-preserved : goal.loop-row-preserved
 loop-row-preserved g c =
-    let v = g.P.Places.version in
-    let a = state g.S.Store c.args.conn.now in
-    let b = state g.S.Store c.loop-row.conn in
-    let d = state g.S.Store c.look_up_row.new.conn in
+    let v = g.P.Versioned.version in
+    let a = state g.S.Store c.args.tables.now in
+    let b = state g.S.Store c.loop-row.tables in
+    let d = state g.S.Store c.look_up_row.new.tables in
     let invariant = c.loop-row.invariant in
     let row = c.in_ok-look_up_row.ensures in
     let rows = c.args.rows.now in
@@ -48,7 +47,6 @@ loop-row-preserved g c =
     let later = contains_text c.look_up_row.new.asked in
     let so : take (i + 1) rows ≡ take i rows ++ item ∷ [] = take_more rows i item c.loop-row-test.true ∙ ap (λ (r : RowTold). take i rows ++ r ∷ []) (sym c.row-item.is) in
     record {
-      inside = still v b d invariant.inside row.tells.looks.goes;
       looks = looks_then a b d invariant.looks row.tells.looks;
       low = row.small;
       so_far = λ clean o k it good.

@@ -9,16 +9,15 @@ use Rattle.isad_core.specs.Texts.{Bytes}
 use Rattle.catalogue_core.specs.GoodCatalogues.{AreGoodUnits}
 use Rattle.catalogue_core.specs.CatalogueMerge.{Catalogue}
 use Rattle.catalogue_statements.specs.declared.office.OfficeRow.{OfficeRow}
-use Rattle.office_tables.specs.Step.{InTransaction, LeavesUnchanged}
+use Rattle.office_tables.specs.Step.{LeavesUnchanged}
 use Rattle.csv_import.specs.RowEntry.{RepresentsEntering}
 use Rattle.csv_import.specs.KnownUnits.{IsAsked, KnowsAsked}
 use Rattle.csv_import.proofs.numbers.known_units.Given as goal
 
 abbrev pub invariant-loop-row : goal.invariant-loop-row
 invariant-loop-row g l = record {
-  inside : InTransaction g.P.Places.version (state g.S.Store l.conn);
-  looks : LeavesUnchanged (state g.S.Store l.initial.conn) (state g.S.Store l.conn);
+  looks : LeavesUnchanged (state g.S.Store l.initial.tables) (state g.S.Store l.tables);
   low : (legacy : Bytes) → IfSome (get_by_text l.numbers legacy) IsNumber;
-  so_far : HasCleanDisk (state g.S.Store l.conn) → (o : OfficeRow) (c : Catalogue) → RepresentsEntering g.P.Places.version (state g.S.Store l.initial.conn).now o c → AreGoodUnits c
+  so_far : HasCleanDisk (state g.S.Store l.tables) → (o : OfficeRow) (c : Catalogue) → RepresentsEntering g.P.Versioned.version (state g.S.Store l.initial.tables).now o c → AreGoodUnits c
       → KnowsAsked c l.source (contains_text l.asked) (get_by_text l.numbers) × AllByRecursion (IsAsked c l.source (contains_text l.asked)) (take l.row-index l.rows);
 }

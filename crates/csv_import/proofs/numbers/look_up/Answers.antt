@@ -5,7 +5,7 @@ use Rattle.std.specs.BTreeSet.{contains_text}
 use Rattle.std.specs.Str.{bytes_eq}
 use Rattle.sqlite.specs.Held.{state}
 use Rattle.isad_core.specs.Limits.{IsNumber}
-use Rattle.office_tables.proofs.Calls.{looks_nowhere, office_of}
+use Rattle.office_tables.proofs.Calls.{looks_nowhere}
 use Rattle.csv_import.proofs.Arrived.{low_more}
 use Rattle.csv_import.proofs.KnownUnits.{asked_again, asked_and_found, asked_in_vain}
 use Rattle.csv_import.proofs.Tellings.{tells_so}
@@ -13,9 +13,9 @@ use Rattle.csv_import.proofs.numbers.look_up.Goals as goal
 
 pub returns-then-not-branch-clause-tells : goal.returns-then-not-branch-clause-tells
 returns-then-not-branch-clause-tells g c =
-    let a = state g.S.Store c.args.conn.now in
+    let a = state g.S.Store c.args.tables.now in
     let noted = c.in_ok-note.ensures in
-    tells_so (looks_nowhere a (office_of g.P.Places.version a c.requires.inside)) (λ clean o k it good knows.
+    tells_so (looks_nowhere a) (λ clean o k it good knows.
     asked_again k c.args.source.now (contains_text c.args.asked.now) (contains_text c.note.new.noted) (get_by_text c.args.numbers.now) c.args.legacy.now knows noted.noted
     (there (contains_text c.args.asked.now c.args.legacy.now) (sym noted.new ∙ c.if-not-branch.true)))
   where

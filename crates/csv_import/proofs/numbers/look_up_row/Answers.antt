@@ -4,7 +4,7 @@ use Rattle.std.specs.BTreeSet.{contains_text}
 use Rattle.sqlite.specs.Effect.{Database}
 use Rattle.sqlite.specs.Held.{state}
 use Rattle.isad_core.specs.Texts.{Bytes}
-use Rattle.office_tables.proofs.Calls.{early, looks_then, still}
+use Rattle.office_tables.proofs.Calls.{early, looks_then}
 use Rattle.refinement.proofs.Doings.{tells_passed_later}
 use Rattle.csv_import.specs.RowEntry.{RepresentsEntering}
 use Rattle.csv_import.proofs.Noted.{noted_itself, still_noted}
@@ -38,9 +38,6 @@ returns-in_default-clause-tells g c =
       },
     ))
 
-pub look_up-requires-2-clause-inside : goal.look_up-requires-2-clause-inside
-look_up-requires-2-clause-inside g c = still g.P.Places.version (state g.S.Store c.args.conn.now) (state g.S.Store c.look_up.new.conn) c.requires.inside c.in_ok-look_up.ensures.tells.looks.goes
-
 pub returns-in_err-look_up-2-clause-tells : goal.returns-in_err-look_up-2-clause-tells
 returns-in_err-look_up-2-clause-tells g c =
     let looks = c.in_ok-look_up.ensures.tells.looks in
@@ -49,10 +46,10 @@ returns-in_err-look_up-2-clause-tells g c =
 
 pub returns-clause-tells : goal.returns-clause-tells
 returns-clause-tells g c =
-    let v = g.P.Places.version in
-    let a = state g.S.Store c.args.conn.now in
-    let b = state g.S.Store c.look_up.new.conn in
-    let d = state g.S.Store c.look_up-2.new.conn in
+    let v = g.P.Versioned.version in
+    let a = state g.S.Store c.args.tables.now in
+    let b = state g.S.Store c.look_up.new.tables in
+    let d = state g.S.Store c.look_up-2.new.tables in
     let first = c.in_ok-look_up.ensures in
     let second = c.in_ok-look_up-2.ensures in
     let legacy = c.args.row.now.legacy in

@@ -5,15 +5,12 @@ use Rattle.catalogue_core.specs.GoodCatalogues.{AreGoodUnits}
 use Rattle.catalogue_core.specs.EntryByRow.{number_there}
 use Rattle.csv_import.specs.RowEntry.{RepresentsEntering}
 use Rattle.office_tables.proofs.CallEnds.{tells_not}
-use Rattle.office_tables.proofs.Calls.{cut_after, office_of}
+use Rattle.office_tables.proofs.Calls.{cut_after}
 use Rattle.office_tables.specs.declared.fault.StoreFault.TheVariants as fault
 use Rattle.refinement.proofs.Doings.{tells_passed}
 use Rattle.csv_import.proofs.OneRow.{finds_number, low_number}
 use Rattle.csv_import.proofs.Tellings.{tells_so}
 use Rattle.csv_import.proofs.numbers.number_of.Goals as goal
-
-pub known-requires : goal.known-requires
-known-requires g c = record { inside = office_of g.P.Places.version (state g.S.Store c.args.conn.now) c.requires.inside }
 
 pub returns-in_err-unit-clause-tells : goal.returns-in_err-unit-clause-tells
 returns-in_err-unit-clause-tells g c =
@@ -26,10 +23,10 @@ returns-in_default-clause-tells g c =
 
 pub returns-then-unit-ge-NO_NUMBER-clause-tells : goal.returns-then-unit-ge-NO_NUMBER-clause-tells
 returns-then-unit-ge-NO_NUMBER-clause-tells g c =
-    let a = state g.S.Store c.args.conn.now in
-    let b = state g.S.Store c.known.new.conn in
+    let a = state g.S.Store c.args.tables.now in
+    let b = state g.S.Store c.known.new.tables in
     let told = c.in_ok-unit.ensures.tells in
-    tells_not g.S.Store (RepresentsEntering g.P.Places.version) (λ _. ⊤) AreGoodUnits c.args.conn.now c.known.new.conn _ (λ _ k found. AreGoodUnits k → found ≡ number_there k c.args.source.now c.args.legacy.now) fault.Schema
+    tells_not g.S.Store (RepresentsEntering g.P.Versioned.version) (λ _. ⊤) AreGoodUnits c.args.tables.now c.known.new.tables _ (λ _ k found. AreGoodUnits k → found ≡ number_there k c.args.source.now c.args.legacy.now) fault.Schema
     refl (cut_after a b told.looks.goes.on)
     (λ o k it good kept clean free.
     let low = low_number k c.args.source.now c.args.legacy.now c.in-Some.unit good (sym c.in-Some.is ∙ finds_number k c.args.source.now c.args.legacy.now c.in_ok-unit.field-0 good (told.answers clean tt k.forest it.units)) in

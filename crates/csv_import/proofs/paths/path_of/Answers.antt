@@ -5,7 +5,7 @@ use Rattle.isad_core.specs.Limits.{IsNumber}
 use Rattle.tree_core.specs.Forest.{each, nodes, path}
 use Rattle.catalogue_core.specs.Units.{Unit, is_from}
 use Rattle.catalogue_core.proofs.EachOf.{none_found}
-use Rattle.office_tables.proofs.Calls.{looks_nowhere, office_of}
+use Rattle.office_tables.proofs.Calls.{looks_nowhere}
 use Rattle.office_tables.proofs.StoreCalls.{as_answers}
 use Rattle.csv_import.proofs.FoundPaths.{none_path, path_by_number}
 use Rattle.csv_import.proofs.OneRow.{is_found, none_there}
@@ -14,21 +14,21 @@ use Rattle.csv_import.proofs.paths.path_of.Goals as goal
 
 pub returns-in_default : goal.returns-in_default
 returns-in_default g c =
-    let a = state g.S.Store c.args.conn.now in
+    let a = state g.S.Store c.args.tables.now in
     record {
-      tells = tells_so (looks_nowhere a (office_of g.P.Places.version a c.requires.inside)) (λ clean o k it good source legacy is.
+      tells = tells_so (looks_nowhere a) (λ clean o k it good source legacy is.
           c.new.ensures.items
           ∙ sym (ap (map (λ (unit : Unit). unit.id)) (none_path (is_from source legacy) k.forest (none_found (is_from source legacy) (nodes k.forest) (none_there k source legacy (sym is ∙ c.in_default.is))))));
     }
 
-pub path-requires-clause-small : goal.path-requires-clause-small
-path-requires-clause-small g c = subst (λ o. IfSome o IsNumber) c.in-Some.is c.requires.small
+pub path-requires : goal.path-requires
+path-requires g c = record { small = subst (λ o. IfSome o IsNumber) c.in-Some.is c.requires.small }
 
 pub returns : goal.returns
 returns g c =
-    let a = state g.S.Store c.args.conn.now in
+    let a = state g.S.Store c.args.tables.now in
     record {
-      tells = told_last (λ _ _. tt) (λ _ k. each (λ (unit : Unit). unit.id) k.forest) (as_answers _ _ _ _ _ _ _ _ c.path.ensures.tells) (looks_nowhere a (office_of g.P.Places.version a c.requires.inside))
+      tells = told_last (λ _ _. tt) (λ _ k. each (λ (unit : Unit). unit.id) k.forest) (as_answers _ _ _ _ _ _ _ _ c.path.ensures.tells) (looks_nowhere a)
           (record {
             shown = λ clean o k it. it.shown;
             allowed = λ clean o k it may kept. (tt, kept.places);

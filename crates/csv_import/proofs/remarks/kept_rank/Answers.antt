@@ -1,7 +1,7 @@
 use Rattle.std.proofs.Common.{◌≡◌, Some, subst}
 use Rattle.std.specs.Prelude.{IfSome}
 use Rattle.sqlite.specs.Held.{state}
-use Rattle.office_tables.proofs.Calls.{looks_nowhere, office_of}
+use Rattle.office_tables.proofs.Calls.{looks_nowhere}
 use Rattle.csv_import.specs.Remarks.{IsRankOf, IsRanked}
 use Rattle.csv_import.specs.declared.remarks.Ranked.{Ranked}
 use Rattle.csv_import.proofs.Tellings.{tells_so}
@@ -9,10 +9,10 @@ use Rattle.csv_import.proofs.remarks.kept_rank.Goals as goal
 
 pub returns-in-Some : goal.returns-in-Some
 returns-in-Some g c =
-    let a = state g.S.Store c.args.conn.now in
+    let a = state g.S.Store c.args.tables.now in
     let it = subst (λ o. IfSome o (λ (r : Ranked). (c.args.last.now ≡ Some r) × (r.unit ≡ c.args.unit))) c.in-Some.is c.kept_of.ensures in
     record {
-      tells = tells_so (looks_nowhere a (office_of g.P.Places.version a c.requires.inside)) (λ clean o k shown ranked. (subst (λ n. IsRankOf k n c.in-Some.ranked.rank) it.1 (subst (IsRanked k) it.0 ranked), ranked));
+      tells = tells_so (looks_nowhere a) (λ clean o k shown ranked. (subst (λ n. IsRankOf k n c.in-Some.ranked.rank) it.1 (subst (IsRanked k) it.0 ranked), ranked));
     }
 
 pub returns : goal.returns

@@ -5,24 +5,20 @@ use Rattle.isad_core.specs.Levels.{rank_of}
 use Rattle.catalogue_core.specs.Units.{Unit as Described}
 use Rattle.catalogue_statements.proofs.FoundUnits.{none_found, one_found}
 use Rattle.catalogue_store.proofs.MarkCauses.{legible_units}
-use Rattle.office_tables.proofs.Calls.{office_of}
 use Rattle.refinement.proofs.Doings.{tells_passed}
 use Rattle.csv_import.proofs.Tellings.{tells_so}
 use Rattle.csv_import.proofs.remarks.rank_there.Goals as goal
 
-pub levels_of-requires-clause-inside : goal.levels_of-requires-clause-inside
-levels_of-requires-clause-inside g c = office_of g.P.Places.version (state g.S.Store c.args.conn.now) c.requires.inside
-
 pub returns-in_err-levels : goal.returns-in_err-levels
 returns-in_err-levels g c =
-    let a = state g.S.Store c.args.conn.now in
+    let a = state g.S.Store c.args.tables.now in
     record {
       tells = tells_passed _ c.from_residual.ensures c.in_err-levels.ensures.reads.cut (λ o k it may kept clean free. (let at = it.catalogue.units in c.in_err-levels.ensures.faults at.units at.rows (legible_units a.now.trees k at kept) clean free));
     }
 
 pub returns-in_default : goal.returns-in_default
 returns-in_default g c =
-    let a = state g.S.Store c.args.conn.now in
+    let a = state g.S.Store c.args.tables.now in
     record {
       tells = tells_so c.in_ok-levels.ensures.reads.looks (λ clean o k it unit is.
           let at = it.catalogue.units in
@@ -34,7 +30,7 @@ returns-in_default g c =
 
 pub returns : goal.returns
 returns g c =
-    let a = state g.S.Store c.args.conn.now in
+    let a = state g.S.Store c.args.tables.now in
     record {
       tells = tells_so c.in_ok-levels.ensures.reads.looks (λ clean o k it unit is.
           let at = it.catalogue.units in

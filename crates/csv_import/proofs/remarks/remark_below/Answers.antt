@@ -15,16 +15,16 @@ use Rattle.office_core.specs.ImportReply.{is_level_above, remark_if}
 use Rattle.office_core.specs.declared.done.Remark.TheVariants.{LevelTooHigh}
 use Rattle.office_tables.specs.declared.fault.StoreFault.TheVariants.{Schema}
 use Rattle.office_tables.proofs.CallEnds.{tells_not}
-use Rattle.office_tables.proofs.Calls.{cut_after, goes_nowhere, office_of}
+use Rattle.office_tables.proofs.Calls.{cut_after, goes_nowhere}
 use Rattle.csv_import.proofs.Tellings.{tells_so}
 use Rattle.csv_import.proofs.remarks.remark_below.Goals as goal
 
 pub returns-then-parent-ge-NO_NUMBER : goal.returns-then-parent-ge-NO_NUMBER
 returns-then-parent-ge-NO_NUMBER g c =
-    let a = state g.S.Store c.args.conn.now in
+    let a = state g.S.Store c.args.tables.now in
     record {
-      tells = tells_not g.S.Store (Represents g.P.Places.represents g.P.Places.version) IsKept (λ (k : Catalogue). (unit : Described) × (find (has_id c.args.parent) (nodes k.forest) ≡ Some unit)) c.args.conn.now c.args.conn.now _ _ Schema refl
-          (cut_after a a (goes_nowhere a (office_of g.P.Places.version a c.requires.inside)).on)
+      tells = tells_not g.S.Store (Represents g.P.Places.represents g.P.Versioned.version) IsKept (λ (k : Catalogue). (unit : Described) × (find (has_id c.args.parent) (nodes k.forest) ≡ Some unit)) c.args.tables.now c.args.tables.now _ _ Schema refl
+          (cut_after a a (goes_nowhere a).on)
           (λ o k it may kept clean free. absurd (false≢true (no_unit k c.args.parent c.if-parent-ge-NO_NUMBER.true kept ∙ some_found (has_id c.args.parent) (nodes k.forest) may.0 may.1)));
     }
 

@@ -1,7 +1,6 @@
 use Rattle.std.proofs.Common.{◌≡◌, Some, None, sym, ◌∙◌}
 use Rattle.std.specs.Prelude.{find, map}
 use Rattle.std.specs.Option.{option_to_list}
-use Rattle.sqlite.specs.Held.{state}
 use Rattle.isad_core.specs.Levels.{rank_of}
 use Rattle.isad_core.specs.Texts.{Bytes}
 use Rattle.tree_core.specs.Forest.{nodes, path}
@@ -12,7 +11,7 @@ use Rattle.catalogue_core.specs.Units.{Unit as Described}
 use Rattle.office_core.specs.ImportReply.{is_level_above, remark_if}
 use Rattle.office_core.specs.ImportReply as reply
 use Rattle.office_core.specs.declared.done.Remark.TheVariants.{LevelTooHigh}
-use Rattle.office_tables.proofs.Calls.{looks_nowhere, office_of}
+use Rattle.office_tables.proofs.Calls.{looks_nowhere}
 use Rattle.csv_import.specs.Remarks.{HasParent, IsRanked}
 use Rattle.csv_import.proofs.Remarked.{is_below, top_remark}
 use Rattle.csv_import.proofs.RightAbove.{last_number, there}
@@ -47,7 +46,7 @@ pub returns-in-None : goal.returns-in-None
 returns-in-None g c =
     let row = c.args.row.now in
     record {
-      tells = λ source. tells_so (looks_nowhere _ (office_of g.P.Places.version (state g.S.Store c.args.conn.now) c.requires.inside)) (λ clean o k it ranked has.
+      tells = λ source. tells_so (looks_nowhere _) (λ clean o k it ranked has.
           let unit = there k.forest source row has.its in
           let none : last_but_one (map (λ (u : Described). u.id) (path (is_from source row.legacy) k.forest)) ≡ None =
           last_number (path (is_from source row.legacy) k.forest) ∙ (sym has.above ∙ c.in-None.is) in

@@ -7,7 +7,6 @@ use Rattle.catalogue_core.specs.CatalogueMerge.{Catalogue}
 use Rattle.catalogue_core.specs.Units.{Unit as Described}
 use Rattle.catalogue_statements.specs.Representation.{Represents}
 use Rattle.catalogue_statements.specs.declared.office.OfficeRow.{OfficeRow}
-use Rattle.office_tables.proofs.Calls.{still}
 use Rattle.refinement.proofs.Doings.{tells_passed}
 use Rattle.csv_import.specs.Remarks.{HaveParents, HaveUnits}
 use Rattle.csv_import.proofs.RightAbove.{above_numbers}
@@ -22,15 +21,11 @@ returns-in_err-parents g c =
           tells_passed _ c.from_residual.ensures told.cut (λ o k it has kept. told.faults tt (each (λ (u : Described). u.id) k.forest) it.shown tt kept.places);
     }
 
-pub remarks_below-requires : goal.remarks_below-requires
-remarks_below-requires g c =
-    record { inside = still g.P.Places.version (state g.S.Store c.args.conn.now) (state g.S.Store c.parents.new.conn) c.requires.inside c.in_ok-parents.ensures.tells.looks.goes }
-
 pub returns : goal.returns
 returns g c =
-    let a = state g.S.Store c.args.conn.now in
-    let d = state g.S.Store c.parents.new.conn in
-    let v = g.P.Places.version in
+    let a = state g.S.Store c.args.tables.now in
+    let d = state g.S.Store c.parents.new.tables in
+    let v = g.P.Versioned.version in
     let rows = c.args.rows.now in
     let units = c.args.units.now in
     let told = c.in_ok-parents.ensures.tells in

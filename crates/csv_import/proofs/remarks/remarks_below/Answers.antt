@@ -9,7 +9,7 @@ use Rattle.sqlite.specs.Held.{state}
 use Rattle.atom_csv.specs.declared.file.Row.{Row as RowTold}
 use Rattle.catalogue_statements.specs.Representation.{Represents}
 use Rattle.office_core.specs.declared.done.Remark.{Remark}
-use Rattle.office_tables.proofs.Calls.{early, looks_then, still}
+use Rattle.office_tables.proofs.Calls.{early, looks_then}
 use Rattle.refinement.proofs.Doings.{tells_full, tells_passed_later}
 use Rattle.csv_import.proofs.RightAbove.{parent_at, told_all, told_at}
 use Rattle.csv_import.proofs.Tellings.{tells_so}
@@ -17,10 +17,10 @@ use Rattle.csv_import.proofs.remarks.remarks_below.Goals as goal
 
 pub loop-row-preserved-in-Continue-branch-3 : goal.loop-row-preserved-in-Continue-branch-3
 loop-row-preserved-in-Continue-branch-3 g c =
-    let v = g.P.Places.version in
-    let a = state g.S.Store c.args.conn.now in
-    let b = state g.S.Store c.loop-row.conn in
-    let d = state g.S.Store c.remark_on.new.conn in
+    let v = g.P.Versioned.version in
+    let a = state g.S.Store c.args.tables.now in
+    let b = state g.S.Store c.loop-row.tables in
+    let d = state g.S.Store c.remark_on.new.tables in
     let invariant = c.loop-row.invariant in
     let told = c.in_ok-remark.ensures.tells in
     let rows = c.args.rows.now in
@@ -30,7 +30,6 @@ loop-row-preserved-in-Continue-branch-3 g c =
     let second : iter_rest (zip_second c.into_iter-row-iterator.result) ≡ parents = ap (λ z. iter_rest (zip_second z)) c.into_iter-row-iterator.ensures.into_iter_gives ∙ c.zip-row-items.ensures.second.0 in
     let turn = zip_turn rows parents c.loop-row.yielded _ c.loop-row.row-iterator c.next.new.self c.next.result first second c.loop-row.yielded_by item c.in-Some.is c.next.ensures.steps in
     record {
-      inside = still v b d invariant.inside (told []).looks.goes;
       looks = looks_then a b d invariant.looks (told []).looks;
       so_far = λ clean source o k it have.
           let at_b = early b d _ (told source).looks.goes.on.crash clean in
@@ -45,10 +44,10 @@ loop-row-preserved-in-Continue-branch-3 g c =
 
 pub loop-row-preserved : goal.loop-row-preserved
 loop-row-preserved g c =
-    let v = g.P.Places.version in
-    let a = state g.S.Store c.args.conn.now in
-    let b = state g.S.Store c.loop-row.conn in
-    let d = state g.S.Store c.remark_on.new.conn in
+    let v = g.P.Versioned.version in
+    let a = state g.S.Store c.args.tables.now in
+    let b = state g.S.Store c.loop-row.tables in
+    let d = state g.S.Store c.remark_on.new.tables in
     let invariant = c.loop-row.invariant in
     let told = c.in_ok-remark.ensures.tells in
     let rows = c.args.rows.now in
@@ -58,7 +57,6 @@ loop-row-preserved g c =
     let second : iter_rest (zip_second c.into_iter-row-iterator.result) ≡ parents = ap (λ z. iter_rest (zip_second z)) c.into_iter-row-iterator.ensures.into_iter_gives ∙ c.zip-row-items.ensures.second.0 in
     let turn = zip_turn rows parents c.loop-row.yielded _ c.loop-row.row-iterator c.next.new.self c.next.result first second c.loop-row.yielded_by item c.in-Some.is c.next.ensures.steps in
     record {
-      inside = still v b d invariant.inside (told []).looks.goes;
       looks = looks_then a b d invariant.looks (told []).looks;
       so_far = λ clean source o k it have.
           let at_b = early b d _ (told source).looks.goes.on.crash clean in

@@ -6,16 +6,15 @@ use Rattle.catalogue_core.specs.CatalogueMerge.{Catalogue}
 use Rattle.catalogue_statements.specs.Representation.{Represents}
 use Rattle.catalogue_statements.specs.declared.office.OfficeRow.{OfficeRow}
 use Rattle.office_core.specs.ImportReply as reply
-use Rattle.office_tables.specs.Step.{InTransaction, LeavesUnchanged}
+use Rattle.office_tables.specs.Step.{LeavesUnchanged}
 use Rattle.csv_import.specs.Remarks.{HaveParents, IsRanked}
 use Rattle.csv_import.proofs.remarks.remarks_below.Given as goal
 
 abbrev pub invariant-loop-row : goal.invariant-loop-row
 invariant-loop-row g l = record {
-  inside : InTransaction g.P.Places.version (state g.S.Store l.conn);
-  looks : LeavesUnchanged (state g.S.Store l.initial.conn) (state g.S.Store l.conn);
-  so_far : HasCleanDisk (state g.S.Store l.conn) → (source : Bytes) (o : OfficeRow) (c : Catalogue) → Represents g.P.Places.represents g.P.Places.version (state g.S.Store l.initial.conn).now o c → HaveParents source l.rows l.parents c
+  looks : LeavesUnchanged (state g.S.Store l.initial.tables) (state g.S.Store l.tables);
+  so_far : HasCleanDisk (state g.S.Store l.tables) → (source : Bytes) (o : OfficeRow) (c : Catalogue) → Represents g.P.Places.represents g.P.Versioned.version (state g.S.Store l.initial.tables).now o c → HaveParents source l.rows l.parents c
       → reply.remarks c.forest source l.rows ≡ l.told ++ reply.remarks c.forest source (drop (length l.yielded) l.rows);
-  ranked : HasCleanDisk (state g.S.Store l.conn) → (source : Bytes) (o : OfficeRow) (c : Catalogue) → Represents g.P.Places.represents g.P.Places.version (state g.S.Store l.initial.conn).now o c → HaveParents source l.rows l.parents c
+  ranked : HasCleanDisk (state g.S.Store l.tables) → (source : Bytes) (o : OfficeRow) (c : Catalogue) → Represents g.P.Places.represents g.P.Versioned.version (state g.S.Store l.initial.tables).now o c → HaveParents source l.rows l.parents c
       → IsRanked c l.last;
 }

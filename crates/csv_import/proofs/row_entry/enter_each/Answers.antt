@@ -6,7 +6,7 @@ use Rattle.isad_core.specs.Limits.{IsNumber}
 use Rattle.catalogue_core.specs.CatalogueMerge.{Catalogue}
 use Rattle.catalogue_core.specs.EntryByRow.{number_there}
 use Rattle.catalogue_statements.specs.Representation.{described_trees}
-use Rattle.office_tables.proofs.Calls.{early, goes_nowhere, goes_then, office_of, still}
+use Rattle.office_tables.proofs.Calls.{early, goes_nowhere, goes_then}
 use Rattle.office_tables.proofs.Touching.{nothing_touched, touched_again}
 use Rattle.refinement.proofs.Doings.{makes_passed_later}
 use Rattle.csv_import.specs.RowEntry.{RepresentsEntering, entered}
@@ -18,26 +18,22 @@ use Rattle.csv_import.proofs.row_entry.enter_each.Goals as goal
 
 pub loop-row-init : goal.loop-row-init
 loop-row-init g c =
-    let a = state g.S.Store c.args.conn.now in
+    let a = state g.S.Store c.args.tables.now in
     record {
-      inside = c.requires.inside;
       few = omega arith;
-      goes = goes_nowhere a (office_of g.P.Places.version a c.requires.inside);
+      goes = goes_nowhere a;
       only = λ clean. nothing_touched described_trees a.now;
       so_far = λ clean o k it come told. (k, it, none_come c.args.import.now.source.now c.args.import.now.rows.now c.args.import.now.next k come, told);
     }
-
-pub enter_row-requires-clause-inside : goal.enter_row-requires-clause-inside
-enter_row-requires-clause-inside g c = still g.P.Places.version (state g.S.Store c.args.conn.now) (state g.S.Store c.loop-row.conn) c.loop-row.invariant.inside c.loop-row.invariant.goes
 
 pub enter_row-requires-clause-low : goal.enter_row-requires-clause-low
 enter_row-requires-clause-low g c = subst (λ o. IfSome o IsNumber) (sym c.kept_number-number.ensures) (number_there_small _ (c.args.import.now.small c.row-item.result.legacy))
 
 pub loop-row-preserved : goal.loop-row-preserved
 loop-row-preserved g c =
-    let a = state g.S.Store c.args.conn.now in
-    let b = state g.S.Store c.loop-row.conn in
-    let d = state g.S.Store c.enter_row.new.conn in
+    let a = state g.S.Store c.args.tables.now in
+    let b = state g.S.Store c.loop-row.tables in
+    let d = state g.S.Store c.enter_row.new.tables in
     let i = c.loop-row.row-index in
     let rows = c.args.import.now.rows.now in
     let source = c.args.import.now.source.now in
@@ -46,7 +42,6 @@ loop-row-preserved g c =
     let numbers = get_by_text c.args.import.now.catalogued.now in
     let step = c.in_ok-became.ensures.makes in
     record {
-      inside = invariant.inside;
       few = subst (λ (n : Counts). n.changed + n.new + n.same ≤ i + 1) (sym c.count-counts.ensures) (counted_few c.in_ok-became.became c.loop-row.counts i invariant.few);
       goes = goes_then a b d invariant.goes step.goes;
       only = λ clean. touched_again described_trees a.now b.now d.now (invariant.only (early b d _ step.goes.on.crash clean)) (step.only clean);
@@ -74,7 +69,7 @@ returns-in_err-became-clause-makes g c =
     let invariant = c.loop-row.invariant in
     let numbers = get_by_text c.args.import.now.catalogued.now in
     let step = c.in_err-became.ensures.makes in
-    makes_passed_later _ c.from_residual.ensures c.loop-row.conn invariant.goes.on step.cut (λ o k it so kept before.
+    makes_passed_later _ c.from_residual.ensures c.loop-row.tables invariant.goes.on step.cut (λ o k it so kept before.
     let x = invariant.so_far before o k it so.0 so.1 in
     let have = from_here source rows c.args.import.now.next c.loop-row.counts k x.0 i row c.loop-row-test.true (sym c.row-item.is) x.2 in
     let turn = (one_entered source row (drop (i + 1) rows) (c.args.import.now.next + c.loop-row.counts.new) x.0 have.come).turn in
@@ -83,7 +78,7 @@ returns-in_err-became-clause-makes g c =
 
 pub returns-clause-makes : goal.returns-clause-makes
 returns-clause-makes g c =
-    let b = state g.S.Store c.loop-row.conn in
+    let b = state g.S.Store c.loop-row.tables in
     let source = c.args.import.now.source.now in
     let rows = c.args.import.now.rows.now in
     let invariant = c.loop-row.invariant in
@@ -91,7 +86,7 @@ returns-clause-makes g c =
       represents_updated = λ clean o k it so.
           let x = invariant.so_far clean o k it so.0 so.1 in
           let all = all_come source rows c.args.import.now.next c.loop-row.counts k x.0 so.0 (at_end source rows c.args.import.now.next c.loop-row.counts k x.0 c.loop-row.row-index (omega (arith, c.loop-row-test.false)) x.2) in
-          subst (λ (y : Catalogue). RepresentsEntering g.P.Places.version b.now o y) (sym all.is) x.1;
+          subst (λ (y : Catalogue). RepresentsEntering g.P.Versioned.version b.now o y) (sym all.is) x.1;
       only = invariant.only;
       goes = invariant.goes;
       cut = tt;

@@ -7,7 +7,7 @@ use Rattle.catalogue_core.specs.Intake.{same_values}
 use Rattle.catalogue_core.proofs.KeptCatalogues.{all_places}
 use Rattle.catalogue_statements.specs.Representation.{described_trees}
 use Rattle.office_tables.proofs.CallEnds.{makes_not}
-use Rattle.office_tables.proofs.Calls.{cut_after, early, office_of, still_office}
+use Rattle.office_tables.proofs.Calls.{cut_after, early}
 use Rattle.office_tables.specs.declared.fault.StoreFault.TheVariants as fault
 use Rattle.csv_import.specs.RowEntry.{RepresentsEntering}
 use Rattle.csv_import.specs.Turns.{MayChange}
@@ -20,28 +20,20 @@ use Rattle.office_tables.proofs.StoreCalls.{as_updates}
 use Rattle.refinement.proofs.Doings.{makes_passed}
 use Rattle.csv_import.proofs.row_entry.enter_known.Goals as goal
 
-pub values-requires-clause-inside : goal.values-requires-clause-inside
-values-requires-clause-inside g c = office_of g.P.Places.version (state g.S.Store c.args.conn.now) c.requires.inside
-
-pub enter_values-requires-clause-inside : goal.enter_values-requires-clause-inside
-enter_values-requires-clause-inside g c =
-    let a = state g.S.Store c.args.conn.now in
-    still_office a (state g.S.Store c.values.new.conn) (office_of g.P.Places.version a c.requires.inside) c.in_ok-found.ensures.tells.looks.goes
-
 pub returns-in_err-found-clause-makes : goal.returns-in_err-found-clause-makes
 returns-in_err-found-clause-makes g c =
     let told = c.in_err-found.ensures.tells in
-    makes_passed _ c.from_residual.ensures told.cut (λ o k it may kept. told.faults o (at_next o.next_unit k) (record { version = g.P.Places.version; catalogue = it; places = all_places k may.units }) (knows_at o.next_unit k may.there.knows) (kept_at o.next_unit k may.kept))
+    makes_passed _ c.from_residual.ensures told.cut (λ o k it may kept. told.faults o (at_next o.next_unit k) (record { version = g.P.Versioned.version; catalogue = it; places = all_places k may.units }) (knows_at o.next_unit k may.there.knows) (kept_at o.next_unit k may.kept))
 
 pub returns-in_default-clause-makes : goal.returns-in_default-clause-makes
 returns-in_default-clause-makes g c =
-    let a = state g.S.Store c.args.conn.now in
-    let b = state g.S.Store c.values.new.conn in
+    let a = state g.S.Store c.args.tables.now in
+    let b = state g.S.Store c.values.new.tables in
     let told = c.in_ok-found.ensures.tells in
-    makes_not g.S.Store (RepresentsEntering g.P.Places.version) (λ _. ⊤) (MayChange c.args.unit c.args.values.now) c.args.conn.now c.values.new.conn _ (with_values c.args.unit c.args.values.now) described_trees fault.Schema
+    makes_not g.S.Store (RepresentsEntering g.P.Versioned.version) (λ _. ⊤) (MayChange c.args.unit c.args.values.now) c.args.tables.now c.values.new.tables _ (with_values c.args.unit c.args.values.now) described_trees fault.Schema
     refl (cut_after a b told.looks.goes.on)
     (λ o k it may kept clean free.
-    not_untold k c.args.unit may.there.there (sym c.in_default.is ∙ told.answers clean o (at_next o.next_unit k) (record { version = g.P.Places.version; catalogue = it; places = all_places k may.units })))
+    absurd (not_untold k c.args.unit may.there.there (sym c.in_default.is ∙ told.answers clean o (at_next o.next_unit k) (record { version = g.P.Versioned.version; catalogue = it; places = all_places k may.units }))))
 
 pub returns-then-are_same-clause-makes : goal.returns-then-are_same-clause-makes
 returns-then-are_same-clause-makes g c =
@@ -49,32 +41,32 @@ returns-then-are_same-clause-makes g c =
     makes_nothing told.looks
     (λ o k it may clean.
     let v = is_valued k c.args.unit may.there.there in
-    let is = told_of_it k c.args.unit v.unit c.in-Some.found v.by_number (sym c.in-Some.is ∙ told.answers clean o (at_next o.next_unit k) (record { version = g.P.Places.version; catalogue = it; places = all_places k may.units })) in
+    let is = told_of_it k c.args.unit v.unit c.in-Some.found v.by_number (sym c.in-Some.is ∙ told.answers clean o (at_next o.next_unit k) (record { version = g.P.Versioned.version; catalogue = it; places = all_places k may.units })) in
     sym (nothing_changes k c.args.unit v.unit c.args.values.now may.units may.there.knows v.by_number (ap (λ (w : Values). same_values w c.args.values.now) (sym is) ∙ (sym c.are_same.ensures ∙ c.if-are_same.true))))
 
 pub returns-then-are_same-clause-told : goal.returns-then-are_same-clause-told
 returns-then-are_same-clause-told g c clean o k it may u found =
     let told = c.in_ok-found.ensures.tells in
-    let is = told_of_it k c.args.unit u c.in-Some.found found (sym c.in-Some.is ∙ told.answers clean o (at_next o.next_unit k) (record { version = g.P.Places.version; catalogue = it; places = all_places k may.units })) in
+    let is = told_of_it k c.args.unit u c.in-Some.found found (sym c.in-Some.is ∙ told.answers clean o (at_next o.next_unit k) (record { version = g.P.Versioned.version; catalogue = it; places = all_places k may.units })) in
     sym (ap (λ b. cond b entry.Same entry.Changed) (ap (λ (w : Values). same_values w c.args.values.now) (sym is) ∙ (sym c.are_same.ensures ∙ c.if-are_same.true)))
 
 pub returns-in_err-enter_values-clause-makes : goal.returns-in_err-enter_values-clause-makes
 returns-in_err-enter_values-clause-makes g c =
     makes_fault _ c.from_residual-in_err-enter_values.ensures
-    (makes_then c.in_ok-found.ensures.tells.looks (makes_valued c.args.unit c.args.values.now (as_updates _ _ _ _ _ _ _ _ _ (c.in_err-enter_values.ensures.makes g.P.Places.version))) refl
+    (makes_then c.in_ok-found.ensures.tells.looks (makes_valued c.args.unit c.args.values.now (as_updates _ _ _ _ _ _ _ _ _ (c.in_err-enter_values.ensures.makes g.P.Versioned.version))) refl
     (λ o k it allowed clean. record { within = tt; allowed = allowed; same = refl }))
 
 pub returns-clause-makes : goal.returns-clause-makes
 returns-clause-makes g c =
     makes_same
-    (makes_then c.in_ok-found.ensures.tells.looks (makes_valued c.args.unit c.args.values.now (as_updates _ _ _ _ _ _ _ _ _ (c.in_ok-enter_values.ensures.makes g.P.Places.version))) refl
+    (makes_then c.in_ok-found.ensures.tells.looks (makes_valued c.args.unit c.args.values.now (as_updates _ _ _ _ _ _ _ _ _ (c.in_ok-enter_values.ensures.makes g.P.Versioned.version))) refl
     (λ o k it allowed clean. record { within = tt; allowed = allowed; same = refl }))
 
 pub returns-clause-told : goal.returns-clause-told
 returns-clause-told g c clean o k it may u found =
-    let b = state g.S.Store c.values.new.conn in
-    let d = state g.S.Store c.enter_values.new.conn in
-    let at_b = early b d _ (c.in_ok-enter_values.ensures.makes g.P.Places.version).goes.on.crash clean in
+    let b = state g.S.Store c.values.new.tables in
+    let d = state g.S.Store c.enter_values.new.tables in
+    let at_b = early b d _ (c.in_ok-enter_values.ensures.makes g.P.Versioned.version).goes.on.crash clean in
     let told = c.in_ok-found.ensures.tells in
-    let is = told_of_it k c.args.unit u c.in-Some.found found (sym c.in-Some.is ∙ told.answers at_b o (at_next o.next_unit k) (record { version = g.P.Places.version; catalogue = it; places = all_places k may.units })) in
+    let is = told_of_it k c.args.unit u c.in-Some.found found (sym c.in-Some.is ∙ told.answers at_b o (at_next o.next_unit k) (record { version = g.P.Versioned.version; catalogue = it; places = all_places k may.units })) in
     sym (ap (λ b. cond b entry.Same entry.Changed) (ap (λ (w : Values). same_values w c.args.values.now) (sym is) ∙ (sym c.are_same.ensures ∙ c.if-are_same.false)))

@@ -1,19 +1,14 @@
-use Rattle.sqlite.specs.Held.{state}
-use Rattle.office_tables.proofs.Calls.{office_of}
 use Rattle.csv_import.proofs.Afterwards.{makes_fault, makes_same}
 use Rattle.csv_import.proofs.Frames.{makes_new}
 use Rattle.office_tables.proofs.StoreCalls.{as_updates}
 use Rattle.csv_import.proofs.row_entry.enter_new.Goals as goal
 
-pub enter_unit-requires-clause-inside : goal.enter_unit-requires-clause-inside
-enter_unit-requires-clause-inside g c = office_of g.P.Places.version (state g.S.Store c.args.conn.now) c.requires.inside
-
 pub returns-in_err-enter_unit-clause-makes : goal.returns-in_err-enter_unit-clause-makes
 returns-in_err-enter_unit-clause-makes g c =
     makes_fault _ c.from_residual.ensures
-    (makes_new g.S.Store g.P.Places.version c.args.source.now c.args.row.now c.args.next c.args.conn.now c.enter_unit.new.conn _ (λ parent. as_updates _ _ _ _ _ _ _ _ _ (c.in_err-enter_unit.ensures.makes g.P.Places.version parent)))
+    (makes_new g.S.Store g.P.Versioned.version c.args.source.now c.args.row.now c.args.next c.args.tables.now c.enter_unit.new.tables _ (λ parent. as_updates _ _ _ _ _ _ _ _ _ (c.in_err-enter_unit.ensures.makes g.P.Versioned.version parent)))
 
 pub returns-clause-makes : goal.returns-clause-makes
 returns-clause-makes g c =
     makes_same
-    (makes_new g.S.Store g.P.Places.version c.args.source.now c.args.row.now c.args.next c.args.conn.now c.enter_unit.new.conn _ (λ parent. as_updates _ _ _ _ _ _ _ _ _ (c.in_ok-enter_unit.ensures.makes g.P.Places.version parent)))
+    (makes_new g.S.Store g.P.Versioned.version c.args.source.now c.args.row.now c.args.next c.args.tables.now c.enter_unit.new.tables _ (λ parent. as_updates _ _ _ _ _ _ _ _ _ (c.in_ok-enter_unit.ensures.makes g.P.Versioned.version parent)))

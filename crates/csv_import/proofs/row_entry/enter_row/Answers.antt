@@ -1,8 +1,7 @@
 use Rattle.std.proofs.Common.{◌≡◌, Option, refl, sym, ◌∙◌, subst}
 use Rattle.std.specs.Prelude.{IfOk}
-use Rattle.sqlite.specs.Held.{state}
 use Rattle.catalogue_core.specs.Units.{Unit}
-use Rattle.office_tables.proofs.Calls.{looks_nowhere, office_of}
+use Rattle.office_tables.proofs.Calls.{looks_nowhere}
 use Rattle.csv_import.specs.Turns.{entry_of}
 use Rattle.csv_import.proofs.Afterwards.{makes_then}
 use Rattle.csv_import.proofs.OneRow.{entered_known, entered_new, is_found, may_change, may_come, none_there}
@@ -10,7 +9,7 @@ use Rattle.csv_import.proofs.row_entry.enter_row.Goals as goal
 
 pub returns-in-Some-clause-makes : goal.returns-in-Some-clause-makes
 returns-in-Some-clause-makes g c =
-    makes_then (looks_nowhere _ (office_of g.P.Places.version (state g.S.Store c.args.conn.now) c.requires.inside)) c.enter_known.ensures.makes refl
+    makes_then (looks_nowhere _) c.enter_known.ensures.makes refl
     (λ o k it so clean.
     let number = sym so.1 ∙ c.in-Some.is in
     record { within = tt; allowed = may_change c.args.source.now c.args.row.now c.args.next k so.0 c.in-Some.unit number; same = sym (entered_known c.args.source.now c.args.row.now c.args.next k so.0 c.in-Some.unit number) })
@@ -26,7 +25,7 @@ returns-in-Some-clause-told g c clean o k it so =
 
 pub returns-in-None-clause-makes : goal.returns-in-None-clause-makes
 returns-in-None-clause-makes g c =
-    makes_then (looks_nowhere _ (office_of g.P.Places.version (state g.S.Store c.args.conn.now) c.requires.inside)) c.enter_new.ensures.makes refl
+    makes_then (looks_nowhere _) c.enter_new.ensures.makes refl
     (λ o k it so clean.
     let none = sym so.1 ∙ c.in-None.is in
     record { within = tt; allowed = may_come c.args.source.now c.args.row.now c.args.next k so.0 none; same = sym (entered_new c.args.source.now c.args.row.now c.args.next k so.0 none) })

@@ -1,6 +1,6 @@
 use Rattle.std.proofs.Common.{◌∙◌, map, Some, refl, ap}
 use Rattle.sqlite.specs.Held.{state}
-use Rattle.office_tables.proofs.Calls.{cut_after, goes_nowhere, looks_nowhere, office_of}
+use Rattle.office_tables.proofs.Calls.{cut_after, goes_nowhere, looks_nowhere}
 use Rattle.refinement.proofs.Doings.{makes_passed}
 use Rattle.csv_import.proofs.Afterwards.{makes_fault, makes_legible, makes_same, makes_then}
 use Rattle.csv_import.proofs.EnteredNumbers.{units_told}
@@ -9,24 +9,24 @@ use Rattle.csv_import.proofs.row_entry.enter_rows.Goals as goal
 
 pub returns-in_err-arrivals-clause-makes : goal.returns-in_err-arrivals-clause-makes
 returns-in_err-arrivals-clause-makes g c =
-    let a = state g.S.Store c.args.conn.now in
-    makes_passed _ c.from_residual.ensures (cut_after a a (goes_nowhere a (office_of g.P.Places.version a c.requires.inside)).on) (λ o k it may kept clean free. tt)
+    let a = state g.S.Store c.args.tables.now in
+    makes_passed _ c.from_residual.ensures (cut_after a a (goes_nowhere a).on) (λ o k it may kept clean free. tt)
 
 pub returns-in_err-units-clause-makes : goal.returns-in_err-units-clause-makes
 returns-in_err-units-clause-makes g c =
-    let a = state g.S.Store c.args.conn.now in
-    makes_passed _ c.from_residual-in_err-units.ensures (cut_after a a (goes_nowhere a (office_of g.P.Places.version a c.requires.inside)).on) (λ o k it may kept clean free. tt)
+    let a = state g.S.Store c.args.tables.now in
+    makes_passed _ c.from_residual-in_err-units.ensures (cut_after a a (goes_nowhere a).on) (λ o k it may kept clean free. tt)
 
 pub returns-in_err-counts-clause-makes : goal.returns-in_err-counts-clause-makes
 returns-in_err-counts-clause-makes g c =
     makes_fault _ c.from_residual-in_err-counts.ensures
-    (makes_then (looks_nowhere _ (office_of g.P.Places.version (state g.S.Store c.args.conn.now) c.requires.inside)) (makes_legible c.in_err-counts.ensures.makes) refl
+    (makes_then (looks_nowhere _) (makes_legible c.in_err-counts.ensures.makes) refl
     (λ o k it may clean. record { within = tt; allowed = are_brought may (c.deref.ensures.value ∙ c.in_ok-arrivals.ensures.tells k may.known); same = refl }))
 
 pub returns-clause-makes : goal.returns-clause-makes
 returns-clause-makes g c =
     makes_same
-    (makes_then (looks_nowhere _ (office_of g.P.Places.version (state g.S.Store c.args.conn.now) c.requires.inside)) (makes_legible c.in_ok-counts.ensures.makes) refl
+    (makes_then (looks_nowhere _) (makes_legible c.in_ok-counts.ensures.makes) refl
     (λ o k it may clean. record { within = tt; allowed = are_brought may (c.deref.ensures.value ∙ c.in_ok-arrivals.ensures.tells k may.known); same = refl }))
 
 pub returns-clause-finds : goal.returns-clause-finds

@@ -8,7 +8,7 @@ use Rattle.catalogue_statements.specs.Representation.{catalogue_trees, described
 use Rattle.catalogue_statements.specs.declared.office.OfficeRow.{OfficeRow}
 use Rattle.catalogue_store.specs.Arrivals.{MayJoin}
 use Rattle.office_tables.specs.Schema as tables
-use Rattle.office_tables.proofs.Calls.{early, goes_then, office_of, still, still_office}
+use Rattle.office_tables.proofs.Calls.{early, goes_then}
 use Rattle.office_tables.proofs.Touching.{touched_then, touched_wider}
 use Rattle.refinement.proofs.Doings.{makes_passed, makes_passed_later}
 use Rattle.csv_import.specs.RowEntry.{entered}
@@ -19,19 +19,6 @@ use Rattle.csv_import.proofs.row_entry.enter_with_places.Goals as goal
 -- the tables before, where the next number is the catalogue's
 abbrev counted : OfficeRow → Catalogue → OfficeRow
 counted o k = record o { next_unit = k.next }
-
-pub add_all-requires-clause-inside : goal.add_all-requires-clause-inside
-add_all-requires-clause-inside g c = c.requires.inside
-
-pub enter_each-requires : goal.enter_each-requires
-enter_each-requires g c = record { inside = still g.P.Places.version (state g.S.Store c.args.conn.now) (state g.S.Store c.add_all.new.conn) c.requires.inside c.in_ok-add_all.ensures.makes.goes }
-
-pub set_next_unit-requires-clause-inside : goal.set_next_unit-requires-clause-inside
-set_next_unit-requires-clause-inside g c =
-    let a = state g.S.Store c.args.conn.now in
-    let b = state g.S.Store c.add_all.new.conn in
-    let d = state g.S.Store c.enter_each.new.conn in
-    still_office a d (office_of g.P.Places.version a c.requires.inside) (goes_then a b d c.in_ok-add_all.ensures.makes.goes c.in_ok-counts.ensures.makes.goes)
 
 pub returns-in_err-add_all-clause-makes : goal.returns-in_err-add_all-clause-makes
 returns-in_err-add_all-clause-makes g c =
@@ -45,35 +32,35 @@ returns-in_err-add_all-clause-makes g c =
 
 pub returns-in_err-counts-clause-makes : goal.returns-in_err-counts-clause-makes
 returns-in_err-counts-clause-makes g c =
-    let a = state g.S.Store c.args.conn.now in
-    let b = state g.S.Store c.add_all.new.conn in
-    let v = g.P.Places.version in
+    let a = state g.S.Store c.args.tables.now in
+    let b = state g.S.Store c.add_all.new.tables in
+    let v = g.P.Versioned.version in
     let placed = c.in_ok-add_all.ensures.makes in
     let made = c.in_err-counts.ensures.makes in
-    makes_passed_later _ c.from_residual-in_err-counts.ensures c.add_all.new.conn placed.goes.on made.cut (λ o k it may kept at_b.
+    makes_passed_later _ c.from_residual-in_err-counts.ensures c.add_all.new.tables placed.goes.on made.cut (λ o k it may kept at_b.
     let only = placed.only at_b in
     let first = described_kept a.now b.now (tables.link.tree ∷ []) only refl (placed.goes.schema at_b) v (counted o k) (counted o k) k k.next (only tables.office.tree refl refl ∙ it.catalogue.office) refl it.catalogue in
     made.faults (counted o k) k first (may.come, may.known) tt)
 
 pub returns-in_err-set_next_unit-clause-makes : goal.returns-in_err-set_next_unit-clause-makes
 returns-in_err-set_next_unit-clause-makes g c =
-    let a = state g.S.Store c.args.conn.now in
-    let b = state g.S.Store c.add_all.new.conn in
-    let d = state g.S.Store c.enter_each.new.conn in
-    let v = g.P.Places.version in
+    let a = state g.S.Store c.args.tables.now in
+    let b = state g.S.Store c.add_all.new.tables in
+    let d = state g.S.Store c.enter_each.new.tables in
+    let v = g.P.Versioned.version in
     let placed = c.in_ok-add_all.ensures.makes in
     let told = c.in_ok-counts.ensures.makes in
-    makes_passed_later _ c.from_residual-in_err-set_next_unit.ensures c.enter_each.new.conn (goes_then a b d placed.goes told.goes).on c.in_err-set_next_unit.ensures.leaves.cut (λ o k it may kept at_d.
+    makes_passed_later _ c.from_residual-in_err-set_next_unit.ensures c.enter_each.new.tables (goes_then a b d placed.goes told.goes).on c.in_err-set_next_unit.ensures.leaves.cut (λ o k it may kept at_d.
     let at_b = early b d _ told.goes.on.crash at_d in
     c.in_err-set_next_unit.ensures.faults v (counted o k) (told.only at_d tables.office.tree refl refl ∙ (placed.only at_b tables.office.tree refl refl ∙ it.catalogue.office)))
 
 pub returns-clause-makes : goal.returns-clause-makes
 returns-clause-makes g c =
-    let a = state g.S.Store c.args.conn.now in
-    let b = state g.S.Store c.add_all.new.conn in
-    let d = state g.S.Store c.enter_each.new.conn in
-    let e = state g.S.Store c.set_next_unit.new.conn in
-    let v = g.P.Places.version in
+    let a = state g.S.Store c.args.tables.now in
+    let b = state g.S.Store c.add_all.new.tables in
+    let d = state g.S.Store c.enter_each.new.tables in
+    let e = state g.S.Store c.set_next_unit.new.tables in
+    let v = g.P.Versioned.version in
     let places = g.P.Places.represents in
     let same = g.met.P.Places.shows_same in
     let source = c.args.import.now.source.now in
@@ -115,11 +102,11 @@ returns-clause-makes g c =
 
 pub returns-clause-counts : goal.returns-clause-counts
 returns-clause-counts g c clean o k it may =
-    let a = state g.S.Store c.args.conn.now in
-    let b = state g.S.Store c.add_all.new.conn in
-    let d = state g.S.Store c.enter_each.new.conn in
-    let e = state g.S.Store c.set_next_unit.new.conn in
-    let v = g.P.Places.version in
+    let a = state g.S.Store c.args.tables.now in
+    let b = state g.S.Store c.add_all.new.tables in
+    let d = state g.S.Store c.enter_each.new.tables in
+    let e = state g.S.Store c.set_next_unit.new.tables in
+    let v = g.P.Versioned.version in
     let placed = c.in_ok-add_all.ensures.makes in
     let told = c.in_ok-counts.ensures.makes in
     let at_d = early d e _ c.in_ok-set_next_unit.ensures.leaves.goes.on.crash clean in

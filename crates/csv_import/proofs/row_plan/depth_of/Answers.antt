@@ -13,8 +13,12 @@ use Rattle.csv_import.proofs.Planned.{knows_parent}
 use Rattle.csv_import.proofs.Tellings.{tells_so}
 use Rattle.csv_import.proofs.row_plan.depth_of.Goals as goal
 
-pub path_of-requires-clause-small : goal.path_of-requires-clause-small
-path_of-requires-clause-small g c = subst (λ o. IfSome o IsNumber) (sym c.kept_number.ensures) (c.requires.low c.in-Some.parent)
+pub path_of-requires : goal.path_of-requires
+path_of-requires g c =
+    record {
+      small =
+          subst (λ o. IfSome o IsNumber) (sym c.kept_number.ensures) (c.requires.low c.in-Some.parent);
+    }
 
 pub returns-then-is_empty : goal.returns-then-is_empty
 returns-then-is_empty g c =

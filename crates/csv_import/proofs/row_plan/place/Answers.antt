@@ -3,7 +3,7 @@ use Rattle.std.specs.Prelude.{is_some}
 use Rattle.sqlite.specs.Held.{state}
 use Rattle.catalogue_core.specs.CatalogueMerge.{depth_under, is_known}
 use Rattle.catalogue_core.specs.EntryByRow.{number_there}
-use Rattle.office_tables.proofs.Calls.{looks_nowhere, office_of}
+use Rattle.office_tables.proofs.Calls.{looks_nowhere}
 use Rattle.csv_import.specs.RowPlan.{at_depth}
 use Rattle.csv_import.specs.declared.row_plan.Placing.TheVariants as placing
 use Rattle.csv_import.proofs.KnownUnits.{is_known_by, none_known}
@@ -12,9 +12,9 @@ use Rattle.csv_import.proofs.row_plan.place.Goals as goal
 
 pub returns-then-is_some : goal.returns-then-is_some
 returns-then-is_some g c =
-    let a = state g.S.Store c.args.conn.now in
+    let a = state g.S.Store c.args.tables.now in
     record {
-      tells = tells_so (looks_nowhere a (office_of g.P.Places.version a c.requires.inside)) (λ clean o k it good source told parent above knows.
+      tells = tells_so (looks_nowhere a) (λ clean o k it good source told parent above knows.
           let row = c.args.row.now in
           let there : is_known k.forest source row ≡ true = sym (is_known_by k source row) ∙ (sym (ap is_some (c.kept_number.ensures ∙ told)) ∙ (sym c.is_some.ensures ∙ c.if-is_some.true)) in
           (sym (ap (λ (b : Bool). cond b placing.Known (at_depth (depth_under k.forest source row.parent above))) there), knows));

@@ -5,7 +5,7 @@ use Rattle.sqlite.specs.Effect.{Database}
 use Rattle.sqlite.specs.Held.{state}
 use Rattle.atom_csv.specs.declared.file.Row.{Row as RowTold}
 use Rattle.catalogue_statements.specs.Representation.{Represents}
-use Rattle.office_tables.proofs.Calls.{early, looks_then, still}
+use Rattle.office_tables.proofs.Calls.{early, looks_then}
 use Rattle.refinement.proofs.Doings.{tells_full, tells_passed_later}
 use Rattle.csv_import.proofs.KnownUnits.{parent_at, told_at}
 use Rattle.csv_import.proofs.Planned.{IsPlanned, begins, ends_faulty, ends_well, goes_known, goes_new}
@@ -17,7 +17,6 @@ pub loop-row-init : goal.loop-row-init
 loop-row-init g c =
     let told = c.in_ok-depths.ensures.tells in
     record {
-      inside = still g.P.Places.version (state g.S.Store c.args.conn.now) (state g.S.Store c.depths_below_many.new.conn) c.requires.inside told.looks.goes;
       looks = told.looks;
       few = omega arith;
       so_far = λ clean o k it good source known. begins k.forest source (get_by_text c.in_ok-depths.depths) c.args.rows.now (told.answers clean o k it good source known.sound);
@@ -34,9 +33,9 @@ returns-in_err-remember-in-Fits g c = record { tells = tells_full c.from_residua
 
 pub returns-in-Faulty : goal.returns-in-Faulty
 returns-in-Faulty g c =
-    let a = state g.S.Store c.args.conn.now in
-    let b = state g.S.Store c.loop-row.conn in
-    let d = state g.S.Store c.place.new.conn in
+    let a = state g.S.Store c.args.tables.now in
+    let b = state g.S.Store c.loop-row.tables in
+    let d = state g.S.Store c.place.new.tables in
     let looks = c.loop-row.invariant.looks in
     let told = c.in_ok-place.ensures.tells in
     let rows = c.args.rows.now in
@@ -47,7 +46,7 @@ returns-in-Faulty g c =
       tells = tells_so (looks_then a b d looks told.looks) (λ clean o k it good source known.
           let at_b = early b d _ told.looks.goes.on.crash clean in
           let planned = subst (IsPlanned k.forest source (get_by_text c.loop-row.depths) c.loop-row.new rows) rest (c.loop-row.invariant.so_far at_b o k it good source known) in
-          let shown = subst (λ (db : Database). Represents g.P.Places.represents g.P.Places.version db o k) (sym (looks.same at_b)) it in
+          let shown = subst (λ (db : Database). Represents g.P.Places.represents g.P.Versioned.version db o k) (sym (looks.same at_b)) it in
           ends_faulty k.forest source (get_by_text c.loop-row.depths) c.loop-row.new rows (drop (i + 1) rows) item c.in-Faulty.cause planned
           (sym c.in-Faulty.is ∙ (told.answers clean o k shown good source (told_at k source rows (get_by_text c.args.catalogued.now) i item c.loop-row-test.true (sym c.row-item.is) known.each)
           (parent_at k source rows (get_by_text c.args.catalogued.now) i item c.loop-row-test.true (sym c.row-item.is) known.parents) planned.above planned.knows).0));
@@ -55,10 +54,10 @@ returns-in-Faulty g c =
 
 pub loop-row-preserved : goal.loop-row-preserved
 loop-row-preserved g c =
-    let v = g.P.Places.version in
-    let a = state g.S.Store c.args.conn.now in
-    let b = state g.S.Store c.loop-row.conn in
-    let d = state g.S.Store c.place.new.conn in
+    let v = g.P.Versioned.version in
+    let a = state g.S.Store c.args.tables.now in
+    let b = state g.S.Store c.loop-row.tables in
+    let d = state g.S.Store c.place.new.tables in
     let looks = c.loop-row.invariant.looks in
     let few = c.loop-row.invariant.few in
     let told = c.in_ok-place.ensures.tells in
@@ -67,7 +66,6 @@ loop-row-preserved g c =
     let item = c.row-item.result in
     let rest : drop i rows ≡ item ∷ drop (i + 1) rows = drop_more rows i item c.loop-row-test.true ∙ ap (λ (r : RowTold). r ∷ drop (i + 1) rows) (sym c.row-item.is) in
     record {
-      inside = still v b d c.loop-row.invariant.inside told.looks.goes;
       looks = looks_then a b d looks told.looks;
       few = elim c.match-branch-3.branch [
         | in-Known w ↦ (let n = w.new-is in omega (arith, few, n))
@@ -76,7 +74,7 @@ loop-row-preserved g c =
       so_far = λ clean o k it good source known.
           let at_b = early b d _ told.looks.goes.on.crash clean in
           let planned = subst (IsPlanned k.forest source (get_by_text c.loop-row.depths) c.loop-row.new rows) rest (c.loop-row.invariant.so_far at_b o k it good source known) in
-          let shown = subst (λ (db : Database). Represents g.P.Places.represents g.P.Places.version db o k) (sym (looks.same at_b)) it in
+          let shown = subst (λ (db : Database). Represents g.P.Places.represents g.P.Versioned.version db o k) (sym (looks.same at_b)) it in
           let both = told.answers clean o k shown good source (told_at k source rows (get_by_text c.args.catalogued.now) i item c.loop-row-test.true (sym c.row-item.is) known.each)
           (parent_at k source rows (get_by_text c.args.catalogued.now) i item c.loop-row-test.true (sym c.row-item.is) known.parents) planned.above planned.knows in
           let is = both.0 in

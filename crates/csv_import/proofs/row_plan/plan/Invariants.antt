@@ -7,16 +7,15 @@ use Rattle.catalogue_core.specs.GoodCatalogues.{AreGoodUnits}
 use Rattle.catalogue_core.specs.CatalogueMerge.{Catalogue}
 use Rattle.catalogue_statements.specs.Representation.{Represents}
 use Rattle.catalogue_statements.specs.declared.office.OfficeRow.{OfficeRow}
-use Rattle.office_tables.specs.Step.{InTransaction, LeavesUnchanged}
+use Rattle.office_tables.specs.Step.{LeavesUnchanged}
 use Rattle.csv_import.specs.KnownUnits.{KnowsUnits}
 use Rattle.csv_import.proofs.Planned.{IsPlanned}
 use Rattle.csv_import.proofs.row_plan.plan.Given as goal
 
 abbrev pub invariant-loop-row : goal.invariant-loop-row
 invariant-loop-row g l = record {
-  inside : InTransaction g.P.Places.version (state g.S.Store l.conn);
-  looks : LeavesUnchanged (state g.S.Store l.fn.conn) (state g.S.Store l.conn);
+  looks : LeavesUnchanged (state g.S.Store l.fn.tables) (state g.S.Store l.tables);
   few : l.new ≤ l.row-index;
-  so_far : HasCleanDisk (state g.S.Store l.conn) → (o : OfficeRow) (c : Catalogue) → Represents g.P.Places.represents g.P.Places.version (state g.S.Store l.fn.conn).now o c → AreGoodUnits c → (source : Bytes) → KnowsUnits c source l.rows (get_by_text l.catalogued)
+  so_far : HasCleanDisk (state g.S.Store l.tables) → (o : OfficeRow) (c : Catalogue) → Represents g.P.Places.represents g.P.Versioned.version (state g.S.Store l.fn.tables).now o c → AreGoodUnits c → (source : Bytes) → KnowsUnits c source l.rows (get_by_text l.catalogued)
       → IsPlanned c.forest source (get_by_text l.depths) l.new l.rows (drop l.row-index l.rows);
 }

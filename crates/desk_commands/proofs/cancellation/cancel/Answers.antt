@@ -5,40 +5,36 @@ use Rattle.desk_store.specs.Orders.{IsThere, order_with, state_number}
 use Rattle.desk_store.specs.declared.orders.PlacedOrder.{PlacedOrder}
 use Rattle.office_core.specs.declared.command.Command.TheVariants as command
 use Rattle.state_encoding.specs.OfficeRows.{tables}
-use Rattle.office_tables.proofs.Calls.{office_of}
 use Rattle.refinement.proofs.Doings.{desk_passed, does_refuse, does_then}
 use Rattle.refinement.proofs.OrderRows.{not_placed, was_placed}
 use Rattle.desk_commands.proofs.Cancelled.{not_waiting, unknown_order, waits_or_not}
 use Rattle.desk_commands.proofs.cancellation.cancel.Goals as goal
-
-pub order-requires : goal.order-requires
-order-requires g c = record { inside = office_of g.P.Places.version (state g.S.Store c.args.conn.now) c.requires.inside }
 
 pub returns-in_err-placed : goal.returns-in_err-placed
 returns-in_err-placed g c = let told = c.in_err-placed.ensures.tells in desk_passed _ c.from_residual.ensures told.cut told.faults
 
 pub returns-in_default : goal.returns-in_default
 returns-in_default g c =
-    let a = state g.S.Store c.args.conn.now in
-    let b = state g.S.Store c.order.new.conn in
+    let a = state g.S.Store c.args.tables.now in
+    let b = state g.S.Store c.order.new.tables in
     let told = c.in_ok-placed.ensures.tells in
-    does_refuse g.P.Places.represents g.P.Places.version _ (command.Cancel c.args.number) a b (Err UnknownOrder) told.looks
-    (λ clean s sound so it. unknown_order g.P.Places.represents g.P.Places.version s c.args.number b.now
-    (not_placed s g.P.Places.version c.args.number
-    (subst (λ (found : Option PlacedOrder). IsThere (order_with c.args.number (tables g.P.Places.version s).desk) found) c.in_default.is (told.answers clean tt (tables g.P.Places.version s).desk it.desk))))
+    does_refuse g.P.Places.represents g.P.Versioned.version _ (command.Cancel c.args.number) a b (Err UnknownOrder) told.looks
+    (λ clean s sound so it. unknown_order g.P.Places.represents g.P.Versioned.version s c.args.number b.now
+    (not_placed s g.P.Versioned.version c.args.number
+    (subst (λ (found : Option PlacedOrder). IsThere (order_with c.args.number (tables g.P.Versioned.version s).desk) found) c.in_default.is (told.answers clean tt (tables g.P.Versioned.version s).desk it.desk))))
 
 pub returns-then-not-is_waiting : goal.returns-then-not-is_waiting
 returns-then-not-is_waiting g c =
-    let a = state g.S.Store c.args.conn.now in
-    let b = state g.S.Store c.order.new.conn in
+    let a = state g.S.Store c.args.tables.now in
+    let b = state g.S.Store c.order.new.tables in
     let told = c.in_ok-placed.ensures.tells in
     let placed = c.in-Some.placed in
     let no : nat_eq (state_number placed.state) 1 ≡ false = sym c.is_waiting.ensures ∙ c.if-not-is_waiting.true in
-    does_refuse g.P.Places.represents g.P.Places.version _ (command.Cancel c.args.number) a b (Err OrderNotWaiting) told.looks
+    does_refuse g.P.Places.represents g.P.Versioned.version _ (command.Cancel c.args.number) a b (Err OrderNotWaiting) told.looks
     (λ clean s sound so it.
-    let there = was_placed s g.P.Places.version c.args.number placed
-    (subst (λ (found : Option PlacedOrder). IsThere (order_with c.args.number (tables g.P.Places.version s).desk) found) c.in-Some.is (told.answers clean tt (tables g.P.Places.version s).desk it.desk)) in
-    not_waiting g.P.Places.represents g.P.Places.version s c.args.number b.now there.known (waits_or_not g.P.Places.represents g.P.Places.version s c.args.number placed.state there.state ∙ no))
+    let there = was_placed s g.P.Versioned.version c.args.number placed
+    (subst (λ (found : Option PlacedOrder). IsThere (order_with c.args.number (tables g.P.Versioned.version s).desk) found) c.in-Some.is (told.answers clean tt (tables g.P.Versioned.version s).desk it.desk)) in
+    not_waiting g.P.Places.represents g.P.Versioned.version s c.args.number b.now there.known (waits_or_not g.P.Places.represents g.P.Versioned.version s c.args.number placed.state there.state ∙ no))
 
 pub returns : goal.returns
 returns g c =
@@ -47,6 +43,6 @@ returns g c =
     let yes : nat_eq (state_number placed.state) 1 ≡ true = sym c.is_waiting.ensures ∙ c.if-not-is_waiting.false in
     does_then told.looks c.end_waiting.ensures
     (λ clean s sound so it.
-    let there = was_placed s g.P.Places.version c.args.number placed
-    (subst (λ (found : Option PlacedOrder). IsThere (order_with c.args.number (tables g.P.Places.version s).desk) found) c.in-Some.is (told.answers clean tt (tables g.P.Places.version s).desk it.desk)) in
-    waits_or_not g.P.Places.represents g.P.Places.version s c.args.number placed.state there.state ∙ yes)
+    let there = was_placed s g.P.Versioned.version c.args.number placed
+    (subst (λ (found : Option PlacedOrder). IsThere (order_with c.args.number (tables g.P.Versioned.version s).desk) found) c.in-Some.is (told.answers clean tt (tables g.P.Versioned.version s).desk it.desk)) in
+    waits_or_not g.P.Places.represents g.P.Versioned.version s c.args.number placed.state there.state ∙ yes)

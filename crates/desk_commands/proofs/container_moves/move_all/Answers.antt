@@ -8,7 +8,7 @@ use Rattle.desk_store.specs.Representation.{IsLegible, RepresentsDesk, Represent
 use Rattle.office_tables.specs.Schema as tables
 use Rattle.office_tables.specs.declared.fault.StoreFault.TheVariants as fault
 use Rattle.office_tables.proofs.CallEnds.{makes_not}
-use Rattle.office_tables.proofs.Calls.{cut_after, cut_then, early, goes_nowhere, goes_then, still_office}
+use Rattle.office_tables.proofs.Calls.{cut_after, cut_then, early, goes_nowhere, goes_then}
 use Rattle.office_tables.proofs.Causes.{cause_then, still_unlimited}
 use Rattle.office_tables.proofs.Touching.{nothing_touched, touched_again}
 use Rattle.refinement.proofs.Doings.{makes_passed}
@@ -18,31 +18,29 @@ use Rattle.desk_commands.proofs.container_moves.move_all.Goals as goal
 
 pub loop-container-init : goal.loop-container-init
 loop-container-init g c =
-    let a = state g.S.Store c.args.conn.now in
+    let a = state g.S.Store c.args.tables.now in
     record {
-      inside = c.requires.inside;
-      goes = goes_nowhere a c.requires.inside;
+      goes = goes_nowhere a;
       only = λ clean. nothing_touched (tables.holding.tree ∷ []) a.now;
       so_far = λ clean d shown. shown;
     }
 
 pub set_place-requires : goal.set_place-requires
 set_place-requires g c =
-    let a = state g.S.Store c.args.conn.now in
-    let b = state g.S.Store c.loop-container.conn in
-    record { inside = still_office a b c.loop-container.invariant.inside c.loop-container.invariant.goes; number = omega (arith, c.if-container-ge-NO_NUMBER.false); known = c.requires.known }
+    let a = state g.S.Store c.args.tables.now in
+    let b = state g.S.Store c.loop-container.tables in
+    record { number = omega (arith, c.if-container-ge-NO_NUMBER.false); known = c.requires.known }
 
 pub loop-container-preserved : goal.loop-container-preserved
 loop-container-preserved g c =
-    let a = state g.S.Store c.args.conn.now in
-    let b = state g.S.Store c.loop-container.conn in
-    let d = state g.S.Store c.set_place.new.conn in
+    let a = state g.S.Store c.args.tables.now in
+    let b = state g.S.Store c.loop-container.tables in
+    let d = state g.S.Store c.set_place.new.tables in
     let before = c.loop-container.invariant in
     let made = c.in_ok-set_place.ensures.makes in
     let cs = c.args.containers.now in
     let i = c.loop-container.container-index in
     record {
-      inside = before.inside;
       goes = goes_then a b d before.goes made.goes;
       only = λ clean. touched_again (tables.holding.tree ∷ []) a.now b.now d.now (before.only (early b d _ made.goes.on.crash clean)) (made.only clean);
       so_far = λ clean m shown.
@@ -53,10 +51,10 @@ loop-container-preserved g c =
 
 pub returns-then-container-ge-NO_NUMBER : goal.returns-then-container-ge-NO_NUMBER
 returns-then-container-ge-NO_NUMBER g c =
-    let a = state g.S.Store c.args.conn.now in
-    let b = state g.S.Store c.loop-container.conn in
+    let a = state g.S.Store c.args.tables.now in
+    let b = state g.S.Store c.loop-container.tables in
     record {
-      makes = makes_not g.S.Store RepresentsDeskAlone IsLegible (λ _. AllByRecursion IsNumber c.args.containers.now) c.args.conn.now c.loop-container.conn _ (with_all_placed c.args.place c.args.containers.now) (tables.holding.tree ∷ []) fault.Schema refl
+      makes = makes_not g.S.Store RepresentsDeskAlone IsLegible (λ _. AllByRecursion IsNumber c.args.containers.now) c.args.tables.now c.loop-container.tables _ (with_all_placed c.args.place c.args.containers.now) (tables.holding.tree ∷ []) fault.Schema refl
           (cut_after a b c.loop-container.invariant.goes.on)
           (λ s d shown low kept clean free.
           let small : get_or c.args.containers.now c.loop-container.container-index 0 < 2 ^ 63 = each_of IsNumber c.args.containers.now c.loop-container.container-index 0 low c.loop-container-test.true in
@@ -65,9 +63,9 @@ returns-then-container-ge-NO_NUMBER g c =
 
 pub returns-in_err-set_place : goal.returns-in_err-set_place
 returns-in_err-set_place g c =
-    let a = state g.S.Store c.args.conn.now in
-    let b = state g.S.Store c.loop-container.conn in
-    let d = state g.S.Store c.set_place.new.conn in
+    let a = state g.S.Store c.args.tables.now in
+    let b = state g.S.Store c.loop-container.tables in
+    let d = state g.S.Store c.set_place.new.tables in
     let before = c.loop-container.invariant in
     let made = c.in_err-set_place.ensures.makes in
     let cs = c.args.containers.now in
@@ -84,7 +82,7 @@ returns g c =
     record {
       makes = record {
         represents_updated = λ clean s d shown low.
-            subst (λ (l : List ℕ). RepresentsDesk (state g.S.Store c.loop-container.conn).now.trees (with_all_placed c.args.place l d)) (take_all c.loop-container.container-index c.args.containers.now (omega (arith, c.loop-container-test.false)))
+            subst (λ (l : List ℕ). RepresentsDesk (state g.S.Store c.loop-container.tables).now.trees (with_all_placed c.args.place l d)) (take_all c.loop-container.container-index c.args.containers.now (omega (arith, c.loop-container-test.false)))
             (c.loop-container.invariant.so_far clean d shown);
         only = c.loop-container.invariant.only;
         goes = c.loop-container.invariant.goes;

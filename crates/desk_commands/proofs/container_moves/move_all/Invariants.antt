@@ -4,15 +4,14 @@ use Rattle.sqlite.specs.State.{HasCleanDisk}
 use Rattle.desk_core.specs.DeskRows.{Desk}
 use Rattle.desk_store.specs.Representation.{RepresentsDesk}
 use Rattle.office_tables.specs.Schema as tables
-use Rattle.office_tables.specs.Step.{Goes, InOffice, OnlyTouches}
+use Rattle.office_tables.specs.Step.{Goes, OnlyTouches}
 use Rattle.desk_commands.specs.ContainerMoves.{with_all_placed}
 use Rattle.desk_commands.proofs.container_moves.move_all.Given as goal
 
 abbrev pub invariant-loop-container : goal.invariant-loop-container
 invariant-loop-container g l = record {
-  inside : InOffice (state g.S.Store l.initial.conn);
-  goes : Goes (state g.S.Store l.initial.conn) (state g.S.Store l.conn);
-  only : HasCleanDisk (state g.S.Store l.conn) → OnlyTouches (tables.holding.tree ∷ []) (state g.S.Store l.initial.conn).now (state g.S.Store l.conn).now;
-  so_far : HasCleanDisk (state g.S.Store l.conn) → (d : Desk) → RepresentsDesk (state g.S.Store l.initial.conn).now.trees d
-      → RepresentsDesk (state g.S.Store l.conn).now.trees (with_all_placed l.place (take l.container-index l.containers) d);
+  goes : Goes (state g.S.Store l.initial.tables) (state g.S.Store l.tables);
+  only : HasCleanDisk (state g.S.Store l.tables) → OnlyTouches (tables.holding.tree ∷ []) (state g.S.Store l.initial.tables).now (state g.S.Store l.tables).now;
+  so_far : HasCleanDisk (state g.S.Store l.tables) → (d : Desk) → RepresentsDesk (state g.S.Store l.initial.tables).now.trees d
+      → RepresentsDesk (state g.S.Store l.tables).now.trees (with_all_placed l.place (take l.container-index l.containers) d);
 }

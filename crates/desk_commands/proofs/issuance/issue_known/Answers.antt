@@ -4,21 +4,12 @@ use Rattle.sqlite.specs.Effect.{Database}
 use Rattle.sqlite.specs.Held.{state}
 use Rattle.desk_store.specs.declared.orders.WaitingOrder.{WaitingOrder}
 use Rattle.state_encoding.specs.OfficeRows.{tables}
-use Rattle.office_tables.proofs.Calls.{early, looks_then, office_of, still}
+use Rattle.office_tables.proofs.Calls.{early, looks_then}
 use Rattle.refinement.specs.Representation.{RepresentsState}
 use Rattle.refinement.proofs.Doings.{after_look, desk_passed, does_then, is_refused, office_passed}
 use Rattle.refinement.proofs.Judged.{judged_now}
 use Rattle.desk_commands.proofs.Issued.{decided_as, first_order}
 use Rattle.desk_commands.proofs.issuance.issue_known.Goals as goal
-
-pub ticket_holder-requires : goal.ticket_holder-requires
-ticket_holder-requires g c = record { inside = office_of g.P.Places.version (state g.S.Store c.args.conn.now) c.requires.inside }
-
-pub is_open_to-requires : goal.is_open_to-requires
-is_open_to-requires g c =
-    let a = state g.S.Store c.args.conn.now in
-    let b = state g.S.Store c.ticket_holder.new.conn in
-    record { inside = still g.P.Places.version a b c.requires.inside c.in_ok-who.ensures.tells.looks.goes }
 
 pub returns-in_err-who : goal.returns-in_err-who
 returns-in_err-who g c = let told = c.in_err-who.ensures.tells in desk_passed _ c.from_residual.ensures told.cut told.faults
@@ -30,10 +21,10 @@ returns-in_err-is_open g c =
 
 pub returns-in-Err : goal.returns-in-Err
 returns-in-Err g c =
-    let v = g.P.Places.version in
-    let a = state g.S.Store c.args.conn.now in
-    let b = state g.S.Store c.ticket_holder.new.conn in
-    let d = state g.S.Store c.is_open_to.new.conn in
+    let v = g.P.Versioned.version in
+    let a = state g.S.Store c.args.tables.now in
+    let b = state g.S.Store c.ticket_holder.new.tables in
+    let d = state g.S.Store c.is_open_to.new.tables in
     let head = c.args.head in
     let told = c.in_ok-who.ensures.tells in
     let opened = c.in_ok-is_open.ensures.tells in
@@ -47,10 +38,10 @@ returns-in-Err g c =
 
 pub returns-in-Ok : goal.returns-in-Ok
 returns-in-Ok g c =
-    let v = g.P.Places.version in
-    let a = state g.S.Store c.args.conn.now in
-    let b = state g.S.Store c.ticket_holder.new.conn in
-    let d = state g.S.Store c.is_open_to.new.conn in
+    let v = g.P.Versioned.version in
+    let a = state g.S.Store c.args.tables.now in
+    let b = state g.S.Store c.ticket_holder.new.tables in
+    let d = state g.S.Store c.is_open_to.new.tables in
     let head = c.args.head in
     let told = c.in_ok-who.ensures.tells in
     let opened = c.in_ok-is_open.ensures.tells in

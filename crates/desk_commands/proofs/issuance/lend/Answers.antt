@@ -3,14 +3,13 @@ use Rattle.sqlite.specs.Held.{state}
 use Rattle.office_core.specs.declared.command.Command.TheVariants as command
 use Rattle.state_encoding.specs.OfficeRows.{tables}
 use Rattle.office_tables.specs.declared.fault.StoreFault.TheVariants as fault
-use Rattle.office_tables.proofs.Calls.{cut_after, looks_nowhere, office_of}
+use Rattle.office_tables.proofs.Calls.{cut_after, looks_nowhere}
 use Rattle.refinement.proofs.Doings.{desk_passed, does_not}
 use Rattle.desk_commands.proofs.Issued.{issues, small_head}
 use Rattle.desk_commands.proofs.issuance.lend.Goals as goal
 
 pub hand_over-requires : goal.hand_over-requires
 hand_over-requires g c = record {
-  inside = office_of g.P.Places.version (state g.S.Store c.args.conn.now) c.requires.inside;
   number = c.requires.number;
   known = omega (arith, c.if-order-ge-NO_NUMBER.false);
   small = omega (arith, c.if-order-ge-NO_NUMBER.false);
@@ -18,9 +17,9 @@ hand_over-requires g c = record {
 
 pub returns-then-order-ge-NO_NUMBER : goal.returns-then-order-ge-NO_NUMBER
 returns-then-order-ge-NO_NUMBER g c =
-    let a = state g.S.Store c.args.conn.now in
-    does_not g.P.Places.represents g.P.Places.version _ (command.Issue c.args.container c.args.ticket) a a _ fault.Schema refl
-    (cut_after a a (looks_nowhere a (office_of g.P.Places.version a c.requires.inside)).goes.on)
+    let a = state g.S.Store c.args.tables.now in
+    does_not g.P.Places.represents g.P.Versioned.version _ (command.Issue c.args.container c.args.ticket) a a _ fault.Schema refl
+    (cut_after a a (looks_nowhere a).goes.on)
     (λ s sound so it clean free. let small = small_head s sound c.args.container c.args.order so.1 in absurd (omega (arith, small, c.if-order-ge-NO_NUMBER.true)))
 
 pub returns-in_err-hand_over : goal.returns-in_err-hand_over
@@ -28,12 +27,12 @@ returns-in_err-hand_over g c = let made = c.in_err-hand_over.ensures.makes in de
 
 pub returns : goal.returns
 returns g c =
-    let a = state g.S.Store c.args.conn.now in
-    let b = state g.S.Store c.hand_over.new.conn in
+    let a = state g.S.Store c.args.tables.now in
+    let b = state g.S.Store c.hand_over.new.tables in
     let made = c.in_ok-hand_over.ensures.makes in
     record {
-      steps = λ clean s sound so it. issues g.P.Places.represents g.P.Places.version s c.args.container c.args.ticket sound g.met.P.Places.shows_same a.now b.now c.args.order so.0 so.1 it (made.goes.schema clean) (made.only clean)
-          (made.represents_updated clean tt (tables g.P.Places.version s).desk it.desk tt);
+      steps = λ clean s sound so it. issues g.P.Places.represents g.P.Versioned.version s c.args.container c.args.ticket sound g.met.P.Places.shows_same a.now b.now c.args.order so.0 so.1 it (made.goes.schema clean) (made.only clean)
+          (made.represents_updated clean tt (tables g.P.Versioned.version s).desk it.desk tt);
       goes = made.goes;
       cut = tt;
       faults = λ s sound so it clean free. tt;

@@ -1,28 +1,24 @@
 use Rattle.sqlite.specs.Held.{state}
 use Rattle.state_encoding.proofs.LegibleRows.{desk_legible}
-use Rattle.office_tables.proofs.Calls.{office_of}
 use Rattle.desk_commands.proofs.DayOpened.{house_of, opens_day, shows_house}
 use Rattle.refinement.proofs.Doings.{does_pass}
 use Rattle.desk_commands.proofs.new_day.begin_day.Goals as goal
 
-pub open_day-requires : goal.open_day-requires
-open_day-requires g c = record { inside = office_of g.P.Places.version (state g.S.Store c.args.conn.now) c.requires.inside }
-
 pub returns-in_err-open_day : goal.returns-in_err-open_day
 returns-in_err-open_day g c =
-    let a = state g.S.Store c.args.conn.now in
+    let a = state g.S.Store c.args.tables.now in
     let made = c.in_err-open_day.ensures.makes in
     does_pass _ c.from_residual.ensures made.cut
-    (λ s sound so it. made.faults tt (house_of g.P.Places.version s) (shows_house g.P.Places.represents g.P.Places.version a.now s it) tt (desk_legible g.P.Places.version s sound))
+    (λ s sound so it. made.faults tt (house_of g.P.Versioned.version s) (shows_house g.P.Places.represents g.P.Versioned.version a.now s it) tt (desk_legible g.P.Versioned.version s sound))
 
 pub returns : goal.returns
 returns g c =
-    let a = state g.S.Store c.args.conn.now in
-    let b = state g.S.Store c.open_day.new.conn in
+    let a = state g.S.Store c.args.tables.now in
+    let b = state g.S.Store c.open_day.new.tables in
     let made = c.in_ok-open_day.ensures.makes in
     record {
-      steps = λ clean s sound so it. opens_day g.P.Places.version s c.args.day so.0 g.P.Places.represents g.met.P.Places.shows_same a.now b.now so.1 it (made.goes.schema clean) (made.only clean)
-          (made.represents_updated clean tt (house_of g.P.Places.version s) (shows_house g.P.Places.represents g.P.Places.version a.now s it) tt);
+      steps = λ clean s sound so it. opens_day g.P.Versioned.version s c.args.day so.0 g.P.Places.represents g.met.P.Places.shows_same a.now b.now so.1 it (made.goes.schema clean) (made.only clean)
+          (made.represents_updated clean tt (house_of g.P.Versioned.version s) (shows_house g.P.Places.represents g.P.Versioned.version a.now s it) tt);
       goes = made.goes;
       cut = tt;
       faults = λ s sound so it clean free. tt;

@@ -6,7 +6,6 @@ use Rattle.office_core.specs.Words.{is_empty}
 use Rattle.office_core.specs.declared.command.Command.TheVariants as command
 use Rattle.desk_core.specs.declared.refusal.Refusal.TheVariants.{StillIssued}
 use Rattle.state_encoding.specs.OfficeRows.{tables}
-use Rattle.office_tables.proofs.Calls.{office_of}
 use Rattle.desk_commands.proofs.DayOpened.{refuses_day}
 use Rattle.refinement.proofs.Doings.{desk_passed, does_refuse, does_then}
 use Rattle.desk_commands.proofs.StillOut.{out_or_none}
@@ -20,23 +19,20 @@ not_true : (b : Bool) → not b ≡ true → b ≡ false
 not_true true e = absurd (cc)
 not_true false e = refl
 
-pub issued-requires : goal.issued-requires
-issued-requires g c = record { inside = office_of g.P.Places.version (state g.S.Store c.args.conn.now) c.requires.inside }
-
 pub returns-in_err-loans : goal.returns-in_err-loans
 returns-in_err-loans g c = let told = c.in_err-loans.ensures.tells in desk_passed _ c.from_residual.ensures told.cut told.faults
 
 pub returns-then-not-are_none : goal.returns-then-not-are_none
 returns-then-not-are_none g c =
-    let a = state g.S.Store c.args.conn.now in
-    let b = state g.S.Store c.issued.new.conn in
+    let a = state g.S.Store c.args.tables.now in
+    let b = state g.S.Store c.issued.new.tables in
     let told = c.in_ok-loans.ensures.tells in
     let some = c.if-not-are_none.true in
     let empty = c.are_none.ensures in
-    does_refuse g.P.Places.represents g.P.Places.version _ (command.OpenDay c.args.day) a b (Err StillIssued) told.looks
-    (λ clean s sound so it. refuses_day g.P.Places.version s c.args.day so g.P.Places.represents b.now
+    does_refuse g.P.Places.represents g.P.Versioned.version _ (command.OpenDay c.args.day) a b (Err StillIssued) told.looks
+    (λ clean s sound so it. refuses_day g.P.Versioned.version s c.args.day so g.P.Places.represents b.now
     (let e : not (list_any (is_out s) (containers s)) ≡ false =
-    sym (out_or_none s sound g.P.Places.version) ∙ ap is_empty (sym (told.answers clean tt (tables g.P.Places.version s).desk it.desk)) ∙ ap is_empty (sym c.deref.ensures.value) ∙ sym empty ∙ some in not_false _ e))
+    sym (out_or_none s sound g.P.Versioned.version) ∙ ap is_empty (sym (told.answers clean tt (tables g.P.Versioned.version s).desk it.desk)) ∙ ap is_empty (sym c.deref.ensures.value) ∙ sym empty ∙ some in not_false _ e))
 
 pub returns : goal.returns
 returns g c =
@@ -47,5 +43,5 @@ returns g c =
     (λ clean s sound so it. (
       so,
       let e : not (list_any (is_out s) (containers s)) ≡ true =
-          sym (out_or_none s sound g.P.Places.version) ∙ ap is_empty (sym (told.answers clean tt (tables g.P.Places.version s).desk it.desk)) ∙ ap is_empty (sym c.deref.ensures.value) ∙ sym empty ∙ none in not_true _ e,
+          sym (out_or_none s sound g.P.Versioned.version) ∙ ap is_empty (sym (told.answers clean tt (tables g.P.Versioned.version s).desk it.desk)) ∙ ap is_empty (sym c.deref.ensures.value) ∙ sym empty ∙ none in not_true _ e,
     ))

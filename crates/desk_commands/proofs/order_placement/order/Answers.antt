@@ -1,16 +1,11 @@
 use Rattle.std.proofs.Common.{sym, ap, ◌∙◌}
 use Rattle.std.specs.Prelude.{is_some}
 use Rattle.desk_store.specs.Readers.{card_of}
-use Rattle.sqlite.specs.Held.{state}
 use Rattle.state_encoding.specs.OfficeRows.{tables}
-use Rattle.office_tables.proofs.Calls.{office_of}
 use Rattle.refinement.proofs.Doings.{desk_passed, does_then, is_refused}
 use Rattle.refinement.proofs.CardsShown.{has_card}
 use Rattle.desk_commands.proofs.Ordered.{not_known}
 use Rattle.desk_commands.proofs.order_placement.order.Goals as goal
-
-pub reader-requires : goal.reader-requires
-reader-requires g c = record { inside = office_of g.P.Places.version (state g.S.Store c.args.conn.now) c.requires.inside }
 
 pub returns-in_err-card : goal.returns-in_err-card
 returns-in_err-card g c = let told = c.in_err-card.ensures.tells in desk_passed _ c.from_residual.ensures told.cut told.faults
@@ -19,7 +14,7 @@ pub returns-in_default : goal.returns-in_default
 returns-in_default g c =
     let told = c.in_ok-card.ensures.tells in
     is_refused told.looks (λ clean s sound so it. not_known s c.args.ticket c.args.container
-    (sym (has_card g.P.Places.version s sound c.args.ticket c.args.today) ∙ ap is_some (sym (told.answers clean tt (tables g.P.Places.version s).desk it.desk)) ∙ ap is_some c.in_default.is))
+    (sym (has_card g.P.Versioned.version s sound c.args.ticket c.args.today) ∙ ap is_some (sym (told.answers clean tt (tables g.P.Versioned.version s).desk it.desk)) ∙ ap is_some c.in_default.is))
 
 pub returns : goal.returns
 returns g c =
@@ -28,5 +23,5 @@ returns g c =
     (λ clean s sound so it. (
       so.0,
       so.1,
-      ap (λ day. card_of c.args.ticket day (tables g.P.Places.version s).desk) (sym so.0) ∙ sym (told.answers clean tt (tables g.P.Places.version s).desk it.desk) ∙ c.in-Some.is,
+      ap (λ day. card_of c.args.ticket day (tables g.P.Versioned.version s).desk) (sym so.0) ∙ sym (told.answers clean tt (tables g.P.Versioned.version s).desk it.desk) ∙ c.in-Some.is,
     ))

@@ -1,6 +1,5 @@
 use Rattle.std.proofs.Common.{sym, ◌∙◌}
 use Rattle.sqlite.specs.Held.{state}
-use Rattle.office_tables.proofs.Calls.{still}
 use Rattle.refinement.proofs.Doings.{does_then, office_passed}
 use Rattle.refinement.proofs.Judged.{judged_now}
 use Rattle.desk_commands.proofs.Ordered.{number_of_open, open_with_number}
@@ -11,10 +10,9 @@ returns-in_err-is_open g c = let told = c.in_err-is_open.ensures.tells in office
 
 pub decide-requires : goal.decide-requires
 decide-requires g c =
-    let a = state g.S.Store c.args.conn.now in
-    let b = state g.S.Store c.is_open_to.new.conn in
+    let a = state g.S.Store c.args.tables.now in
+    let b = state g.S.Store c.is_open_to.new.tables in
     record {
-      inside = still g.P.Places.version a b c.requires.inside c.in_ok-is_open.ensures.tells.looks.goes;
       small = c.requires.small;
       known = λ yes. number_of_open c.in_ok-is_open.is_open c.args.container (sym c.is_open_with_number.ensures ∙ yes);
     }

@@ -1,16 +1,11 @@
 use Rattle.std.proofs.Common.{true, false, sym, ap, subst, ◌∙◌}
 use Rattle.desk_store.specs.Permits.{by_unit, permits_of}
-use Rattle.sqlite.specs.Held.{state}
 use Rattle.state_encoding.specs.OfficeRows.{tables}
-use Rattle.office_tables.proofs.Calls.{office_of}
 use Rattle.office_tables.specs.Order.{IsOrdered}
 use Rattle.refinement.proofs.Doings.{desk_passed, does_then, is_refused}
 use Rattle.desk_commands.specs.Permits.{later_of}
 use Rattle.desk_commands.proofs.Permitted.{full_is, last_check, later_read}
 use Rattle.desk_commands.proofs.permits.give_within.Goals as goal
-
-pub permits-requires : goal.permits-requires
-permits-requires g c = record { inside = office_of g.P.Places.version (state g.S.Store c.args.conn.now) c.requires.inside }
 
 pub returns-in_err-held : goal.returns-in_err-held
 returns-in_err-held g c = let told = c.in_err-held.ensures.tells in desk_passed _ c.from_residual.ensures told.cut told.faults
@@ -19,7 +14,7 @@ pub returns-then-is_full : goal.returns-then-is_full
 returns-then-is_full g c =
     let told = c.in_ok-held.ensures.tells in
     is_refused told.looks (λ clean s sound so it. last_check s c.args.ticket c.args.unit c.args.asked true so.0 so.1
-    (sym (full_is g.P.Places.version s sound c.args.ticket c.args.unit c.deref.result.now (subst (IsOrdered by_unit (permits_of c.args.ticket (tables g.P.Places.version s).desk)) (sym c.deref.ensures.value) (told.answers clean tt (tables g.P.Places.version s).desk it.desk))) ∙ sym c.is_full.ensures ∙ c.if-is_full.true))
+    (sym (full_is g.P.Versioned.version s sound c.args.ticket c.args.unit c.deref.result.now (subst (IsOrdered by_unit (permits_of c.args.ticket (tables g.P.Versioned.version s).desk)) (sym c.deref.ensures.value) (told.answers clean tt (tables g.P.Versioned.version s).desk it.desk))) ∙ sym c.is_full.ensures ∙ c.if-is_full.true))
 
 pub returns : goal.returns
 returns g c =
@@ -27,7 +22,7 @@ returns g c =
     does_then told.looks c.give.ensures
     (λ clean s sound so it. record {
       allowed = last_check s c.args.ticket c.args.unit c.args.asked false so.0 so.1
-          (sym (full_is g.P.Places.version s sound c.args.ticket c.args.unit c.deref.result.now (subst (IsOrdered by_unit (permits_of c.args.ticket (tables g.P.Places.version s).desk)) (sym c.deref.ensures.value) (told.answers clean tt (tables g.P.Places.version s).desk it.desk))) ∙ sym c.is_full.ensures ∙ c.if-is_full.false);
+          (sym (full_is g.P.Versioned.version s sound c.args.ticket c.args.unit c.deref.result.now (subst (IsOrdered by_unit (permits_of c.args.ticket (tables g.P.Versioned.version s).desk)) (sym c.deref.ensures.value) (told.answers clean tt (tables g.P.Versioned.version s).desk it.desk))) ∙ sym c.is_full.ensures ∙ c.if-is_full.false);
       stands = c.later-until.ensures ∙ ap (λ day. later_of day c.args.asked) c.last_day.ensures
-          ∙ later_read g.P.Places.version s sound c.args.ticket c.args.unit c.deref-2.result.now (subst (IsOrdered by_unit (permits_of c.args.ticket (tables g.P.Places.version s).desk)) (sym c.deref-2.ensures.value) (told.answers clean tt (tables g.P.Places.version s).desk it.desk)) c.args.asked;
+          ∙ later_read g.P.Versioned.version s sound c.args.ticket c.args.unit c.deref-2.result.now (subst (IsOrdered by_unit (permits_of c.args.ticket (tables g.P.Versioned.version s).desk)) (sym c.deref-2.ensures.value) (told.answers clean tt (tables g.P.Versioned.version s).desk it.desk)) c.args.asked;
     })

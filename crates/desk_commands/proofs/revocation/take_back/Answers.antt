@@ -1,7 +1,6 @@
 use Rattle.sqlite.specs.Held.{state}
 use Rattle.office_core.specs.declared.command.Command.TheVariants as command
 use Rattle.state_encoding.specs.OfficeRows.{tables}
-use Rattle.office_tables.proofs.Calls.{office_of}
 use Rattle.refinement.specs.Gate.{OthersAreOpen}
 use Rattle.refinement.proofs.Doings.{desk_passed}
 use Rattle.refinement.proofs.Passing.{passed_where}
@@ -12,7 +11,6 @@ use Rattle.office_core.specs.declared.done.Done.TheVariants as done
 
 pub revoke-requires : goal.revoke-requires
 revoke-requires g c = record {
-  inside = office_of g.P.Places.version (state g.S.Store c.args.conn.now) c.requires.inside;
   small = c.requires.small;
   known = c.requires.known;
 }
@@ -22,13 +20,13 @@ returns-in_err-revoke g c = let made = c.in_err-revoke.ensures.makes in desk_pas
 
 pub returns : goal.returns
 returns g c =
-    let a = state g.S.Store c.args.conn.now in
-    let b = state g.S.Store c.revoke.new.conn in
+    let a = state g.S.Store c.args.tables.now in
+    let b = state g.S.Store c.revoke.new.tables in
     let made = c.in_ok-revoke.ensures.makes in
-    passed_where g.S.Store g.P.Places.represents g.P.Places.version _ (command.Revoke c.args.ticket c.args.unit) c.args.today (done.Revoke c.args.unit) a c.revoke.new.conn c.pass_near.new.conn c.pass_near.result (OthersAreOpen c.args.unit)
+    passed_where g.S.Store g.P.Places.represents g.P.Versioned.version _ (command.Revoke c.args.ticket c.args.unit) c.args.today (done.Revoke c.args.unit) a c.revoke.new.tables c.pass_near.new.tables c.pass_near.result (OthersAreOpen c.args.unit)
     (record {
-      represents = λ clean s sound so it. represents s sound c.args.ticket c.args.unit g.P.Places.represents g.met.P.Places.shows_same g.P.Places.version a.now b.now it (made.goes.schema clean) (made.only clean)
-          (made.represents_updated clean tt (tables g.P.Places.version s).desk it.desk tt);
+      represents = λ clean s sound so it. represents s sound c.args.ticket c.args.unit g.P.Places.represents g.met.P.Places.shows_same g.P.Versioned.version a.now b.now it (made.goes.schema clean) (made.only clean)
+          (made.represents_updated clean tt (tables g.P.Versioned.version s).desk it.desk tt);
       judged = λ s sound so. judged s sound c.args.ticket c.args.unit;
       day = λ s so. so.0;
       last = λ s so. gate_is_left s c.args.ticket c.args.unit so.1;

@@ -1,17 +1,12 @@
 use Rattle.std.proofs.Common.{◌≡◌, true, false, not, sym, ap, subst, ◌∙◌}
 use Rattle.std.specs.Prelude.{is_some}
 use Rattle.desk_store.specs.Permits.{by_unit, permits_of}
-use Rattle.sqlite.specs.Held.{state}
 use Rattle.state_encoding.specs.OfficeRows.{tables}
-use Rattle.office_tables.proofs.Calls.{office_of}
 use Rattle.office_tables.specs.Order.{IsOrdered}
 use Rattle.refinement.proofs.Doings.{desk_passed, does_then, is_refused}
 use Rattle.desk_commands.proofs.Permitted.{has_read}
 use Rattle.desk_commands.proofs.Revoked.{no_permit}
 use Rattle.desk_commands.proofs.revocation.take_back_held.Goals as goal
-
-pub permits-requires : goal.permits-requires
-permits-requires g c = record { inside = office_of g.P.Places.version (state g.S.Store c.args.conn.now) c.requires.inside }
 
 pub returns-in_err-held : goal.returns-in_err-held
 returns-in_err-held g c = let told = c.in_err-held.ensures.tells in desk_passed _ c.from_residual.ensures told.cut told.faults
@@ -21,7 +16,7 @@ returns-then-is_none g c =
     let told = c.in_ok-held.ensures.tells in
     let none : is_some c.last_day-until.result ≡ false = c.is_none.ensures ∙ ap not c.if-is_none.true in
     is_refused told.looks (λ clean s sound so it. no_permit s c.args.ticket c.args.unit so.1 so.2
-    (sym (has_read g.P.Places.version s sound c.args.ticket c.args.unit c.deref.result.now (subst (IsOrdered by_unit (permits_of c.args.ticket (tables g.P.Places.version s).desk)) (sym c.deref.ensures.value) (told.answers clean tt (tables g.P.Places.version s).desk it.desk))) ∙ ap is_some (sym c.last_day-until.ensures) ∙ none))
+    (sym (has_read g.P.Versioned.version s sound c.args.ticket c.args.unit c.deref.result.now (subst (IsOrdered by_unit (permits_of c.args.ticket (tables g.P.Versioned.version s).desk)) (sym c.deref.ensures.value) (told.answers clean tt (tables g.P.Versioned.version s).desk it.desk))) ∙ ap is_some (sym c.last_day-until.ensures) ∙ none))
 
 pub returns : goal.returns
 returns g c =
@@ -33,6 +28,6 @@ returns g c =
       record {
         ticket_there = so.1;
         unit_there = so.2;
-        held = sym (has_read g.P.Places.version s sound c.args.ticket c.args.unit c.deref.result.now (subst (IsOrdered by_unit (permits_of c.args.ticket (tables g.P.Places.version s).desk)) (sym c.deref.ensures.value) (told.answers clean tt (tables g.P.Places.version s).desk it.desk))) ∙ ap is_some (sym c.last_day-until.ensures) ∙ some;
+        held = sym (has_read g.P.Versioned.version s sound c.args.ticket c.args.unit c.deref.result.now (subst (IsOrdered by_unit (permits_of c.args.ticket (tables g.P.Versioned.version s).desk)) (sym c.deref.ensures.value) (told.answers clean tt (tables g.P.Versioned.version s).desk it.desk))) ∙ ap is_some (sym c.last_day-until.ensures) ∙ some;
       },
     ))

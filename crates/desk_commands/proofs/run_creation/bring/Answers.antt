@@ -8,7 +8,7 @@ use Rattle.desk_store.specs.Representation.{RepresentsDesk}
 use Rattle.state_encoding.specs.OfficeRows.{tables}
 use Rattle.state_encoding.proofs.LegibleRows.{desk_legible}
 use Rattle.office_tables.specs.Schema as schema
-use Rattle.office_tables.proofs.Calls.{cut_then, early, goes_then, office_of, still_office}
+use Rattle.office_tables.proofs.Calls.{cut_then, early, goes_then}
 use Rattle.office_tables.proofs.Causes.{cause_then, still_unlimited}
 use Rattle.office_tables.proofs.Touching.{touched_again, touched_wider}
 use Rattle.refinement.proofs.Doings.{does_pass}
@@ -18,27 +18,27 @@ use Rattle.desk_commands.proofs.RunMade.{legible_run, runs_out, runs_with, small
 use Rattle.desk_commands.proofs.run_creation.bring.Goals as goal
 
 pub record_run-requires : goal.record_run-requires
-record_run-requires g c = record { inside = office_of g.P.Places.version (state g.S.Store c.args.conn.now) c.requires.inside; lines = c.requires.numbers }
+record_run-requires g c = record { lines = c.requires.numbers }
 
 pub move_all-requires : goal.move_all-requires
 move_all-requires g c =
-    let a = state g.S.Store c.args.conn.now in
-    let b = state g.S.Store c.record_run.new.conn in
-    record { inside = still_office a b (office_of g.P.Places.version a c.requires.inside) c.in_ok-run.ensures.makes.goes; known = tt }
+    let a = state g.S.Store c.args.tables.now in
+    let b = state g.S.Store c.record_run.new.tables in
+    record { known = tt }
 
 pub returns-in_err-run : goal.returns-in_err-run
 returns-in_err-run g c =
     let made = c.in_err-run.ensures.makes in
     does_pass _ c.from_residual.ensures made.cut
-    (λ s sound so it. made.faults tt (tables g.P.Places.version s).desk it.desk tt (desk_legible g.P.Places.version s sound, subst TakesEachOnce (sym so.1) (taken_once g.P.Places.version s sound)))
+    (λ s sound so it. made.faults tt (tables g.P.Versioned.version s).desk it.desk tt (desk_legible g.P.Versioned.version s sound, subst TakesEachOnce (sym so.1) (taken_once g.P.Versioned.version s sound)))
 
 pub returns-in_default : goal.returns-in_default
 returns-in_default g c =
-    let b = state g.S.Store c.record_run.new.conn in
+    let b = state g.S.Store c.record_run.new.tables in
     let made = c.in_ok-run.ensures in
     record {
-      steps = λ clean s sound so it. runs_out g.P.Places.version s sound g.P.Places.represents b.now c.args.due.now so.1 so.2
-          (sym c.in_default.is ∙ made.number clean (tables g.P.Places.version s).desk it.desk);
+      steps = λ clean s sound so it. runs_out g.P.Versioned.version s sound g.P.Places.represents b.now c.args.due.now so.1 so.2
+          (sym c.in_default.is ∙ made.number clean (tables g.P.Versioned.version s).desk it.desk);
       goes = made.makes.goes;
       cut = tt;
       faults = λ s sound so it clean free. tt;
@@ -46,10 +46,10 @@ returns-in_default g c =
 
 pub returns-in_err-move_all : goal.returns-in_err-move_all
 returns-in_err-move_all g c =
-    let v = g.P.Places.version in
-    let a = state g.S.Store c.args.conn.now in
-    let b = state g.S.Store c.record_run.new.conn in
-    let d = state g.S.Store c.move_all.new.conn in
+    let v = g.P.Versioned.version in
+    let a = state g.S.Store c.args.tables.now in
+    let b = state g.S.Store c.record_run.new.tables in
+    let d = state g.S.Store c.move_all.new.tables in
     let made = c.in_ok-run.ensures.makes in
     let moved = c.in_err-move_all.ensures.makes in
     does_pass _ c.from_residual-in_err-move_all.ensures (cut_then a b d made.goes.on moved.cut) (λ s sound so it clean free.
@@ -64,10 +64,10 @@ returns-in_err-move_all g c =
 
 pub returns : goal.returns
 returns g c =
-    let v = g.P.Places.version in
-    let a = state g.S.Store c.args.conn.now in
-    let b = state g.S.Store c.record_run.new.conn in
-    let d = state g.S.Store c.move_all.new.conn in
+    let v = g.P.Versioned.version in
+    let a = state g.S.Store c.args.tables.now in
+    let b = state g.S.Store c.record_run.new.tables in
+    let d = state g.S.Store c.move_all.new.tables in
     let made = c.in_ok-run.ensures.makes in
     let moved = c.in_ok-move_all.ensures.makes in
     let touched = schema.run.tree ∷ schema.run_line.tree ∷ schema.holding.tree ∷ [] in

@@ -6,7 +6,7 @@ use Rattle.sqlite.specs.Held.{state}
 use Rattle.desk_store.proofs.ToldCalls.{ends_well, shown_on}
 use Rattle.desk_store.specs.declared.holdings.FirstOrder.{FirstOrder}
 use Rattle.office_core.specs.State.{opens}
-use Rattle.office_tables.proofs.Calls.{early, looks_then, still}
+use Rattle.office_tables.proofs.Calls.{early, looks_then}
 use Rattle.refinement.specs.AccessConditions.{CanBeJudged, RepresentsWhole}
 use Rattle.refinement.proofs.Doings.{tells_full, tells_passed_later}
 use Rattle.desk_commands.proofs.Fetched.{enough, one_more_fits}
@@ -23,10 +23,10 @@ returns-in_err-push g c = record { tells = tells_full c.from_residual-in_err-pus
 
 pub loop-order-preserved : goal.loop-order-preserved
 loop-order-preserved g c =
-    let v = g.P.Places.version in
-    let a = state g.S.Store c.args.conn.now in
-    let b = state g.S.Store c.loop-order.conn in
-    let d = state g.S.Store c.is_open_to.new.conn in
+    let v = g.P.Versioned.version in
+    let a = state g.S.Store c.args.tables.now in
+    let b = state g.S.Store c.loop-order.tables in
+    let d = state g.S.Store c.is_open_to.new.tables in
     let looks = c.loop-order.invariant.looks in
     let told = c.in_ok-is_open_to.ensures.tells in
     let none : FirstOrder = record { container = 0; order = 0; ticket = 0 } in
@@ -36,7 +36,6 @@ loop-order-preserved g c =
     let so_far = c.loop-order.due.items in
     let few = c.loop-order.invariant.few in
     record {
-      inside = still v b d c.loop-order.invariant.inside told.looks.goes;
       looks = looks_then a b d looks told.looks;
       few = elim c.if-branch.branch [
         | then-branch+in_ok-push w ↦
@@ -62,7 +61,7 @@ returns-then-len-most g c =
     let few = c.loop-order.invariant.few in
     let many = c.if-len-most.true in
     record {
-      tells = ends_well (RepresentsWhole g.P.Places.represents g.P.Places.version) CanBeJudged (λ _. ⊤) g.S.Store c.args.conn.now c.args.conn.now c.loop-order.conn _ c.loop-order.invariant.looks _
+      tells = ends_well (RepresentsWhole g.P.Places.represents g.P.Versioned.version) CanBeJudged (λ _. ⊤) g.S.Store c.args.tables.now c.args.tables.now c.loop-order.tables _ c.loop-order.invariant.looks _
           (λ clean s it judged day.
           let so = c.loop-order.invariant.so_far clean s judged it day in
           let test = λ (o : FirstOrder). opens s o.ticket o.container in
@@ -75,7 +74,7 @@ returns g c =
     let few = c.loop-order.invariant.few in
     let past = c.loop-order-test.false in
     record {
-      tells = ends_well (RepresentsWhole g.P.Places.represents g.P.Places.version) CanBeJudged (λ _. ⊤) g.S.Store c.args.conn.now c.args.conn.now c.loop-order.conn _ c.loop-order.invariant.looks _
+      tells = ends_well (RepresentsWhole g.P.Places.represents g.P.Versioned.version) CanBeJudged (λ _. ⊤) g.S.Store c.args.tables.now c.args.tables.now c.loop-order.tables _ c.loop-order.invariant.looks _
           (λ clean s it judged day.
           let test = λ (o : FirstOrder). opens s o.ticket o.container in
           let so = c.loop-order.invariant.so_far clean s judged it day

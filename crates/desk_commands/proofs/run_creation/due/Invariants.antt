@@ -3,16 +3,15 @@ use Rattle.sqlite.specs.Held.{state}
 use Rattle.sqlite.specs.State.{HasCleanDisk}
 use Rattle.desk_store.specs.declared.holdings.FirstOrder.{FirstOrder}
 use Rattle.office_core.specs.State.{State, opens}
-use Rattle.office_tables.specs.Step.{InTransaction, LeavesUnchanged}
+use Rattle.office_tables.specs.Step.{LeavesUnchanged}
 use Rattle.refinement.specs.AccessConditions.{CanBeJudged}
 use Rattle.refinement.specs.Representation.{RepresentsState}
 use Rattle.desk_commands.proofs.run_creation.due.Given as goal
 
 abbrev pub invariant-loop-order : goal.invariant-loop-order
 invariant-loop-order g l = record {
-  inside : InTransaction g.P.Places.version (state g.S.Store l.conn);
-  looks : LeavesUnchanged (state g.S.Store l.fn.conn) (state g.S.Store l.conn);
+  looks : LeavesUnchanged (state g.S.Store l.fn.tables) (state g.S.Store l.tables);
   few : length l.due.items ≤ l.most;
-  so_far : HasCleanDisk (state g.S.Store l.conn) → (s : State) → CanBeJudged s → RepresentsState g.P.Places.represents g.P.Places.version (state g.S.Store l.fn.conn).now s → l.today ≡ s.day
+  so_far : HasCleanDisk (state g.S.Store l.tables) → (s : State) → CanBeJudged s → RepresentsState g.P.Places.represents g.P.Versioned.version (state g.S.Store l.fn.tables).now s → l.today ≡ s.day
       → l.due.items ≡ filter (λ (o : FirstOrder). opens s o.ticket o.container) (take l.order-index l.waiting);
 }

@@ -6,30 +6,13 @@ use Rattle.desk_core.specs.declared.refusal.Refusal.TheVariants.{NothingToMove}
 use Rattle.office_core.specs.Words.{is_empty}
 use Rattle.office_core.specs.declared.command.Command.TheVariants as command
 use Rattle.state_encoding.specs.OfficeRows.{tables}
-use Rattle.office_tables.proofs.Calls.{early, looks_then, office_of, still}
+use Rattle.office_tables.proofs.Calls.{early, looks_then}
 use Rattle.refinement.specs.Representation.{RepresentsState}
 use Rattle.refinement.proofs.Doings.{after_look, desk_passed, does_refuse, does_then, office_passed}
 use Rattle.refinement.proofs.Judged.{judged_now}
 use Rattle.desk_commands.specs.RunCreation.{due_of, taken_by}
 use Rattle.desk_commands.proofs.RunMade.{nothing_due}
 use Rattle.desk_commands.proofs.run_creation.fetch.Goals as goal
-
-pub candidates-requires : goal.candidates-requires
-candidates-requires g c = record { inside = office_of g.P.Places.version (state g.S.Store c.args.conn.now) c.requires.inside }
-
-pub due-requires : goal.due-requires
-due-requires g c =
-    let a = state g.S.Store c.args.conn.now in
-    let b = state g.S.Store c.candidates.new.conn in
-    record { inside = still g.P.Places.version a b c.requires.inside c.in_ok-waiting.ensures.tells.looks.goes }
-
-pub bring_due-requires : goal.bring_due-requires
-bring_due-requires g c =
-    let v = g.P.Places.version in
-    let a = state g.S.Store c.args.conn.now in
-    let b = state g.S.Store c.candidates.new.conn in
-    let d = state g.S.Store c.due.new.conn in
-    record { inside = still v b d (still v a b c.requires.inside c.in_ok-waiting.ensures.tells.looks.goes) c.in_ok-due.ensures.tells.looks.goes }
 
 pub returns-in_err-waiting : goal.returns-in_err-waiting
 returns-in_err-waiting g c = let told = c.in_err-waiting.ensures.tells in desk_passed _ c.from_residual.ensures told.cut told.faults
@@ -41,10 +24,10 @@ returns-in_err-due g c =
 
 pub returns-then-are_none : goal.returns-then-are_none
 returns-then-are_none g c =
-    let v = g.P.Places.version in
-    let a = state g.S.Store c.args.conn.now in
-    let b = state g.S.Store c.candidates.new.conn in
-    let d = state g.S.Store c.due.new.conn in
+    let v = g.P.Versioned.version in
+    let a = state g.S.Store c.args.tables.now in
+    let b = state g.S.Store c.candidates.new.tables in
+    let d = state g.S.Store c.due.new.tables in
     let first = c.in_ok-waiting.ensures.tells in
     let told = c.in_ok-due.ensures.tells in
     does_refuse g.P.Places.represents v _ command.Run a d (Err NothingToMove) (looks_then a b d first.looks told.looks)
@@ -59,10 +42,10 @@ returns-then-are_none g c =
 
 pub returns : goal.returns
 returns g c =
-    let v = g.P.Places.version in
-    let a = state g.S.Store c.args.conn.now in
-    let b = state g.S.Store c.candidates.new.conn in
-    let d = state g.S.Store c.due.new.conn in
+    let v = g.P.Versioned.version in
+    let a = state g.S.Store c.args.tables.now in
+    let b = state g.S.Store c.candidates.new.tables in
+    let d = state g.S.Store c.due.new.tables in
     let first = c.in_ok-waiting.ensures.tells in
     let told = c.in_ok-due.ensures.tells in
     does_then (looks_then a b d first.looks told.looks) c.bring_due.ensures

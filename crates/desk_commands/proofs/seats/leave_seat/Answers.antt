@@ -1,14 +1,9 @@
 use Rattle.std.proofs.Common.{◌∙◌}
-use Rattle.sqlite.specs.Held.{state}
 use Rattle.state_encoding.specs.OfficeRows.{tables}
-use Rattle.office_tables.proofs.Calls.{office_of}
 use Rattle.refinement.proofs.CardsShown.{holder_shown}
 use Rattle.refinement.proofs.Doings.{desk_passed, does_then, is_refused}
 use Rattle.desk_commands.proofs.Seated.{may_leave, must_stay}
 use Rattle.desk_commands.proofs.seats.leave_seat.Goals as goal
-
-pub ticket_holder-requires : goal.ticket_holder-requires
-ticket_holder-requires g c = record { inside = office_of g.P.Places.version (state g.S.Store c.args.conn.now) c.requires.inside }
 
 pub returns-in_err-who : goal.returns-in_err-who
 returns-in_err-who g c = let told = c.in_err-who.ensures.tells in desk_passed _ c.from_residual.ensures told.cut told.faults
@@ -18,12 +13,12 @@ returns-in-Ok g c =
     let told = c.in_ok-who.ensures.tells in
     does_then told.looks c.free_seat.ensures
     (λ clean s sound so it. may_leave s sound c.args.ticket _ c.in-Ok.seat
-    (c.as_ref.ensures.value ∙ told.answers clean tt (tables g.P.Places.version s).desk it.desk ∙ holder_shown g.P.Places.version s sound c.args.ticket)
+    (c.as_ref.ensures.value ∙ told.answers clean tt (tables g.P.Versioned.version s).desk it.desk ∙ holder_shown g.P.Versioned.version s sound c.args.ticket)
     c.in-Ok.ensures.refused c.in-Ok.ensures.seat)
 
 pub returns-in-Err : goal.returns-in-Err
 returns-in-Err g c =
     let told = c.in_ok-who.ensures.tells in
     is_refused told.looks (λ clean s sound so it. must_stay s sound c.args.ticket _ c.in-Err.why
-    (c.as_ref.ensures.value ∙ told.answers clean tt (tables g.P.Places.version s).desk it.desk ∙ holder_shown g.P.Places.version s sound c.args.ticket)
+    (c.as_ref.ensures.value ∙ told.answers clean tt (tables g.P.Versioned.version s).desk it.desk ∙ holder_shown g.P.Versioned.version s sound c.args.ticket)
     c.in-Err.ensures.refused)

@@ -1,28 +1,27 @@
 use Rattle.sqlite.specs.Held.{state}
 use Rattle.state_encoding.specs.OfficeRows.{tables}
 use Rattle.state_encoding.proofs.LegibleRows.{desk_legible}
-use Rattle.office_tables.proofs.Calls.{office_of}
 use Rattle.refinement.proofs.Doings.{does_pass}
 use Rattle.desk_commands.proofs.Seated.{sits, may_take}
 use Rattle.desk_commands.proofs.seats.take.Goals as goal
 
 pub set_seat-requires : goal.set_seat-requires
-set_seat-requires g c = record { inside = office_of g.P.Places.version (state g.S.Store c.args.conn.now) c.requires.inside; small = c.requires.small }
+set_seat-requires g c = record { small = c.requires.small }
 
 pub returns-in_err-set_seat : goal.returns-in_err-set_seat
 returns-in_err-set_seat g c =
     let made = c.in_err-set_seat.ensures.makes in
     does_pass _ c.from_residual.ensures made.cut
-    (λ s sound so it. made.faults tt (tables g.P.Places.version s).desk it.desk (may_take s sound c.args.ticket g.P.Places.version c.args.seat so) (desk_legible g.P.Places.version s sound))
+    (λ s sound so it. made.faults tt (tables g.P.Versioned.version s).desk it.desk (may_take s sound c.args.ticket g.P.Versioned.version c.args.seat so) (desk_legible g.P.Versioned.version s sound))
 
 pub returns : goal.returns
 returns g c =
-    let a = state g.S.Store c.args.conn.now in
-    let b = state g.S.Store c.set_seat.new.conn in
+    let a = state g.S.Store c.args.tables.now in
+    let b = state g.S.Store c.set_seat.new.tables in
     let made = c.in_ok-set_seat.ensures.makes in
     record {
-      steps = λ clean s sound so it. sits s sound c.args.ticket g.P.Places.version g.P.Places.represents g.met.P.Places.shows_same a.now b.now it (made.goes.schema clean) (made.only clean) c.args.seat so
-          (made.represents_updated clean tt (tables g.P.Places.version s).desk it.desk (may_take s sound c.args.ticket g.P.Places.version c.args.seat so));
+      steps = λ clean s sound so it. sits s sound c.args.ticket g.P.Versioned.version g.P.Places.represents g.met.P.Places.shows_same a.now b.now it (made.goes.schema clean) (made.only clean) c.args.seat so
+          (made.represents_updated clean tt (tables g.P.Versioned.version s).desk it.desk (may_take s sound c.args.ticket g.P.Versioned.version c.args.seat so));
       goes = made.goes;
       cut = tt;
       faults = λ s sound so it clean free. tt;

@@ -1,13 +1,8 @@
 use Rattle.std.proofs.Common.{◌∙◌}
-use Rattle.sqlite.specs.Held.{state}
 use Rattle.state_encoding.specs.OfficeRows.{tables}
-use Rattle.office_tables.proofs.Calls.{office_of}
 use Rattle.refinement.proofs.CardsShown.{holder_shown}
 use Rattle.refinement.proofs.Doings.{desk_passed, does_then}
 use Rattle.desk_commands.proofs.seats.take_seat.Goals as goal
-
-pub ticket_holder-requires : goal.ticket_holder-requires
-ticket_holder-requires g c = record { inside = office_of g.P.Places.version (state g.S.Store c.args.conn.now) c.requires.inside }
 
 pub returns-in_err-who : goal.returns-in_err-who
 returns-in_err-who g c = let told = c.in_err-who.ensures.tells in desk_passed _ c.from_residual.ensures told.cut told.faults
@@ -19,5 +14,5 @@ returns g c =
     (λ clean s sound so it. (
       so.0,
       so.1,
-      told.answers clean tt (tables g.P.Places.version s).desk it.desk ∙ holder_shown g.P.Places.version s sound c.args.ticket,
+      told.answers clean tt (tables g.P.Versioned.version s).desk it.desk ∙ holder_shown g.P.Versioned.version s sound c.args.ticket,
     ))

@@ -5,16 +5,12 @@ use Rattle.office_core.specs.Json.{list}
 use Rattle.office_core.specs.declared.query.Answer.TheVariants.{Json}
 use Rattle.office_core.specs.declared.query.Query.TheVariants as query
 use Rattle.state_encoding.specs.OfficeRows.{tables}
-use Rattle.office_tables.proofs.Calls.{office_of}
 use Rattle.serde_json.specs.Written.{compact_text}
 use Rattle.refinement.proofs.Answerings.{answers_by, desk_answers_passed}
 use Rattle.desk_queries.specs.JsonValues.{loan_data}
 use Rattle.desk_queries.proofs.IssuedTold.{issued_told}
 use Rattle.replies.proofs.Lists.{no_float}
 use Rattle.desk_queries.proofs.loans.issued_now.Goals as goal
-
-pub issued-requires : goal.issued-requires
-issued-requires g c = record { inside = office_of g.P.Places.version (state g.S.Store c.args.conn.now) c.requires.inside }
 
 pub returns-in_err-loans : goal.returns-in_err-loans
 returns-in_err-loans g c = let told = c.in_err-loans.ensures.tells in desk_answers_passed _ c.from_residual.ensures told.cut told.faults
@@ -24,9 +20,9 @@ list_text-requires g c = record { whole = no_float loan_data (λ loan. refl) c.d
 
 pub returns : goal.returns
 returns g c =
-    let v = g.P.Places.version in
-    let a = state g.S.Store c.args.conn.now in
-    let b = state g.S.Store c.issued.new.conn in
+    let v = g.P.Versioned.version in
+    let a = state g.S.Store c.args.tables.now in
+    let b = state g.S.Store c.issued.new.tables in
     let told = c.in_ok-loans.ensures.tells in
     answers_by g.P.Places.represents v query.IssuedNow a b (Json c.in_ok-text.text) told.looks
     (λ clean s sound it.

@@ -7,7 +7,7 @@ use Rattle.office_core.specs.declared.query.Answer.TheVariants.{Json, Unknown}
 use Rattle.office_core.specs.declared.query.Query.TheVariants as query
 use Rattle.state_encoding.specs.OfficeRows.{tables}
 use Rattle.state_encoding.proofs.LegibleRows.{desk_legible}
-use Rattle.office_tables.proofs.Calls.{early, looks_then, office_of, still_office}
+use Rattle.office_tables.proofs.Calls.{early, looks_then}
 use Rattle.serde_json.specs.Written.{compact_text}
 use Rattle.refinement.proofs.CardsShown.{known_ticket}
 use Rattle.refinement.proofs.Answerings.{answers_by, answers_passed_later, desk_answers_passed, still_shown}
@@ -16,31 +16,22 @@ use Rattle.replies.proofs.Lists.{no_float}
 use Rattle.desk_queries.proofs.PermitsTold.{has_ticket, no_ticket, permits_told}
 use Rattle.desk_queries.proofs.permits.reader_permits.Goals as goal
 
-pub is_registered-requires : goal.is_registered-requires
-is_registered-requires g c = record { inside = office_of g.P.Places.version (state g.S.Store c.args.conn.now) c.requires.inside }
-
 pub returns-in_err-known : goal.returns-in_err-known
 returns-in_err-known g c = let told = c.in_err-known.ensures.tells in desk_answers_passed _ c.from_residual.ensures told.cut told.faults
 
 pub returns-then-not-known : goal.returns-then-not-known
 returns-then-not-known g c =
-    let v = g.P.Places.version in
-    let a = state g.S.Store c.args.conn.now in
-    let b = state g.S.Store c.is_registered.new.conn in
+    let v = g.P.Versioned.version in
+    let a = state g.S.Store c.args.tables.now in
+    let b = state g.S.Store c.is_registered.new.tables in
     let told = c.in_ok-known.ensures.tells in
     answers_by g.P.Places.represents v (query.ReaderPermits c.args.ticket) a b (Unknown UnknownTicket) told.looks
     (λ clean s sound it.
     no_ticket v s sound c.args.ticket (sym (known_ticket v s sound c.args.ticket) ∙ sym (told.answers clean tt (tables v s).desk it.desk) ∙ c.if-not-known.true))
 
-pub permits-requires : goal.permits-requires
-permits-requires g c =
-    let a = state g.S.Store c.args.conn.now in
-    let b = state g.S.Store c.is_registered.new.conn in
-    record { inside = still_office a b (office_of g.P.Places.version a c.requires.inside) c.in_ok-known.ensures.tells.looks.goes }
-
 pub returns-in_err-granted : goal.returns-in_err-granted
 returns-in_err-granted g c =
-    let v = g.P.Places.version in
+    let v = g.P.Versioned.version in
     let told = c.in_err-granted.ensures.tells in
     answers_passed_later _ c.from_residual-in_err-granted.ensures c.in_ok-known.ensures.tells.looks told.cut
     (λ s sound it. told.faults tt (tables v s).desk it.desk tt (desk_legible v s sound))
@@ -50,10 +41,10 @@ list_text-requires g c = record { whole = no_float permit_data (λ permit. refl)
 
 pub returns : goal.returns
 returns g c =
-    let v = g.P.Places.version in
-    let a = state g.S.Store c.args.conn.now in
-    let b = state g.S.Store c.is_registered.new.conn in
-    let z = state g.S.Store c.permits.new.conn in
+    let v = g.P.Versioned.version in
+    let a = state g.S.Store c.args.tables.now in
+    let b = state g.S.Store c.is_registered.new.tables in
+    let z = state g.S.Store c.permits.new.tables in
     let first = c.in_ok-known.ensures.tells in
     let told = c.in_ok-granted.ensures.tells in
     let t = c.args.ticket in

@@ -6,7 +6,6 @@ use Rattle.desk_store.specs.declared.queues.ContainerQueue.{ContainerQueue}
 use Rattle.office_core.specs.Queries.{known_json}
 use Rattle.office_core.specs.declared.query.Answer.TheVariants.{Json, Unknown}
 use Rattle.office_core.specs.declared.query.Query.TheVariants as query
-use Rattle.office_tables.proofs.Calls.{office_of}
 use Rattle.desk_core.proofs.UnknownContainers.{nothing_found}
 use Rattle.refinement.proofs.Answerings.{answers_by, answers_passed}
 use Rattle.refinement.proofs.StacksShown.{legible_stacks, shows_stacks, stacks_of}
@@ -14,22 +13,19 @@ use Rattle.desk_queries.specs.JsonValues.{queue_data}
 use Rattle.desk_queries.proofs.QueueTold.{queue_answer}
 use Rattle.desk_queries.proofs.queues.queue.Goals as goal
 
-pub queue-requires : goal.queue-requires
-queue-requires g c = record { inside = office_of g.P.Places.version (state g.S.Store c.args.conn.now) c.requires.inside }
-
 pub returns-in_err-found : goal.returns-in_err-found
 returns-in_err-found g c =
-    let v = g.P.Places.version in
-    let a = state g.S.Store c.args.conn.now in
+    let v = g.P.Versioned.version in
+    let a = state g.S.Store c.args.tables.now in
     let told = c.in_err-found.ensures.tells in
     answers_passed _ c.from_residual.ensures told.cut
     (λ s sound it. told.faults tt (stacks_of v s) (shows_stacks v s g.P.Places.represents a.now sound it) tt (legible_stacks v s sound))
 
 pub returns-in-Err : goal.returns-in-Err
 returns-in-Err g c =
-    let v = g.P.Places.version in
-    let a = state g.S.Store c.args.conn.now in
-    let b = state g.S.Store c.queue.new.conn in
+    let v = g.P.Versioned.version in
+    let a = state g.S.Store c.args.tables.now in
+    let b = state g.S.Store c.queue.new.tables in
     let told = c.in_ok-found.ensures.tells in
     let none = nothing_found c.in_ok-found.found c.in-Err.why c.in-Err.ensures.refused in
     answers_by g.P.Places.represents v (query.Queue c.args.container) a b (Unknown c.in-Err.why) told.looks
@@ -40,9 +36,9 @@ returns-in-Err g c =
 
 pub returns : goal.returns
 returns g c =
-    let v = g.P.Places.version in
-    let a = state g.S.Store c.args.conn.now in
-    let b = state g.S.Store c.queue.new.conn in
+    let v = g.P.Versioned.version in
+    let a = state g.S.Store c.args.tables.now in
+    let b = state g.S.Store c.queue.new.tables in
     let told = c.in_ok-found.ensures.tells in
     answers_by g.P.Places.represents v (query.Queue c.args.container) a b (Json c.in_ok-text.text) told.looks
     (λ clean s sound it.

@@ -7,23 +7,19 @@ use Rattle.office_core.specs.Queries.{known_json}
 use Rattle.office_core.specs.declared.query.Answer.TheVariants.{Json, Unknown}
 use Rattle.office_core.specs.declared.query.Query.TheVariants as query
 use Rattle.state_encoding.specs.OfficeRows.{tables}
-use Rattle.office_tables.proofs.Calls.{office_of}
 use Rattle.refinement.proofs.Answerings.{answers_by, desk_answers_passed}
 use Rattle.desk_queries.specs.JsonValues.{card_data}
 use Rattle.desk_queries.proofs.CardTold.{card_answer}
 use Rattle.desk_queries.proofs.reader_card.reader_orders.Goals as goal
-
-pub reader-requires : goal.reader-requires
-reader-requires g c = record { inside = office_of g.P.Places.version (state g.S.Store c.args.conn.now) c.requires.inside }
 
 pub returns-in_err-card : goal.returns-in_err-card
 returns-in_err-card g c = let told = c.in_err-card.ensures.tells in desk_answers_passed _ c.from_residual.ensures told.cut told.faults
 
 pub returns-in_default : goal.returns-in_default
 returns-in_default g c =
-    let v = g.P.Places.version in
-    let a = state g.S.Store c.args.conn.now in
-    let b = state g.S.Store c.reader.new.conn in
+    let v = g.P.Versioned.version in
+    let a = state g.S.Store c.args.tables.now in
+    let b = state g.S.Store c.reader.new.tables in
     let told = c.in_ok-card.ensures.tells in
     answers_by g.P.Places.represents v (query.ReaderOrders c.args.ticket) a b (Unknown UnknownTicket) told.looks
     (λ clean s sound it.
@@ -32,9 +28,9 @@ returns-in_default g c =
 
 pub returns : goal.returns
 returns g c =
-    let v = g.P.Places.version in
-    let a = state g.S.Store c.args.conn.now in
-    let b = state g.S.Store c.reader.new.conn in
+    let v = g.P.Versioned.version in
+    let a = state g.S.Store c.args.tables.now in
+    let b = state g.S.Store c.reader.new.tables in
     let told = c.in_ok-card.ensures.tells in
     answers_by g.P.Places.represents v (query.ReaderOrders c.args.ticket) a b (Json c.in_ok-text.text) told.looks
     (λ clean s sound it.

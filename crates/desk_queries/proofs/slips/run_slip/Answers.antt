@@ -4,28 +4,24 @@ use Rattle.desk_core.specs.Slips.{slip}
 use Rattle.desk_core.specs.declared.refusal.Refusal.TheVariants.{UnknownRun}
 use Rattle.office_core.specs.declared.query.Answer.TheVariants.{Text, Unknown}
 use Rattle.office_core.specs.declared.query.Query.TheVariants as query
-use Rattle.office_tables.proofs.Calls.{office_of}
 use Rattle.refinement.proofs.Answerings.{answers_by, answers_passed}
 use Rattle.refinement.proofs.StacksShown.{legible_stacks, shows_stacks, stacks_of}
 use Rattle.desk_queries.proofs.RunTold.{lines_known, run_told, told_slip}
 use Rattle.desk_queries.proofs.slips.run_slip.Goals as goal
 
-pub run-requires : goal.run-requires
-run-requires g c = record { inside = office_of g.P.Places.version (state g.S.Store c.args.conn.now) c.requires.inside }
-
 pub returns-in_err-brought : goal.returns-in_err-brought
 returns-in_err-brought g c =
-    let v = g.P.Places.version in
-    let a = state g.S.Store c.args.conn.now in
+    let v = g.P.Versioned.version in
+    let a = state g.S.Store c.args.tables.now in
     let told = c.in_err-brought.ensures.tells in
     answers_passed _ c.from_residual.ensures told.cut
     (λ s sound it. told.faults tt (stacks_of v s) (shows_stacks v s g.P.Places.represents a.now sound it) (lines_known v s sound c.args.run) (legible_stacks v s sound))
 
 pub returns-in_default : goal.returns-in_default
 returns-in_default g c =
-    let v = g.P.Places.version in
-    let a = state g.S.Store c.args.conn.now in
-    let b = state g.S.Store c.run.new.conn in
+    let v = g.P.Versioned.version in
+    let a = state g.S.Store c.args.tables.now in
+    let b = state g.S.Store c.run.new.tables in
     let told = c.in_ok-brought.ensures.tells in
     answers_by g.P.Places.represents v (query.RunSlip c.args.run) a b (Unknown UnknownRun) told.looks
     (λ clean s sound it.
@@ -34,9 +30,9 @@ returns-in_default g c =
 
 pub returns : goal.returns
 returns g c =
-    let v = g.P.Places.version in
-    let a = state g.S.Store c.args.conn.now in
-    let b = state g.S.Store c.run.new.conn in
+    let v = g.P.Versioned.version in
+    let a = state g.S.Store c.args.tables.now in
+    let b = state g.S.Store c.run.new.tables in
     let told = c.in_ok-brought.ensures.tells in
     answers_by g.P.Places.represents v (query.RunSlip c.args.run) a b (Text c.in_ok-text.text.items) told.looks
     (λ clean s sound it.

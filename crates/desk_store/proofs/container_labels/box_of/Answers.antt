@@ -11,7 +11,7 @@ use Rattle.desk_store.proofs.container_labels.box_of.Goals as goal
 
 pub returns-then-container-gt-MOST_CONTAINERS-clause-tells : goal.returns-then-container-gt-MOST_CONTAINERS-clause-tells
 returns-then-container-gt-MOST_CONTAINERS-clause-tells g c =
-    ends_well RepresentsQueues IsLegibleStacks (λ _. ⊤) g.S.Store c.args.conn.now c.args.conn.now c.args.conn.now _ (looks_nowhere (state g.S.Store c.args.conn.now) c.requires.inside) None (λ clean s shown.
+    ends_well RepresentsQueues IsLegibleStacks (λ _. ⊤) g.S.Store c.args.tables.now c.args.tables.now c.args.tables.now _ (looks_nowhere (state g.S.Store c.args.tables.now)) None (λ clean s shown.
     let few = shown.few in
     let over = c.if-container-gt-MOST_CONTAINERS.true in
     sym (ap (option_map (λ (b : Numbered). b.1)) (unknown (λ (b : Numbered). b.0) c.args.container s.boxes shown.numbers (omega (arith, few, over)))))

@@ -1,21 +1,19 @@
 use Rattle.std.proofs.Common.{Ok, [], map, filter, nat_eq, ap, ◌∙◌}
 use Rattle.std.proofs.lemmas.Result.{IfOk-weaker}
-use Rattle.sqlite.specs.Held.{state}
 use Rattle.sqlite_trees.proofs.ListLemmas.{ascending-filter}
 use Rattle.office_tables.proofs.Reading.{first_shown}
-use Rattle.office_tables.proofs.RowReads.{asks}
 use Rattle.office_tables.proofs.Sorted.{only_order}
-use Rattle.desk_store.proofs.BoxRows.{Numbered, number_text, number_command, number_means, number_finds, number_faults, by_number, by_number_total}
+use Rattle.desk_store.proofs.BoxRows.{Numbered, number_command, number_means, number_finds, number_faults, by_number, by_number_total}
 use Rattle.office_tables.proofs.numbered.Counted.{counted_rises}
 use Rattle.office_tables.proofs.StatementEnds.{looks_up}
 use Rattle.desk_store.proofs.container_labels.find_container.Goals as goal
 
 pub find_one-requires : goal.find_one-requires
-find_one-requires g c = asks number_text 1 number_command (state g.S.Store c.args.conn.now) number_means c.requires.inside
+find_one-requires g c = record { count = 1; command = number_command; means = number_means g.P.Versioned.version }
 
 pub returns : goal.returns
 returns g c =
-    looks_up c.requires.inside c.find_one.ensures.reads (rw c.number.ensures at c.find_one.ensures.found) (rw c.number.ensures at c.find_one.ensures.missed)
+    looks_up g.P.Versioned.version c.find_one.ensures.reads (rw c.number.ensures at c.find_one.ensures.ran)
     (λ v has found bs stored counted.
     let kept = filter (λ (b : Numbered). nat_eq c.args.container b.0) bs in
     let rising = ascending-filter _ (λ (b : Numbered). nat_eq c.args.container b.0) bs (counted_rises (λ (b : Numbered). b.0) 1 bs counted) in

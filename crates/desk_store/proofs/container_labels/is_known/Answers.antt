@@ -10,12 +10,12 @@ use Rattle.desk_store.proofs.container_labels.is_known.Goals as goal
 
 pub returns-then-container-gt-MOST_CONTAINERS-clause-tells : goal.returns-then-container-gt-MOST_CONTAINERS-clause-tells
 returns-then-container-gt-MOST_CONTAINERS-clause-tells g c =
-    ends_well RepresentsQueues IsLegibleStacks (λ _. ⊤) g.S.Store c.args.conn.now c.args.conn.now c.args.conn.now _ (looks_nowhere (state g.S.Store c.args.conn.now) c.requires.inside) false (λ clean s shown.
+    ends_well RepresentsQueues IsLegibleStacks (λ _. ⊤) g.S.Store c.args.tables.now c.args.tables.now c.args.tables.now _ (looks_nowhere (state g.S.Store c.args.tables.now)) false (λ clean s shown.
     let few = shown.few in
     let over = c.if-container-gt-MOST_CONTAINERS.true in
     sym (ap is_some (unknown (λ (b : Numbered). b.0) c.args.container s.boxes shown.numbers (omega (arith, few, over)))))
 
 pub returns-clause-tells : goal.returns-clause-tells
 returns-clause-tells g c =
-    ends_well RepresentsQueues IsLegibleStacks (λ _. ⊤) g.S.Store c.args.conn.now c.args.conn.now c.find_container.new.conn _ c.in_ok-found.ensures.reads.looks _ (λ clean s shown.
+    ends_well RepresentsQueues IsLegibleStacks (λ _. ⊤) g.S.Store c.args.tables.now c.args.tables.now c.find_container.new.tables _ c.in_ok-found.ensures.reads.looks _ (λ clean s shown.
     c.is_some.ensures ∙ ap is_some (c.in_ok-found.ensures.answers clean s.boxes shown.boxes shown.numbers) ∙ some_mapped (λ (b : Numbered). b.0) (box_with c.args.container s))

@@ -13,11 +13,11 @@ use Rattle.desk_store.proofs.TellingCalls.{ends_full, ends_not, ends_well}
 
 pub returns-in_err-awaited : goal.returns-in_err-awaited
 returns-in_err-awaited g c =
-    let b = state g.S.Store c.loop-container.conn in
-    let z = state g.S.Store c.is_awaited.new.conn in
+    let b = state g.S.Store c.loop-container.tables in
+    let z = state g.S.Store c.is_awaited.new.tables in
     let e = c.from_residual-in_err-awaited.ensures in
     record {
-      tells = ends_not RepresentsDeskAlone IsLegible (λ _. ⊤) g.S.Store c.args.conn.now c.loop-container.conn c.is_awaited.new.conn _ c.loop-container.invariant.looks
+      tells = ends_not RepresentsDeskAlone IsLegible (λ _. ⊤) g.S.Store c.args.tables.now c.loop-container.tables c.is_awaited.new.tables _ c.loop-container.invariant.looks
           c.in_err-awaited.field-0.0 c.in_err-awaited.ensures.tells.cut c.in_err-awaited.ensures.tells.spares (λ d shown may kept clean.
           let before = early b z _ c.in_err-awaited.ensures.tells.cut.crash clean in
           let are = c.loop-container.invariant.containers before d (subst (λ (db : Database). RepresentsDesk db.trees d) (c.loop-container.invariant.looks.same before) shown) in
@@ -27,20 +27,20 @@ returns-in_err-awaited g c =
 
 pub returns-in_err-push : goal.returns-in_err-push
 returns-in_err-push g c =
-    let a = state g.S.Store c.args.conn.now in
-    let b = state g.S.Store c.loop-container.conn in
-    let z = state g.S.Store c.is_awaited.new.conn in
+    let a = state g.S.Store c.args.tables.now in
+    let b = state g.S.Store c.loop-container.tables in
+    let z = state g.S.Store c.is_awaited.new.tables in
     let e = c.from_residual-in_err-push.ensures in
     record {
-      tells = ends_full RepresentsDeskAlone IsLegible (λ _. ⊤) g.S.Store c.args.conn.now c.args.conn.now c.is_awaited.new.conn _ (looks_then a b z c.loop-container.invariant.looks c.in_ok-awaited.ensures.tells.looks)
+      tells = ends_full RepresentsDeskAlone IsLegible (λ _. ⊤) g.S.Store c.args.tables.now c.args.tables.now c.is_awaited.new.tables _ (looks_then a b z c.loop-container.invariant.looks c.in_ok-awaited.ensures.tells.looks)
           c.from_residual-in_err-push.result (same_fault c.from_residual-in_err-push.result Memory e.0 e.1);
     }
 
 pub loop-container-preserved : goal.loop-container-preserved
 loop-container-preserved g c =
-    let a = state g.S.Store c.args.conn.now in
-    let b = state g.S.Store c.loop-container.conn in
-    let z = state g.S.Store c.is_awaited.new.conn in
+    let a = state g.S.Store c.args.tables.now in
+    let b = state g.S.Store c.loop-container.tables in
+    let z = state g.S.Store c.is_awaited.new.tables in
     let last = c.in_ok-awaited.ensures.tells.looks in
     let looked = c.loop-container.invariant.looks in
     record {
@@ -57,7 +57,7 @@ loop-container-preserved g c =
 pub returns : goal.returns
 returns g c =
     record {
-      tells = ends_well RepresentsDeskAlone IsLegible (λ _. ⊤) g.S.Store c.args.conn.now c.args.conn.now c.loop-container.conn _ c.loop-container.invariant.looks _ (λ clean desk shown.
+      tells = ends_well RepresentsDeskAlone IsLegible (λ _. ⊤) g.S.Store c.args.tables.now c.args.tables.now c.loop-container.tables _ c.loop-container.invariant.looks _ (λ clean desk shown.
           told_whole desk c.deref-container-items.result.now c.loop-container.container-index c.loop-container.told.items c.loop-container-test.false
           (c.loop-container.invariant.containers clean desk shown) (c.loop-container.invariant.so_far clean desk shown));
     }

@@ -10,9 +10,9 @@ use Rattle.desk_store.proofs.desk_containers.at_desk.Given as goal
 
 abbrev pub invariant-loop-container : goal.invariant-loop-container
 invariant-loop-container g l = record {
-  looks : LeavesUnchanged (state g.S.Store l.fn.conn) (state g.S.Store l.conn);
-  containers : HasCleanDisk (state g.S.Store l.conn) → (d : Desk) → RepresentsDesk (state g.S.Store l.fn.conn).now.trees d
+  looks : LeavesUnchanged (state g.S.Store l.fn.tables) (state g.S.Store l.tables);
+  containers : HasCleanDisk (state g.S.Store l.tables) → (d : Desk) → RepresentsDesk (state g.S.Store l.fn.tables).now.trees d
       → l.container-items ≡ map (λ (h : HoldingRow). h.container) (filter (λ (h : HoldingRow). nat_eq 1 h.place) d.holdings);
-  so_far : HasCleanDisk (state g.S.Store l.conn) → (d : Desk) → RepresentsDesk (state g.S.Store l.fn.conn).now.trees d
+  so_far : HasCleanDisk (state g.S.Store l.tables) → (d : Desk) → RepresentsDesk (state g.S.Store l.fn.tables).now.trees d
       → l.told.items ≡ map (λ c. (c, list_any (waits_for c) d.orders)) (take l.container-index l.container-items);
 }

@@ -1,21 +1,19 @@
 use Rattle.std.proofs.Common.{map, filter, nat_eq, ap, ◌∙◌}
 use Rattle.std.proofs.lemmas.Result.{IfOk-weaker}
-use Rattle.sqlite.specs.Held.{state}
 use Rattle.sqlite_trees.proofs.ListLemmas.{ascending-filter}
 use Rattle.desk_core.specs.DeskRows.{HoldingRow}
-use Rattle.office_tables.proofs.RowReads.{asks}
 use Rattle.office_tables.proofs.Sorted.{only_order}
 use Rattle.desk_store.proofs.LoanRows.{by_container, by_container_total}
-use Rattle.desk_store.proofs.ReshelvingRows.{desk_text, desk_command, desk_means, desk_finds, desk_faults}
+use Rattle.desk_store.proofs.ReshelvingRows.{desk_command, desk_means, desk_finds, desk_faults}
 use Rattle.office_tables.proofs.StatementEnds.{looks_up}
 use Rattle.desk_store.proofs.desk_containers.desk_lines.Goals as goal
 
 pub find-requires : goal.find-requires
-find-requires g c = asks desk_text 0 desk_command (state g.S.Store c.args.conn.now) desk_means c.requires.inside
+find-requires g c = record { count = 0; command = desk_command; means = desk_means g.P.Versioned.version }
 
 pub returns : goal.returns
 returns g c =
-    looks_up c.requires.inside c.find.ensures.reads c.find.ensures.found c.find.ensures.missed
+    looks_up g.P.Versioned.version c.find.ensures.reads c.find.ensures.ran
     (λ v has found xs stored up.
     let kept = filter (λ (h : HoldingRow). nat_eq 1 h.place) xs in
     let rising = ascending-filter _ (λ (h : HoldingRow). nat_eq 1 h.place) xs up in

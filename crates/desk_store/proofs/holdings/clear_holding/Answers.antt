@@ -1,16 +1,14 @@
 use Rattle.std.proofs.Common.{refl}
-use Rattle.sqlite.specs.Held.{state}
-use Rattle.office_tables.proofs.RowWrites.{ours}
-use Rattle.desk_store.proofs.HoldingWrites.{clear_holding_text, clear_holding_command, clear_holding_means, clear_holding_leaves, clear_holding_only, clear_holding_faults}
+use Rattle.desk_store.proofs.HoldingWrites.{clear_holding_command, clear_holding_means, clear_holding_leaves, clear_holding_only, clear_holding_faults}
 use Rattle.office_tables.proofs.StatementEnds.{thins}
 use Rattle.desk_store.proofs.holdings.clear_holding.Goals as goal
 
 pub change-requires : goal.change-requires
-change-requires g c = ours clear_holding_text 1 clear_holding_command (state g.S.Store c.args.conn.now) refl clear_holding_means c.requires.inside
+change-requires g c = record { count = 1; command = clear_holding_command; changes = refl; means = clear_holding_means g.P.Versioned.version }
 
 pub returns : goal.returns
 returns g c =
-    thins c.requires.inside c.change.ensures.leaves (rw c.number.ensures at c.change.ensures.ran)
+    thins g.P.Versioned.version c.change.ensures.leaves (rw c.number.ensures at c.change.ensures.ran)
     (λ v has ran xs stored up. clear_holding_leaves _ _ c.args.container v has c.change.result ran xs stored up)
     (λ v has ran. clear_holding_only _ _ c.args.container v has c.change.result ran)
     (λ v has ran free. clear_holding_faults _ _ c.args.container v has c.change.result ran free c.change.ensures.live)

@@ -1,18 +1,16 @@
 use Rattle.std.proofs.Common.{pos, refl}
 use Rattle.std.specs.Prelude.{option_map}
-use Rattle.sqlite.specs.Held.{state}
 use Rattle.office_tables.proofs.Casts.{bound_maybe}
-use Rattle.office_tables.proofs.RowWrites.{ours}
-use Rattle.desk_store.proofs.HoldingWrites.{insert_holding_text, insert_holding_command, insert_holding_means, insert_holding_puts, insert_holding_faults}
+use Rattle.desk_store.proofs.HoldingWrites.{insert_holding_command, insert_holding_means, insert_holding_puts, insert_holding_faults}
 use Rattle.office_tables.proofs.StatementEnds.{puts_row}
 use Rattle.desk_store.proofs.holdings.insert_holding.Goals as goal
 
 pub change-requires : goal.change-requires
-change-requires g c = ours insert_holding_text 3 insert_holding_command (state g.S.Store c.args.conn.now) refl insert_holding_means c.requires.inside
+change-requires g c = record { count = 3; command = insert_holding_command; changes = refl; means = insert_holding_means g.P.Versioned.version }
 
 pub returns : goal.returns
 returns g c =
-    puts_row c.requires.inside c.change.ensures.leaves (rw (c.number.ensures, c.number-2.ensures, c.number_or_null.ensures, bound_maybe (option_map pos c.args.held_by)) at c.change.ensures.ran)
+    puts_row g.P.Versioned.version c.change.ensures.leaves (rw (c.number.ensures, c.number-2.ensures, c.number_or_null.ensures, bound_maybe (option_map pos c.args.held_by)) at c.change.ensures.ran)
     (λ v has ran. insert_holding_puts _ _ c.args.container c.args.place c.args.held_by v has c.change.result ran)
     (λ v has ran xs stored none free.
     insert_holding_faults _ _ c.args.container c.args.place c.args.held_by v has xs stored none free c.change.ensures.live c.change.result

@@ -1,23 +1,21 @@
 use Rattle.std.proofs.Common.{Ok, [], map, filter, nat_eq, ap, ◌∙◌}
 use Rattle.std.proofs.lemmas.Result.{IfOk-weaker}
-use Rattle.sqlite.specs.Held.{state}
 use Rattle.sqlite_trees.proofs.ListLemmas.{ascending-filter}
 use Rattle.desk_core.specs.DeskRows.{OrderRow}
 use Rattle.office_tables.proofs.Reading.{first_shown}
-use Rattle.office_tables.proofs.RowReads.{asks}
 use Rattle.office_tables.proofs.Sorted.{only_order}
 use Rattle.desk_store.proofs.CardRows.{by_order, by_order_total}
 use Rattle.office_tables.proofs.numbered.Counted.{counted_rises}
-use Rattle.desk_store.proofs.LoanRows.{tickets_text, tickets_command, tickets_means, tickets_finds, tickets_faults}
+use Rattle.desk_store.proofs.LoanRows.{tickets_command, tickets_means, tickets_finds, tickets_faults}
 use Rattle.office_tables.proofs.StatementEnds.{looks_up}
 use Rattle.desk_store.proofs.loans.find_ticket.Goals as goal
 
 pub find_one-requires : goal.find_one-requires
-find_one-requires g c = asks tickets_text 1 tickets_command (state g.S.Store c.args.conn.now) tickets_means c.requires.inside
+find_one-requires g c = record { count = 1; command = tickets_command; means = tickets_means g.P.Versioned.version }
 
 pub returns : goal.returns
 returns g c =
-    looks_up c.requires.inside c.find_one.ensures.reads (rw c.number.ensures at c.find_one.ensures.found) (rw c.number.ensures at c.find_one.ensures.missed)
+    looks_up g.P.Versioned.version c.find_one.ensures.reads (rw c.number.ensures at c.find_one.ensures.ran)
     (λ v has found xs stored counted.
     let kept = filter (λ (o : OrderRow). nat_eq c.args.order o.id) xs in
     let rising = ascending-filter _ (λ (o : OrderRow). nat_eq c.args.order o.id) xs (counted_rises (λ (o : OrderRow). o.id) 1 xs counted) in

@@ -10,7 +10,7 @@ use Rattle.desk_store.specs.Representation.{RepresentsDeskAlone, IsLegible}
 pub returns-then-order-ge-NO_NUMBER : goal.returns-then-order-ge-NO_NUMBER
 returns-then-order-ge-NO_NUMBER g c =
     record {
-      tells = ends_well RepresentsDeskAlone IsLegible (λ _. ⊤) g.S.Store c.args.conn.now c.args.conn.now c.args.conn.now _ (looks_nowhere (state g.S.Store c.args.conn.now) c.requires.inside) None (λ clean d shown.
+      tells = ends_well RepresentsDeskAlone IsLegible (λ _. ⊤) g.S.Store c.args.tables.now c.args.tables.now c.args.tables.now _ (looks_nowhere (state g.S.Store c.args.tables.now)) None (λ clean d shown.
           let few = shown.few_orders in
           let over = c.if-order-ge-NO_NUMBER.true in
           sym (never_placed c.args.order d.orders shown.order_numbers (omega (arith, few, over))));

@@ -1,20 +1,18 @@
 use Rattle.std.proofs.Common.{map, ap, subst, ◌∙◌}
 use Rattle.std.specs.List.Sorted.{IsPermutation}
 use Rattle.std.proofs.lemmas.Result.{IfOk-weaker}
-use Rattle.sqlite.specs.Held.{state}
-use Rattle.office_tables.proofs.RowReads.{asks}
 use Rattle.office_tables.proofs.Rows.{kept_all}
 use Rattle.office_tables.proofs.Sorted.{only_order}
-use Rattle.desk_store.proofs.LoanRows.{lines_text, lines_command, lines_means, lines_finds, lines_faults, line_of, by_container, by_container_total}
+use Rattle.desk_store.proofs.LoanRows.{lines_command, lines_means, lines_finds, lines_faults, line_of, by_container, by_container_total}
 use Rattle.office_tables.proofs.StatementEnds.{looks_up}
 use Rattle.desk_store.proofs.loans.holding_lines.Goals as goal
 
 pub find-requires : goal.find-requires
-find-requires g c = asks lines_text 0 lines_command (state g.S.Store c.args.conn.now) lines_means c.requires.inside
+find-requires g c = record { count = 0; command = lines_command; means = lines_means g.P.Versioned.version }
 
 pub returns : goal.returns
 returns g c =
-    looks_up c.requires.inside c.find.ensures.reads c.find.ensures.found c.find.ensures.missed
+    looks_up g.P.Versioned.version c.find.ensures.reads c.find.ensures.ran
     (λ v has found xs stored up.
     IfOk-weaker c.find.result _ _ (λ all it. it.2 ∙ ap (map line_of) (only_order by_container by_container_total xs it.0 up it.1.1 (subst (λ l. IsPermutation l it.0) (kept_all xs) it.1.0)))
     (lines_finds _ _ v has xs stored (λ found. found.items) c.find.result found))

@@ -12,8 +12,8 @@ use Rattle.desk_store.proofs.loans.issued.Given as goal
 
 abbrev pub invariant-loop-line : goal.invariant-loop-line
 invariant-loop-line g l = record {
-  looks : LeavesUnchanged (state g.S.Store l.fn.conn) (state g.S.Store l.conn);
-  lines : HasCleanDisk (state g.S.Store l.conn) → (d : Desk) → RepresentsDesk (state g.S.Store l.fn.conn).now.trees d → l.line-items ≡ map line_of d.holdings;
-  so_far : HasCleanDisk (state g.S.Store l.conn) → (d : Desk) → RepresentsDesk (state g.S.Store l.fn.conn).now.trees d
+  looks : LeavesUnchanged (state g.S.Store l.fn.tables) (state g.S.Store l.tables);
+  lines : HasCleanDisk (state g.S.Store l.tables) → (d : Desk) → RepresentsDesk (state g.S.Store l.fn.tables).now.trees d → l.line-items ≡ map line_of d.holdings;
+  so_far : HasCleanDisk (state g.S.Store l.tables) → (d : Desk) → RepresentsDesk (state g.S.Store l.fn.tables).now.trees d
       → l.loans.items ≡ filter_map (λ (h : HoldingLine). loan_by d.orders h.container h.held_by) (take l.line-index l.line-items);
 }

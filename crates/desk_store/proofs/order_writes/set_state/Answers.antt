@@ -1,16 +1,14 @@
 use Rattle.std.proofs.Common.{refl}
-use Rattle.sqlite.specs.Held.{state}
-use Rattle.office_tables.proofs.RowWrites.{ours}
-use Rattle.desk_store.proofs.OrderWrites.{set_state_text, set_state_command, set_state_means, set_state_leaves, set_state_only, set_state_faults}
+use Rattle.desk_store.proofs.OrderWrites.{set_state_command, set_state_means, set_state_leaves, set_state_only, set_state_faults}
 use Rattle.office_tables.proofs.StatementEnds.{changes}
 use Rattle.desk_store.proofs.order_writes.set_state.Goals as goal
 
 pub change-requires : goal.change-requires
-change-requires g c = ours set_state_text 2 set_state_command (state g.S.Store c.args.conn.now) refl set_state_means c.requires.inside
+change-requires g c = record { count = 2; command = set_state_command; changes = refl; means = set_state_means g.P.Versioned.version }
 
 pub returns : goal.returns
 returns g c =
-    changes c.requires.inside c.change.ensures.leaves (rw (c.number.ensures, c.number-2.ensures) at c.change.ensures.ran)
+    changes g.P.Versioned.version c.change.ensures.leaves (rw (c.number.ensures, c.number-2.ensures) at c.change.ensures.ran)
     (λ v has ran xs stored counted. set_state_leaves _ _ c.args.order c.args.next v has c.change.result ran xs stored counted)
     (λ v has ran. set_state_only _ _ c.args.order c.args.next v has c.change.result ran)
     (λ v has ran xs stored counted free. set_state_faults _ _ c.args.order c.args.next v has c.change.result ran xs stored counted free c.change.ensures.live)

@@ -1,23 +1,21 @@
 use Rattle.std.proofs.Common.{Ok, [], map, filter, nat_eq, ap, ◌∙◌}
 use Rattle.std.proofs.lemmas.Result.{IfOk-weaker}
-use Rattle.sqlite.specs.Held.{state}
 use Rattle.sqlite_trees.proofs.ListLemmas.{ascending-filter}
 use Rattle.desk_core.specs.DeskRows.{OrderRow}
 use Rattle.office_tables.proofs.Reading.{first_shown}
-use Rattle.office_tables.proofs.RowReads.{asks}
 use Rattle.office_tables.proofs.Sorted.{only_order}
 use Rattle.office_tables.proofs.numbered.Counted.{counted_rises}
 use Rattle.desk_store.proofs.CardRows.{by_order, by_order_total}
-use Rattle.desk_store.proofs.OrderReads.{find_order_text, find_order_command, find_order_means, find_order_finds, find_order_faults, entry_of}
+use Rattle.desk_store.proofs.OrderReads.{find_order_command, find_order_means, find_order_finds, find_order_faults, entry_of}
 use Rattle.office_tables.proofs.StatementEnds.{looks_up}
 use Rattle.desk_store.proofs.orders.find_order.Goals as goal
 
 pub find_one-requires : goal.find_one-requires
-find_one-requires g c = asks find_order_text 1 find_order_command (state g.S.Store c.args.conn.now) find_order_means c.requires.inside
+find_one-requires g c = record { count = 1; command = find_order_command; means = find_order_means g.P.Versioned.version }
 
 pub returns : goal.returns
 returns g c =
-    looks_up c.requires.inside c.find_one.ensures.reads (rw c.number.ensures at c.find_one.ensures.found) (rw c.number.ensures at c.find_one.ensures.missed)
+    looks_up g.P.Versioned.version c.find_one.ensures.reads (rw c.number.ensures at c.find_one.ensures.ran)
     (λ v has found xs stored counted.
     let kept = filter (λ (o : OrderRow). nat_eq c.args.order o.id) xs in
     let rising = ascending-filter _ (λ (o : OrderRow). nat_eq c.args.order o.id) xs (counted_rises (λ (o : OrderRow). o.id) 1 xs counted) in

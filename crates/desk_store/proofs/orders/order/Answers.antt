@@ -3,7 +3,7 @@ use Rattle.std.specs.Prelude.{⊤}
 use Rattle.sqlite.specs.Effect.{Database}
 use Rattle.sqlite.specs.Held.{state}
 use Rattle.desk_core.specs.DeskRows.{OrderRow}
-use Rattle.office_tables.proofs.Calls.{cut_after, looks_nowhere, still_office}
+use Rattle.office_tables.proofs.Calls.{cut_after, looks_nowhere}
 use Rattle.office_tables.proofs.CallEnds.{same_fault}
 use Rattle.desk_store.specs.Orders.{order_with, IsThere}
 use Rattle.desk_store.specs.Representation.{RepresentsDesk, RepresentsDeskAlone, IsLegible}
@@ -15,26 +15,26 @@ use Rattle.desk_store.proofs.TellingCalls.{ends_not, ends_well}
 
 pub returns-then-order-gt-MOST_ORDERS-clause-tells : goal.returns-then-order-gt-MOST_ORDERS-clause-tells
 returns-then-order-gt-MOST_ORDERS-clause-tells g c =
-    ends_well RepresentsDeskAlone IsLegible (λ _. ⊤) g.S.Store c.args.conn.now c.args.conn.now c.args.conn.now _ (looks_nowhere (state g.S.Store c.args.conn.now) c.requires.inside) None (λ clean d shown.
+    ends_well RepresentsDeskAlone IsLegible (λ _. ⊤) g.S.Store c.args.tables.now c.args.tables.now c.args.tables.now _ (looks_nowhere (state g.S.Store c.args.tables.now)) None (λ clean d shown.
     let few = shown.few_orders in
     let over = c.if-order-gt-MOST_ORDERS.true in
     subst (λ row. IsThere row None) (sym (unknown (λ (o : OrderRow). o.id) c.args.order d.orders shown.order_numbers (omega (arith, few, over)))) refl)
 
 pub returns-in_default-clause-tells : goal.returns-in_default-clause-tells
 returns-in_default-clause-tells g c =
-    ends_well RepresentsDeskAlone IsLegible (λ _. ⊤) g.S.Store c.args.conn.now c.args.conn.now c.find_order.new.conn _ c.in_ok-entry.ensures.reads.looks None (λ clean d shown.
+    ends_well RepresentsDeskAlone IsLegible (λ _. ⊤) g.S.Store c.args.tables.now c.args.tables.now c.find_order.new.tables _ c.in_ok-entry.ensures.reads.looks None (λ clean d shown.
     let there = c.in_ok-entry.ensures.answers clean d.orders shown.orders shown.order_numbers in
     told_none (order_with c.args.order d) (sym there ∙ c.in_default.is))
 
 pub returns-in_err-placed-clause-tells : goal.returns-in_err-placed-clause-tells
 returns-in_err-placed-clause-tells g c =
-    let a = state g.S.Store c.args.conn.now in
-    let b = state g.S.Store c.find_order.new.conn in
+    let a = state g.S.Store c.args.tables.now in
+    let b = state g.S.Store c.find_order.new.tables in
     let looked = c.in_ok-entry.ensures.reads.looks in
     let e = c.from_residual-in_err-placed.ensures in
-    ends_not RepresentsDeskAlone IsLegible (λ _. ⊤) g.S.Store c.args.conn.now c.find_order.new.conn c.find_order.new.conn _ looked
-    c.in_err-placed.field-0.0 (cut_after b b (looks_nowhere b (still_office a b c.requires.inside looked.goes)).goes.on)
-    (λ clean. spares_own b b (looks_nowhere b (still_office a b c.requires.inside looked.goes)) clean c.in_err-placed.field-0.0 c.in_err-placed.ensures.fair)
+    ends_not RepresentsDeskAlone IsLegible (λ _. ⊤) g.S.Store c.args.tables.now c.find_order.new.tables c.find_order.new.tables _ looked
+    c.in_err-placed.field-0.0 (cut_after b b (looks_nowhere b).goes.on)
+    (λ clean. spares_own b b (looks_nowhere b) clean c.in_err-placed.field-0.0 c.in_err-placed.ensures.fair)
     (λ d shown may kept clean free.
     let before = subst (λ (db : Database). RepresentsDesk db.trees d) (looked.same clean) shown in
     let there = c.in_ok-entry.ensures.answers clean d.orders before.orders before.order_numbers in
@@ -44,7 +44,7 @@ returns-in_err-placed-clause-tells g c =
 
 pub returns-clause-tells : goal.returns-clause-tells
 returns-clause-tells g c =
-    ends_well RepresentsDeskAlone IsLegible (λ _. ⊤) g.S.Store c.args.conn.now c.args.conn.now c.find_order.new.conn _ c.in_ok-entry.ensures.reads.looks _ (λ clean d shown.
+    ends_well RepresentsDeskAlone IsLegible (λ _. ⊤) g.S.Store c.args.tables.now c.args.tables.now c.find_order.new.tables _ c.in_ok-entry.ensures.reads.looks _ (λ clean d shown.
     let there = c.in_ok-entry.ensures.answers clean d.orders shown.orders shown.order_numbers in
     told_there (order_with c.args.order d) c.in-Some.entry c.in_ok-placed.placed (sym there ∙ c.in-Some.is)
     c.in_ok-placed.ensures.ticket c.in_ok-placed.ensures.container c.in_ok-placed.ensures.day c.in_ok-placed.ensures.state)

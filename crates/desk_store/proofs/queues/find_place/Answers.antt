@@ -1,22 +1,20 @@
 use Rattle.std.proofs.Common.{Ok, [], map, filter, nat_eq, ap, ◌∙◌}
 use Rattle.std.proofs.lemmas.Result.{IfOk-weaker}
-use Rattle.sqlite.specs.Held.{state}
 use Rattle.sqlite_trees.proofs.ListLemmas.{ascending-filter}
 use Rattle.desk_core.specs.DeskRows.{HoldingRow}
 use Rattle.office_tables.proofs.Reading.{first_shown}
-use Rattle.office_tables.proofs.RowReads.{asks}
 use Rattle.office_tables.proofs.Sorted.{only_order}
 use Rattle.desk_store.proofs.LoanRows.{by_container, by_container_total}
-use Rattle.desk_store.proofs.PlaceRows.{place_text, place_command, place_means, place_finds, place_faults, place_entry}
+use Rattle.desk_store.proofs.PlaceRows.{place_command, place_means, place_finds, place_faults, place_entry}
 use Rattle.office_tables.proofs.StatementEnds.{looks_up}
 use Rattle.desk_store.proofs.queues.find_place.Goals as goal
 
 pub find_one-requires : goal.find_one-requires
-find_one-requires g c = asks place_text 1 place_command (state g.S.Store c.args.conn.now) place_means c.requires.inside
+find_one-requires g c = record { count = 1; command = place_command; means = place_means g.P.Versioned.version }
 
 pub returns : goal.returns
 returns g c =
-    looks_up c.requires.inside c.find_one.ensures.reads (rw c.number.ensures at c.find_one.ensures.found) (rw c.number.ensures at c.find_one.ensures.missed)
+    looks_up g.P.Versioned.version c.find_one.ensures.reads (rw c.number.ensures at c.find_one.ensures.ran)
     (λ v has found xs stored up.
     let kept = filter (λ (h : HoldingRow). nat_eq c.args.container h.container) xs in
     let rising = ascending-filter _ (λ (h : HoldingRow). nat_eq c.args.container h.container) xs up in

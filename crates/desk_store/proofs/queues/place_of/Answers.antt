@@ -15,8 +15,8 @@ use Rattle.desk_store.proofs.queues.place_of.Goals as goal
 
 pub returns-in-Some : goal.returns-in-Some
 returns-in-Some g c =
-    let a = state g.S.Store c.args.conn.now in
-    let b = state g.S.Store c.find_place.new.conn in
+    let a = state g.S.Store c.args.tables.now in
+    let b = state g.S.Store c.find_place.new.tables in
     let looked = c.in_ok-entry.ensures.reads.looks in
     let entry = c.in-Some.entry in
     record {
@@ -36,7 +36,7 @@ returns-in-Some g c =
 pub returns-in-None : goal.returns-in-None
 returns-in-None g c =
     record {
-      tells = ends_well RepresentsDeskAlone IsLegible (λ _. ⊤) g.S.Store c.args.conn.now c.args.conn.now c.find_place.new.conn _ c.in_ok-entry.ensures.reads.looks _ (λ clean d shown.
+      tells = ends_well RepresentsDeskAlone IsLegible (λ _. ⊤) g.S.Store c.args.tables.now c.args.tables.now c.find_place.new.tables _ c.in_ok-entry.ensures.reads.looks _ (λ clean d shown.
           let there = c.in_ok-entry.ensures.answers clean d.holdings shown.holdings shown.holdings_rise in
           at_shelf (holding_of c.args.container d) (sym there ∙ c.in-None.is));
     }

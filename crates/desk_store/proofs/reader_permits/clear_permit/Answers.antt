@@ -1,16 +1,14 @@
 use Rattle.std.proofs.Common.{refl}
-use Rattle.sqlite.specs.Held.{state}
-use Rattle.office_tables.proofs.RowWrites.{ours}
 use Rattle.office_tables.proofs.StatementEnds.{thins_numbered}
-use Rattle.desk_store.proofs.PermitRows.{clear_permit_text, clear_permit_command, clear_permit_means, clear_permit_leaves, clear_permit_only, clear_permit_faults}
+use Rattle.desk_store.proofs.PermitRows.{clear_permit_command, clear_permit_means, clear_permit_leaves, clear_permit_only, clear_permit_faults}
 use Rattle.desk_store.proofs.reader_permits.clear_permit.Goals as goal
 
 pub change-requires : goal.change-requires
-change-requires g c = ours clear_permit_text 2 clear_permit_command (state g.S.Store c.args.conn.now) refl clear_permit_means c.requires.inside
+change-requires g c = record { count = 2; command = clear_permit_command; changes = refl; means = clear_permit_means g.P.Versioned.version }
 
 pub returns : goal.returns
 returns g c =
-    thins_numbered c.requires.inside c.change.ensures.leaves (rw (c.number.ensures, c.number-2.ensures) at c.change.ensures.ran)
+    thins_numbered g.P.Versioned.version c.change.ensures.leaves (rw (c.number.ensures, c.number-2.ensures) at c.change.ensures.ran)
     (λ v has ran ps shown. clear_permit_leaves _ _ c.args.ticket c.args.unit v has c.change.result ran ps shown)
     (λ v has ran. clear_permit_only _ _ c.args.ticket c.args.unit v has c.change.result ran)
     (λ v has ran free. clear_permit_faults _ _ c.args.ticket c.args.unit v has c.change.result ran free c.change.ensures.live)

@@ -11,17 +11,17 @@ use Rattle.desk_store.proofs.reader_permits.grant.Goals as goal
 
 pub returns-in_err-clear_permit-clause-makes : goal.returns-in_err-clear_permit-clause-makes
 returns-in_err-clear_permit-clause-makes g c =
-    let old = state g.S.Store c.args.conn.now in
-    let whole = not_cleared g.S.Store c.args.conn.now c.clear_permit.new.conn c.clear_permit.new.conn c.args.ticket c.args.unit c.args.until c.in_err-clear_permit.field-0.0 c.in_err-clear_permit.ensures in
+    let old = state g.S.Store c.args.tables.now in
+    let whole = not_cleared g.S.Store c.args.tables.now c.clear_permit.new.tables c.clear_permit.new.tables c.args.ticket c.args.unit c.args.until c.in_err-clear_permit.field-0.0 c.in_err-clear_permit.ensures in
     let e = c.from_residual.ensures in
-    subst (λ (r : Result Unit StoreFault). StoreUpdates g.S.Store RepresentsDeskAlone IsLegible c.args.conn.now c.clear_permit.new.conn r (MayHave c.args.ticket c.args.unit old.now.trees) (with_permit c.args.ticket c.args.unit c.args.until) (tables.permit.tree ∷ []))
+    subst (λ (r : Result Unit StoreFault). StoreUpdates g.S.Store RepresentsDeskAlone IsLegible c.args.tables.now c.clear_permit.new.tables r (MayHave c.args.ticket c.args.unit old.now.trees) (with_permit c.args.ticket c.args.unit c.args.until) (tables.permit.tree ∷ []))
     (sym (same_fault c.from_residual.result c.in_err-clear_permit.field-0.0 e.0 e.1)) whole
 
 pub returns : goal.returns
 returns g c =
     record {
-      makes = grants g.S.Store c.args.conn.now c.clear_permit.new.conn c.insert_permit.new.conn c.args.ticket c.args.unit c.args.until c.in_ok-clear_permit.ensures.leaves.goes c.in_ok-clear_permit.ensures.only c.in_ok-clear_permit.ensures.rows
+      makes = grants g.S.Store c.args.tables.now c.clear_permit.new.tables c.insert_permit.new.tables c.args.ticket c.args.unit c.args.until c.in_ok-clear_permit.ensures.leaves.goes c.in_ok-clear_permit.ensures.only c.in_ok-clear_permit.ensures.rows
           c.insert_permit.result c.insert_permit.ensures;
-      rows = rows_granted g.S.Store c.args.conn.now c.clear_permit.new.conn c.insert_permit.new.conn c.args.ticket c.args.unit c.args.until c.in_ok-clear_permit.ensures.leaves.goes c.in_ok-clear_permit.ensures.only c.in_ok-clear_permit.ensures.rows
+      rows = rows_granted g.S.Store c.args.tables.now c.clear_permit.new.tables c.insert_permit.new.tables c.args.ticket c.args.unit c.args.until c.in_ok-clear_permit.ensures.leaves.goes c.in_ok-clear_permit.ensures.only c.in_ok-clear_permit.ensures.rows
           c.insert_permit.result c.insert_permit.ensures;
     }

@@ -1,22 +1,20 @@
 use Rattle.std.proofs.Common.{map, filter, nat_eq, ◌&&◌, ap, ◌∙◌}
 use Rattle.std.proofs.lemmas.Result.{IfOk-weaker}
-use Rattle.sqlite.specs.Held.{state}
 use Rattle.sqlite_trees.proofs.ListLemmas.{ascending-filter}
 use Rattle.desk_core.specs.DeskRows.{OrderRow}
-use Rattle.office_tables.proofs.RowReads.{asks}
 use Rattle.office_tables.proofs.Sorted.{only_order}
 use Rattle.desk_store.specs.Readers.{is_live}
-use Rattle.desk_store.proofs.CardRows.{live_text, live_command, live_means, live_finds, live_faults, line_of, by_order, by_order_total}
+use Rattle.desk_store.proofs.CardRows.{live_command, live_means, live_finds, live_faults, line_of, by_order, by_order_total}
 use Rattle.office_tables.proofs.numbered.Counted.{counted_rises}
 use Rattle.office_tables.proofs.StatementEnds.{looks_up}
 use Rattle.desk_store.proofs.reader_summary.live_lines.Goals as goal
 
 pub find-requires : goal.find-requires
-find-requires g c = asks live_text 1 live_command (state g.S.Store c.args.conn.now) live_means c.requires.inside
+find-requires g c = record { count = 1; command = live_command; means = live_means g.P.Versioned.version }
 
 pub returns : goal.returns
 returns g c =
-    looks_up c.requires.inside c.find.ensures.reads (rw c.number.ensures at c.find.ensures.found) (rw c.number.ensures at c.find.ensures.missed)
+    looks_up g.P.Versioned.version c.find.ensures.reads (rw c.number.ensures at c.find.ensures.ran)
     (λ v has found xs stored counted.
     let kept = filter (λ (o : OrderRow). nat_eq c.args.ticket o.ticket && is_live o) xs in
     let rising = ascending-filter _ (λ (o : OrderRow). nat_eq c.args.ticket o.ticket && is_live o) xs (counted_rises (λ (o : OrderRow). o.id) 1 xs counted) in

@@ -1,22 +1,20 @@
 use Rattle.std.proofs.Common.{Ok, [], map, filter, nat_eq, ap, ◌∙◌}
 use Rattle.std.proofs.lemmas.Result.{IfOk-weaker}
-use Rattle.sqlite.specs.Held.{state}
 use Rattle.sqlite_trees.proofs.ListLemmas.{ascending-filter}
 use Rattle.desk_core.specs.DeskRows.{ReaderRow}
 use Rattle.office_tables.proofs.Reading.{first_shown}
-use Rattle.office_tables.proofs.RowReads.{asks}
 use Rattle.office_tables.proofs.Sorted.{only_order}
 use Rattle.office_tables.proofs.numbered.Counted.{counted_rises}
-use Rattle.desk_store.proofs.ReaderRows.{find_reader_text, find_reader_command, find_reader_means, find_reader_finds, find_reader_faults, named, by_ticket, by_ticket_total}
+use Rattle.desk_store.proofs.ReaderRows.{find_reader_command, find_reader_means, find_reader_finds, find_reader_faults, named, by_ticket, by_ticket_total}
 use Rattle.office_tables.proofs.StatementEnds.{looks_up}
 use Rattle.desk_store.proofs.readers.find_reader.Goals as goal
 
 pub find_one-requires : goal.find_one-requires
-find_one-requires g c = asks find_reader_text 1 find_reader_command (state g.S.Store c.args.conn.now) find_reader_means c.requires.inside
+find_one-requires g c = record { count = 1; command = find_reader_command; means = find_reader_means g.P.Versioned.version }
 
 pub returns : goal.returns
 returns g c =
-    looks_up c.requires.inside c.find_one.ensures.reads (rw c.number.ensures at c.find_one.ensures.found) (rw c.number.ensures at c.find_one.ensures.missed)
+    looks_up g.P.Versioned.version c.find_one.ensures.reads (rw c.number.ensures at c.find_one.ensures.ran)
     (λ v has found xs stored counted.
     let kept = filter (λ (r : ReaderRow). nat_eq c.args.ticket r.ticket) xs in
     let rising = ascending-filter _ (λ (r : ReaderRow). nat_eq c.args.ticket r.ticket) xs (counted_rises (λ (r : ReaderRow). r.ticket) 1 xs counted) in

@@ -1,15 +1,13 @@
 use Rattle.std.proofs.Common.{refl}
-use Rattle.sqlite.specs.Held.{state}
-use Rattle.office_tables.proofs.RowWrites.{ours}
-use Rattle.desk_store.proofs.ReaderRows.{insert_reader_text, insert_reader_command, insert_reader_means, insert_reader_puts, insert_reader_faults}
+use Rattle.desk_store.proofs.ReaderRows.{insert_reader_command, insert_reader_means, insert_reader_puts, insert_reader_faults}
 use Rattle.office_tables.proofs.StatementEnds.{puts_row}
 use Rattle.desk_store.proofs.readers.insert_reader.Goals as goal
 
 pub change-requires : goal.change-requires
-change-requires g c = ours insert_reader_text 3 insert_reader_command (state g.S.Store c.args.conn.now) refl insert_reader_means c.requires.inside
+change-requires g c = record { count = 3; command = insert_reader_command; changes = refl; means = insert_reader_means g.P.Versioned.version }
 
 pub returns : goal.returns
 returns g c =
-    puts_row c.requires.inside c.change.ensures.leaves (rw (c.number.ensures, c.words.ensures, c.day.ensures) at c.change.ensures.ran)
+    puts_row g.P.Versioned.version c.change.ensures.leaves (rw (c.number.ensures, c.words.ensures, c.day.ensures) at c.change.ensures.ran)
     (λ v has ran. insert_reader_puts _ _ (record { ticket = c.args.ticket; name = c.args.name.now; until = c.args.until }) v has c.change.result ran)
     (λ v has ran xs stored none free. insert_reader_faults _ _ (record { ticket = c.args.ticket; name = c.args.name.now; until = c.args.until }) v has xs stored none free c.change.ensures.live c.change.result ran)

@@ -12,7 +12,7 @@ use Rattle.desk_store.proofs.TellingCalls.{ends_well}
 
 pub returns-then-ticket-from-clause-tells : goal.returns-then-ticket-from-clause-tells
 returns-then-ticket-from-clause-tells g c =
-    ends_well RepresentsDeskAlone IsLegible (λ _. ⊤) g.S.Store c.args.conn.now c.args.conn.now c.args.conn.now _ (looks_nowhere (state g.S.Store c.args.conn.now) c.requires.inside) false (λ clean d shown.
+    ends_well RepresentsDeskAlone IsLegible (λ _. ⊤) g.S.Store c.args.tables.now c.args.tables.now c.args.tables.now _ (looks_nowhere (state g.S.Store c.args.tables.now)) false (λ clean d shown.
     let few = shown.few_tickets in
     let over = c.if-ticket-from.true in
     let most = c.from.ensures in
@@ -20,5 +20,5 @@ returns-then-ticket-from-clause-tells g c =
 
 pub returns-clause-tells : goal.returns-clause-tells
 returns-clause-tells g c =
-    ends_well RepresentsDeskAlone IsLegible (λ _. ⊤) g.S.Store c.args.conn.now c.args.conn.now c.find_reader.new.conn _ c.in_ok-found.ensures.reads.looks _ (λ clean d shown.
+    ends_well RepresentsDeskAlone IsLegible (λ _. ⊤) g.S.Store c.args.tables.now c.args.tables.now c.find_reader.new.tables _ c.in_ok-found.ensures.reads.looks _ (λ clean d shown.
     c.is_some.ensures ∙ ap is_some (c.in_ok-found.ensures.answers clean d.readers shown.readers shown.tickets) ∙ some_mapped named (reader_with c.args.ticket d))

@@ -14,8 +14,8 @@ use Rattle.desk_store.proofs.readers.renew.Goals as goal
 
 pub returns : goal.returns
 returns g c =
-    let old = state g.S.Store c.args.conn.now in
-    let new = state g.S.Store c.set_last_day.new.conn in
+    let old = state g.S.Store c.args.tables.now in
+    let new = state g.S.Store c.set_last_day.new.tables in
     record {
       makes = record {
         represents_updated = λ clean beside d shown may. on_ok_then c.set_last_day.result _ _ (λ has.
@@ -25,7 +25,7 @@ returns g c =
         only = c.set_last_day.ensures.only;
         goes = c.set_last_day.ensures.leaves.goes;
         cut = c.set_last_day.ensures.leaves.cut;
-        spares = λ clean. untouched_last (tables.reader.tree ∷ []) (state g.S.Store c.args.conn.now) (state g.S.Store c.set_last_day.new.conn) c.set_last_day.result (c.set_last_day.ensures.leaves.spares clean);
+        spares = λ clean. untouched_last (tables.reader.tree ∷ []) (state g.S.Store c.args.tables.now) (state g.S.Store c.set_last_day.new.tables) c.set_last_day.result (c.set_last_day.ensures.leaves.spares clean);
         faults = λ beside d shown may kept. c.set_last_day.ensures.faults d.readers shown.readers shown.tickets;
       };
     }

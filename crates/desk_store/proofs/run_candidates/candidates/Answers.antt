@@ -12,13 +12,13 @@ use Rattle.desk_store.proofs.TellingCalls.{ends_well}
 
 pub returns : goal.returns
 returns g c =
-    let a = state g.S.Store c.args.conn.now in
-    let b = state g.S.Store c.waiting_orders.new.conn in
-    let z = state g.S.Store c.holding_lines.new.conn in
+    let a = state g.S.Store c.args.tables.now in
+    let b = state g.S.Store c.waiting_orders.new.tables in
+    let z = state g.S.Store c.holding_lines.new.tables in
     let one = c.in_ok-orders.ensures.reads.looks in
     let two = c.in_ok-lines.ensures.reads.looks in
     record {
-      tells = ends_well RepresentsDeskAlone IsLegible (λ _. ⊤) g.S.Store c.args.conn.now c.args.conn.now c.holding_lines.new.conn _ (looks_then a b z one two) _ (λ clean d shown.
+      tells = ends_well RepresentsDeskAlone IsLegible (λ _. ⊤) g.S.Store c.args.tables.now c.args.tables.now c.holding_lines.new.tables _ (looks_then a b z one two) _ (λ clean d shown.
           let before = early b z _ two.goes.on.crash clean in
           let shown_b = shown_on RepresentsDeskAlone a b one before d shown in
           let orders = c.deref-2.ensures.value ∙ c.in_ok-orders.ensures.answers before d.orders shown.orders shown.order_numbers in

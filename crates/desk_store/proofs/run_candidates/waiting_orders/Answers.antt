@@ -1,22 +1,20 @@
 use Rattle.std.proofs.Common.{map, filter, nat_eq, ap, ◌∙◌}
 use Rattle.std.proofs.lemmas.Result.{IfOk-weaker}
-use Rattle.sqlite.specs.Held.{state}
 use Rattle.sqlite_trees.proofs.ListLemmas.{ascending-filter}
 use Rattle.desk_core.specs.DeskRows.{OrderRow}
-use Rattle.office_tables.proofs.RowReads.{asks}
 use Rattle.office_tables.proofs.Sorted.{only_order}
 use Rattle.desk_store.proofs.CardRows.{by_order, by_order_total}
 use Rattle.office_tables.proofs.numbered.Counted.{counted_rises}
-use Rattle.desk_store.proofs.PickingRows.{all_text, all_command, all_means, all_finds, all_faults, first_of}
+use Rattle.desk_store.proofs.PickingRows.{all_command, all_means, all_finds, all_faults, first_of}
 use Rattle.office_tables.proofs.StatementEnds.{looks_up}
 use Rattle.desk_store.proofs.run_candidates.waiting_orders.Goals as goal
 
 pub find-requires : goal.find-requires
-find-requires g c = asks all_text 0 all_command (state g.S.Store c.args.conn.now) all_means c.requires.inside
+find-requires g c = record { count = 0; command = all_command; means = all_means g.P.Versioned.version }
 
 pub returns : goal.returns
 returns g c =
-    looks_up c.requires.inside c.find.ensures.reads c.find.ensures.found c.find.ensures.missed
+    looks_up g.P.Versioned.version c.find.ensures.reads c.find.ensures.ran
     (λ v has found xs stored counted.
     let kept = filter (λ (o : OrderRow). nat_eq 1 o.state) xs in
     let rising = ascending-filter _ (λ (o : OrderRow). nat_eq 1 o.state) xs (counted_rises (λ (o : OrderRow). o.id) 1 xs counted) in

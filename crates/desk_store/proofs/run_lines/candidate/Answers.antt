@@ -14,15 +14,15 @@ pub returns-in_err-written : goal.returns-in_err-written
 returns-in_err-written g c =
     let e = c.from_residual.ensures in
     record {
-      tells = ends_not RepresentsQueues IsLegibleStacks (IsKnownLine c.args.line.now) g.S.Store c.args.conn.now c.args.conn.now c.box_of.new.conn _ (looks_nowhere (state g.S.Store c.args.conn.now) c.requires.inside)
+      tells = ends_not RepresentsQueues IsLegibleStacks (IsKnownLine c.args.line.now) g.S.Store c.args.tables.now c.args.tables.now c.box_of.new.tables _ (looks_nowhere (state g.S.Store c.args.tables.now))
           c.in_err-written.field-0.0 c.in_err-written.ensures.tells.cut c.in_err-written.ensures.tells.spares (λ s shown may kept. c.in_err-written.ensures.tells.faults tt s shown tt kept)
           c.from_residual.result (same_fault c.from_residual.result c.in_err-written.field-0.0 e.0 e.1);
     }
 
 pub returns-in_default : goal.returns-in_default
 returns-in_default g c =
-    let a = state g.S.Store c.args.conn.now in
-    let b = state g.S.Store c.box_of.new.conn in
+    let a = state g.S.Store c.args.tables.now in
+    let b = state g.S.Store c.box_of.new.tables in
     record {
       tells = record {
         answers = λ clean beside s shown. tt;
@@ -37,6 +37,6 @@ returns-in_default g c =
 pub returns : goal.returns
 returns g c =
     record {
-      tells = ends_well RepresentsQueues IsLegibleStacks (IsKnownLine c.args.line.now) g.S.Store c.args.conn.now c.args.conn.now c.box_of.new.conn _ c.in_ok-written.ensures.tells.looks _ (λ clean s shown.
+      tells = ends_well RepresentsQueues IsLegibleStacks (IsKnownLine c.args.line.now) g.S.Store c.args.tables.now c.args.tables.now c.box_of.new.tables _ c.in_ok-written.ensures.tells.looks _ (λ clean s shown.
           line_told c.args.line.now s c.in-Some.written (box_with c.args.line.now.container s) refl (sym (c.in_ok-written.ensures.tells.answers clean tt s shown) ∙ c.in-Some.is));
     }

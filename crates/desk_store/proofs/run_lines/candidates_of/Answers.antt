@@ -23,7 +23,7 @@ returns-in_err-candidate g c =
     let i = c.loop-line.line-index in
     let none : TakenLine = record { container = 0; order = 0; ticket = 0 } in
     record {
-      tells = ends_not RepresentsQueues IsLegibleStacks (λ (s : Stacks). AllByRecursion (λ l. IsKnownLine l s) lines) g.S.Store c.args.conn.now c.loop-line.conn c.candidate.new.conn _ c.loop-line.invariant.looks
+      tells = ends_not RepresentsQueues IsLegibleStacks (λ (s : Stacks). AllByRecursion (λ l. IsKnownLine l s) lines) g.S.Store c.args.tables.now c.loop-line.tables c.candidate.new.tables _ c.loop-line.invariant.looks
           c.in_err-candidate.field-0.0 c.in_err-candidate.ensures.tells.cut c.in_err-candidate.ensures.tells.spares
           (λ s shown may kept. c.in_err-candidate.ensures.tells.faults tt s shown (all_has (λ l. IsKnownLine l s) lines (get_or lines i none) may (has_at lines i none c.loop-line-test.true)) kept)
           c.from_residual.result (same_fault c.from_residual.result c.in_err-candidate.field-0.0 e.0 e.1);
@@ -31,21 +31,21 @@ returns-in_err-candidate g c =
 
 pub returns-in_err-push : goal.returns-in_err-push
 returns-in_err-push g c =
-    let a = state g.S.Store c.args.conn.now in
-    let b = state g.S.Store c.loop-line.conn in
-    let z = state g.S.Store c.candidate.new.conn in
+    let a = state g.S.Store c.args.tables.now in
+    let b = state g.S.Store c.loop-line.tables in
+    let z = state g.S.Store c.candidate.new.tables in
     let e = c.from_residual-in_err-push.ensures in
     record {
-      tells = ends_full RepresentsQueues IsLegibleStacks (λ (s : Stacks). AllByRecursion (λ l. IsKnownLine l s) c.args.lines.now) g.S.Store c.args.conn.now c.args.conn.now c.candidate.new.conn _
+      tells = ends_full RepresentsQueues IsLegibleStacks (λ (s : Stacks). AllByRecursion (λ l. IsKnownLine l s) c.args.lines.now) g.S.Store c.args.tables.now c.args.tables.now c.candidate.new.tables _
           (looks_then a b z c.loop-line.invariant.looks c.in_ok-candidate.ensures.tells.looks)
           c.from_residual-in_err-push.result (same_fault c.from_residual-in_err-push.result Memory e.0 e.1);
     }
 
 pub loop-line-preserved : goal.loop-line-preserved
 loop-line-preserved g c =
-    let a = state g.S.Store c.args.conn.now in
-    let b = state g.S.Store c.loop-line.conn in
-    let z = state g.S.Store c.candidate.new.conn in
+    let a = state g.S.Store c.args.tables.now in
+    let b = state g.S.Store c.loop-line.tables in
+    let z = state g.S.Store c.candidate.new.tables in
     let last = c.in_ok-candidate.ensures.tells.looks in
     let looked = c.loop-line.invariant.looks in
     let lines = c.args.lines.now in

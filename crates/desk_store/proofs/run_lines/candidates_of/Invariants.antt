@@ -8,7 +8,7 @@ use Rattle.desk_store.proofs.run_lines.candidates_of.Given as goal
 
 abbrev pub invariant-loop-line : goal.invariant-loop-line
 invariant-loop-line g l = record {
-  looks : LeavesUnchanged (state g.S.Store l.fn.conn) (state g.S.Store l.conn);
-  so_far : HasCleanDisk (state g.S.Store l.conn) → (s : Stacks) → RepresentsQueues (state g.S.Store l.fn.conn).now tt s
+  looks : LeavesUnchanged (state g.S.Store l.fn.tables) (state g.S.Store l.tables);
+  so_far : HasCleanDisk (state g.S.Store l.tables) → (s : Stacks) → RepresentsQueues (state g.S.Store l.fn.tables).now tt s
       → AllZip (IsToldLine s) (take l.line-index l.fn.lines) l.told.items;
 }

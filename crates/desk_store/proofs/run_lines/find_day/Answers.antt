@@ -1,22 +1,20 @@
 use Rattle.std.proofs.Common.{Ok, [], map, filter, nat_eq, ap, ◌∙◌}
 use Rattle.std.proofs.lemmas.Result.{IfOk-weaker}
-use Rattle.sqlite.specs.Held.{state}
 use Rattle.sqlite_trees.proofs.ListLemmas.{ascending-filter}
 use Rattle.desk_core.specs.DeskRows.{RunRow}
 use Rattle.office_tables.proofs.Reading.{first_shown}
-use Rattle.office_tables.proofs.RowReads.{asks}
 use Rattle.office_tables.proofs.Sorted.{only_order}
-use Rattle.desk_store.proofs.BroughtRows.{day_text, day_command, day_means, day_finds, day_faults, day_of, by_run, by_run_total}
+use Rattle.desk_store.proofs.BroughtRows.{day_command, day_means, day_finds, day_faults, day_of, by_run, by_run_total}
 use Rattle.office_tables.proofs.numbered.Counted.{counted_rises}
 use Rattle.office_tables.proofs.StatementEnds.{looks_up}
 use Rattle.desk_store.proofs.run_lines.find_day.Goals as goal
 
 pub find_one-requires : goal.find_one-requires
-find_one-requires g c = asks day_text 1 day_command (state g.S.Store c.args.conn.now) day_means c.requires.inside
+find_one-requires g c = record { count = 1; command = day_command; means = day_means g.P.Versioned.version }
 
 pub returns : goal.returns
 returns g c =
-    looks_up c.requires.inside c.find_one.ensures.reads (rw c.number.ensures at c.find_one.ensures.found) (rw c.number.ensures at c.find_one.ensures.missed)
+    looks_up g.P.Versioned.version c.find_one.ensures.reads (rw c.number.ensures at c.find_one.ensures.ran)
     (λ v has found xs stored counted.
     let kept = filter (λ (x : RunRow). nat_eq c.args.run x.id) xs in
     let rising = ascending-filter _ (λ (x : RunRow). nat_eq c.args.run x.id) xs (counted_rises (λ (x : RunRow). x.id) 1 xs counted) in

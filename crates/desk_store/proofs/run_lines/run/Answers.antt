@@ -14,7 +14,7 @@ use Rattle.desk_store.proofs.run_lines.run.Goals as goal
 pub returns-then-run-from : goal.returns-then-run-from
 returns-then-run-from g c =
     record {
-      tells = ends_well RepresentsQueues IsLegibleStacks (AreKnown c.args.run) g.S.Store c.args.conn.now c.args.conn.now c.args.conn.now _ (looks_nowhere (state g.S.Store c.args.conn.now) c.requires.inside) None (λ clean s shown.
+      tells = ends_well RepresentsQueues IsLegibleStacks (AreKnown c.args.run) g.S.Store c.args.tables.now c.args.tables.now c.args.tables.now _ (looks_nowhere (state g.S.Store c.args.tables.now)) None (λ clean s shown.
           let few = shown.desk.few_runs in
           let over = c.if-run-from.true in
           let most = c.from.ensures in
@@ -24,7 +24,7 @@ returns-then-run-from g c =
 pub returns-in_default : goal.returns-in_default
 returns-in_default g c =
     record {
-      tells = ends_well RepresentsQueues IsLegibleStacks (AreKnown c.args.run) g.S.Store c.args.conn.now c.args.conn.now c.find_day.new.conn _ c.in_ok-made.ensures.reads.looks None (λ clean s shown.
+      tells = ends_well RepresentsQueues IsLegibleStacks (AreKnown c.args.run) g.S.Store c.args.tables.now c.args.tables.now c.find_day.new.tables _ c.in_ok-made.ensures.reads.looks None (λ clean s shown.
           let there = c.in_ok-made.ensures.answers clean s.desk.runs shown.desk.runs shown.desk.run_numbers in
           none_told s (run_with c.args.run s.desk) (sym there ∙ c.in_default.is));
     }
@@ -33,20 +33,20 @@ pub returns-in_err-lines : goal.returns-in_err-lines
 returns-in_err-lines g c =
     let e = c.from_residual-in_err-lines.ensures in
     record {
-      tells = ends_not RepresentsQueues IsLegibleStacks (AreKnown c.args.run) g.S.Store c.args.conn.now c.find_day.new.conn c.lines_with.new.conn _ c.in_ok-made.ensures.reads.looks
+      tells = ends_not RepresentsQueues IsLegibleStacks (AreKnown c.args.run) g.S.Store c.args.tables.now c.find_day.new.tables c.lines_with.new.tables _ c.in_ok-made.ensures.reads.looks
           c.in_err-lines.field-0.0 c.in_err-lines.ensures.reads.cut c.in_err-lines.ensures.reads.spares (λ s shown may kept. c.in_err-lines.ensures.faults s.desk.run_lines shown.desk.run_lines tt)
           c.from_residual-in_err-lines.result (same_fault c.from_residual-in_err-lines.result c.in_err-lines.field-0.0 e.0 e.1);
     }
 
 pub returns-in_err-told : goal.returns-in_err-told
 returns-in_err-told g c =
-    let a = state g.S.Store c.args.conn.now in
-    let b = state g.S.Store c.find_day.new.conn in
-    let l = state g.S.Store c.lines_with.new.conn in
-    let z = state g.S.Store c.candidates_of.new.conn in
+    let a = state g.S.Store c.args.tables.now in
+    let b = state g.S.Store c.find_day.new.tables in
+    let l = state g.S.Store c.lines_with.new.tables in
+    let z = state g.S.Store c.candidates_of.new.tables in
     let e = c.from_residual-in_err-told.ensures in
     record {
-      tells = ends_not RepresentsQueues IsLegibleStacks (AreKnown c.args.run) g.S.Store c.args.conn.now c.lines_with.new.conn c.candidates_of.new.conn _ (looks_then a b l c.in_ok-made.ensures.reads.looks c.in_ok-lines.ensures.reads.looks)
+      tells = ends_not RepresentsQueues IsLegibleStacks (AreKnown c.args.run) g.S.Store c.args.tables.now c.lines_with.new.tables c.candidates_of.new.tables _ (looks_then a b l c.in_ok-made.ensures.reads.looks c.in_ok-lines.ensures.reads.looks)
           c.in_err-told.field-0.0 c.in_err-told.ensures.tells.cut c.in_err-told.ensures.tells.spares (λ s shown may kept clean.
           let before = early l z _ c.in_err-told.ensures.tells.cut.crash clean in
           let shown_b = shown_back RepresentsQueues b l c.in_ok-lines.ensures.reads.looks before s shown in
@@ -57,15 +57,15 @@ returns-in_err-told g c =
 
 pub returns : goal.returns
 returns g c =
-    let a = state g.S.Store c.args.conn.now in
-    let b = state g.S.Store c.find_day.new.conn in
-    let l = state g.S.Store c.lines_with.new.conn in
-    let z = state g.S.Store c.candidates_of.new.conn in
+    let a = state g.S.Store c.args.tables.now in
+    let b = state g.S.Store c.find_day.new.tables in
+    let l = state g.S.Store c.lines_with.new.tables in
+    let z = state g.S.Store c.candidates_of.new.tables in
     let one = c.in_ok-made.ensures.reads.looks in
     let two = looks_then a b l one c.in_ok-lines.ensures.reads.looks in
     let three = c.in_ok-told.ensures.tells.looks in
     record {
-      tells = ends_well RepresentsQueues IsLegibleStacks (AreKnown c.args.run) g.S.Store c.args.conn.now c.args.conn.now c.candidates_of.new.conn _ (looks_then a l z two three) _ (λ clean s shown.
+      tells = ends_well RepresentsQueues IsLegibleStacks (AreKnown c.args.run) g.S.Store c.args.tables.now c.args.tables.now c.candidates_of.new.tables _ (looks_then a l z two three) _ (λ clean s shown.
           let at_l = early l z _ three.goes.on.crash clean in
           let at_b = early b l _ c.in_ok-lines.ensures.reads.crash at_l in
           let shown_b = shown_on RepresentsQueues a b one at_b s shown in

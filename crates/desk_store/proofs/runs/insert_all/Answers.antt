@@ -16,19 +16,19 @@ both = tables.run.tree ∷ tables.run_line.tree ∷ []
 
 pub returns-in_err-insert_run : goal.returns-in_err-insert_run
 returns-in_err-insert_run g c =
-    let a = state g.S.Store c.args.conn.now in
-    let b = state g.S.Store c.insert_run.new.conn in
+    let a = state g.S.Store c.args.tables.now in
+    let b = state g.S.Store c.insert_run.new.tables in
     let e = c.in_err-insert_run.field-0.0 in
     let handed = c.from_residual.ensures in
     let last = c.in_err-insert_run.ensures in
-    makes_not g.S.Store _ _ _ c.args.conn.now c.insert_run.new.conn c.from_residual.result _ both e (same_fault c.from_residual.result e handed.0 handed.1) last.leaves.cut last.leaves.spares
+    makes_not g.S.Store _ _ _ c.args.tables.now c.insert_run.new.tables c.from_residual.result _ both e (same_fault c.from_residual.result e handed.0 handed.1) last.leaves.cut last.leaves.spares
     (λ beside d shown is once. last.faults d.runs shown.runs (run_free a b b c.args.run c.args.on c.args.taken.now d shown is))
 
 pub returns : goal.returns
 returns g c =
-    let a = state g.S.Store c.args.conn.now in
-    let b = state g.S.Store c.insert_run.new.conn in
-    let d = state g.S.Store c.insert_lines.new.conn in
+    let a = state g.S.Store c.args.tables.now in
+    let b = state g.S.Store c.insert_run.new.tables in
+    let d = state g.S.Store c.insert_lines.new.tables in
     let r = c.insert_lines.result in
     let put = c.in_ok-insert_run.ensures in
     let goes = put.leaves.goes in

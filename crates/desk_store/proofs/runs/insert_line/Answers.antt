@@ -1,16 +1,14 @@
 use Rattle.std.proofs.Common.{refl}
-use Rattle.sqlite.specs.Held.{state}
-use Rattle.office_tables.proofs.RowWrites.{ours}
 use Rattle.office_tables.proofs.StatementEnds.{puts_numbered}
 use Rattle.desk_store.specs.Runs.{line_of}
-use Rattle.desk_store.proofs.RunRows.{insert_line_text, insert_line_command, insert_line_means, insert_line_puts, insert_line_faults}
+use Rattle.desk_store.proofs.RunRows.{insert_line_command, insert_line_means, insert_line_puts, insert_line_faults}
 use Rattle.desk_store.proofs.runs.insert_line.Goals as goal
 
 pub change-requires : goal.change-requires
-change-requires g c = ours insert_line_text 4 insert_line_command (state g.S.Store c.args.conn.now) refl insert_line_means c.requires.inside
+change-requires g c = record { count = 4; command = insert_line_command; changes = refl; means = insert_line_means g.P.Versioned.version }
 
 pub returns : goal.returns
 returns g c =
-    puts_numbered c.requires.inside c.change.ensures.leaves (rw (c.number.ensures, c.number-2.ensures, c.number-3.ensures, c.number-4.ensures) at c.change.ensures.ran)
+    puts_numbered g.P.Versioned.version c.change.ensures.leaves (rw (c.number.ensures, c.number-2.ensures, c.number-3.ensures, c.number-4.ensures) at c.change.ensures.ran)
     (λ v has ran. insert_line_puts _ _ (line_of c.args.run c.args.line) v has c.change.result ran)
     (λ v has ran ls shown none free. insert_line_faults _ _ (line_of c.args.run c.args.line) v has ls shown none free c.change.ensures.live c.change.result ran)

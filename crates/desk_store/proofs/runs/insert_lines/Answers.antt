@@ -17,46 +17,43 @@ use Rattle.desk_store.proofs.runs.insert_lines.Goals as goal
 
 pub loop-line-preserved : goal.loop-line-preserved
 loop-line-preserved g c =
-    let a = state g.S.Store c.args.conn.now in
-    let b = state g.S.Store c.loop-line.conn in
-    let d = state g.S.Store c.insert_line.new.conn in
+    let a = state g.S.Store c.args.tables.now in
+    let b = state g.S.Store c.loop-line.tables in
+    let d = state g.S.Store c.insert_line.new.tables in
     let invariant = c.loop-line.invariant in
     let last = c.in_ok-insert_line.ensures.leaves.goes in
     let i = c.loop-line.line-index in
     let low : i < length c.args.taken.now = omega (arith, c.loop-line-test.true) in (
-      invariant.0,
+      goes_then a b d invariant.0 last,
       (
-        goes_then a b d invariant.1.0 last,
-        (
-          λ clean. touched_again (tables.run_line.tree ∷ []) a.now b.now d.now (invariant.1.1.0 (early b d _ last.on.crash clean)) (c.in_ok-insert_line.ensures.puts clean).only,
-          λ clean ls at.
-              let before = invariant.1.1.1 (early b d _ last.on.crash clean) ls at in
-              let put = c.in_ok-insert_line.ensures.puts clean in
-              let one = one_at_end run_line_cells (λ _. refl) (b.now.trees tables.run_line.tree) (d.now.trees tables.run_line.tree) _ (next_rowid (b.now.trees tables.run_line.tree)) _ before put.rows put.fresh in
-              subst (HasNumbered run_line_cells (d.now.trees tables.run_line.tree)) (line_more c.args.run ls c.args.taken.now i _ low) one,
-        ),
+        λ clean. touched_again (tables.run_line.tree ∷ []) a.now b.now d.now (invariant.1.0 (early b d _ last.on.crash clean)) (c.in_ok-insert_line.ensures.puts clean).only,
+        λ clean ls at.
+            let before = invariant.1.1 (early b d _ last.on.crash clean) ls at in
+            let put = c.in_ok-insert_line.ensures.puts clean in
+            let one = one_at_end run_line_cells (λ _. refl) (b.now.trees tables.run_line.tree) (d.now.trees tables.run_line.tree) _ (next_rowid (b.now.trees tables.run_line.tree)) _ before put.rows put.fresh in
+            subst (HasNumbered run_line_cells (d.now.trees tables.run_line.tree)) (line_more c.args.run ls c.args.taken.now i _ low) one,
       ),
     )
 
 pub returns-in_err-insert_line : goal.returns-in_err-insert_line
 returns-in_err-insert_line g c =
-    let b = state g.S.Store c.loop-line.conn in
-    let d = state g.S.Store c.insert_line.new.conn in
-    let so_far = c.loop-line.invariant.1 in
+    let b = state g.S.Store c.loop-line.tables in
+    let d = state g.S.Store c.insert_line.new.tables in
+    let so_far = c.loop-line.invariant in
     let i = c.loop-line.line-index in
     let low : i < length c.args.taken.now = omega (arith, c.loop-line-test.true) in
     let touched = tables.run_line.tree ∷ [] in
     let e = c.in_err-insert_line.field-0.0 in
     let handed = c.from_residual.ensures in
     let last = c.in_err-insert_line.ensures in
-    makes_cut g.S.Store _ _ _ c.args.conn.now c.loop-line.conn c.insert_line.new.conn c.from_residual.result _ touched e (same_fault c.from_residual.result e handed.0 handed.1)
+    makes_cut g.S.Store _ _ _ c.args.tables.now c.loop-line.tables c.insert_line.new.tables c.from_residual.result _ touched e (same_fault c.from_residual.result e handed.0 handed.1)
     so_far.0.on so_far.1.0 last.leaves.cut (λ clean. untouched touched b d e (last.leaves.spares clean))
     (λ beside ls at may kept before clean free. last.faults _ (so_far.1.1 before ls at) (free_line c.args.run ls c.args.taken.now i _ kept.0 kept.1 low) clean free)
 
 pub returns : goal.returns
 returns g c =
-    let d = state g.S.Store c.loop-line.conn in
-    let so_far = c.loop-line.invariant.1 in
+    let d = state g.S.Store c.loop-line.tables in
+    let so_far = c.loop-line.invariant in
     let all = take_all c.loop-line.line-index c.args.taken.now (omega (arith, c.loop-line-test.false)) in
     record {
       represents_updated = λ clean beside ls at may.

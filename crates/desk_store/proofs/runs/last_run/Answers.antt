@@ -1,14 +1,12 @@
-use Rattle.sqlite.specs.Held.{state}
-use Rattle.office_tables.proofs.RowReads.{asks}
-use Rattle.desk_store.proofs.RunRows.{last_run_text, last_run_command, last_run_means, last_run_finds, last_run_faults}
+use Rattle.desk_store.proofs.RunRows.{last_run_command, last_run_means, last_run_finds, last_run_faults}
 use Rattle.office_tables.proofs.StatementEnds.{looks_up}
 use Rattle.desk_store.proofs.runs.last_run.Goals as goal
 
 pub find_number-requires : goal.find_number-requires
-find_number-requires g c = asks last_run_text 0 last_run_command (state g.S.Store c.args.conn.now) last_run_means c.requires.inside
+find_number-requires g c = record { count = 0; command = last_run_command; means = last_run_means g.P.Versioned.version }
 
 pub returns : goal.returns
 returns g c =
-    looks_up c.requires.inside c.find_number.ensures.reads c.find_number.ensures.found c.find_number.ensures.missed
+    looks_up g.P.Versioned.version c.find_number.ensures.reads c.find_number.ensures.ran
     (λ v has found xs stored counted. last_run_finds _ _ v has xs stored counted c.find_number.result found)
     (λ v has missed xs stored both free. last_run_faults _ _ v has xs stored both.0 c.find_number.result both.1 free missed)

@@ -1,16 +1,14 @@
 use Rattle.std.proofs.Common.{refl}
-use Rattle.sqlite.specs.Held.{state}
-use Rattle.office_tables.proofs.RowWrites.{ours}
-use Rattle.desk_store.proofs.SeatRows.{clear_seat_text, clear_seat_command, clear_seat_means, clear_seat_leaves, clear_seat_only, clear_seat_faults}
+use Rattle.desk_store.proofs.SeatRows.{clear_seat_command, clear_seat_means, clear_seat_leaves, clear_seat_only, clear_seat_faults}
 use Rattle.office_tables.proofs.StatementEnds.{thins}
 use Rattle.desk_store.proofs.taken_seats.clear_seat.Goals as goal
 
 pub change-requires : goal.change-requires
-change-requires g c = ours clear_seat_text 1 clear_seat_command (state g.S.Store c.args.conn.now) refl clear_seat_means c.requires.inside
+change-requires g c = record { count = 1; command = clear_seat_command; changes = refl; means = clear_seat_means g.P.Versioned.version }
 
 pub returns : goal.returns
 returns g c =
-    thins c.requires.inside c.change.ensures.leaves (rw c.number.ensures at c.change.ensures.ran)
+    thins g.P.Versioned.version c.change.ensures.leaves (rw c.number.ensures at c.change.ensures.ran)
     (λ v has ran xs stored up. clear_seat_leaves _ _ c.args.seat v has c.change.result ran xs stored up)
     (λ v has ran. clear_seat_only _ _ c.args.seat v has c.change.result ran)
     (λ v has ran free. clear_seat_faults _ _ c.args.seat v has c.change.result ran free c.change.ensures.live)

@@ -1,21 +1,19 @@
 use Rattle.std.proofs.Common.{Ok, [], map, filter, nat_eq, ap, ◌∙◌}
 use Rattle.std.proofs.lemmas.Result.{IfOk-weaker}
-use Rattle.sqlite.specs.Held.{state}
 use Rattle.sqlite_trees.proofs.ListLemmas.{ascending-filter}
 use Rattle.desk_core.specs.DeskRows.{SeatRow}
 use Rattle.office_tables.proofs.Reading.{first_shown}
-use Rattle.office_tables.proofs.RowReads.{asks}
 use Rattle.office_tables.proofs.Sorted.{only_order}
-use Rattle.desk_store.proofs.SeatRows.{find_seat_text, find_seat_command, find_seat_means, find_seat_finds, find_seat_faults, taken, by_seat, by_seat_total}
+use Rattle.desk_store.proofs.SeatRows.{find_seat_command, find_seat_means, find_seat_finds, find_seat_faults, taken, by_seat, by_seat_total}
 use Rattle.office_tables.proofs.StatementEnds.{looks_up}
 use Rattle.desk_store.proofs.taken_seats.find_seat.Goals as goal
 
 pub find_one-requires : goal.find_one-requires
-find_one-requires g c = asks find_seat_text 1 find_seat_command (state g.S.Store c.args.conn.now) find_seat_means c.requires.inside
+find_one-requires g c = record { count = 1; command = find_seat_command; means = find_seat_means g.P.Versioned.version }
 
 pub returns : goal.returns
 returns g c =
-    looks_up c.requires.inside c.find_one.ensures.reads (rw c.number.ensures at c.find_one.ensures.found) (rw c.number.ensures at c.find_one.ensures.missed)
+    looks_up g.P.Versioned.version c.find_one.ensures.reads (rw c.number.ensures at c.find_one.ensures.ran)
     (λ v has found xs stored up.
     let kept = filter (λ (s : SeatRow). nat_eq c.args.ticket s.ticket) xs in
     let rising = ascending-filter _ (λ (s : SeatRow). nat_eq c.args.ticket s.ticket) xs up in

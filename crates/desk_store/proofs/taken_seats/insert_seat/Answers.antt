@@ -1,15 +1,13 @@
 use Rattle.std.proofs.Common.{refl}
-use Rattle.sqlite.specs.Held.{state}
-use Rattle.office_tables.proofs.RowWrites.{ours}
-use Rattle.desk_store.proofs.SeatRows.{insert_seat_text, insert_seat_command, insert_seat_means, insert_seat_puts, insert_seat_faults}
+use Rattle.desk_store.proofs.SeatRows.{insert_seat_command, insert_seat_means, insert_seat_puts, insert_seat_faults}
 use Rattle.office_tables.proofs.StatementEnds.{puts_row}
 use Rattle.desk_store.proofs.taken_seats.insert_seat.Goals as goal
 
 pub change-requires : goal.change-requires
-change-requires g c = ours insert_seat_text 2 insert_seat_command (state g.S.Store c.args.conn.now) refl insert_seat_means c.requires.inside
+change-requires g c = record { count = 2; command = insert_seat_command; changes = refl; means = insert_seat_means g.P.Versioned.version }
 
 pub returns : goal.returns
 returns g c =
-    puts_row c.requires.inside c.change.ensures.leaves (rw (c.number.ensures, c.number-2.ensures) at c.change.ensures.ran)
+    puts_row g.P.Versioned.version c.change.ensures.leaves (rw (c.number.ensures, c.number-2.ensures) at c.change.ensures.ran)
     (λ v has ran. insert_seat_puts _ _ (record { seat = c.args.seat; ticket = c.args.ticket }) v has c.change.result ran)
     (λ v has ran xs stored both free. insert_seat_faults _ _ (record { seat = c.args.seat; ticket = c.args.ticket }) v has xs stored both.0 both.1 free c.change.ensures.live c.change.result ran)

@@ -2,25 +2,23 @@ use Rattle.std.proofs.Common.{Ok, List, [], map, filter, take, refl, sym, ap, �
 use Rattle.std.specs.Prelude.{slice_get}
 use Rattle.std.proofs.lemmas.List.{take-map}
 use Rattle.std.proofs.lemmas.Result.{IfOk-weaker}
-use Rattle.sqlite.specs.Held.{state}
 use Rattle.sqlite_trees.proofs.ListLemmas.{ascending-filter}
 use Rattle.desk_core.specs.DeskRows.{OrderRow}
 use Rattle.office_tables.proofs.Reading.{first_shown}
-use Rattle.office_tables.proofs.RowReads.{asks}
 use Rattle.office_tables.proofs.Sorted.{only_order}
 use Rattle.desk_store.specs.Holdings.{waits_for}
 use Rattle.desk_store.proofs.CardRows.{by_order, by_order_total}
 use Rattle.office_tables.proofs.numbered.Counted.{counted_rises}
-use Rattle.desk_store.proofs.WaitingRows.{first_text, first_command, first_means, first_finds, first_faults, first_taken, waiting_of}
+use Rattle.desk_store.proofs.WaitingRows.{first_command, first_means, first_finds, first_faults, first_taken, waiting_of}
 use Rattle.office_tables.proofs.StatementEnds.{looks_up}
 use Rattle.desk_store.proofs.waiting_orders.first_for.Goals as goal
 
 pub find_one-requires : goal.find_one-requires
-find_one-requires g c = asks first_text 1 first_command (state g.S.Store c.args.conn.now) first_means c.requires.inside
+find_one-requires g c = record { count = 1; command = first_command; means = first_means g.P.Versioned.version }
 
 pub returns : goal.returns
 returns g c =
-    looks_up c.requires.inside c.find_one.ensures.reads (rw c.number.ensures at c.find_one.ensures.found) (rw c.number.ensures at c.find_one.ensures.missed)
+    looks_up g.P.Versioned.version c.find_one.ensures.reads (rw c.number.ensures at c.find_one.ensures.ran)
     (λ v has found xs stored counted.
     let kept = filter (waits_for c.args.container) xs in
     let rising = ascending-filter _ (waits_for c.args.container) xs (counted_rises (λ (o : OrderRow). o.id) 1 xs counted) in

@@ -1,23 +1,21 @@
 use Rattle.std.proofs.Common.{map, filter, ap, ◌∙◌}
 use Rattle.std.proofs.lemmas.Result.{IfOk-weaker}
-use Rattle.sqlite.specs.Held.{state}
 use Rattle.sqlite_trees.proofs.ListLemmas.{ascending-filter}
 use Rattle.desk_core.specs.DeskRows.{OrderRow}
-use Rattle.office_tables.proofs.RowReads.{asks}
 use Rattle.office_tables.proofs.Sorted.{only_order}
 use Rattle.desk_store.specs.Holdings.{waits_for}
 use Rattle.desk_store.proofs.CardRows.{by_order, by_order_total}
 use Rattle.office_tables.proofs.numbered.Counted.{counted_rises}
-use Rattle.desk_store.proofs.WaitingRows.{waiting_text, waiting_command, waiting_means, waiting_finds, waiting_faults, waiting_of}
+use Rattle.desk_store.proofs.WaitingRows.{waiting_command, waiting_means, waiting_finds, waiting_faults, waiting_of}
 use Rattle.office_tables.proofs.StatementEnds.{looks_up}
 use Rattle.desk_store.proofs.waiting_orders.waiting_for.Goals as goal
 
 pub find-requires : goal.find-requires
-find-requires g c = asks waiting_text 1 waiting_command (state g.S.Store c.args.conn.now) waiting_means c.requires.inside
+find-requires g c = record { count = 1; command = waiting_command; means = waiting_means g.P.Versioned.version }
 
 pub returns : goal.returns
 returns g c =
-    looks_up c.requires.inside c.find.ensures.reads (rw c.number.ensures at c.find.ensures.found) (rw c.number.ensures at c.find.ensures.missed)
+    looks_up g.P.Versioned.version c.find.ensures.reads (rw c.number.ensures at c.find.ensures.ran)
     (λ v has found xs stored counted.
     let kept = filter (waits_for c.args.container) xs in
     let rising = ascending-filter _ (waits_for c.args.container) xs (counted_rises (λ (o : OrderRow). o.id) 1 xs counted) in

@@ -17,14 +17,14 @@ returns-in_err-placed g c = passes c.from_residual.ensures c.in_err-placed.ensur
 pub returns-in_default : goal.returns-in_default
 returns-in_default g c =
     let one = c.in_ok-placed.ensures in
-    examined one.reads.looks (λ clean. bad_places g.P.Places.version (state g.S.Store c.args.conn.now).now.trees c.args.next (sym (one.answers clean).defect ∙ ap (λ (o : Option Placed). is_none o) c.in_default.is))
+    examined one.reads.looks (λ clean. bad_places g.P.Versioned.version (state g.S.Store c.args.conn.now).now.trees c.args.next (sym (one.answers clean).defect ∙ ap (λ (o : Option Placed). is_none o) c.in_default.is))
 
 pub returns-in_err-units_are_good : goal.returns-in_err-units_are_good
 returns-in_err-units_are_good g c = passes_later c.from_residual-in_err-units_are_good.ensures c.in_ok-placed.ensures.reads.looks c.in_err-units_are_good.ensures
 
 pub returns-then-not-branch : goal.returns-then-not-branch
 returns-then-not-branch g c =
-    let v = g.P.Places.version in
+    let v = g.P.Versioned.version in
     let db = (state g.S.Store c.args.conn.now).now.trees in
     let one = c.in_ok-placed.ensures in
     let two = c.in_ok-units_are_good.ensures in
@@ -36,7 +36,7 @@ returns-then-not-branch g c =
 
 pub returns : goal.returns
 returns g c =
-    let v = g.P.Places.version in
+    let v = g.P.Versioned.version in
     let db = (state g.S.Store c.args.conn.now).now.trees in
     let one = c.in_ok-placed.ensures in
     let two = c.in_ok-units_are_good.ensures in

@@ -6,8 +6,7 @@ use Rattle.adoption.specs.Verdicts.{IsVerdict}
 use Rattle.office_tables.specs.Faults.{BlamesDisk}
 use Rattle.office_tables.proofs.Calls.{early}
 use Rattle.office_tables.proofs.Sparing.{if_err_then}
-use Rattle.refinement.proofs.DiskBlames.{blames_caused}
-use Rattle.office.proofs.Adoptions.{blames_outside}
+use Rattle.office.proofs.Adoptions.{blames_outside, outer_blames}
 use Rattle.office.proofs.inspection.judge_apart.Goals as goal
 
 pub returns-clause-tells : goal.returns-clause-tells
@@ -16,13 +15,13 @@ returns-clause-tells g c clean =
     let judged = state g.S.Store c.judge-verdict.new.conn in
     let clean_judged = early judged (state g.S.Store c.take_back.new.conn) _ c.take_back.ensures.crash clean in
     let clean_begun = early begun judged _ c.judge-verdict.ensures.reads.crash clean_judged in
-    subst (λ (db : Database). IfOk c.judge-verdict.result (IsVerdict g.P.Places.version db)) (c.in_ok-begin.ensures.begun clean_begun).now_is (c.judge-verdict.ensures.answers clean_judged)
+    subst (λ (db : Database). IfOk c.judge-verdict.result (IsVerdict g.P.Versioned.version db)) (c.in_ok-begin.ensures.begun clean_begun).now_is (c.judge-verdict.ensures.answers clean_judged)
 
 pub returns-in_err-begin-clause-disk : goal.returns-in_err-begin-clause-disk
 returns-in_err-begin-clause-disk g c clean =
     let old = state g.S.Store c.args.conn.now in
     let begun = state g.S.Store c.begin.new.conn in
-    let why = blames_caused old begun c.in_err-begin.field-0.0 (c.in_err-begin.ensures.faults clean (c.requires.outside (early old begun _ c.begin.ensures.crash clean))) in
+    let why = outer_blames old begun c.in_err-begin.field-0.0 (c.in_err-begin.ensures.faults clean (c.requires.outside (early old begun _ c.begin.ensures.crash clean))) in
     search (rules, why)
 
 pub returns-clause-disk : goal.returns-clause-disk

@@ -2,8 +2,7 @@ use Rattle.std.proofs.Common.{◌∙◌, ap, not, rules}
 use Rattle.sqlite.specs.Held.{state}
 use Rattle.sqlite.proofs.StateLemmas.{survives_then}
 use Rattle.office_tables.proofs.Calls.{early}
-use Rattle.refinement.proofs.DiskBlames.{blames_caused}
-use Rattle.office.proofs.Adoptions.{caused_later, still_before, stopped_before}
+use Rattle.office.proofs.Adoptions.{caused_later, outer_blames, still_before, stopped_before}
 use Rattle.office.proofs.inspection.look_over.Goals as goal
 
 pub returns-in_err-verdict-clause-disk : goal.returns-in_err-verdict-clause-disk
@@ -31,7 +30,7 @@ returns-in_err-confirm_open-clause-disk g c clean =
     let d = state g.S.Store c.confirm_open.new.conn in
     let clean_b = early b d _ c.confirm_open.ensures.crash clean in
     let same = c.judge_apart.ensures.back clean_b in
-    let why = blames_caused a d c.in_err-confirm_open.field-0.0
+    let why = outer_blames a d c.in_err-confirm_open.field-0.0
     (caused_later a b d c.judge_apart.ensures.crash c.confirm_open.ensures.crash.counts clean_b c.in_err-confirm_open.field-0.0 (c.in_err-confirm_open.ensures.faults clean same.ended)) in
     search (rules, why)
 

@@ -6,6 +6,7 @@ use Rattle.catalogue_statements.specs.Representation.{RepresentsLinkRows}
 use Rattle.office_tables.specs.Schema as tables
 use Rattle.office_tables.specs.Step.{OnlyTouches}
 use Rattle.office_tables.proofs.Calls.{early}
+use Rattle.office_tables.proofs.Causes.{outer_cause}
 use Rattle.refinement.specs.Representation.{RepresentsState}
 use Rattle.office.specs.Adoption.{HasAdoptCause, state_in}
 use Rattle.office.proofs.Adoptions.{store_cause}
@@ -18,7 +19,8 @@ returns-in_err-verdict-clause-cause g c clean opened =
     let new = state g.S.Store c.judge.new.conn in
     let told = c.in_err-verdict.ensures in
     told_as c.from_residual.result _ (HasAdoptCause Links old new) c.from_residual.ensures.1
-    (store_cause Links old new c.in_err-verdict.field-0.0 (told.disk clean) (λ ordered. told.faults ordered clean c.requires.unlimited))
+    (store_cause Links old new c.in_err-verdict.field-0.0 (told.disk clean)
+    (λ ordered. outer_cause old new (c.requires.inside (early old new _ told.reads.crash clean)) c.in_err-verdict.field-0.0 (told.faults ordered clean c.requires.unlimited)))
 
 pub returns-in_err-to_spans-clause-cause : goal.returns-in_err-to_spans-clause-cause
 returns-in_err-to_spans-clause-cause g c clean opened =
@@ -32,7 +34,8 @@ returns-in_err-to_spans-clause-cause g c clean opened =
     (cause_of_call old mid new _ (c.in_err-to_spans.ensures.disk clean)
     (λ ordered.
     let shown = subst (λ (db : Database). RepresentsState RepresentsLinkRows Links db (state_in Links old.now.trees)) (sym (reads.looks.same clean_mid)) (its_state ordered).represents in
-    c.in_err-to_spans.ensures.faults (state_in Links old.now.trees) shown (its_state ordered).sound clean (reads.crash.limit ∙ c.requires.unlimited))
+    outer_cause mid new ((reads.looks.goes.on.within clean_mid).mode ∙ c.requires.inside (early old mid _ reads.crash clean_mid)) c.in_err-to_spans.field-0.0
+    (c.in_err-to_spans.ensures.faults (state_in Links old.now.trees) shown (its_state ordered).sound clean (reads.crash.limit ∙ c.requires.unlimited)))
     reads.crash.counts (reads.looks.goes.on.within clean_mid).opened)
 
 pub returns-clause-same : goal.returns-clause-same

@@ -1,4 +1,4 @@
-use Rattle.std.proofs.Common.{IsUtf8, rules, refl}
+use Rattle.std.proofs.Common.{◌∙◌, IsUtf8, rules, refl}
 use Rattle.sqlite.specs.Held.{state}
 use Rattle.sqlite.specs.Command.TheVariants.{CreateTable}
 use Rattle.office_tables.specs.Step.{IsAborted}
@@ -22,7 +22,7 @@ returns-clause-made g c there start before after making defines =
     let new = state g.S.Store c.execute.new.self in
     let on = write_continues c.args.text.now _ old new CreateTable refl (λ clean. known_in before c.args.text.now CreateTable old (making clean).0.schema_is (making clean).1 defines.says.is defines.says.plain)
     (λ clean. (creates there before after c.args.text.now start old new c.in_ok-execute.field-0 (making (early old new _ c.execute.ensures.survives clean)).0 (c.in_ok-execute.ensures.runs clean) defines).1) c.execute.ensures.survives in
-    (on, λ clean. ((creates there before after c.args.text.now start old new c.in_ok-execute.field-0 (making (early old new _ on.crash clean)).0 (c.in_ok-execute.ensures.runs clean) defines).0, (on.within clean).is_inside))
+    (on, λ clean. ((creates there before after c.args.text.now start old new c.in_ok-execute.field-0 (making (early old new _ on.crash clean)).0 (c.in_ok-execute.ensures.runs clean) defines).0, (on.within clean).mode ∙ (making (early old new _ on.crash clean)).1))
 
 pub returns-in_err-execute-clause-disk : goal.returns-in_err-execute-clause-disk
 returns-in_err-execute-clause-disk g c there start before after making defines clean =

@@ -11,7 +11,7 @@ use Rattle.desk_core.specs.declared.refusal.Refusal.TheVariants.{UnknownUnit}
 use Rattle.office_core.specs.declared.query.Query.TheVariants as query
 use Rattle.office_core.specs.declared.query.Answer.TheVariants.{Text, Unknown}
 use Rattle.office_core.proofs.KeptOffices.{office_kept}
-use Rattle.office_tables.proofs.Calls.{early, looks_nowhere, looks_then, office_of as in_office}
+use Rattle.office_tables.proofs.Calls.{early, looks_nowhere, looks_then}
 use Rattle.refinement.specs.Representation.{office_of}
 use Rattle.refinement.proofs.Answerings.{still_shown}
 use Rattle.public_queries.specs.HeadLines.{ids_of, repository_of, shows_last}
@@ -22,10 +22,10 @@ use Rattle.public_queries.proofs.aids.aid.Goals as goal
 
 pub returns-then-unit-ge-NO_NUMBER : goal.returns-then-unit-ge-NO_NUMBER
 returns-then-unit-ge-NO_NUMBER g c =
-    let v = g.P.Places.version in
-    let a = state g.S.Store c.args.conn.now in
+    let v = g.P.Versioned.version in
+    let a = state g.S.Store c.args.tables.now in
     knows_by g.P.Places.represents v (λ s. c.args.known.now ≡ office_of s) (query.Aid c.args.unit) a a (Unknown UnknownUnit)
-    (looks_nowhere a (in_office v a c.requires.inside))
+    (looks_nowhere a)
     (λ clean s sound so it. far_off s sound c.args.unit c.if-unit-ge-NO_NUMBER.true)
 
 pub returns-in_err-way : goal.returns-in_err-way
@@ -33,9 +33,9 @@ returns-in_err-way g c = let told = c.in_err-way.ensures.tells in catalogue_pass
 
 pub returns-then-not-shows_last : goal.returns-then-not-shows_last
 returns-then-not-shows_last g c =
-    let a = state g.S.Store c.args.conn.now in
+    let a = state g.S.Store c.args.tables.now in
     let told = c.in_ok-way.ensures.tells in
-    knows_by g.P.Places.represents g.P.Places.version (λ s. c.args.known.now ≡ office_of s) (query.Aid c.args.unit) a _ (Unknown UnknownUnit) told.looks
+    knows_by g.P.Places.represents g.P.Versioned.version (λ s. c.args.known.now ≡ office_of s) (query.Aid c.args.unit) a _ (Unknown UnknownUnit) told.looks
     (λ clean s sound so it.
     let way = c.deref.ensures.value ∙ told.answers clean (office_of s) s.catalogue it.catalogue in
     hidden s sound c.args.unit
@@ -49,9 +49,9 @@ returns-in_err-text g c =
 
 pub returns : goal.returns
 returns g c =
-    let v = g.P.Places.version in
-    let a = state g.S.Store c.args.conn.now in
-    let d = state g.S.Store c.branch_text.new.conn in
+    let v = g.P.Versioned.version in
+    let a = state g.S.Store c.args.tables.now in
+    let d = state g.S.Store c.branch_text.new.tables in
     let first = c.in_ok-way.ensures.tells in
     let last = c.in_ok-text.ensures.tells in
     knows_by g.P.Places.represents v (λ s. c.args.known.now ≡ office_of s) (query.Aid c.args.unit) a d (Text c.in_ok-text.text) (looks_then a _ d first.looks last.looks)

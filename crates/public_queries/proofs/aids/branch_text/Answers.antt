@@ -15,11 +15,11 @@ use Rattle.public_queries.proofs.aids.branch_text.Goals as goal
 
 pub returns : goal.returns
 returns g c =
-    let a = state g.S.Store c.args.conn.now in
+    let a = state g.S.Store c.args.tables.now in
     let first = c.in_ok-kept.ensures.tells in
     let day = c.args.known.now.day in
     record {
-      tells = tells_then g.S.Store (Represents g.P.Places.represents g.P.Places.version) IsKept c.args.conn.now c.kept_of.new.conn c.units_text.new.conn c.units_text.result _ _ _ _ first.looks
+      tells = tells_then g.S.Store (Represents g.P.Places.represents g.P.Versioned.version) IsKept c.args.tables.now c.kept_of.new.tables c.units_text.new.tables c.units_text.result _ _ _ _ first.looks
           (λ at_b o k it may.
           (may.0, walk 0 (public_units day (tree (has_id c.args.unit) k.forest)), record { each = rows_of day k (has_id c.args.unit) may.1; told = c.deref.ensures.value ∙ first.answers at_b o k it }))
           (λ at_b o k it text told tellable apart.

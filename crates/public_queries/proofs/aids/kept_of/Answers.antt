@@ -11,8 +11,8 @@ use Rattle.public_queries.proofs.aids.kept_of.Goals as goal
 
 pub returns-then-len-gt-MOST_MARKS : goal.returns-then-len-gt-MOST_MARKS
 returns-then-len-gt-MOST_MARKS g c =
-    let a = state g.S.Store c.args.conn.now in
-    let b = state g.S.Store c.branch_marks.new.conn in
+    let a = state g.S.Store c.args.tables.now in
+    let b = state g.S.Store c.branch_marks.new.tables in
     let told = c.in_ok-marks.ensures.tells in
     record {
       tells = record {

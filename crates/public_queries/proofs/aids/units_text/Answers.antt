@@ -30,20 +30,19 @@ returns-in_err-extend_from_slice g c = record { tells = tells_full c.from_residu
 
 pub loop-unit-preserved : goal.loop-unit-preserved
 loop-unit-preserved g c =
-    let a = state g.S.Store c.args.conn.now in
-    let b = state g.S.Store c.loop-unit.conn in
-    let d = state g.S.Store c.seen_unit.new.conn in
+    let a = state g.S.Store c.args.tables.now in
+    let b = state g.S.Store c.loop-unit.tables in
+    let d = state g.S.Store c.seen_unit.new.tables in
     let at = repository_of c.args.known.now in
     let base = c.len-base.result in
     let ids = c.loop-unit.ids.items in
     let i = c.loop-unit.unit-index in
     let last = c.in_ok-seen.ensures.tells in
     record {
-      inside = c.loop-unit.invariant.inside;
       looks = looks_then a b d c.loop-unit.invariant.looks last.looks;
       so_far = λ clean o k it tellable rows keeps.
           let before = early b d _ last.looks.goes.on.crash clean in
-          let shown = subst (λ (db : Database). Represents g.P.Places.represents g.P.Places.version db o k) (sym (c.loop-unit.invariant.looks.same before)) it in
+          let shown = subst (λ (db : Database). Represents g.P.Places.represents g.P.Versioned.version db o k) (sym (c.loop-unit.invariant.looks.same before)) it in
           let here = row_at c.args.known.now.day k c.args.kept.now rows i keeps c.loop-unit-test.true in
           let seen = last.answers clean o k shown tellable here.item here.holds here.is in
           let cut : c.truncate.new.self.items ≡ take (base + here.item.1) ids = c.truncate.ensures.items ∙ ap (λ n. take (base + n) ids) (ap (λ (x : Kept). x.depth) here.is) in

@@ -3,7 +3,7 @@ use Rattle.sqlite.specs.Held.{state}
 use Rattle.desk_core.specs.declared.refusal.Refusal.TheVariants.{UnknownUnit}
 use Rattle.office_core.specs.declared.query.Answer.TheVariants.{Unknown}
 use Rattle.office_core.specs.declared.query.Query.TheVariants as query
-use Rattle.office_tables.proofs.Calls.{looks_nowhere, office_of as in_office}
+use Rattle.office_tables.proofs.Calls.{looks_nowhere}
 use Rattle.refinement.specs.Representation.{office_of}
 use Rattle.public_queries.specs.HeadLines.{shows_last}
 use Rattle.public_queries.specs.KnownPaths.{RepresentsUnit}
@@ -15,10 +15,10 @@ use Rattle.public_queries.proofs.pages.page.Goals as goal
 
 pub returns-then-unit-ge-NO_NUMBER : goal.returns-then-unit-ge-NO_NUMBER
 returns-then-unit-ge-NO_NUMBER g c =
-    let v = g.P.Places.version in
-    let a = state g.S.Store c.args.conn.now in
+    let v = g.P.Versioned.version in
+    let a = state g.S.Store c.args.tables.now in
     knows_by g.P.Places.represents v (λ s. c.args.known.now ≡ office_of s) (query.Page c.args.unit) a a (Unknown UnknownUnit)
-    (looks_nowhere a (in_office v a c.requires.inside))
+    (looks_nowhere a)
     (λ clean s sound so it. far s sound c.args.unit c.if-unit-ge-NO_NUMBER.true)
 
 pub returns-in_err-way : goal.returns-in_err-way
@@ -26,10 +26,10 @@ returns-in_err-way g c = let told = c.in_err-way.ensures.tells in catalogue_pass
 
 pub returns-then-not-shows_last : goal.returns-then-not-shows_last
 returns-then-not-shows_last g c =
-    let a = state g.S.Store c.args.conn.now in
-    let b = state g.S.Store c.path_heads.new.conn in
+    let a = state g.S.Store c.args.tables.now in
+    let b = state g.S.Store c.path_heads.new.tables in
     let told = c.in_ok-way.ensures.tells in
-    knows_by g.P.Places.represents g.P.Places.version (λ s. c.args.known.now ≡ office_of s) (query.Page c.args.unit) a b (Unknown UnknownUnit) told.looks
+    knows_by g.P.Places.represents g.P.Versioned.version (λ s. c.args.known.now ≡ office_of s) (query.Page c.args.unit) a b (Unknown UnknownUnit) told.looks
     (λ clean s sound so it.
     let way = c.as_slice.ensures.value ∙ told.answers clean (office_of s) s.catalogue it.catalogue in
     hidden s sound c.args.unit
@@ -37,11 +37,11 @@ returns-then-not-shows_last g c =
 
 pub returns : goal.returns
 returns g c =
-    let a = state g.S.Store c.args.conn.now in
-    let b = state g.S.Store c.path_heads.new.conn in
-    let d = state g.S.Store c.shown_page.new.conn in
+    let a = state g.S.Store c.args.tables.now in
+    let b = state g.S.Store c.path_heads.new.tables in
+    let d = state g.S.Store c.shown_page.new.tables in
     let told = c.in_ok-way.ensures.tells in
-    knows_then g.P.Places.represents g.P.Places.version (λ s. c.args.known.now ≡ office_of s) (RepresentsUnit c.args.known.now c.args.unit c.as_slice-2.result.now) (query.Page c.args.unit) a b d c.shown_page.result told.looks
+    knows_then g.P.Places.represents g.P.Versioned.version (λ s. c.args.known.now ≡ office_of s) (RepresentsUnit c.args.known.now c.args.unit c.as_slice-2.result.now) (query.Page c.args.unit) a b d c.shown_page.result told.looks
     (λ clean s sound so it. record {
       office = so;
       way_is = c.as_slice-2.ensures.value ∙ told.answers clean (office_of s) s.catalogue it.catalogue;

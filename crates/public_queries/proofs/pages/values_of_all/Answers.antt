@@ -3,7 +3,7 @@ use Rattle.std.proofs.lemmas.List.{take_all, map-append, length-map}
 use Rattle.sqlite.specs.Effect.{Database}
 use Rattle.sqlite.specs.Held.{state}
 use Rattle.catalogue_statements.specs.Representation.{Represents}
-use Rattle.office_tables.proofs.Calls.{early, looks_nowhere, looks_then, office_of}
+use Rattle.office_tables.proofs.Calls.{early, looks_nowhere, looks_then}
 use Rattle.catalogue_store.specs.Heads.{head_of}
 use Rattle.public_queries.specs.PathValues.{unit_values}
 use Rattle.catalogue_store.specs.declared.heads.Head.{Head}
@@ -13,29 +13,27 @@ use Rattle.public_queries.proofs.pages.values_of_all.Goals as goal
 
 pub loop-head-init : goal.loop-head-init
 loop-head-init g c =
-    let a = state g.S.Store c.args.conn.now in
+    let a = state g.S.Store c.args.tables.now in
     record {
-      inside = c.requires.inside;
-      looks = looks_nowhere a (office_of g.P.Places.version a c.requires.inside);
+      looks = looks_nowhere a;
       so_far = λ clean o k it tellable of. c.new-units.ensures.items;
     }
 
 pub loop-head-preserved : goal.loop-head-preserved
 loop-head-preserved g c =
-    let a = state g.S.Store c.args.conn.now in
-    let b = state g.S.Store c.loop-head.conn in
-    let d = state g.S.Store c.values_there.new.conn in
+    let a = state g.S.Store c.args.tables.now in
+    let b = state g.S.Store c.loop-head.tables in
+    let d = state g.S.Store c.values_there.new.tables in
     let i = c.loop-head.head-index in
     let head = c.head-item.result in
     let looked = c.loop-head.invariant.looks in
     let told = c.in_ok-values_there.ensures.tells in
     record {
-      inside = c.loop-head.invariant.inside;
       looks = looks_then a b d looked told.looks;
       so_far = λ clean o k it tellable of.
           let at_b = early b d _ told.looks.goes.on.crash clean in
           let here = subst (λ (h : Head). HeadAt k.forest of.units i h) (sym c.head-item.is) (head_at k.forest of.units c.args.way.now i head of.found of.are c.loop-head-test.true) in
-          let one = told.answers clean o k (subst (λ (db : Database). Represents g.P.Places.represents g.P.Places.version db o k) (sym (looked.same at_b)) it) tellable here.unit here.found in
+          let one = told.answers clean o k (subst (λ (db : Database). Represents g.P.Places.represents g.P.Versioned.version db o k) (sym (looked.same at_b)) it) tellable here.unit here.found in
           c.in_ok-push.ensures.items
           ∙ ap (λ l. l ++ c.in_ok-values_there.field-0 ∷ []) (c.loop-head.invariant.so_far at_b o k it tellable of)
           ∙ ap (λ t. map (unit_values k.containers) (take i of.units) ++ t ∷ []) one

@@ -4,15 +4,14 @@ use Rattle.sqlite.specs.State.{HasCleanDisk}
 use Rattle.catalogue_core.specs.CatalogueMerge.{Catalogue}
 use Rattle.catalogue_statements.specs.Representation.{Represents}
 use Rattle.catalogue_statements.specs.declared.office.OfficeRow.{OfficeRow}
-use Rattle.office_tables.specs.Step.{InTransaction, LeavesUnchanged}
+use Rattle.office_tables.specs.Step.{LeavesUnchanged}
 use Rattle.public_queries.specs.KnownPaths.{AreHeadsOf, IsTellable}
 use Rattle.public_queries.specs.PathValues.{unit_values}
 use Rattle.public_queries.proofs.pages.values_of_all.Given as goal
 
 abbrev pub invariant-loop-head : goal.invariant-loop-head
 invariant-loop-head g l = record {
-  inside : InTransaction g.P.Places.version (state g.S.Store l.initial.conn);
-  looks : LeavesUnchanged (state g.S.Store l.initial.conn) (state g.S.Store l.conn);
-  so_far : HasCleanDisk (state g.S.Store l.conn) → (o : OfficeRow) (c : Catalogue) → Represents g.P.Places.represents g.P.Places.version (state g.S.Store l.initial.conn).now o c
+  looks : LeavesUnchanged (state g.S.Store l.initial.tables) (state g.S.Store l.tables);
+  so_far : HasCleanDisk (state g.S.Store l.tables) → (o : OfficeRow) (c : Catalogue) → Represents g.P.Places.represents g.P.Versioned.version (state g.S.Store l.initial.tables).now o c
       → IsTellable c → (of : AreHeadsOf c l.way) → l.units.items ≡ map (unit_values c.containers) (take l.head-index of.units);
 }

@@ -1,17 +1,14 @@
 use Rattle.std.proofs.Common.{arith}
 use Rattle.std.specs.Prelude.{◌<◌, ◌^◌}
 use Rattle.sqlite.specs.Held.{state}
-use Rattle.office_tables.proofs.Calls.{cut_after, looks_nowhere, office_of}
+use Rattle.office_tables.proofs.Calls.{cut_after, looks_nowhere}
 use Rattle.public_queries.proofs.FoundUnits.{found_low}
 use Rattle.public_queries.proofs.pages.values_there.Goals as goal
 
-pub values-requires-clause-inside : goal.values-requires-clause-inside
-values-requires-clause-inside g c = office_of g.P.Places.version (state g.S.Store c.args.conn.now) c.requires.inside
-
 pub returns-then-unit-ge-NO_NUMBER : goal.returns-then-unit-ge-NO_NUMBER
 returns-then-unit-ge-NO_NUMBER g c =
-    let a = state g.S.Store c.args.conn.now in
-    let looked = looks_nowhere a (office_of g.P.Places.version a c.requires.inside) in
+    let a = state g.S.Store c.args.tables.now in
+    let looked = looks_nowhere a in
     record {
       tells = record {
         answers = λ clean o k it. tt;

@@ -21,7 +21,7 @@ returns-in_default g c =
         answers = λ clean o k it. tt;
         looks = tt;
         cut = cut_after _ _ told.looks.goes.on;
-        faults = λ o k it may kept clean free. none_some (head_of may.0) (sym c.in_default.is ∙ told.answers clean o k it ∙ ap (option_map head_of) may.2);
+        faults = λ o k it may kept clean free. absurd (none_some (head_of may.0) (sym c.in_default.is ∙ told.answers clean o k it ∙ ap (option_map head_of) may.2));
       };
     }
 
@@ -35,7 +35,7 @@ returns-in_default-until g c =
         cut = cut_after _ _ told.looks.goes.on;
         faults = λ o k it may kept clean free.
             let head = same c.in-Some.head (head_of may.0) (sym c.in-Some.is ∙ told.answers clean o k it ∙ ap (option_map head_of) may.2) in
-            none_some may.1 (sym c.in_default-until.is ∙ ap (λ (h : Head). h.until) head ∙ may.3);
+            absurd (none_some may.1 (sym c.in_default-until.is ∙ ap (λ (h : Head). h.until) head ∙ may.3));
       };
     }
 

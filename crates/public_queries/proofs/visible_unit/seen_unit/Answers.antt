@@ -7,7 +7,7 @@ use Rattle.catalogue_core.specs.Bounds.{IsKept}
 use Rattle.catalogue_core.specs.PublicForest.{public_unit}
 use Rattle.catalogue_core.specs.Units.{has_id}
 use Rattle.catalogue_statements.specs.Representation.{Represents}
-use Rattle.office_tables.proofs.Calls.{cut_after, looks_nowhere, office_of}
+use Rattle.office_tables.proofs.Calls.{cut_after, looks_nowhere}
 use Rattle.public_queries.specs.FindingAids.{seen_of}
 use Rattle.public_queries.proofs.AidCalls.{tells_as}
 use Rattle.public_queries.proofs.AidUnits.{closed_until, seen_stub}
@@ -16,12 +16,12 @@ use Rattle.public_queries.proofs.visible_unit.seen_unit.Goals as goal
 
 pub returns-then-unit-ge-NO_NUMBER : goal.returns-then-unit-ge-NO_NUMBER
 returns-then-unit-ge-NO_NUMBER g c =
-    let a = state g.S.Store c.args.conn.now in
+    let a = state g.S.Store c.args.tables.now in
     record {
       tells = record {
         answers = λ clean o k it. tt;
         looks = tt;
-        cut = cut_after a a (looks_nowhere a (office_of g.P.Places.version a c.requires.inside)).goes.on;
+        cut = cut_after a a (looks_nowhere a).goes.on;
         faults = λ o k it may kept clean free.
             let low = found_low k may.1.0.0.id may.1.0.0 kept may.2.found in
             let id = ap (λ (x : Kept). x.id) may.3 in
@@ -32,7 +32,7 @@ returns-then-unit-ge-NO_NUMBER g c =
 pub returns-then-unit : goal.returns-then-unit
 returns-then-unit g c =
     record {
-      tells = tells_as g.S.Store (Represents g.P.Places.represents g.P.Places.version) IsKept c.args.conn.now c.closed.new.conn c.closed.result _ _ _ _
+      tells = tells_as g.S.Store (Represents g.P.Places.represents g.P.Versioned.version) IsKept c.args.tables.now c.closed.new.tables c.closed.result _ _ _ _
           (λ k may.
           let stub = sym (ap (λ (x : Kept). x.stub) may.3) ∙ c.if-unit.true in
           let until = closed_until c.args.today may.1.0.0 (sym may.2.stub ∙ stub) in
@@ -48,7 +48,7 @@ returns-then-unit g c =
 pub returns-else-unit : goal.returns-else-unit
 returns-else-unit g c =
     record {
-      tells = tells_as g.S.Store (Represents g.P.Places.represents g.P.Places.version) IsKept c.args.conn.now c.told.new.conn c.told.result _ _ _ _
+      tells = tells_as g.S.Store (Represents g.P.Places.represents g.P.Versioned.version) IsKept c.args.tables.now c.told.new.tables c.told.result _ _ _ _
           (λ k may. (may.0, may.1.0.0, ap (λ n. find (has_id n) (nodes k.forest)) (ap (λ (x : Kept). x.id) may.3) ∙ may.2.found))
           (λ o k seen told tellable row of is.
           let stub = sym (ap (λ (x : Kept). x.stub) is) ∙ c.if-unit.false in

@@ -14,7 +14,7 @@ use Rattle.office_tables.specs.declared.fault.StoreFault.TheVariants as fault
 use Rattle.catalogue_statements.specs.Representation.{Represents}
 use Rattle.office_tables.proofs.CallEnds.{same_fault}
 use Rattle.office_tables.proofs.StoreCalls.{tells_not, tells_cut}
-use Rattle.office_tables.proofs.Calls.{cut_after, early, looks_nowhere, looks_then, office_of, still}
+use Rattle.office_tables.proofs.Calls.{cut_after, early, looks_nowhere, looks_then}
 use Rattle.office_tables.proofs.Sparing.{spares_full}
 use Rattle.refinement.specs.Openness.{AreTheirs, allows, are_clean_for}
 use Rattle.refinement.proofs.AllPass.{all_of, more_clean, not_clean}
@@ -22,30 +22,24 @@ use Rattle.refinement.proofs.access.are_clean.Goals as goal
 
 pub loop-row-init : goal.loop-row-init
 loop-row-init g c =
-    let a = state g.S.Store c.args.conn.now in
+    let a = state g.S.Store c.args.tables.now in
     record {
-      inside = c.requires.inside;
-      looks = looks_nowhere a (office_of g.P.Places.version a c.requires.inside);
+      looks = looks_nowhere a;
       so_far = λ clean o k it all. refl;
       known = λ clean o k it all. subst (g.P.Places.knows k) (sym c.new-known.ensures.items) (g.met.P.Places.knows_none k);
     }
 
-pub marks_after-requires : goal.marks_after-requires
-marks_after-requires g c =
-    record { inside = still g.P.Places.version (state g.S.Store c.args.conn.now) (state g.S.Store c.loop-row.conn) c.loop-row.invariant.inside c.loop-row.invariant.looks.goes }
-
 pub loop-row-preserved : goal.loop-row-preserved
 loop-row-preserved g c =
-    let a = state g.S.Store c.args.conn.now in
-    let b = state g.S.Store c.loop-row.conn in
-    let d = state g.S.Store c.marks_after.new.conn in
+    let a = state g.S.Store c.args.tables.now in
+    let b = state g.S.Store c.loop-row.tables in
+    let d = state g.S.Store c.marks_after.new.tables in
     let rows = c.args.rows.now in
     let i = c.loop-row.row-index in
     let before = c.loop-row.invariant in
     let told = c.in_ok-found.ensures.tells in
-    let represents = Represents g.P.Places.represents g.P.Places.version in
+    let represents = Represents g.P.Places.represents g.P.Versioned.version in
     record {
-      inside = before.inside;
       looks = looks_then a b d before.looks told.looks;
       so_far = λ clean o k it theirs.
           let at_b = early b d _ told.looks.goes.on.crash clean in
@@ -64,25 +58,25 @@ loop-row-preserved g c =
 
 pub returns-in_err-is_clean : goal.returns-in_err-is_clean
 returns-in_err-is_clean g c =
-    let a = state g.S.Store c.args.conn.now in
-    let d = state g.S.Store c.marks_after.new.conn in
+    let a = state g.S.Store c.args.tables.now in
+    let d = state g.S.Store c.marks_after.new.tables in
     let handed = c.from_residual-in_err-is_clean.ensures in
-    let looked = looks_then a (state g.S.Store c.loop-row.conn) d c.loop-row.invariant.looks c.in_ok-found.ensures.tells.looks in
+    let looked = looks_then a (state g.S.Store c.loop-row.tables) d c.loop-row.invariant.looks c.in_ok-found.ensures.tells.looks in
     record {
-      tells = tells_not g.S.Store (Represents g.P.Places.represents g.P.Places.version) IsKept (λ k. AllByRecursion (g.P.Places.stands (each (λ (u : Unit). u.id) k.forest)) c.args.rows.now) c.args.conn.now c.marks_after.new.conn c.from_residual-in_err-is_clean.result (λ _ k yes. AreTheirs g.P.Places.stands k c.args.rows.now → yes ≡ are_clean_for c.args.today c.args.permits.now k c.args.rows.now) fault.Memory
+      tells = tells_not g.S.Store (Represents g.P.Places.represents g.P.Versioned.version) IsKept (λ k. AllByRecursion (g.P.Places.stands (each (λ (u : Unit). u.id) k.forest)) c.args.rows.now) c.args.tables.now c.marks_after.new.tables c.from_residual-in_err-is_clean.result (λ _ k yes. AreTheirs g.P.Places.stands k c.args.rows.now → yes ≡ are_clean_for c.args.today c.args.permits.now k c.args.rows.now) fault.Memory
           (same_fault c.from_residual-in_err-is_clean.result fault.Memory handed.0 handed.1) (cut_after a d looked.goes.on) (spares_full a d looked) (λ o k it all kept clean free. tt);
     }
 
 pub returns-then-not-branch : goal.returns-then-not-branch
 returns-then-not-branch g c =
-    let a = state g.S.Store c.args.conn.now in
-    let b = state g.S.Store c.loop-row.conn in
-    let d = state g.S.Store c.marks_after.new.conn in
+    let a = state g.S.Store c.args.tables.now in
+    let b = state g.S.Store c.loop-row.tables in
+    let d = state g.S.Store c.marks_after.new.tables in
     let rows = c.args.rows.now in
     let i = c.loop-row.row-index in
     let before = c.loop-row.invariant in
     let told = c.in_ok-found.ensures.tells in
-    let represents = Represents g.P.Places.represents g.P.Places.version in
+    let represents = Represents g.P.Places.represents g.P.Versioned.version in
     record {
       tells = record {
         answers = λ clean o k it theirs.
@@ -105,9 +99,9 @@ returns-in_err-found g c =
     let e = c.in_err-found.field-0.0 in
     let looked = c.loop-row.invariant.looks in
     let why = c.in_err-found.ensures.tells in
-    let represents = Represents g.P.Places.represents g.P.Places.version in
+    let represents = Represents g.P.Places.represents g.P.Versioned.version in
     record {
-      tells = tells_cut g.S.Store represents IsKept (λ k. AllByRecursion (g.P.Places.stands (each (λ (u : Unit). u.id) k.forest)) c.args.rows.now) c.args.conn.now c.loop-row.conn c.marks_after.new.conn c.from_residual.result
+      tells = tells_cut g.S.Store represents IsKept (λ k. AllByRecursion (g.P.Places.stands (each (λ (u : Unit). u.id) k.forest)) c.args.rows.now) c.args.tables.now c.loop-row.tables c.marks_after.new.tables c.from_residual.result
           (λ _ k yes. AreTheirs g.P.Places.stands k c.args.rows.now → yes ≡ are_clean_for c.args.today c.args.permits.now k c.args.rows.now) e
           (same_fault c.from_residual.result e handed.0 handed.1) looked why.cut why.spares
           (λ o k it all kept at_b clean free.

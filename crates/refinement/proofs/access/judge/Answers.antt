@@ -8,7 +8,7 @@ use Rattle.tree_core.specs.declared.rows.Span.{Span}
 use Rattle.office_core.specs.State.{State, opens}
 use Rattle.state_encoding.specs.OfficeRows.{tables}
 use Rattle.office_tables.proofs.CallEnds.{same_fault, tells_cut, tells_not}
-use Rattle.office_tables.proofs.Calls.{early, looks_nowhere, looks_then, office_of, still}
+use Rattle.office_tables.proofs.Calls.{early, looks_nowhere, looks_then}
 use Rattle.refinement.specs.AccessConditions.{CanBeJudged, RepresentsWhole}
 use Rattle.refinement.specs.Openness.{AreClean, are_clean_for}
 use Rattle.refinement.specs.declared.access.Judgement.{Judgement}
@@ -24,80 +24,65 @@ Tells container ticket today clean _ s found =
 
 pub returns-then-container-ge-NO_NUMBER : goal.returns-then-container-ge-NO_NUMBER
 returns-then-container-ge-NO_NUMBER g c =
-    let v = g.P.Places.version in
-    let a = state g.S.Store c.args.conn.now in
+    let v = g.P.Versioned.version in
+    let a = state g.S.Store c.args.tables.now in
     record {
-      tells = ends_well (RepresentsWhole g.P.Places.represents v) CanBeJudged (λ _. ⊤) g.S.Store c.args.conn.now c.args.conn.now c.args.conn.now (Tells c.args.container c.args.ticket c.args.today c.args.clean.items)
-          (looks_nowhere a (office_of v a c.requires.inside)) (record { is_open = false; clean = c.args.clean })
+      tells = ends_well (RepresentsWhole g.P.Places.represents v) CanBeJudged (λ _. ⊤) g.S.Store c.args.tables.now c.args.tables.now c.args.tables.now (Tells c.args.container c.args.ticket c.args.today c.args.clean.items)
+          (looks_nowhere a) (record { is_open = false; clean = c.args.clean })
           (λ clean s it judged day kept. (opens_none s judged c.args.ticket c.args.container c.if-container-ge-NO_NUMBER.true, kept));
       disk = λ clean. tt;
     }
 
 pub returns-in_err-rows : goal.returns-in_err-rows
 returns-in_err-rows g c =
-    let v = g.P.Places.version in
+    let v = g.P.Versioned.version in
     let e = c.from_residual.ensures in
     let told = c.in_err-rows.ensures.tells in
     let same = same_fault c.from_residual.result c.in_err-rows.field-0.0 e.0 e.1 in
     record {
-      tells = tells_not g.S.Store (RepresentsWhole g.P.Places.represents v) CanBeJudged (λ _. ⊤) c.args.conn.now c.attached_rows.new.conn c.from_residual.result (Tells c.args.container c.args.ticket c.args.today c.args.clean.items) c.in_err-rows.field-0.0
+      tells = tells_not g.S.Store (RepresentsWhole g.P.Places.represents v) CanBeJudged (λ _. ⊤) c.args.tables.now c.attached_rows.new.tables c.from_residual.result (Tells c.args.container c.args.ticket c.args.today c.args.clean.items) c.in_err-rows.field-0.0
           same told.cut
           (λ beside s it may judged clean free. told.faults (shown.office_of s) s.catalogue it.catalogue tt judged.catalogue clean free);
-      disk = λ clean. blames_first (state g.S.Store c.args.conn.now) (state g.S.Store c.attached_rows.new.conn) c.from_residual.result c.in_err-rows.field-0.0 same (told.spares clean).disk;
+      disk = λ clean. blames_first (state g.S.Store c.args.tables.now) (state g.S.Store c.attached_rows.new.tables) c.from_residual.result c.in_err-rows.field-0.0 same (told.spares clean).disk;
     }
 
 pub returns-then-is_empty : goal.returns-then-is_empty
 returns-then-is_empty g c =
-    let v = g.P.Places.version in
+    let v = g.P.Versioned.version in
     let told = c.in_ok-rows.ensures.tells in
     let zero : c.in_ok-rows.rows.len ≡ 0 = eqb-true c.in_ok-rows.rows.len 0 (sym c.if-is_empty.ensures) in
     let none : length c.in_ok-rows.rows.items ≡ 0 = omega (arith, zero) in
     record {
-      tells = ends_well (RepresentsWhole g.P.Places.represents v) CanBeJudged (λ _. ⊤) g.S.Store c.args.conn.now c.args.conn.now c.attached_rows.new.conn (Tells c.args.container c.args.ticket c.args.today c.args.clean.items)
+      tells = ends_well (RepresentsWhole g.P.Places.represents v) CanBeJudged (λ _. ⊤) g.S.Store c.args.tables.now c.args.tables.now c.attached_rows.new.tables (Tells c.args.container c.args.ticket c.args.today c.args.clean.items)
           told.looks (record { is_open = false; clean = c.args.clean })
           (λ clean s it judged day kept. (empty_closed g.P.Places.stands s judged c.args.ticket c.args.container c.in_ok-rows.rows.items (told.answers clean (shown.office_of s) s.catalogue it.catalogue) none, kept));
       disk = λ clean. tt;
     }
 
-pub permits-requires : goal.permits-requires
-permits-requires g c =
-    let v = g.P.Places.version in
-    let a = state g.S.Store c.args.conn.now in
-    let b = state g.S.Store c.attached_rows.new.conn in
-    record { inside = office_of v b (still v a b c.requires.inside c.in_ok-rows.ensures.tells.looks.goes) }
-
 pub returns-in_err-permits : goal.returns-in_err-permits
 returns-in_err-permits g c =
-    let v = g.P.Places.version in
+    let v = g.P.Versioned.version in
     let e = c.from_residual-in_err-permits.ensures in
     let told = c.in_err-permits.ensures.tells in
     let looked = c.in_ok-rows.ensures.tells.looks in
     let same = same_fault c.from_residual-in_err-permits.result c.in_err-permits.field-0.0 e.0 e.1 in
     record {
-      tells = ends_not (RepresentsWhole g.P.Places.represents v) CanBeJudged (λ _. ⊤) g.S.Store c.args.conn.now c.attached_rows.new.conn c.permits.new.conn (Tells c.args.container c.args.ticket c.args.today c.args.clean.items)
+      tells = ends_not (RepresentsWhole g.P.Places.represents v) CanBeJudged (λ _. ⊤) g.S.Store c.args.tables.now c.attached_rows.new.tables c.permits.new.tables (Tells c.args.container c.args.ticket c.args.today c.args.clean.items)
           looked c.in_err-permits.field-0.0 told.cut
           (λ s it may judged clean free. told.faults tt (tables v s).desk it.desk tt (judged.desk v) clean free)
           c.from_residual-in_err-permits.result same;
       disk = λ clean.
-          blames_later (state g.S.Store c.args.conn.now) (state g.S.Store c.attached_rows.new.conn) (state g.S.Store c.permits.new.conn) c.from_residual-in_err-permits.result c.in_err-permits.field-0.0 same looked told.cut clean
+          blames_later (state g.S.Store c.args.tables.now) (state g.S.Store c.attached_rows.new.tables) (state g.S.Store c.permits.new.tables) c.from_residual-in_err-permits.result c.in_err-permits.field-0.0 same looked told.cut clean
           (told.spares clean).disk;
     }
 
-pub judge_rows-requires : goal.judge_rows-requires
-judge_rows-requires g c =
-    let v = g.P.Places.version in
-    let a = state g.S.Store c.args.conn.now in
-    let b = state g.S.Store c.attached_rows.new.conn in
-    let d = state g.S.Store c.permits.new.conn in
-    record { inside = still v a d c.requires.inside (looks_then a b d c.in_ok-rows.ensures.tells.looks c.in_ok-permits.ensures.tells.looks).goes }
-
 pub returns-in_err-judged : goal.returns-in_err-judged
 returns-in_err-judged g c =
-    let v = g.P.Places.version in
+    let v = g.P.Versioned.version in
     let represents = RepresentsWhole g.P.Places.represents v in
-    let a = state g.S.Store c.args.conn.now in
-    let b = state g.S.Store c.attached_rows.new.conn in
-    let d = state g.S.Store c.permits.new.conn in
+    let a = state g.S.Store c.args.tables.now in
+    let b = state g.S.Store c.attached_rows.new.tables in
+    let d = state g.S.Store c.permits.new.tables in
     let e = c.from_residual-in_err-judged.ensures in
     let rows = c.in_ok-rows.ensures.tells in
     let permits = c.in_ok-permits.ensures.tells in
@@ -105,23 +90,23 @@ returns-in_err-judged g c =
     let looked = looks_then a b d rows.looks permits.looks in
     let same = same_fault c.from_residual-in_err-judged.result c.in_err-judged.field-0.0 e.0 e.1 in
     record {
-      tells = tells_cut g.S.Store represents CanBeJudged (λ _. ⊤) c.args.conn.now c.permits.new.conn c.judge_rows.new.conn c.from_residual-in_err-judged.result (Tells c.args.container c.args.ticket c.args.today c.args.clean.items) c.in_err-judged.field-0.0
+      tells = tells_cut g.S.Store represents CanBeJudged (λ _. ⊤) c.args.tables.now c.permits.new.tables c.judge_rows.new.tables c.from_residual-in_err-judged.result (Tells c.args.container c.args.ticket c.args.today c.args.clean.items) c.in_err-judged.field-0.0
           same looked told.cut
           (λ beside s it may judged at_d clean free.
           let at = rows.answers (early b d _ permits.looks.goes.on.crash at_d) (shown.office_of s) s.catalogue it.catalogue in
           told.faults (shown.office_of s) s.catalogue (shown_on represents a d looked at_d s it).catalogue at.1 judged.catalogue clean free);
       disk = λ clean.
-          blames_later a d (state g.S.Store c.judge_rows.new.conn) c.from_residual-in_err-judged.result c.in_err-judged.field-0.0 same looked told.cut clean (told.spares clean).disk;
+          blames_later a d (state g.S.Store c.judge_rows.new.tables) c.from_residual-in_err-judged.result c.in_err-judged.field-0.0 same looked told.cut clean (told.spares clean).disk;
     }
 
 pub returns : goal.returns
 returns g c =
-    let v = g.P.Places.version in
+    let v = g.P.Versioned.version in
     let represents = RepresentsWhole g.P.Places.represents v in
-    let a = state g.S.Store c.args.conn.now in
-    let b = state g.S.Store c.attached_rows.new.conn in
-    let d = state g.S.Store c.permits.new.conn in
-    let f = state g.S.Store c.judge_rows.new.conn in
+    let a = state g.S.Store c.args.tables.now in
+    let b = state g.S.Store c.attached_rows.new.tables in
+    let d = state g.S.Store c.permits.new.tables in
+    let f = state g.S.Store c.judge_rows.new.tables in
     let rows = c.in_ok-rows.ensures.tells in
     let told = c.in_ok-permits.ensures.tells in
     let judged_rows = c.in_ok-judged.ensures.tells in
@@ -131,7 +116,7 @@ returns g c =
     let long : length found ≡ c.in_ok-rows.rows.len = omega arith in
     let some : nat_eq (length found) 0 ≡ false = ap (λ k. nat_eq k 0) long ∙ sym c.if-is_empty.ensures in
     record {
-      tells = ends_well represents CanBeJudged (λ _. ⊤) g.S.Store c.args.conn.now c.args.conn.now c.judge_rows.new.conn (Tells c.args.container c.args.ticket c.args.today c.args.clean.items)
+      tells = ends_well represents CanBeJudged (λ _. ⊤) g.S.Store c.args.tables.now c.args.tables.now c.judge_rows.new.tables (Tells c.args.container c.args.ticket c.args.today c.args.clean.items)
           (looks_then a d f looked judged_rows.looks) c.in_ok-judged.judged
           (λ clean s it judged day kept.
           let at_d = early d f _ judged_rows.looks.goes.on.crash clean in

@@ -13,7 +13,7 @@ use Rattle.catalogue_statements.specs.declared.office.OfficeRow.{OfficeRow}
 use Rattle.office_core.specs.Words.{is_empty}
 use Rattle.office_tables.proofs.CallEnds.{same_fault}
 use Rattle.office_tables.proofs.StoreCalls.{tells_not}
-use Rattle.office_tables.proofs.Calls.{looks_nowhere, office_of}
+use Rattle.office_tables.proofs.Calls.{looks_nowhere}
 use Rattle.desk_store.specs.declared.reader_permits.Permit.{Permit}
 use Rattle.refinement.specs.Openness.{AreTheirs, are_clean_for, is_same_row}
 use Rattle.refinement.specs.declared.access.Judgement.{Judgement}
@@ -28,14 +28,14 @@ Tells stands today rows permits clean _ k found =
 
 pub returns-then-are_known : goal.returns-then-are_known
 returns-then-are_known g c =
-    let a = state g.S.Store c.args.conn.now in
+    let a = state g.S.Store c.args.tables.now in
     let both = and_parts (is_empty c.args.permits.now) (pointwise is_same_row c.deref.result.now c.deref-2.result.now) (sym c.if-are_known.ensures) in
     let same : c.args.rows.items ≡ c.args.clean.items = sym c.deref.ensures.value ∙ same_rows c.deref.result.now c.deref-2.result.now both.1 ∙ c.deref-2.ensures.value in
     record {
       tells = record {
         answers = λ clean o k it theirs kept.
             (sym kept ∙ ap₂ (λ l rows. are_clean_for c.args.today l k rows) (sym (nothing_in c.args.permits.now both.0)) (sym same), kept);
-        looks = looks_nowhere a (office_of g.P.Places.version a c.requires.inside);
+        looks = looks_nowhere a;
         cut = tt;
         spares = λ clean. tt;
         faults = λ o k it all kept clean free. tt;
@@ -47,7 +47,7 @@ returns-in_err-is_open g c =
     let e = c.from_residual.ensures in
     let told = c.in_err-is_open.ensures.tells in
     record {
-      tells = tells_not g.S.Store (Represents g.P.Places.represents g.P.Places.version) IsKept (λ k. AllByRecursion (g.P.Places.stands (each (λ (u : Unit). u.id) k.forest)) c.args.rows.items) c.args.conn.now c.are_clean.new.conn c.from_residual.result
+      tells = tells_not g.S.Store (Represents g.P.Places.represents g.P.Versioned.version) IsKept (λ k. AllByRecursion (g.P.Places.stands (each (λ (u : Unit). u.id) k.forest)) c.args.rows.items) c.args.tables.now c.are_clean.new.tables c.from_residual.result
           (Tells g.P.Places.stands c.args.today c.args.rows.items c.args.permits.now c.args.clean.items) c.in_err-is_open.field-0.0
           (same_fault c.from_residual.result c.in_err-is_open.field-0.0 e.0 e.1) told.cut told.spares
           (λ o k it all kept clean free. told.faults o k it (subst (AllByRecursion (g.P.Places.stands (each (λ (u : Unit). u.id) k.forest))) (sym c.deref-3.ensures.value) all) kept clean free);

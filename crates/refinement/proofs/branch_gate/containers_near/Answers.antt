@@ -16,7 +16,7 @@ use Rattle.office_tables.specs.Schema as tables
 use Rattle.office_tables.specs.declared.fault.StoreFault.{StoreFault}
 use Rattle.office_tables.specs.declared.fault.StoreFault.TheVariants as fault
 use Rattle.office_tables.proofs.CallEnds.{excused_then, same_fault, tells_not}
-use Rattle.office_tables.proofs.Calls.{cut_after, cut_then, early, looks_then, office_of, still}
+use Rattle.office_tables.proofs.Calls.{cut_after, cut_then, early, looks_then}
 use Rattle.refinement.specs.Gate.{IsHoused, AreNear, is_one_of, nearest, says_so}
 use Rattle.refinement.specs.AccessConditions.{CanBeJudged, RepresentsWhole}
 use Rattle.refinement.proofs.NearRows.{all_branch, branch_named}
@@ -24,35 +24,28 @@ use Rattle.refinement.proofs.branch_gate.containers_near.Goals as goal
 
 pub returns-in_err-branch : goal.returns-in_err-branch
 returns-in_err-branch g c =
-    let v = g.P.Places.version in
+    let v = g.P.Versioned.version in
     let e = c.from_residual.ensures in
     let told = c.in_err-branch.ensures.tells in
     record {
-      tells = tells_not g.S.Store (RepresentsWhole g.P.Places.represents v) CanBeJudged (λ _. ⊤) c.args.conn.now c.branch-alloc.new.conn c.from_residual.result (λ _ s found. IsHoused c.args.unit s c.args.housed.now → AreNear c.args.unit s found.items) c.in_err-branch.field-0.0
+      tells = tells_not g.S.Store (RepresentsWhole g.P.Places.represents v) CanBeJudged (λ _. ⊤) c.args.tables.now c.branch-alloc.new.tables c.from_residual.result (λ _ s found. IsHoused c.args.unit s c.args.housed.now → AreNear c.args.unit s found.items) c.in_err-branch.field-0.0
           (same_fault c.from_residual.result c.in_err-branch.field-0.0 e.0 e.1) told.cut
           (λ beside s it may judged clean free. told.faults tt (each (λ (u : Unit). u.id) s.catalogue.forest) it.catalogue.shown tt judged.catalogue.places clean free);
     }
 
-pub containers_of_each-requires : goal.containers_of_each-requires
-containers_of_each-requires g c =
-    let v = g.P.Places.version in
-    let a = state g.S.Store c.args.conn.now in
-    let b = state g.S.Store c.branch-alloc.new.conn in
-    record { inside = office_of v b (still v a b c.requires.inside c.in_ok-branch.ensures.tells.looks.goes) }
-
 pub returns-in_err-containers : goal.returns-in_err-containers
 returns-in_err-containers g c =
-    let v = g.P.Places.version in
-    let a = state g.S.Store c.args.conn.now in
-    let b = state g.S.Store c.branch-alloc.new.conn in
-    let d = state g.S.Store c.containers_of_each.new.conn in
+    let v = g.P.Versioned.version in
+    let a = state g.S.Store c.args.tables.now in
+    let b = state g.S.Store c.branch-alloc.new.tables in
+    let d = state g.S.Store c.containers_of_each.new.tables in
     let u = c.args.unit in
     let e = c.from_residual-in_err-containers.ensures in
     let one = c.in_ok-branch.ensures.tells in
     let each_of = c.in_err-containers.ensures in
     let failed : Result (Vec ℕ Global) StoreFault = Err c.in_err-containers.field-0.0 in
     record {
-      tells = tells_not g.S.Store (RepresentsWhole g.P.Places.represents v) CanBeJudged (λ _. ⊤) c.args.conn.now c.containers_of_each.new.conn c.from_residual-in_err-containers.result (λ _ s found. IsHoused c.args.unit s c.args.housed.now → AreNear c.args.unit s found.items) c.in_err-containers.field-0.0
+      tells = tells_not g.S.Store (RepresentsWhole g.P.Places.represents v) CanBeJudged (λ _. ⊤) c.args.tables.now c.containers_of_each.new.tables c.from_residual-in_err-containers.result (λ _ s found. IsHoused c.args.unit s c.args.housed.now → AreNear c.args.unit s found.items) c.in_err-containers.field-0.0
           (same_fault c.from_residual-in_err-containers.result c.in_err-containers.field-0.0 e.0 e.1) (cut_then a b d one.looks.goes.on each_of.reads.cut)
           (λ beside s it may judged. excused_then a b d one.looks.goes.on failed each_of.reads.cut (λ at_b.
           let F = each (λ (u : Unit). u.id) s.catalogue.forest in
@@ -64,28 +57,28 @@ returns-in_err-containers g c =
 
 pub returns-in_err-extend_from_slice : goal.returns-in_err-extend_from_slice
 returns-in_err-extend_from_slice g c =
-    let v = g.P.Places.version in
-    let a = state g.S.Store c.args.conn.now in
-    let b = state g.S.Store c.branch-alloc.new.conn in
-    let d = state g.S.Store c.containers_of_each.new.conn in
+    let v = g.P.Versioned.version in
+    let a = state g.S.Store c.args.tables.now in
+    let b = state g.S.Store c.branch-alloc.new.tables in
+    let d = state g.S.Store c.containers_of_each.new.tables in
     let e = c.from_residual-in_err-extend_from_slice.ensures in
     let looked = looks_then a b d c.in_ok-branch.ensures.tells.looks c.in_ok-containers.ensures.reads.looks in
     record {
-      tells = tells_not g.S.Store (RepresentsWhole g.P.Places.represents v) CanBeJudged (λ _. ⊤) c.args.conn.now c.containers_of_each.new.conn c.from_residual-in_err-extend_from_slice.result (λ _ s found. IsHoused c.args.unit s c.args.housed.now → AreNear c.args.unit s found.items) fault.Memory
+      tells = tells_not g.S.Store (RepresentsWhole g.P.Places.represents v) CanBeJudged (λ _. ⊤) c.args.tables.now c.containers_of_each.new.tables c.from_residual-in_err-extend_from_slice.result (λ _ s found. IsHoused c.args.unit s c.args.housed.now → AreNear c.args.unit s found.items) fault.Memory
           (same_fault c.from_residual-in_err-extend_from_slice.result fault.Memory e.0 e.1) (cut_after a d looked.goes.on) (λ beside s it may judged clean free. tt);
     }
 
 pub returns : goal.returns
 returns g c =
-    let v = g.P.Places.version in
-    let a = state g.S.Store c.args.conn.now in
-    let b = state g.S.Store c.branch-alloc.new.conn in
-    let d = state g.S.Store c.containers_of_each.new.conn in
+    let v = g.P.Versioned.version in
+    let a = state g.S.Store c.args.tables.now in
+    let b = state g.S.Store c.branch-alloc.new.tables in
+    let d = state g.S.Store c.containers_of_each.new.tables in
     let u = c.args.unit in
     let one = c.in_ok-branch.ensures.tells in
     let each_of = c.in_ok-containers.ensures in
     record {
-      tells = ends_well (RepresentsWhole g.P.Places.represents v) CanBeJudged (λ _. ⊤) g.S.Store c.args.conn.now c.args.conn.now c.containers_of_each.new.conn (λ _ s found. IsHoused u s c.args.housed.now → AreNear u s found.items)
+      tells = ends_well (RepresentsWhole g.P.Places.represents v) CanBeJudged (λ _. ⊤) g.S.Store c.args.tables.now c.args.tables.now c.containers_of_each.new.tables (λ _ s found. IsHoused u s c.args.housed.now → AreNear u s found.items)
           (looks_then a b d one.looks each_of.reads.looks) _
           (λ clean s it housed n.
           let at_b = early b d _ each_of.reads.crash clean in

@@ -10,11 +10,11 @@ use Rattle.refinement.proofs.branch_gate.loans_in_branch.Goals as goal
 
 pub returns-in_err-containers : goal.returns-in_err-containers
 returns-in_err-containers g c =
-    let v = g.P.Places.version in
+    let v = g.P.Versioned.version in
     let e = c.from_residual.ensures in
     let told = c.in_err-containers.ensures.tells in
     record {
-      tells = tells_not g.S.Store (RepresentsWhole g.P.Places.represents v) CanBeJudged (λ _. ⊤) c.args.conn.now c.containers_near.new.conn c.from_residual.result (λ _ s found. IsHoused c.args.unit s c.args.housed.now → AreAsked c.args.unit s c.args.loans.now found.items) c.in_err-containers.field-0.0
+      tells = tells_not g.S.Store (RepresentsWhole g.P.Places.represents v) CanBeJudged (λ _. ⊤) c.args.tables.now c.containers_near.new.tables c.from_residual.result (λ _ s found. IsHoused c.args.unit s c.args.housed.now → AreAsked c.args.unit s c.args.loans.now found.items) c.in_err-containers.field-0.0
           (same_fault c.from_residual.result c.in_err-containers.field-0.0 e.0 e.1) told.cut told.faults;
     }
 
@@ -23,10 +23,10 @@ loans_of-requires g c = record { rise = subst IsNonDecreasing (sym c.deref.ensur
 
 pub returns : goal.returns
 returns g c =
-    let v = g.P.Places.version in
+    let v = g.P.Versioned.version in
     let told = c.in_ok-containers.ensures.tells in
     record {
-      tells = ends_well (RepresentsWhole g.P.Places.represents v) CanBeJudged (λ _. ⊤) g.S.Store c.args.conn.now c.args.conn.now c.containers_near.new.conn (λ _ s found. IsHoused c.args.unit s c.args.housed.now → AreAsked c.args.unit s c.args.loans.now found.items)
+      tells = ends_well (RepresentsWhole g.P.Places.represents v) CanBeJudged (λ _. ⊤) g.S.Store c.args.tables.now c.args.tables.now c.containers_near.new.tables (λ _ s found. IsHoused c.args.unit s c.args.housed.now → AreAsked c.args.unit s c.args.loans.now found.items)
           told.looks _
           (λ clean s shown housed.
           record {

@@ -6,36 +6,33 @@ use Rattle.desk_store.specs.declared.holdings.Loan.{Loan}
 use Rattle.desk_store.proofs.ToldCalls.{ends_not, shown_on}
 use Rattle.state_encoding.specs.OfficeRows.{tables}
 use Rattle.office_tables.proofs.CallEnds.{same_fault, tells_not}
-use Rattle.office_tables.proofs.Calls.{early, looks_then, office_of, still}
+use Rattle.office_tables.proofs.Calls.{early, looks_then}
 use Rattle.refinement.specs.Gate.{AreAsked, IsHoused}
 use Rattle.refinement.specs.AccessConditions.{CanBeJudged, RepresentsWhole}
 use Rattle.refinement.proofs.Tellings.{told_then}
 use Rattle.refinement.proofs.branch_gate.loans_near.Goals as goal
 
-pub issued-requires : goal.issued-requires
-issued-requires g c = record { inside = office_of g.P.Places.version (state g.S.Store c.args.conn.now) c.requires.inside }
-
 pub returns-in_err-loans : goal.returns-in_err-loans
 returns-in_err-loans g c =
-    let v = g.P.Places.version in
+    let v = g.P.Versioned.version in
     let e = c.from_residual.ensures in
     let told = c.in_err-loans.ensures.tells in
     record {
-      tells = tells_not g.S.Store (RepresentsWhole g.P.Places.represents v) CanBeJudged (λ _. ⊤) c.args.conn.now c.issued.new.conn c.from_residual.result (λ _ s found. AreAsked c.args.unit s (issued_of (tables v s).desk) found.items) c.in_err-loans.field-0.0
+      tells = tells_not g.S.Store (RepresentsWhole g.P.Places.represents v) CanBeJudged (λ _. ⊤) c.args.tables.now c.issued.new.tables c.from_residual.result (λ _ s found. AreAsked c.args.unit s (issued_of (tables v s).desk) found.items) c.in_err-loans.field-0.0
           (same_fault c.from_residual.result c.in_err-loans.field-0.0 e.0 e.1) told.cut
           (λ beside s shown may judged clean free. told.faults tt (tables v s).desk shown.desk tt (judged.desk v) clean free);
     }
 
 pub housed_unit-requires : goal.housed_unit-requires
-housed_unit-requires g c = record { inside = still g.P.Places.version (state g.S.Store c.args.conn.now) (state g.S.Store c.issued.new.conn) c.requires.inside c.in_ok-loans.ensures.tells.looks.goes; small = c.requires.small }
+housed_unit-requires g c = record { small = c.requires.small }
 
 pub returns-in_err-housed : goal.returns-in_err-housed
 returns-in_err-housed g c =
-    let v = g.P.Places.version in
+    let v = g.P.Versioned.version in
     let e = c.from_residual-in_err-housed.ensures in
     let told = c.in_err-housed.ensures.tells in
     record {
-      tells = ends_not (RepresentsWhole g.P.Places.represents v) CanBeJudged (λ _. ⊤) g.S.Store c.args.conn.now c.issued.new.conn c.housed_unit.new.conn (λ _ s found. AreAsked c.args.unit s (issued_of (tables v s).desk) found.items)
+      tells = ends_not (RepresentsWhole g.P.Places.represents v) CanBeJudged (λ _. ⊤) g.S.Store c.args.tables.now c.issued.new.tables c.housed_unit.new.tables (λ _ s found. AreAsked c.args.unit s (issued_of (tables v s).desk) found.items)
           c.in_ok-loans.ensures.tells.looks c.in_err-housed.field-0.0 told.cut
           (λ s it may judged clean free. told.faults tt s it tt judged clean free)
           c.from_residual-in_err-housed.result (same_fault c.from_residual-in_err-housed.result c.in_err-housed.field-0.0 e.0 e.1);
@@ -43,23 +40,23 @@ returns-in_err-housed g c =
 
 pub loans_to_ask-requires : goal.loans_to_ask-requires
 loans_to_ask-requires g c =
-    let v = g.P.Places.version in
-    let a = state g.S.Store c.args.conn.now in
-    let b = state g.S.Store c.issued.new.conn in
-    let d = state g.S.Store c.housed_unit.new.conn in
-    record { inside = still v a d c.requires.inside (looks_then a b d c.in_ok-loans.ensures.tells.looks c.in_ok-housed.ensures.tells.looks).goes; small = c.requires.small }
+    let v = g.P.Versioned.version in
+    let a = state g.S.Store c.args.tables.now in
+    let b = state g.S.Store c.issued.new.tables in
+    let d = state g.S.Store c.housed_unit.new.tables in
+    record { small = c.requires.small }
 
 pub returns : goal.returns
 returns g c =
-    let v = g.P.Places.version in
+    let v = g.P.Versioned.version in
     let represents = RepresentsWhole g.P.Places.represents v in
-    let a = state g.S.Store c.args.conn.now in
-    let b = state g.S.Store c.issued.new.conn in
-    let d = state g.S.Store c.housed_unit.new.conn in
+    let a = state g.S.Store c.args.tables.now in
+    let b = state g.S.Store c.issued.new.tables in
+    let d = state g.S.Store c.housed_unit.new.tables in
     let told = c.in_ok-loans.ensures.tells in
     let housed = c.in_ok-housed.ensures.tells in
     record {
-      tells = told_then represents CanBeJudged g.S.Store c.args.conn.now c.housed_unit.new.conn c.loans_to_ask.new.conn c.loans_to_ask.result
+      tells = told_then represents CanBeJudged g.S.Store c.args.tables.now c.housed_unit.new.tables c.loans_to_ask.new.tables c.loans_to_ask.result
           (λ _ s found. IsHoused c.args.unit s c.in_ok-housed.housed → AreAsked c.args.unit s c.in_ok-loans.loans.items found.items) (λ _ s found. AreAsked c.args.unit s (issued_of (tables v s).desk) found.items)
           (looks_then a b d told.looks housed.looks)
           (λ at_d s shown found is.

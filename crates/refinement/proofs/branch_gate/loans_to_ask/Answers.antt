@@ -3,7 +3,7 @@ use Rattle.std.specs.Prelude.{⊤}
 use Rattle.sqlite.specs.Held.{state}
 use Rattle.desk_store.proofs.ToldCalls.{ends_well}
 use Rattle.desk_store.specs.declared.holdings.Loan.{Loan}
-use Rattle.office_tables.proofs.Calls.{looks_nowhere, office_of}
+use Rattle.office_tables.proofs.Calls.{looks_nowhere}
 use Rattle.refinement.specs.Gate.{AreAsked, IsHoused}
 use Rattle.refinement.specs.AccessConditions.{CanBeJudged, RepresentsWhole}
 use Rattle.refinement.proofs.NearRows.{all_pass}
@@ -12,22 +12,22 @@ use Rattle.refinement.proofs.branch_gate.loans_to_ask.Goals as goal
 
 pub returns-then-len-le-FEW : goal.returns-then-len-le-FEW
 returns-then-len-le-FEW g c =
-    let v = g.P.Places.version in
-    let a = state g.S.Store c.args.conn.now in
+    let v = g.P.Versioned.version in
+    let a = state g.S.Store c.args.tables.now in
     record {
-      tells = ends_well (RepresentsWhole g.P.Places.represents v) CanBeJudged (λ _. ⊤) g.S.Store c.args.conn.now c.args.conn.now c.args.conn.now (λ _ s found. IsHoused c.args.unit s c.args.housed.now → AreAsked c.args.unit s c.args.loans.items found.items)
-          (looks_nowhere a (office_of v a c.requires.inside)) c.args.loans
+      tells = ends_well (RepresentsWhole g.P.Places.represents v) CanBeJudged (λ _. ⊤) g.S.Store c.args.tables.now c.args.tables.now c.args.tables.now (λ _ s found. IsHoused c.args.unit s c.args.housed.now → AreAsked c.args.unit s c.args.loans.items found.items)
+          (looks_nowhere a) c.args.loans
           (λ clean s shown housed. record { test = λ _. true; near = λ k no. absurd (cc); are = all_pass c.args.loans.items });
     }
 
 pub returns : goal.returns
 returns g c =
-    let v = g.P.Places.version in
-    let a = state g.S.Store c.args.conn.now in
+    let v = g.P.Versioned.version in
+    let a = state g.S.Store c.args.tables.now in
     record {
-      tells = told_then (RepresentsWhole g.P.Places.represents v) CanBeJudged g.S.Store c.args.conn.now c.args.conn.now c.loans_in_branch.new.conn c.loans_in_branch.result
+      tells = told_then (RepresentsWhole g.P.Places.represents v) CanBeJudged g.S.Store c.args.tables.now c.args.tables.now c.loans_in_branch.new.tables c.loans_in_branch.result
           (λ _ s found. IsHoused c.args.unit s c.args.housed.now → AreAsked c.args.unit s c.deref.result.now found.items) (λ _ s found. IsHoused c.args.unit s c.args.housed.now → AreAsked c.args.unit s c.args.loans.items found.items)
-          (looks_nowhere a (office_of v a c.requires.inside))
+          (looks_nowhere a)
           (λ clean s shown found is housed. subst (λ (loans : List Loan). AreAsked c.args.unit s loans found.items) c.deref.ensures.value (is housed))
           c.loans_in_branch.ensures.tells;
     }

@@ -1,10 +1,8 @@
 use Rattle.std.proofs.Common.{◌≡◌, ℕ, Bool, true, false, not, Vec, Global, Option, ap, subst, sym, refl, ◌∙◌}
 use Rattle.std.specs.Prelude.{⊤, IfSome}
-use Rattle.sqlite.specs.Held.{state}
 use Rattle.desk_store.proofs.ToldCalls.{ends_full, ends_well}
 use Rattle.office_tables.specs.declared.fault.StoreFault.TheVariants.{Memory}
 use Rattle.office_tables.proofs.CallEnds.{same_fault, tells_not}
-use Rattle.office_tables.proofs.Calls.{still}
 use Rattle.refinement.specs.Gate.{AreApart, AreAsked, IsHoused, is_one_of}
 use Rattle.refinement.specs.AccessConditions.{CanBeJudged, RepresentsWhole}
 use Rattle.refinement.proofs.Tellings.{told_then}
@@ -12,23 +10,23 @@ use Rattle.refinement.proofs.branch_gate.lower_loans.Goals as goal
 
 pub returns-in_err-apart : goal.returns-in_err-apart
 returns-in_err-apart g c =
-    let v = g.P.Places.version in
+    let v = g.P.Versioned.version in
     let e = c.from_residual.ensures in
     let told = c.in_err-apart.ensures.tells in
     record {
-      tells = tells_not g.S.Store (RepresentsWhole g.P.Places.represents v) CanBeJudged (λ _. ⊤) c.args.conn.now c.containers_apart.new.conn c.from_residual.result (λ _ s found. CanBeJudged s → IsHoused c.args.unit s c.args.housed.now → AreAsked c.args.unit s c.args.loans.now found.items) c.in_err-apart.field-0.0
+      tells = tells_not g.S.Store (RepresentsWhole g.P.Places.represents v) CanBeJudged (λ _. ⊤) c.args.tables.now c.containers_apart.new.tables c.from_residual.result (λ _ s found. CanBeJudged s → IsHoused c.args.unit s c.args.housed.now → AreAsked c.args.unit s c.args.loans.now found.items) c.in_err-apart.field-0.0
           (same_fault c.from_residual.result c.in_err-apart.field-0.0 e.0 e.1) told.cut told.faults;
     }
 
 pub loans_in_branch-requires : goal.loans_in_branch-requires
 loans_in_branch-requires g c =
-    record { inside = still g.P.Places.version (state g.S.Store c.args.conn.now) (state g.S.Store c.containers_apart.new.conn) c.requires.inside c.in_ok-apart.ensures.tells.looks.goes; small = c.requires.small }
+    record { small = c.requires.small }
 
 pub returns-in_default : goal.returns-in_default
 returns-in_default g c =
-    let v = g.P.Places.version in
+    let v = g.P.Versioned.version in
     record {
-      tells = told_then (RepresentsWhole g.P.Places.represents v) CanBeJudged g.S.Store c.args.conn.now c.containers_apart.new.conn c.loans_in_branch.new.conn c.loans_in_branch.result
+      tells = told_then (RepresentsWhole g.P.Places.represents v) CanBeJudged g.S.Store c.args.tables.now c.containers_apart.new.tables c.loans_in_branch.new.tables c.loans_in_branch.result
           (λ _ s found. IsHoused c.args.unit s c.args.housed.now → AreAsked c.args.unit s c.args.loans.now found.items) (λ _ s found. CanBeJudged s → IsHoused c.args.unit s c.args.housed.now → AreAsked c.args.unit s c.args.loans.now found.items)
           c.in_ok-apart.ensures.tells.looks (λ clean s shown found is judged housed. is housed) c.loans_in_branch.ensures.tells;
     }
@@ -37,7 +35,7 @@ pub returns-in_err-loans_without : goal.returns-in_err-loans_without
 returns-in_err-loans_without g c =
     let e = c.from_residual-in_err-loans_without.ensures in
     record {
-      tells = ends_full (RepresentsWhole g.P.Places.represents g.P.Places.version) CanBeJudged (λ _. ⊤) g.S.Store c.args.conn.now c.args.conn.now c.containers_apart.new.conn _ c.in_ok-apart.ensures.tells.looks
+      tells = ends_full (RepresentsWhole g.P.Places.represents g.P.Versioned.version) CanBeJudged (λ _. ⊤) g.S.Store c.args.tables.now c.args.tables.now c.containers_apart.new.tables _ c.in_ok-apart.ensures.tells.looks
           c.from_residual-in_err-loans_without.result (same_fault c.from_residual-in_err-loans_without.result Memory e.0 e.1);
     }
 
@@ -47,10 +45,10 @@ not_false false e = absurd (cc)
 
 pub returns : goal.returns
 returns g c =
-    let v = g.P.Places.version in
+    let v = g.P.Versioned.version in
     let told = c.in_ok-apart.ensures.tells in
     record {
-      tells = ends_well (RepresentsWhole g.P.Places.represents v) CanBeJudged (λ _. ⊤) g.S.Store c.args.conn.now c.args.conn.now c.containers_apart.new.conn (λ _ s found. CanBeJudged s → IsHoused c.args.unit s c.args.housed.now → AreAsked c.args.unit s c.args.loans.now found.items)
+      tells = ends_well (RepresentsWhole g.P.Places.represents v) CanBeJudged (λ _. ⊤) g.S.Store c.args.tables.now c.args.tables.now c.containers_apart.new.tables (λ _ s found. CanBeJudged s → IsHoused c.args.unit s c.args.housed.now → AreAsked c.args.unit s c.args.loans.now found.items)
           told.looks _
           (λ clean s shown judged housed.
           let apart : AreApart c.args.unit s c.in-Some.apart.items = subst (λ (o : Option (Vec ℕ Global)). IfSome o (λ apart. AreApart c.args.unit s apart.items)) c.in-Some.is (told.answers clean tt s shown judged housed) in

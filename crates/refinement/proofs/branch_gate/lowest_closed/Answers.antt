@@ -9,7 +9,7 @@ use Rattle.office_core.specs.State.{State}
 use Rattle.state_encoding.specs.OfficeRows.{tables}
 use Rattle.tree_core.specs.Versions.{Version}
 use Rattle.office_tables.proofs.CallEnds.{same_fault, tells_not}
-use Rattle.office_tables.proofs.Calls.{early, looks_then, still}
+use Rattle.office_tables.proofs.Calls.{early, looks_then}
 use Rattle.refinement.specs.AccessConditions.{CanBeJudged, RepresentsWhole}
 use Rattle.refinement.specs.Gate.{IsHoused, IsWithheldAt, OthersAreOpen, first_closed}
 use Rattle.refinement.specs.declared.housed_units.HousedUnit.{HousedUnit}
@@ -23,26 +23,22 @@ Tells v u it loans place s container =
 
 pub returns-in_err-lower : goal.returns-in_err-lower
 returns-in_err-lower g c =
-    let v = g.P.Places.version in
+    let v = g.P.Versioned.version in
     let e = c.from_residual.ensures in
     let told = c.in_err-lower.ensures.tells in
     record {
-      tells = tells_not g.S.Store (RepresentsWhole g.P.Places.represents v) CanBeJudged (λ _. ⊤) c.args.conn.now c.lower_loans.new.conn c.from_residual.result
+      tells = tells_not g.S.Store (RepresentsWhole g.P.Places.represents v) CanBeJudged (λ _. ⊤) c.args.tables.now c.lower_loans.new.tables c.from_residual.result
           (λ _ s container. CanBeJudged s → c.args.today ≡ s.day → Tells v c.args.unit c.args.housed.now c.args.loans.now c.args.place s container) c.in_err-lower.field-0.0
           (same_fault c.from_residual.result c.in_err-lower.field-0.0 e.0 e.1) told.cut told.faults;
     }
 
-pub first_closed-requires : goal.first_closed-requires
-first_closed-requires g c =
-    record { inside = still g.P.Places.version (state g.S.Store c.args.conn.now) (state g.S.Store c.lower_loans.new.conn) c.requires.inside c.in_ok-lower.ensures.tells.looks.goes }
-
 pub returns-in_err-container : goal.returns-in_err-container
 returns-in_err-container g c =
-    let v = g.P.Places.version in
+    let v = g.P.Versioned.version in
     let e = c.from_residual-in_err-container.ensures in
     let told = c.in_err-container.ensures.tells in
     record {
-      tells = ends_not (RepresentsWhole g.P.Places.represents v) CanBeJudged (λ _. ⊤) g.S.Store c.args.conn.now c.lower_loans.new.conn c.first_closed.new.conn
+      tells = ends_not (RepresentsWhole g.P.Places.represents v) CanBeJudged (λ _. ⊤) g.S.Store c.args.tables.now c.lower_loans.new.tables c.first_closed.new.tables
           (λ _ s container. CanBeJudged s → c.args.today ≡ s.day → Tells v c.args.unit c.args.housed.now c.args.loans.now c.args.place s container)
           c.in_ok-lower.ensures.tells.looks c.in_err-container.field-0.0 told.cut
           (λ s it may judged clean free. told.faults tt s it tt judged clean free)
@@ -51,15 +47,15 @@ returns-in_err-container g c =
 
 pub returns-in-Some : goal.returns-in-Some
 returns-in-Some g c =
-    let v = g.P.Places.version in
+    let v = g.P.Versioned.version in
     let represents = RepresentsWhole g.P.Places.represents v in
-    let a = state g.S.Store c.args.conn.now in
-    let b = state g.S.Store c.lower_loans.new.conn in
-    let d = state g.S.Store c.first_closed.new.conn in
+    let a = state g.S.Store c.args.tables.now in
+    let b = state g.S.Store c.lower_loans.new.tables in
+    let d = state g.S.Store c.first_closed.new.tables in
     let asked = c.in_ok-lower.ensures.tells in
     let told = c.in_ok-container.ensures.tells in
     record {
-      tells = ends_well represents CanBeJudged (λ _. ⊤) g.S.Store c.args.conn.now c.args.conn.now c.first_closed.new.conn
+      tells = ends_well represents CanBeJudged (λ _. ⊤) g.S.Store c.args.tables.now c.args.tables.now c.first_closed.new.tables
           (λ _ s container. CanBeJudged s → c.args.today ≡ s.day → Tells v c.args.unit c.args.housed.now c.args.loans.now c.args.place s container)
           (looks_then a b d asked.looks told.looks) c.in-Some.container
           (λ clean s it judged day others housed withheld are.
@@ -71,16 +67,16 @@ returns-in-Some g c =
 
 pub returns : goal.returns
 returns g c =
-    let v = g.P.Places.version in
+    let v = g.P.Versioned.version in
     let represents = RepresentsWhole g.P.Places.represents v in
-    let a = state g.S.Store c.args.conn.now in
-    let b = state g.S.Store c.lower_loans.new.conn in
-    let d = state g.S.Store c.first_closed.new.conn in
+    let a = state g.S.Store c.args.tables.now in
+    let b = state g.S.Store c.lower_loans.new.tables in
+    let d = state g.S.Store c.first_closed.new.tables in
     let asked = c.in_ok-lower.ensures.tells in
     let told = c.in_ok-container.ensures.tells in
     let none : Loan = record { container = 0; order = 0; ticket = 0 } in
     record {
-      tells = ends_well represents CanBeJudged (λ _. ⊤) g.S.Store c.args.conn.now c.args.conn.now c.first_closed.new.conn
+      tells = ends_well represents CanBeJudged (λ _. ⊤) g.S.Store c.args.tables.now c.args.tables.now c.first_closed.new.tables
           (λ _ s container. CanBeJudged s → c.args.today ≡ s.day → Tells v c.args.unit c.args.housed.now c.args.loans.now c.args.place s container)
           (looks_then a b d asked.looks told.looks) _
           (λ clean s it judged day others housed withheld are.

@@ -8,23 +8,20 @@ use Rattle.desk_store.specs.declared.holdings.Loan.{Loan}
 use Rattle.desk_store.proofs.ToldCalls.{ends_not, ends_well, shown_on}
 use Rattle.state_encoding.specs.OfficeRows.{tables}
 use Rattle.office_tables.proofs.CallEnds.{same_fault, tells_not}
-use Rattle.office_tables.proofs.Calls.{early, looks_then, office_of, still}
+use Rattle.office_tables.proofs.Calls.{early, looks_then}
 use Rattle.refinement.specs.Gate.{AreAsked, AreEnough, IsWithheldAt, OthersAreOpen, first_closed, gated, unless_refused}
 use Rattle.refinement.specs.AccessConditions.{CanBeJudged, RepresentsWhole}
 use Rattle.refinement.proofs.Gates.{enough_of, kept_is}
 use Rattle.refinement.proofs.Tellings.{told_then}
 use Rattle.refinement.proofs.branch_gate.pass_near.Goals as goal
 
-pub issued-requires : goal.issued-requires
-issued-requires g c = record { inside = office_of g.P.Places.version (state g.S.Store c.args.conn.now) c.requires.inside }
-
 pub returns-in_err-loans : goal.returns-in_err-loans
 returns-in_err-loans g c =
-    let v = g.P.Places.version in
+    let v = g.P.Versioned.version in
     let e = c.from_residual.ensures in
     let told = c.in_err-loans.ensures.tells in
     record {
-      tells = tells_not g.S.Store (RepresentsWhole g.P.Places.represents v) CanBeJudged (λ _. ⊤) c.args.conn.now c.issued.new.conn c.from_residual.result (λ _ s reply. CanBeJudged s → c.args.today ≡ s.day → OthersAreOpen c.args.unit s → reply ≡ gated s c.args.done) c.in_err-loans.field-0.0
+      tells = tells_not g.S.Store (RepresentsWhole g.P.Places.represents v) CanBeJudged (λ _. ⊤) c.args.tables.now c.issued.new.tables c.from_residual.result (λ _ s reply. CanBeJudged s → c.args.today ≡ s.day → OthersAreOpen c.args.unit s → reply ≡ gated s c.args.done) c.in_err-loans.field-0.0
           (same_fault c.from_residual.result c.in_err-loans.field-0.0 e.0 e.1) told.cut
           (λ beside s shown may judged clean free. told.faults tt (tables v s).desk shown.desk tt (judged.desk v) clean free);
     }
@@ -36,12 +33,12 @@ nothing_long (x ∷ xs) e = absurd (omega (arith, e))
 -- nothing is out
 pub returns-then-is_empty : goal.returns-then-is_empty
 returns-then-is_empty g c =
-    let v = g.P.Places.version in
+    let v = g.P.Versioned.version in
     let told = c.in_ok-loans.ensures.tells in
     let zero : c.in_ok-loans.loans.len ≡ 0 = eqb-true c.in_ok-loans.loans.len 0 (sym c.if-is_empty.ensures) in
     let long : length c.in_ok-loans.loans.items ≡ 0 = omega (arith, zero) in
     record {
-      tells = ends_well (RepresentsWhole g.P.Places.represents v) CanBeJudged (λ _. ⊤) g.S.Store c.args.conn.now c.args.conn.now c.issued.new.conn (λ _ s reply. CanBeJudged s → c.args.today ≡ s.day → OthersAreOpen c.args.unit s → reply ≡ gated s c.args.done)
+      tells = ends_well (RepresentsWhole g.P.Places.represents v) CanBeJudged (λ _. ⊤) g.S.Store c.args.tables.now c.args.tables.now c.issued.new.tables (λ _ s reply. CanBeJudged s → c.args.today ≡ s.day → OthersAreOpen c.args.unit s → reply ≡ gated s c.args.done)
           told.looks (Ok c.args.done)
           (λ clean s shown judged day others.
           let none : issued_of (tables v s).desk ≡ [] = sym (told.answers clean tt (tables v s).desk shown.desk) ∙ nothing_long c.in_ok-loans.loans.items long in
@@ -49,15 +46,15 @@ returns-then-is_empty g c =
     }
 
 pub housed_unit-requires : goal.housed_unit-requires
-housed_unit-requires g c = record { inside = still g.P.Places.version (state g.S.Store c.args.conn.now) (state g.S.Store c.issued.new.conn) c.requires.inside c.in_ok-loans.ensures.tells.looks.goes; small = c.requires.small }
+housed_unit-requires g c = record { small = c.requires.small }
 
 pub returns-in_err-housed : goal.returns-in_err-housed
 returns-in_err-housed g c =
-    let v = g.P.Places.version in
+    let v = g.P.Versioned.version in
     let e = c.from_residual-in_err-housed.ensures in
     let told = c.in_err-housed.ensures.tells in
     record {
-      tells = ends_not (RepresentsWhole g.P.Places.represents v) CanBeJudged (λ _. ⊤) g.S.Store c.args.conn.now c.issued.new.conn c.housed_unit.new.conn (λ _ s reply. CanBeJudged s → c.args.today ≡ s.day → OthersAreOpen c.args.unit s → reply ≡ gated s c.args.done)
+      tells = ends_not (RepresentsWhole g.P.Places.represents v) CanBeJudged (λ _. ⊤) g.S.Store c.args.tables.now c.issued.new.tables c.housed_unit.new.tables (λ _ s reply. CanBeJudged s → c.args.today ≡ s.day → OthersAreOpen c.args.unit s → reply ≡ gated s c.args.done)
           c.in_ok-loans.ensures.tells.looks c.in_err-housed.field-0.0 told.cut
           (λ s it may judged clean free. told.faults tt s it tt judged clean free)
           c.from_residual-in_err-housed.result (same_fault c.from_residual-in_err-housed.result c.in_err-housed.field-0.0 e.0 e.1);
@@ -65,22 +62,22 @@ returns-in_err-housed g c =
 
 pub first_withheld-requires : goal.first_withheld-requires
 first_withheld-requires g c =
-    let v = g.P.Places.version in
-    let a = state g.S.Store c.args.conn.now in
-    let b = state g.S.Store c.issued.new.conn in
-    let d = state g.S.Store c.housed_unit.new.conn in
-    record { inside = still v a d c.requires.inside (looks_then a b d c.in_ok-loans.ensures.tells.looks c.in_ok-housed.ensures.tells.looks).goes; rise = c.in_ok-housed.ensures.rise }
+    let v = g.P.Versioned.version in
+    let a = state g.S.Store c.args.tables.now in
+    let b = state g.S.Store c.issued.new.tables in
+    let d = state g.S.Store c.housed_unit.new.tables in
+    record { rise = c.in_ok-housed.ensures.rise }
 
 pub returns-in_err-place : goal.returns-in_err-place
 returns-in_err-place g c =
-    let v = g.P.Places.version in
-    let a = state g.S.Store c.args.conn.now in
-    let b = state g.S.Store c.issued.new.conn in
-    let d = state g.S.Store c.housed_unit.new.conn in
+    let v = g.P.Versioned.version in
+    let a = state g.S.Store c.args.tables.now in
+    let b = state g.S.Store c.issued.new.tables in
+    let d = state g.S.Store c.housed_unit.new.tables in
     let e = c.from_residual-in_err-place.ensures in
     let told = c.in_err-place.ensures.tells in
     record {
-      tells = ends_not (RepresentsWhole g.P.Places.represents v) CanBeJudged (λ _. ⊤) g.S.Store c.args.conn.now c.housed_unit.new.conn c.first_withheld.new.conn (λ _ s reply. CanBeJudged s → c.args.today ≡ s.day → OthersAreOpen c.args.unit s → reply ≡ gated s c.args.done)
+      tells = ends_not (RepresentsWhole g.P.Places.represents v) CanBeJudged (λ _. ⊤) g.S.Store c.args.tables.now c.housed_unit.new.tables c.first_withheld.new.tables (λ _ s reply. CanBeJudged s → c.args.today ≡ s.day → OthersAreOpen c.args.unit s → reply ≡ gated s c.args.done)
           (looks_then a b d c.in_ok-loans.ensures.tells.looks c.in_ok-housed.ensures.tells.looks) c.in_err-place.field-0.0 told.cut
           (λ s it may judged clean free. told.faults tt s it tt judged clean free)
           c.from_residual-in_err-place.result (same_fault c.from_residual-in_err-place.result c.in_err-place.field-0.0 e.0 e.1);
@@ -90,49 +87,38 @@ returns-in_err-place g c =
 
 pub loans_to_ask-requires : goal.loans_to_ask-requires
 loans_to_ask-requires g c =
-    let v = g.P.Places.version in
-    let a = state g.S.Store c.args.conn.now in
-    let b = state g.S.Store c.issued.new.conn in
-    let d = state g.S.Store c.housed_unit.new.conn in
-    let e = state g.S.Store c.first_withheld.new.conn in
-    record { inside = still v a e c.requires.inside (looks_then a d e (looks_then a b d c.in_ok-loans.ensures.tells.looks c.in_ok-housed.ensures.tells.looks) c.in_ok-place.ensures.tells.looks).goes; small = c.requires.small }
+    let v = g.P.Versioned.version in
+    let a = state g.S.Store c.args.tables.now in
+    let b = state g.S.Store c.issued.new.tables in
+    let d = state g.S.Store c.housed_unit.new.tables in
+    let e = state g.S.Store c.first_withheld.new.tables in
+    record { small = c.requires.small }
 
 pub returns-in_err-asked : goal.returns-in_err-asked
 returns-in_err-asked g c =
-    let v = g.P.Places.version in
-    let a = state g.S.Store c.args.conn.now in
-    let b = state g.S.Store c.issued.new.conn in
-    let d = state g.S.Store c.housed_unit.new.conn in
-    let f = state g.S.Store c.first_withheld.new.conn in
+    let v = g.P.Versioned.version in
+    let a = state g.S.Store c.args.tables.now in
+    let b = state g.S.Store c.issued.new.tables in
+    let d = state g.S.Store c.housed_unit.new.tables in
+    let f = state g.S.Store c.first_withheld.new.tables in
     let e = c.from_residual-in_err-asked.ensures in
     let told = c.in_err-asked.ensures.tells in
     record {
-      tells = ends_not (RepresentsWhole g.P.Places.represents v) CanBeJudged (λ _. ⊤) g.S.Store c.args.conn.now c.first_withheld.new.conn c.loans_to_ask.new.conn (λ _ s reply. CanBeJudged s → c.args.today ≡ s.day → OthersAreOpen c.args.unit s → reply ≡ gated s c.args.done)
+      tells = ends_not (RepresentsWhole g.P.Places.represents v) CanBeJudged (λ _. ⊤) g.S.Store c.args.tables.now c.first_withheld.new.tables c.loans_to_ask.new.tables (λ _ s reply. CanBeJudged s → c.args.today ≡ s.day → OthersAreOpen c.args.unit s → reply ≡ gated s c.args.done)
           (looks_then a d f (looks_then a b d c.in_ok-loans.ensures.tells.looks c.in_ok-housed.ensures.tells.looks) c.in_ok-place.ensures.tells.looks) c.in_err-asked.field-0.0 told.cut
           (λ s it may judged clean free. told.faults tt s it tt judged clean free)
           c.from_residual-in_err-asked.result (same_fault c.from_residual-in_err-asked.result c.in_err-asked.field-0.0 e.0 e.1);
     }
 
-pub pass_of-requires : goal.pass_of-requires
-pass_of-requires g c =
-    let v = g.P.Places.version in
-    let a = state g.S.Store c.args.conn.now in
-    let b = state g.S.Store c.issued.new.conn in
-    let d = state g.S.Store c.housed_unit.new.conn in
-    let f = state g.S.Store c.first_withheld.new.conn in
-    let e = state g.S.Store c.loans_to_ask.new.conn in
-    let to_f = looks_then a d f (looks_then a b d c.in_ok-loans.ensures.tells.looks c.in_ok-housed.ensures.tells.looks) c.in_ok-place.ensures.tells.looks in
-    record { inside = still v a e c.requires.inside (looks_then a f e to_f c.in_ok-asked.ensures.tells.looks).goes }
-
 pub returns-in_default : goal.returns-in_default
 returns-in_default g c =
-    let v = g.P.Places.version in
+    let v = g.P.Versioned.version in
     let represents = RepresentsWhole g.P.Places.represents v in
-    let a = state g.S.Store c.args.conn.now in
-    let b = state g.S.Store c.issued.new.conn in
-    let d = state g.S.Store c.housed_unit.new.conn in
-    let f = state g.S.Store c.first_withheld.new.conn in
-    let e = state g.S.Store c.loans_to_ask.new.conn in
+    let a = state g.S.Store c.args.tables.now in
+    let b = state g.S.Store c.issued.new.tables in
+    let d = state g.S.Store c.housed_unit.new.tables in
+    let f = state g.S.Store c.first_withheld.new.tables in
+    let e = state g.S.Store c.loans_to_ask.new.tables in
     let told = c.in_ok-loans.ensures.tells in
     let housed = c.in_ok-housed.ensures.tells in
     let withheld = c.in_ok-place.ensures.tells in
@@ -140,7 +126,7 @@ returns-in_default g c =
     let to_d = looks_then a b d told.looks housed.looks in
     let to_f = looks_then a d f to_d withheld.looks in
     record {
-      tells = told_then represents CanBeJudged g.S.Store c.args.conn.now c.loans_to_ask.new.conn c.pass_of.new.conn c.pass_of.result
+      tells = told_then represents CanBeJudged g.S.Store c.args.tables.now c.loans_to_ask.new.tables c.pass_of.new.tables c.pass_of.result
           (λ _ s reply. CanBeJudged s → c.args.today ≡ s.day → AreEnough c.deref-in_default.result.now s → reply ≡ gated s c.args.done) (λ _ s reply. CanBeJudged s → c.args.today ≡ s.day → OthersAreOpen c.args.unit s → reply ≡ gated s c.args.done)
           (looks_then a f e to_f near.looks)
           (λ at_e s shown reply is judged day others.
@@ -159,14 +145,13 @@ returns-in_default g c =
 
 pub lowest_closed-requires : goal.lowest_closed-requires
 lowest_closed-requires g c =
-    let v = g.P.Places.version in
-    let a = state g.S.Store c.args.conn.now in
-    let b = state g.S.Store c.issued.new.conn in
-    let d = state g.S.Store c.housed_unit.new.conn in
-    let f = state g.S.Store c.first_withheld.new.conn in
+    let v = g.P.Versioned.version in
+    let a = state g.S.Store c.args.tables.now in
+    let b = state g.S.Store c.issued.new.tables in
+    let d = state g.S.Store c.housed_unit.new.tables in
+    let f = state g.S.Store c.first_withheld.new.tables in
     let low : IfSome (Some c.in-Some.place) (λ place. place < length c.deref.result.now) = subst (λ (o : Option ℕ). IfSome o (λ place. place < length c.deref.result.now)) c.in-Some.is c.in_ok-place.ensures.there in
     record {
-      inside = still v a f c.requires.inside (looks_then a d f (looks_then a b d c.in_ok-loans.ensures.tells.looks c.in_ok-housed.ensures.tells.looks) c.in_ok-place.ensures.tells.looks).goes;
       small = c.requires.small;
       rise = c.in_ok-housed.ensures.rise;
       there = subst (λ (loans : List Loan). c.in-Some.place < length loans) (c.deref.ensures.value ∙ sym c.deref-2.ensures.value) low;
@@ -174,15 +159,15 @@ lowest_closed-requires g c =
 
 pub returns-in_err-container : goal.returns-in_err-container
 returns-in_err-container g c =
-    let v = g.P.Places.version in
-    let a = state g.S.Store c.args.conn.now in
-    let b = state g.S.Store c.issued.new.conn in
-    let d = state g.S.Store c.housed_unit.new.conn in
-    let f = state g.S.Store c.first_withheld.new.conn in
+    let v = g.P.Versioned.version in
+    let a = state g.S.Store c.args.tables.now in
+    let b = state g.S.Store c.issued.new.tables in
+    let d = state g.S.Store c.housed_unit.new.tables in
+    let f = state g.S.Store c.first_withheld.new.tables in
     let e = c.from_residual-in_err-container.ensures in
     let told = c.in_err-container.ensures.tells in
     record {
-      tells = ends_not (RepresentsWhole g.P.Places.represents v) CanBeJudged (λ _. ⊤) g.S.Store c.args.conn.now c.first_withheld.new.conn c.lowest_closed.new.conn (λ _ s reply. CanBeJudged s → c.args.today ≡ s.day → OthersAreOpen c.args.unit s → reply ≡ gated s c.args.done)
+      tells = ends_not (RepresentsWhole g.P.Places.represents v) CanBeJudged (λ _. ⊤) g.S.Store c.args.tables.now c.first_withheld.new.tables c.lowest_closed.new.tables (λ _ s reply. CanBeJudged s → c.args.today ≡ s.day → OthersAreOpen c.args.unit s → reply ≡ gated s c.args.done)
           (looks_then a d f (looks_then a b d c.in_ok-loans.ensures.tells.looks c.in_ok-housed.ensures.tells.looks) c.in_ok-place.ensures.tells.looks) c.in_err-container.field-0.0 told.cut
           (λ s it may judged clean free. told.faults tt s it tt judged clean free)
           c.from_residual-in_err-container.result (same_fault c.from_residual-in_err-container.result c.in_err-container.field-0.0 e.0 e.1);
@@ -190,13 +175,13 @@ returns-in_err-container g c =
 
 pub returns : goal.returns
 returns g c =
-    let v = g.P.Places.version in
+    let v = g.P.Versioned.version in
     let represents = RepresentsWhole g.P.Places.represents v in
-    let a = state g.S.Store c.args.conn.now in
-    let b = state g.S.Store c.issued.new.conn in
-    let d = state g.S.Store c.housed_unit.new.conn in
-    let f = state g.S.Store c.first_withheld.new.conn in
-    let h = state g.S.Store c.lowest_closed.new.conn in
+    let a = state g.S.Store c.args.tables.now in
+    let b = state g.S.Store c.issued.new.tables in
+    let d = state g.S.Store c.housed_unit.new.tables in
+    let f = state g.S.Store c.first_withheld.new.tables in
+    let h = state g.S.Store c.lowest_closed.new.tables in
     let told = c.in_ok-loans.ensures.tells in
     let housed = c.in_ok-housed.ensures.tells in
     let withheld = c.in_ok-place.ensures.tells in
@@ -204,7 +189,7 @@ returns g c =
     let to_d = looks_then a b d told.looks housed.looks in
     let to_f = looks_then a d f to_d withheld.looks in
     record {
-      tells = ends_well represents CanBeJudged (λ _. ⊤) g.S.Store c.args.conn.now c.args.conn.now c.lowest_closed.new.conn (λ _ s reply. CanBeJudged s → c.args.today ≡ s.day → OthersAreOpen c.args.unit s → reply ≡ gated s c.args.done)
+      tells = ends_well represents CanBeJudged (λ _. ⊤) g.S.Store c.args.tables.now c.args.tables.now c.lowest_closed.new.tables (λ _ s reply. CanBeJudged s → c.args.today ≡ s.day → OthersAreOpen c.args.unit s → reply ≡ gated s c.args.done)
           (looks_then a f h to_f lowest.looks) (Err (WithReader c.in_ok-container.container))
           (λ clean s shown judged day others.
           let at_f = early f h _ lowest.looks.goes.on.crash clean in

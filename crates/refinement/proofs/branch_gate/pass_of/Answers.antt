@@ -9,11 +9,11 @@ use Rattle.refinement.proofs.branch_gate.pass_of.Goals as goal
 
 pub returns-in_err-container : goal.returns-in_err-container
 returns-in_err-container g c =
-    let v = g.P.Places.version in
+    let v = g.P.Versioned.version in
     let e = c.from_residual.ensures in
     let told = c.in_err-container.ensures.tells in
     record {
-      tells = tells_not g.S.Store (RepresentsWhole g.P.Places.represents v) CanBeJudged (λ _. ⊤) c.args.conn.now c.first_closed.new.conn c.from_residual.result (λ _ s reply. CanBeJudged s → c.args.today ≡ s.day → AreEnough c.args.loans.now s → reply ≡ gated s c.args.done) c.in_err-container.field-0.0
+      tells = tells_not g.S.Store (RepresentsWhole g.P.Places.represents v) CanBeJudged (λ _. ⊤) c.args.tables.now c.first_closed.new.tables c.from_residual.result (λ _ s reply. CanBeJudged s → c.args.today ≡ s.day → AreEnough c.args.loans.now s → reply ≡ gated s c.args.done) c.in_err-container.field-0.0
           (same_fault c.from_residual.result c.in_err-container.field-0.0 e.0 e.1) told.cut told.faults;
     }
 
@@ -21,7 +21,7 @@ pub returns-in-Some : goal.returns-in-Some
 returns-in-Some g c =
     let told = c.in_ok-container.ensures.tells in
     record {
-      tells = ends_well (RepresentsWhole g.P.Places.represents g.P.Places.version) CanBeJudged (λ _. ⊤) g.S.Store c.args.conn.now c.args.conn.now c.first_closed.new.conn (λ _ s reply. CanBeJudged s → c.args.today ≡ s.day → AreEnough c.args.loans.now s → reply ≡ gated s c.args.done)
+      tells = ends_well (RepresentsWhole g.P.Places.represents g.P.Versioned.version) CanBeJudged (λ _. ⊤) g.S.Store c.args.tables.now c.args.tables.now c.first_closed.new.tables (λ _ s reply. CanBeJudged s → c.args.today ≡ s.day → AreEnough c.args.loans.now s → reply ≡ gated s c.args.done)
           told.looks (Err (WithReader c.in-Some.container))
           (λ clean s shown judged day enough. ap (λ (k : Option ℕ). unless_refused (option_map WithReader k) c.args.done) (sym c.in-Some.is ∙ told.answers clean tt s shown judged day ∙ sym enough));
     }
@@ -30,7 +30,7 @@ pub returns-in-None : goal.returns-in-None
 returns-in-None g c =
     let told = c.in_ok-container.ensures.tells in
     record {
-      tells = ends_well (RepresentsWhole g.P.Places.represents g.P.Places.version) CanBeJudged (λ _. ⊤) g.S.Store c.args.conn.now c.args.conn.now c.first_closed.new.conn (λ _ s reply. CanBeJudged s → c.args.today ≡ s.day → AreEnough c.args.loans.now s → reply ≡ gated s c.args.done)
+      tells = ends_well (RepresentsWhole g.P.Places.represents g.P.Versioned.version) CanBeJudged (λ _. ⊤) g.S.Store c.args.tables.now c.args.tables.now c.first_closed.new.tables (λ _ s reply. CanBeJudged s → c.args.today ≡ s.day → AreEnough c.args.loans.now s → reply ≡ gated s c.args.done)
           told.looks (Ok c.args.done)
           (λ clean s shown judged day enough. ap (λ (k : Option ℕ). unless_refused (option_map WithReader k) c.args.done) (sym c.in-None.is ∙ told.answers clean tt s shown judged day ∙ sym enough));
     }

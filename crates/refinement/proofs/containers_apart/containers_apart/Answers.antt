@@ -8,7 +8,7 @@ use Rattle.desk_store.proofs.ToldCalls.{ends_full, ends_not, ends_well, shown_on
 use Rattle.office_core.specs.State.{State}
 use Rattle.office_tables.specs.declared.fault.StoreFault.TheVariants.{Memory}
 use Rattle.office_tables.proofs.CallEnds.{same_fault}
-use Rattle.office_tables.proofs.Calls.{early, looks_nowhere, looks_then, office_of, still}
+use Rattle.office_tables.proofs.Calls.{early, looks_nowhere, looks_then}
 use Rattle.refinement.specs.AccessConditions.{CanBeJudged, RepresentsWhole}
 use Rattle.refinement.specs.Gate.{AreApart, IsHoused, is_named_near, is_one_of}
 use Rattle.refinement.proofs.containers_apart.containers_apart.Goals.{then-is_apart+in_ok-push, else-is_apart}
@@ -26,31 +26,30 @@ apart_more u s apart n so_far far k among = elim (cases_Bool (is_one_of k apart)
 
 pub returns-then-loans-gt-FEW : goal.returns-then-loans-gt-FEW
 returns-then-loans-gt-FEW g c =
-    let v = g.P.Places.version in
-    let a = state g.S.Store c.args.conn.now in
+    let v = g.P.Versioned.version in
+    let a = state g.S.Store c.args.tables.now in
     record {
-      tells = ends_well (RepresentsWhole g.P.Places.represents v) CanBeJudged (λ _. ⊤) g.S.Store c.args.conn.now c.args.conn.now c.args.conn.now (λ _ s found. CanBeJudged s → IsHoused c.args.unit s c.args.housed.now → IfSome found (λ apart. AreApart c.args.unit s apart.items))
-          (looks_nowhere a (office_of v a c.requires.inside)) None (λ clean s it judged housed. tt);
+      tells = ends_well (RepresentsWhole g.P.Places.represents v) CanBeJudged (λ _. ⊤) g.S.Store c.args.tables.now c.args.tables.now c.args.tables.now (λ _ s found. CanBeJudged s → IsHoused c.args.unit s c.args.housed.now → IfSome found (λ apart. AreApart c.args.unit s apart.items))
+          (looks_nowhere a) None (λ clean s it judged housed. tt);
     }
 
 pub loop-loan-init : goal.loop-loan-init
 loop-loan-init g c =
-    let a = state g.S.Store c.args.conn.now in
+    let a = state g.S.Store c.args.tables.now in
     record {
-      inside = c.requires.inside;
-      looks = looks_nowhere a (office_of g.P.Places.version a c.requires.inside);
+      looks = looks_nowhere a;
       apart = λ clean s judged it housed k among. absurd (false≢true (sym (ap (is_one_of k) c.new-apart.ensures.items) ∙ among));
     }
 
 pub lies_apart-requires : goal.lies_apart-requires
-lies_apart-requires g c = record { inside = c.loop-loan.invariant.inside; rise = c.requires.rise }
+lies_apart-requires g c = record { rise = c.requires.rise }
 
 pub returns-in_err-is_apart : goal.returns-in_err-is_apart
 returns-in_err-is_apart g c =
     let e = c.from_residual.ensures in
     let told = c.in_err-is_apart.ensures.tells in
     record {
-      tells = ends_not (RepresentsWhole g.P.Places.represents g.P.Places.version) CanBeJudged (λ _. ⊤) g.S.Store c.args.conn.now c.loop-loan.conn c.lies_apart.new.conn (λ _ s found. CanBeJudged s → IsHoused c.args.unit s c.args.housed.now → IfSome found (λ apart. AreApart c.args.unit s apart.items))
+      tells = ends_not (RepresentsWhole g.P.Places.represents g.P.Versioned.version) CanBeJudged (λ _. ⊤) g.S.Store c.args.tables.now c.loop-loan.tables c.lies_apart.new.tables (λ _ s found. CanBeJudged s → IsHoused c.args.unit s c.args.housed.now → IfSome found (λ apart. AreApart c.args.unit s apart.items))
           c.loop-loan.invariant.looks c.in_err-is_apart.field-0.0 told.cut
           (λ s it may judged clean free. told.faults tt s it tt judged clean free)
           c.from_residual.result (same_fault c.from_residual.result c.in_err-is_apart.field-0.0 e.0 e.1);
@@ -58,37 +57,36 @@ returns-in_err-is_apart g c =
 
 pub returns-in_default : goal.returns-in_default
 returns-in_default g c =
-    let a = state g.S.Store c.args.conn.now in
-    let b = state g.S.Store c.loop-loan.conn in
-    let d = state g.S.Store c.lies_apart.new.conn in
+    let a = state g.S.Store c.args.tables.now in
+    let b = state g.S.Store c.loop-loan.tables in
+    let d = state g.S.Store c.lies_apart.new.tables in
     record {
-      tells = ends_well (RepresentsWhole g.P.Places.represents g.P.Places.version) CanBeJudged (λ _. ⊤) g.S.Store c.args.conn.now c.args.conn.now c.lies_apart.new.conn (λ _ s found. CanBeJudged s → IsHoused c.args.unit s c.args.housed.now → IfSome found (λ apart. AreApart c.args.unit s apart.items))
+      tells = ends_well (RepresentsWhole g.P.Places.represents g.P.Versioned.version) CanBeJudged (λ _. ⊤) g.S.Store c.args.tables.now c.args.tables.now c.lies_apart.new.tables (λ _ s found. CanBeJudged s → IsHoused c.args.unit s c.args.housed.now → IfSome found (λ apart. AreApart c.args.unit s apart.items))
           (looks_then a b d c.loop-loan.invariant.looks c.in_ok-is_apart.ensures.tells.looks) None (λ clean s it judged housed. tt);
     }
 
 pub returns-in_err-push : goal.returns-in_err-push
 returns-in_err-push g c =
-    let a = state g.S.Store c.args.conn.now in
-    let b = state g.S.Store c.loop-loan.conn in
-    let d = state g.S.Store c.lies_apart.new.conn in
+    let a = state g.S.Store c.args.tables.now in
+    let b = state g.S.Store c.loop-loan.tables in
+    let d = state g.S.Store c.lies_apart.new.tables in
     let e = c.from_residual-in_err-push.ensures in
     record {
-      tells = ends_full (RepresentsWhole g.P.Places.represents g.P.Places.version) CanBeJudged (λ _. ⊤) g.S.Store c.args.conn.now c.args.conn.now c.lies_apart.new.conn _ (looks_then a b d c.loop-loan.invariant.looks c.in_ok-is_apart.ensures.tells.looks)
+      tells = ends_full (RepresentsWhole g.P.Places.represents g.P.Versioned.version) CanBeJudged (λ _. ⊤) g.S.Store c.args.tables.now c.args.tables.now c.lies_apart.new.tables _ (looks_then a b d c.loop-loan.invariant.looks c.in_ok-is_apart.ensures.tells.looks)
           c.from_residual-in_err-push.result (same_fault c.from_residual-in_err-push.result Memory e.0 e.1);
     }
 
 pub loop-loan-preserved : goal.loop-loan-preserved
 loop-loan-preserved g c =
-    let v = g.P.Places.version in
-    let a = state g.S.Store c.args.conn.now in
-    let b = state g.S.Store c.loop-loan.conn in
-    let d = state g.S.Store c.lies_apart.new.conn in
+    let v = g.P.Versioned.version in
+    let a = state g.S.Store c.args.tables.now in
+    let b = state g.S.Store c.loop-loan.tables in
+    let d = state g.S.Store c.lies_apart.new.tables in
     let looks = c.loop-loan.invariant.looks in
     let told = c.in_ok-is_apart.ensures.tells in
     let u = c.args.unit in
     let before_it = c.loop-loan.apart.items in
     record {
-      inside = still v b d c.loop-loan.invariant.inside told.looks.goes;
       looks = looks_then a b d looks told.looks;
       apart = λ clean s judged it housed.
           let before = early b d _ told.looks.goes.on.crash clean in
@@ -105,6 +103,6 @@ loop-loan-preserved g c =
 pub returns : goal.returns
 returns g c =
     record {
-      tells = ends_well (RepresentsWhole g.P.Places.represents g.P.Places.version) CanBeJudged (λ _. ⊤) g.S.Store c.args.conn.now c.args.conn.now c.loop-loan.conn (λ _ s found. CanBeJudged s → IsHoused c.args.unit s c.args.housed.now → IfSome found (λ apart. AreApart c.args.unit s apart.items))
+      tells = ends_well (RepresentsWhole g.P.Places.represents g.P.Versioned.version) CanBeJudged (λ _. ⊤) g.S.Store c.args.tables.now c.args.tables.now c.loop-loan.tables (λ _ s found. CanBeJudged s → IsHoused c.args.unit s c.args.housed.now → IfSome found (λ apart. AreApart c.args.unit s apart.items))
           c.loop-loan.invariant.looks _ (λ clean s it judged housed. c.loop-loan.invariant.apart clean s judged it housed);
     }

@@ -8,24 +8,23 @@ use Rattle.tree_core.specs.Forest.{each}
 use Rattle.catalogue_core.specs.Units.{Unit}
 use Rattle.desk_store.proofs.ToldCalls.{ends_not, ends_well, shown_on}
 use Rattle.office_tables.proofs.CallEnds.{same_fault}
-use Rattle.office_tables.proofs.Calls.{early, looks_nowhere, looks_then, office_of, still}
+use Rattle.office_tables.proofs.Calls.{early, looks_nowhere, looks_then}
 use Rattle.refinement.specs.AccessConditions.{CanBeJudged, RepresentsWhole}
 use Rattle.refinement.specs.Gate.{is_on_path}
 use Rattle.refinement.proofs.containers_apart.is_some_below.Goals as goal
 
 pub loop-unit-init : goal.loop-unit-init
 loop-unit-init g c =
-    let a = state g.S.Store c.args.conn.now in
+    let a = state g.S.Store c.args.tables.now in
     record {
-      inside = c.requires.inside;
-      looks = looks_nowhere a (office_of g.P.Places.version a c.requires.inside);
+      looks = looks_nowhere a;
       so_far = λ clean s it. refl;
     }
 
 pub returns-then-unit-ge-NO_NUMBER : goal.returns-then-unit-ge-NO_NUMBER
 returns-then-unit-ge-NO_NUMBER g c =
     record {
-      tells = ends_well (RepresentsWhole g.P.Places.represents g.P.Places.version) CanBeJudged (λ _. ⊤) g.S.Store c.args.conn.now c.args.conn.now c.loop-unit.conn (λ _ s found. found ≡ false → list_any (is_on_path c.args.other s) c.args.units.now ≡ false)
+      tells = ends_well (RepresentsWhole g.P.Places.represents g.P.Versioned.version) CanBeJudged (λ _. ⊤) g.S.Store c.args.tables.now c.args.tables.now c.loop-unit.tables (λ _ s found. found ≡ false → list_any (is_on_path c.args.other s) c.args.units.now ≡ false)
           c.loop-unit.invariant.looks true (λ clean s it no. absurd (cc));
     }
 
@@ -34,7 +33,7 @@ returns-in_err-is_below g c =
     let e = c.from_residual.ensures in
     let told = c.in_err-is_below.ensures.tells in
     record {
-      tells = ends_not (RepresentsWhole g.P.Places.represents g.P.Places.version) CanBeJudged (λ _. ⊤) g.S.Store c.args.conn.now c.loop-unit.conn c.is_below.new.conn (λ _ s found. found ≡ false → list_any (is_on_path c.args.other s) c.args.units.now ≡ false)
+      tells = ends_not (RepresentsWhole g.P.Places.represents g.P.Versioned.version) CanBeJudged (λ _. ⊤) g.S.Store c.args.tables.now c.loop-unit.tables c.is_below.new.tables (λ _ s found. found ≡ false → list_any (is_on_path c.args.other s) c.args.units.now ≡ false)
           c.loop-unit.invariant.looks c.in_err-is_below.field-0.0 told.cut
           (λ s it may judged clean free. told.faults tt (each (λ (u : Unit). u.id) s.catalogue.forest) it.catalogue.shown tt judged.catalogue.places clean free)
           c.from_residual.result (same_fault c.from_residual.result c.in_err-is_below.field-0.0 e.0 e.1);
@@ -42,26 +41,25 @@ returns-in_err-is_below g c =
 
 pub returns-then-branch : goal.returns-then-branch
 returns-then-branch g c =
-    let a = state g.S.Store c.args.conn.now in
-    let b = state g.S.Store c.loop-unit.conn in
-    let d = state g.S.Store c.is_below.new.conn in
+    let a = state g.S.Store c.args.tables.now in
+    let b = state g.S.Store c.loop-unit.tables in
+    let d = state g.S.Store c.is_below.new.tables in
     record {
-      tells = ends_well (RepresentsWhole g.P.Places.represents g.P.Places.version) CanBeJudged (λ _. ⊤) g.S.Store c.args.conn.now c.args.conn.now c.is_below.new.conn (λ _ s found. found ≡ false → list_any (is_on_path c.args.other s) c.args.units.now ≡ false)
+      tells = ends_well (RepresentsWhole g.P.Places.represents g.P.Versioned.version) CanBeJudged (λ _. ⊤) g.S.Store c.args.tables.now c.args.tables.now c.is_below.new.tables (λ _ s found. found ≡ false → list_any (is_on_path c.args.other s) c.args.units.now ≡ false)
           (looks_then a b d c.loop-unit.invariant.looks c.in_ok-is_below.ensures.tells.looks) true (λ clean s it no. absurd (cc));
     }
 
 pub loop-unit-preserved : goal.loop-unit-preserved
 loop-unit-preserved g c =
-    let v = g.P.Places.version in
-    let a = state g.S.Store c.args.conn.now in
-    let b = state g.S.Store c.loop-unit.conn in
-    let d = state g.S.Store c.is_below.new.conn in
+    let v = g.P.Versioned.version in
+    let a = state g.S.Store c.args.tables.now in
+    let b = state g.S.Store c.loop-unit.tables in
+    let d = state g.S.Store c.is_below.new.tables in
     let looks = c.loop-unit.invariant.looks in
     let told = c.in_ok-is_below.ensures.tells in
     let units = c.args.units.now in
     let i = c.loop-unit.unit-index in
     record {
-      inside = still v b d c.loop-unit.invariant.inside told.looks.goes;
       looks = looks_then a b d looks told.looks;
       so_far = λ clean s it.
           let before = early b d _ told.looks.goes.on.crash clean in

@@ -3,15 +3,14 @@ use Rattle.std.specs.List.{list_any}
 use Rattle.sqlite.specs.Held.{state}
 use Rattle.sqlite.specs.State.{HasCleanDisk}
 use Rattle.office_core.specs.State.{State}
-use Rattle.office_tables.specs.Step.{InTransaction, LeavesUnchanged}
+use Rattle.office_tables.specs.Step.{LeavesUnchanged}
 use Rattle.refinement.specs.Gate.{is_on_path}
 use Rattle.refinement.specs.Representation.{RepresentsState}
 use Rattle.refinement.proofs.containers_apart.is_some_below.Given as goal
 
 abbrev pub invariant-loop-unit : goal.invariant-loop-unit
 invariant-loop-unit g l = record {
-  inside : InTransaction g.P.Places.version (state g.S.Store l.conn);
-  looks : LeavesUnchanged (state g.S.Store l.fn.conn) (state g.S.Store l.conn);
-  so_far : HasCleanDisk (state g.S.Store l.conn) → (s : State) → RepresentsState g.P.Places.represents g.P.Places.version (state g.S.Store l.fn.conn).now s
+  looks : LeavesUnchanged (state g.S.Store l.fn.tables) (state g.S.Store l.tables);
+  so_far : HasCleanDisk (state g.S.Store l.tables) → (s : State) → RepresentsState g.P.Places.represents g.P.Versioned.version (state g.S.Store l.fn.tables).now s
       → list_any (is_on_path l.other s) (take l.unit-index l.units) ≡ false;
 }

@@ -6,7 +6,7 @@ use Rattle.sqlite.specs.Held.{state}
 use Rattle.desk_store.proofs.ToldCalls.{ends_not, ends_well, shown_on}
 use Rattle.office_core.specs.State.{State}
 use Rattle.office_tables.proofs.CallEnds.{same_fault, tells_not}
-use Rattle.office_tables.proofs.Calls.{early, looks_nowhere, looks_then, office_of, still}
+use Rattle.office_tables.proofs.Calls.{early, looks_nowhere, looks_then}
 use Rattle.refinement.specs.AccessConditions.{CanBeJudged, RepresentsWhole}
 use Rattle.refinement.specs.Gate.{IsHoused, is_named_near, is_on_path, is_one_of}
 use Rattle.refinement.specs.declared.housed_units.HousedUnit.{HousedUnit}
@@ -19,11 +19,11 @@ Tells u it n _ s found = CanBeJudged s → IsHoused u s it → found ≡ Some tr
 
 pub returns-then-container-ge-NO_NUMBER : goal.returns-then-container-ge-NO_NUMBER
 returns-then-container-ge-NO_NUMBER g c =
-    let v = g.P.Places.version in
-    let a = state g.S.Store c.args.conn.now in
+    let v = g.P.Versioned.version in
+    let a = state g.S.Store c.args.tables.now in
     record {
-      tells = ends_well (RepresentsWhole g.P.Places.represents v) CanBeJudged (λ _. ⊤) g.S.Store c.args.conn.now c.args.conn.now c.args.conn.now (Tells c.args.unit c.args.housed.now c.args.container)
-          (looks_nowhere a (office_of v a c.requires.inside)) None (λ clean s shown judged housed yes. absurd (cc));
+      tells = ends_well (RepresentsWhole g.P.Places.represents v) CanBeJudged (λ _. ⊤) g.S.Store c.args.tables.now c.args.tables.now c.args.tables.now (Tells c.args.unit c.args.housed.now c.args.container)
+          (looks_nowhere a) None (λ clean s shown judged housed yes. absurd (cc));
     }
 
 pub is_among-requires : goal.is_among-requires
@@ -31,22 +31,19 @@ is_among-requires g c = record { rise = subst IsNonDecreasing (sym c.deref.ensur
 
 pub returns-then-is_among : goal.returns-then-is_among
 returns-then-is_among g c =
-    let v = g.P.Places.version in
-    let a = state g.S.Store c.args.conn.now in
+    let v = g.P.Versioned.version in
+    let a = state g.S.Store c.args.tables.now in
     record {
-      tells = ends_well (RepresentsWhole g.P.Places.represents v) CanBeJudged (λ _. ⊤) g.S.Store c.args.conn.now c.args.conn.now c.args.conn.now (Tells c.args.unit c.args.housed.now c.args.container)
-          (looks_nowhere a (office_of v a c.requires.inside)) (Some false) (λ clean s shown judged housed yes. absurd (cc));
+      tells = ends_well (RepresentsWhole g.P.Places.represents v) CanBeJudged (λ _. ⊤) g.S.Store c.args.tables.now c.args.tables.now c.args.tables.now (Tells c.args.unit c.args.housed.now c.args.container)
+          (looks_nowhere a) (Some false) (λ clean s shown judged housed yes. absurd (cc));
     }
-
-pub housed_in-requires-clause-inside : goal.housed_in-requires-clause-inside
-housed_in-requires-clause-inside g c = office_of g.P.Places.version (state g.S.Store c.args.conn.now) c.requires.inside
 
 pub returns-in_err-units : goal.returns-in_err-units
 returns-in_err-units g c =
     let e = c.from_residual.ensures in
     let read = c.in_err-units.ensures in
     record {
-      tells = tells_not g.S.Store (RepresentsWhole g.P.Places.represents g.P.Places.version) CanBeJudged (λ _. ⊤) c.args.conn.now c.housed_in.new.conn c.from_residual.result (Tells c.args.unit c.args.housed.now c.args.container) c.in_err-units.field-0.0
+      tells = tells_not g.S.Store (RepresentsWhole g.P.Places.represents g.P.Versioned.version) CanBeJudged (λ _. ⊤) c.args.tables.now c.housed_in.new.tables c.from_residual.result (Tells c.args.unit c.args.housed.now c.args.container) c.in_err-units.field-0.0
           (same_fault c.from_residual.result c.in_err-units.field-0.0 e.0 e.1) read.reads.cut
           (λ beside s it may judged clean free. let housings = it.catalogue.catalogue.housings in read.faults housings.housings housings.rows tt clean free);
     }
@@ -54,20 +51,16 @@ returns-in_err-units g c =
 pub returns-then-len-gt-FEW : goal.returns-then-len-gt-FEW
 returns-then-len-gt-FEW g c =
     record {
-      tells = ends_well (RepresentsWhole g.P.Places.represents g.P.Places.version) CanBeJudged (λ _. ⊤) g.S.Store c.args.conn.now c.args.conn.now c.housed_in.new.conn (Tells c.args.unit c.args.housed.now c.args.container)
+      tells = ends_well (RepresentsWhole g.P.Places.represents g.P.Versioned.version) CanBeJudged (λ _. ⊤) g.S.Store c.args.tables.now c.args.tables.now c.housed_in.new.tables (Tells c.args.unit c.args.housed.now c.args.container)
           c.in_ok-units.ensures.reads.looks None (λ clean s shown judged housed yes. absurd (cc));
     }
-
-pub is_some_below-requires : goal.is_some_below-requires
-is_some_below-requires g c =
-    record { inside = still g.P.Places.version (state g.S.Store c.args.conn.now) (state g.S.Store c.housed_in.new.conn) c.requires.inside c.in_ok-units.ensures.reads.looks.goes }
 
 pub returns-in_err-is_near : goal.returns-in_err-is_near
 returns-in_err-is_near g c =
     let e = c.from_residual-in_err-is_near.ensures in
     let told = c.in_err-is_near.ensures.tells in
     record {
-      tells = ends_not (RepresentsWhole g.P.Places.represents g.P.Places.version) CanBeJudged (λ _. ⊤) g.S.Store c.args.conn.now c.housed_in.new.conn c.is_some_below.new.conn (Tells c.args.unit c.args.housed.now c.args.container)
+      tells = ends_not (RepresentsWhole g.P.Places.represents g.P.Versioned.version) CanBeJudged (λ _. ⊤) g.S.Store c.args.tables.now c.housed_in.new.tables c.is_some_below.new.tables (Tells c.args.unit c.args.housed.now c.args.container)
           c.in_ok-units.ensures.reads.looks c.in_err-is_near.field-0.0 told.cut
           (λ s it may judged clean free. told.faults tt s it tt judged clean free)
           c.from_residual-in_err-is_near.result (same_fault c.from_residual-in_err-is_near.result c.in_err-is_near.field-0.0 e.0 e.1);
@@ -79,16 +72,16 @@ not_near false e = refl
 
 pub returns : goal.returns
 returns g c =
-    let represents = RepresentsWhole g.P.Places.represents g.P.Places.version in
-    let a = state g.S.Store c.args.conn.now in
-    let b = state g.S.Store c.housed_in.new.conn in
-    let d = state g.S.Store c.is_some_below.new.conn in
+    let represents = RepresentsWhole g.P.Places.represents g.P.Versioned.version in
+    let a = state g.S.Store c.args.tables.now in
+    let b = state g.S.Store c.housed_in.new.tables in
+    let d = state g.S.Store c.is_some_below.new.tables in
     let read = c.in_ok-units.ensures in
     let told = c.in_ok-is_near.ensures.tells in
     let it = c.args.housed.now in
     let outside : is_one_of c.args.container it.containers.items ≡ false = ap (is_one_of c.args.container) (sym c.deref.ensures.value) ∙ sym c.if-is_among.ensures in
     record {
-      tells = ends_well represents CanBeJudged (λ _. ⊤) g.S.Store c.args.conn.now c.args.conn.now c.is_some_below.new.conn (Tells c.args.unit it c.args.container)
+      tells = ends_well represents CanBeJudged (λ _. ⊤) g.S.Store c.args.tables.now c.args.tables.now c.is_some_below.new.tables (Tells c.args.unit it c.args.container)
           (looks_then a b d read.reads.looks told.looks) (Some (not c.in_ok-is_near.is_near))
           (λ clean s shown judged housed yes.
           let before = early b d _ told.looks.goes.on.crash clean in

@@ -4,7 +4,7 @@ use Rattle.sqlite.specs.Held.{state}
 use Rattle.desk_store.proofs.ToldCalls.{ends_not, ends_well, shown_on}
 use Rattle.state_encoding.specs.OfficeRows.{tables}
 use Rattle.office_tables.proofs.CallEnds.{same_fault, tells_not}
-use Rattle.office_tables.proofs.Calls.{early, looks_nowhere, looks_then, office_of}
+use Rattle.office_tables.proofs.Calls.{early, looks_nowhere, looks_then}
 use Rattle.refinement.specs.DayRules.{are_against_rules}
 use Rattle.refinement.specs.AccessConditions.{CanBeJudged, RepresentsWhole}
 use Rattle.refinement.proofs.DayRules.{by_hands, by_openness, by_seats}
@@ -13,41 +13,38 @@ use Rattle.refinement.proofs.day_rules.are_against_rules.Goals as goal
 
 pub returns-then-branch : goal.returns-then-branch
 returns-then-branch g c =
-    let v = g.P.Places.version in
-    let a = state g.S.Store c.args.conn.now in
+    let v = g.P.Versioned.version in
+    let a = state g.S.Store c.args.tables.now in
     record {
-      tells = ends_well (RepresentsWhole g.P.Places.represents v) CanBeJudged (λ _. ⊤) g.S.Store c.args.conn.now c.args.conn.now c.args.conn.now
+      tells = ends_well (RepresentsWhole g.P.Places.represents v) CanBeJudged (λ _. ⊤) g.S.Store c.args.tables.now c.args.tables.now c.args.tables.now
           (λ _ s broken. CanBeJudged s → c.args.today ≡ s.day → c.args.hands ≡ s.settings.hands → broken ≡ are_against_rules s c.args.loans.now)
-          (looks_nowhere a (office_of v a c.requires.inside)) _
+          (looks_nowhere a) _
           (λ clean s it judged day hands. by_hands v s c.args.hands c.args.loans.now c.in_ok-are_too_many.field-0 hands c.in_ok-are_too_many.ensures c.if-branch.true);
       disk = λ clean. tt;
     }
 
-pub is_one_without_seat-requires : goal.is_one_without_seat-requires
-is_one_without_seat-requires g c = record { inside = office_of g.P.Places.version (state g.S.Store c.args.conn.now) c.requires.inside }
-
 pub returns-in_err-is_one_without_seat : goal.returns-in_err-is_one_without_seat
 returns-in_err-is_one_without_seat g c =
-    let v = g.P.Places.version in
+    let v = g.P.Versioned.version in
     let told = c.in_err-is_one_without_seat.ensures.tells in
     let e = c.from_residual-in_err-is_one_without_seat.ensures in
     let same = same_fault c.from_residual-in_err-is_one_without_seat.result c.in_err-is_one_without_seat.field-0.0 e.0 e.1 in
     record {
-      tells = tells_not g.S.Store (RepresentsWhole g.P.Places.represents v) CanBeJudged (λ _. ⊤) c.args.conn.now c.is_one_without_seat.new.conn c.from_residual-in_err-is_one_without_seat.result
+      tells = tells_not g.S.Store (RepresentsWhole g.P.Places.represents v) CanBeJudged (λ _. ⊤) c.args.tables.now c.is_one_without_seat.new.tables c.from_residual-in_err-is_one_without_seat.result
           (λ _ s broken. CanBeJudged s → c.args.today ≡ s.day → c.args.hands ≡ s.settings.hands → broken ≡ are_against_rules s c.args.loans.now) c.in_err-is_one_without_seat.field-0.0
           same told.cut
           (λ beside s shown may judged clean free. told.faults tt (tables v s).desk shown.desk tt (judged.desk v) clean free);
       disk = λ clean.
-          blames_first (state g.S.Store c.args.conn.now) (state g.S.Store c.is_one_without_seat.new.conn) c.from_residual-in_err-is_one_without_seat.result c.in_err-is_one_without_seat.field-0.0 same
+          blames_first (state g.S.Store c.args.tables.now) (state g.S.Store c.is_one_without_seat.new.tables) c.from_residual-in_err-is_one_without_seat.result c.in_err-is_one_without_seat.field-0.0 same
           (c.in_err-is_one_without_seat.ensures.disk clean);
     }
 
 pub returns-then-branch-2 : goal.returns-then-branch-2
 returns-then-branch-2 g c =
-    let v = g.P.Places.version in
+    let v = g.P.Versioned.version in
     let told = c.in_ok-is_one_without_seat.ensures.tells in
     record {
-      tells = ends_well (RepresentsWhole g.P.Places.represents v) CanBeJudged (λ _. ⊤) g.S.Store c.args.conn.now c.args.conn.now c.is_one_without_seat.new.conn
+      tells = ends_well (RepresentsWhole g.P.Places.represents v) CanBeJudged (λ _. ⊤) g.S.Store c.args.tables.now c.args.tables.now c.is_one_without_seat.new.tables
           (λ _ s broken. CanBeJudged s → c.args.today ≡ s.day → c.args.hands ≡ s.settings.hands → broken ≡ are_against_rules s c.args.loans.now)
           told.looks _
           (λ clean s it judged day hands. by_seats v s c.args.hands c.args.loans.now c.in_ok-are_too_many.field-0 hands c.in_ok-are_too_many.ensures c.if-branch.false
@@ -57,32 +54,32 @@ returns-then-branch-2 g c =
 
 pub returns-in_err-closed : goal.returns-in_err-closed
 returns-in_err-closed g c =
-    let v = g.P.Places.version in
+    let v = g.P.Versioned.version in
     let e = c.from_residual-in_err-closed.ensures in
     let told = c.in_err-closed.ensures.tells in
     let looked = c.in_ok-is_one_without_seat.ensures.tells.looks in
     let same = same_fault c.from_residual-in_err-closed.result c.in_err-closed.field-0.0 e.0 e.1 in
     record {
-      tells = ends_not (RepresentsWhole g.P.Places.represents v) CanBeJudged (λ _. ⊤) g.S.Store c.args.conn.now c.is_one_without_seat.new.conn c.is_one_closed.new.conn
+      tells = ends_not (RepresentsWhole g.P.Places.represents v) CanBeJudged (λ _. ⊤) g.S.Store c.args.tables.now c.is_one_without_seat.new.tables c.is_one_closed.new.tables
           (λ _ s broken. CanBeJudged s → c.args.today ≡ s.day → c.args.hands ≡ s.settings.hands → broken ≡ are_against_rules s c.args.loans.now)
           looked c.in_err-closed.field-0.0 told.cut
           (λ s it may judged clean free. told.faults tt s it tt judged clean free)
           c.from_residual-in_err-closed.result same;
       disk = λ clean.
-          blames_later (state g.S.Store c.args.conn.now) (state g.S.Store c.is_one_without_seat.new.conn) (state g.S.Store c.is_one_closed.new.conn) c.from_residual-in_err-closed.result c.in_err-closed.field-0.0 same looked told.cut clean
+          blames_later (state g.S.Store c.args.tables.now) (state g.S.Store c.is_one_without_seat.new.tables) (state g.S.Store c.is_one_closed.new.tables) c.from_residual-in_err-closed.result c.in_err-closed.field-0.0 same looked told.cut clean
           (c.in_err-closed.ensures.disk clean);
     }
 
 pub returns : goal.returns
 returns g c =
-    let v = g.P.Places.version in
-    let a = state g.S.Store c.args.conn.now in
-    let b = state g.S.Store c.is_one_without_seat.new.conn in
-    let d = state g.S.Store c.is_one_closed.new.conn in
+    let v = g.P.Versioned.version in
+    let a = state g.S.Store c.args.tables.now in
+    let b = state g.S.Store c.is_one_without_seat.new.tables in
+    let d = state g.S.Store c.is_one_closed.new.tables in
     let seats = c.in_ok-is_one_without_seat.ensures.tells in
     let told = c.in_ok-closed.ensures.tells in
     record {
-      tells = ends_well (RepresentsWhole g.P.Places.represents v) CanBeJudged (λ _. ⊤) g.S.Store c.args.conn.now c.args.conn.now c.is_one_closed.new.conn
+      tells = ends_well (RepresentsWhole g.P.Places.represents v) CanBeJudged (λ _. ⊤) g.S.Store c.args.tables.now c.args.tables.now c.is_one_closed.new.tables
           (λ _ s broken. CanBeJudged s → c.args.today ≡ s.day → c.args.hands ≡ s.settings.hands → broken ≡ are_against_rules s c.args.loans.now)
           (looks_then a b d seats.looks told.looks) _
           (λ clean s it judged day hands.

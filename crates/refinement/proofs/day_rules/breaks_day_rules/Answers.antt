@@ -3,7 +3,6 @@ use Rattle.std.specs.Prelude.{⊤}
 use Rattle.sqlite.specs.Held.{state}
 use Rattle.state_encoding.specs.OfficeRows.{tables}
 use Rattle.office_tables.proofs.CallEnds.{same_fault, tells_not}
-use Rattle.office_tables.proofs.Calls.{office_of}
 use Rattle.office_tables.proofs.WriteCauses.{last_disk}
 use Rattle.refinement.specs.DayRules.{are_against_rules, breaks_day_rules}
 use Rattle.refinement.specs.AccessConditions.{CanBeJudged, RepresentsWhole}
@@ -12,30 +11,27 @@ use Rattle.refinement.proofs.DiskBlames.{blames_first}
 use Rattle.refinement.proofs.Tellings.{told_then}
 use Rattle.refinement.proofs.day_rules.breaks_day_rules.Goals as goal
 
-pub issued-requires : goal.issued-requires
-issued-requires g c = record { inside = office_of g.P.Places.version (state g.S.Store c.args.conn.now) c.requires.inside }
-
 pub returns-in_err-loans : goal.returns-in_err-loans
 returns-in_err-loans g c =
-    let v = g.P.Places.version in
+    let v = g.P.Versioned.version in
     let e = c.from_residual.ensures in
     let told = c.in_err-loans.ensures.tells in
     let same = same_fault c.from_residual.result c.in_err-loans.field-0.0 e.0 e.1 in
     record {
-      tells = tells_not g.S.Store (RepresentsWhole g.P.Places.represents v) CanBeJudged (λ _. ⊤) c.args.conn.now c.issued.new.conn c.from_residual.result
+      tells = tells_not g.S.Store (RepresentsWhole g.P.Places.represents v) CanBeJudged (λ _. ⊤) c.args.tables.now c.issued.new.tables c.from_residual.result
           (λ _ s broken. CanBeJudged s → c.args.today ≡ s.day → c.args.hands ≡ s.settings.hands → broken ≡ breaks_day_rules s) c.in_err-loans.field-0.0
           same told.cut
           (λ beside s shown may judged clean free. told.faults tt (tables v s).desk shown.desk tt (judged.desk v) clean free);
-      disk = λ clean. blames_first (state g.S.Store c.args.conn.now) (state g.S.Store c.issued.new.conn) c.from_residual.result c.in_err-loans.field-0.0 same (told.spares clean).disk;
+      disk = λ clean. blames_first (state g.S.Store c.args.tables.now) (state g.S.Store c.issued.new.tables) c.from_residual.result c.in_err-loans.field-0.0 same (told.spares clean).disk;
     }
 
 pub returns : goal.returns
 returns g c =
-    let v = g.P.Places.version in
+    let v = g.P.Versioned.version in
     let told = c.in_ok-loans.ensures.tells in
     let last = c.are_against_rules.ensures in
     record {
-      tells = told_then (RepresentsWhole g.P.Places.represents v) CanBeJudged g.S.Store c.args.conn.now c.issued.new.conn c.are_against_rules.new.conn c.are_against_rules.result
+      tells = told_then (RepresentsWhole g.P.Places.represents v) CanBeJudged g.S.Store c.args.tables.now c.issued.new.tables c.are_against_rules.new.tables c.are_against_rules.result
           (λ _ s broken. CanBeJudged s → c.args.today ≡ s.day → c.args.hands ≡ s.settings.hands → broken ≡ are_against_rules s c.deref.result.now)
           (λ _ s broken. CanBeJudged s → c.args.today ≡ s.day → c.args.hands ≡ s.settings.hands → broken ≡ breaks_day_rules s)
           told.looks
@@ -43,5 +39,5 @@ returns g c =
           is judged day hands ∙ ap (are_against_rules s) (c.deref.ensures.value ∙ told.answers clean tt (tables v s).desk shown.desk) ∙ sym (breaks_is s v))
           last.tells;
       disk = λ clean.
-          last_disk (state g.S.Store c.args.conn.now) (state g.S.Store c.issued.new.conn) (state g.S.Store c.are_against_rules.new.conn) told.looks.goes.on c.are_against_rules.result last.tells.cut clean (last.disk clean);
+          last_disk (state g.S.Store c.args.tables.now) (state g.S.Store c.issued.new.tables) (state g.S.Store c.are_against_rules.new.tables) told.looks.goes.on c.are_against_rules.result last.tells.cut clean (last.disk clean);
     }

@@ -4,7 +4,7 @@ use Rattle.sqlite.specs.Held.{state}
 use Rattle.desk_store.proofs.ToldCalls.{ends_not, ends_well, shown_on}
 use Rattle.desk_store.specs.declared.holdings.Loan.{Loan}
 use Rattle.office_tables.proofs.CallEnds.{same_fault}
-use Rattle.office_tables.proofs.Calls.{early, looks_nowhere, looks_then, office_of, still}
+use Rattle.office_tables.proofs.Calls.{early, looks_nowhere, looks_then}
 use Rattle.refinement.specs.Gate.{first_closed, is_closed_to}
 use Rattle.refinement.specs.AccessConditions.{CanBeJudged, RepresentsWhole}
 use Rattle.refinement.specs.Openness.{AreClean}
@@ -14,46 +14,42 @@ use Rattle.refinement.proofs.gate.first_closed.Goals as goal
 
 pub loop-loan-init : goal.loop-loan-init
 loop-loan-init g c =
-    let a = state g.S.Store c.args.conn.now in
+    let a = state g.S.Store c.args.tables.now in
     record {
-      inside = c.requires.inside;
-      looks = looks_nowhere a (office_of g.P.Places.version a c.requires.inside);
+      looks = looks_nowhere a;
       so_far = λ clean s judged it day. refl;
       known = λ clean s judged it day. subst (AreClean s) (sym c.new-clean.ensures.items) refl;
     }
 
-pub judge-requires : goal.judge-requires
-judge-requires g c = record { inside = c.loop-loan.invariant.inside }
-
 pub returns-in_err-found : goal.returns-in_err-found
 returns-in_err-found g c =
-    let v = g.P.Places.version in
+    let v = g.P.Versioned.version in
     let e = c.from_residual.ensures in
     let told = c.in_err-found.ensures.tells in
     let looked = c.loop-loan.invariant.looks in
     let same = same_fault c.from_residual.result c.in_err-found.field-0.0 e.0 e.1 in
     record {
-      tells = ends_not (RepresentsWhole g.P.Places.represents v) CanBeJudged (λ _. ⊤) g.S.Store c.args.conn.now c.loop-loan.conn c.judge.new.conn (λ _ s found. CanBeJudged s → c.args.today ≡ s.day → found ≡ first_closed s c.args.loans.now)
+      tells = ends_not (RepresentsWhole g.P.Places.represents v) CanBeJudged (λ _. ⊤) g.S.Store c.args.tables.now c.loop-loan.tables c.judge.new.tables (λ _ s found. CanBeJudged s → c.args.today ≡ s.day → found ≡ first_closed s c.args.loans.now)
           looked c.in_err-found.field-0.0 told.cut
           (λ s it may judged clean free. told.faults tt s it tt judged clean free)
           c.from_residual.result same;
       disk = λ clean.
-          blames_later (state g.S.Store c.args.conn.now) (state g.S.Store c.loop-loan.conn) (state g.S.Store c.judge.new.conn) c.from_residual.result c.in_err-found.field-0.0 same looked told.cut clean
+          blames_later (state g.S.Store c.args.tables.now) (state g.S.Store c.loop-loan.tables) (state g.S.Store c.judge.new.tables) c.from_residual.result c.in_err-found.field-0.0 same looked told.cut clean
           (c.in_err-found.ensures.disk clean);
     }
 
 pub returns-then-not-found : goal.returns-then-not-found
 returns-then-not-found g c =
-    let v = g.P.Places.version in
-    let a = state g.S.Store c.args.conn.now in
-    let b = state g.S.Store c.loop-loan.conn in
-    let d = state g.S.Store c.judge.new.conn in
+    let v = g.P.Versioned.version in
+    let a = state g.S.Store c.args.tables.now in
+    let b = state g.S.Store c.loop-loan.tables in
+    let d = state g.S.Store c.judge.new.tables in
     let looks = c.loop-loan.invariant.looks in
     let told = c.in_ok-found.ensures.tells in
     let none : Loan = record { container = 0; order = 0; ticket = 0 } in
     let i = c.loop-loan.loan-index in
     record {
-      tells = ends_well (RepresentsWhole g.P.Places.represents v) CanBeJudged (λ _. ⊤) g.S.Store c.args.conn.now c.args.conn.now c.judge.new.conn (λ _ s found. CanBeJudged s → c.args.today ≡ s.day → found ≡ first_closed s c.args.loans.now)
+      tells = ends_well (RepresentsWhole g.P.Places.represents v) CanBeJudged (λ _. ⊤) g.S.Store c.args.tables.now c.args.tables.now c.judge.new.tables (λ _ s found. CanBeJudged s → c.args.today ≡ s.day → found ≡ first_closed s c.args.loans.now)
           (looks_then a b d looks told.looks) _
           (λ clean s it judged day.
           let before = early b d _ told.looks.goes.on.crash clean in
@@ -65,16 +61,15 @@ returns-then-not-found g c =
 
 pub loop-loan-preserved : goal.loop-loan-preserved
 loop-loan-preserved g c =
-    let v = g.P.Places.version in
-    let a = state g.S.Store c.args.conn.now in
-    let b = state g.S.Store c.loop-loan.conn in
-    let d = state g.S.Store c.judge.new.conn in
+    let v = g.P.Versioned.version in
+    let a = state g.S.Store c.args.tables.now in
+    let b = state g.S.Store c.loop-loan.tables in
+    let d = state g.S.Store c.judge.new.tables in
     let looks = c.loop-loan.invariant.looks in
     let told = c.in_ok-found.ensures.tells in
     let none : Loan = record { container = 0; order = 0; ticket = 0 } in
     let i = c.loop-loan.loan-index in
     record {
-      inside = still v b d c.loop-loan.invariant.inside told.looks.goes;
       looks = looks_then a b d looks told.looks;
       so_far = λ clean s judged it day.
           let before = early b d _ told.looks.goes.on.crash clean in

@@ -3,7 +3,7 @@ use Rattle.sqlite.specs.Held.{state}
 use Rattle.sqlite.specs.State.{HasCleanDisk}
 use Rattle.office_core.specs.State.{State}
 use Rattle.office_core.specs.Words.{first_that}
-use Rattle.office_tables.specs.Step.{InTransaction, LeavesUnchanged}
+use Rattle.office_tables.specs.Step.{LeavesUnchanged}
 use Rattle.refinement.specs.Gate.{is_closed_to}
 use Rattle.refinement.specs.AccessConditions.{CanBeJudged}
 use Rattle.refinement.specs.Openness.{AreClean}
@@ -12,10 +12,9 @@ use Rattle.refinement.proofs.gate.first_closed.Given as goal
 
 abbrev pub invariant-loop-loan : goal.invariant-loop-loan
 invariant-loop-loan g l = record {
-  inside : InTransaction g.P.Places.version (state g.S.Store l.conn);
-  looks : LeavesUnchanged (state g.S.Store l.fn.conn) (state g.S.Store l.conn);
-  so_far : HasCleanDisk (state g.S.Store l.conn) → (s : State) → CanBeJudged s → RepresentsState g.P.Places.represents g.P.Places.version (state g.S.Store l.fn.conn).now s → l.today ≡ s.day
+  looks : LeavesUnchanged (state g.S.Store l.fn.tables) (state g.S.Store l.tables);
+  so_far : HasCleanDisk (state g.S.Store l.tables) → (s : State) → CanBeJudged s → RepresentsState g.P.Places.represents g.P.Versioned.version (state g.S.Store l.fn.tables).now s → l.today ≡ s.day
       → first_that (is_closed_to s) (take l.loan-index l.loans) ≡ None;
-  known : HasCleanDisk (state g.S.Store l.conn) → (s : State) → CanBeJudged s → RepresentsState g.P.Places.represents g.P.Places.version (state g.S.Store l.fn.conn).now s → l.today ≡ s.day
+  known : HasCleanDisk (state g.S.Store l.tables) → (s : State) → CanBeJudged s → RepresentsState g.P.Places.represents g.P.Versioned.version (state g.S.Store l.fn.tables).now s → l.today ≡ s.day
       → AreClean s l.clean.items;
 }

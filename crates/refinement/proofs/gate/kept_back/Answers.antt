@@ -1,36 +1,31 @@
 use Rattle.std.proofs.Common.{◌≡◌, ap, sym, ◌∙◌}
 use Rattle.std.specs.Prelude.{⊤}
-use Rattle.sqlite.specs.Held.{state}
 use Rattle.office_core.specs.Rules.{kept}
 use Rattle.state_encoding.specs.OfficeRows.{tables}
 use Rattle.office_tables.proofs.CallEnds.{same_fault, tells_not}
-use Rattle.office_tables.proofs.Calls.{office_of}
 use Rattle.refinement.specs.Gate.{first_closed}
 use Rattle.refinement.specs.AccessConditions.{CanBeJudged, RepresentsWhole}
 use Rattle.refinement.proofs.Gates.{kept_is}
 use Rattle.refinement.proofs.Tellings.{told_then}
 use Rattle.refinement.proofs.gate.kept_back.Goals as goal
 
-pub issued-requires : goal.issued-requires
-issued-requires g c = record { inside = office_of g.P.Places.version (state g.S.Store c.args.conn.now) c.requires.inside }
-
 pub returns-in_err-loans : goal.returns-in_err-loans
 returns-in_err-loans g c =
-    let v = g.P.Places.version in
+    let v = g.P.Versioned.version in
     let e = c.from_residual.ensures in
     let told = c.in_err-loans.ensures.tells in
     record {
-      tells = tells_not g.S.Store (RepresentsWhole g.P.Places.represents v) CanBeJudged (λ _. ⊤) c.args.conn.now c.issued.new.conn c.from_residual.result (λ _ s found. CanBeJudged s → c.args.today ≡ s.day → found ≡ kept s) c.in_err-loans.field-0.0
+      tells = tells_not g.S.Store (RepresentsWhole g.P.Places.represents v) CanBeJudged (λ _. ⊤) c.args.tables.now c.issued.new.tables c.from_residual.result (λ _ s found. CanBeJudged s → c.args.today ≡ s.day → found ≡ kept s) c.in_err-loans.field-0.0
           (same_fault c.from_residual.result c.in_err-loans.field-0.0 e.0 e.1) told.cut
           (λ beside s shown may judged clean free. told.faults tt (tables v s).desk shown.desk tt (judged.desk v) clean free);
     }
 
 pub returns : goal.returns
 returns g c =
-    let v = g.P.Places.version in
+    let v = g.P.Versioned.version in
     let told = c.in_ok-loans.ensures.tells in
     record {
-      tells = told_then (RepresentsWhole g.P.Places.represents v) CanBeJudged g.S.Store c.args.conn.now c.issued.new.conn c.first_closed.new.conn c.first_closed.result
+      tells = told_then (RepresentsWhole g.P.Places.represents v) CanBeJudged g.S.Store c.args.tables.now c.issued.new.tables c.first_closed.new.tables c.first_closed.result
           (λ _ s found. CanBeJudged s → c.args.today ≡ s.day → found ≡ first_closed s c.deref.result.now) (λ _ s found. CanBeJudged s → c.args.today ≡ s.day → found ≡ kept s)
           told.looks
           (λ clean s shown found is judged day.

@@ -18,18 +18,18 @@ use Rattle.refinement.proofs.housed_units.containers_of_each.Goals as goal
 
 pub returns-in_err-named-clause-reads : goal.returns-in_err-named-clause-reads
 returns-in_err-named-clause-reads g c =
-    let a = state g.S.Store c.args.conn.now in
-    let b = state g.S.Store c.loop-unit.conn in
-    let d = state g.S.Store c.containers_of.new.conn in
+    let a = state g.S.Store c.args.tables.now in
+    let b = state g.S.Store c.loop-unit.tables in
+    let d = state g.S.Store c.containers_of.new.tables in
     let e = c.from_residual.ensures in
     read_cut a b d c.from_residual.result c.in_err-named.field-0.0 (same_fault c.from_residual.result c.in_err-named.field-0.0 e.0 e.1)
     c.loop-unit.invariant.looks c.in_err-named.ensures.reads.cut c.in_err-named.ensures.reads.spares
 
 pub returns-in_err-named-clause-faults : goal.returns-in_err-named-clause-faults
 returns-in_err-named-clause-faults g c xs stored small clean free =
-    let a = state g.S.Store c.args.conn.now in
-    let b = state g.S.Store c.loop-unit.conn in
-    let d = state g.S.Store c.containers_of.new.conn in
+    let a = state g.S.Store c.args.tables.now in
+    let b = state g.S.Store c.loop-unit.tables in
+    let d = state g.S.Store c.containers_of.new.tables in
     let e = c.from_residual.ensures in
     let looks = c.loop-unit.invariant.looks in
     let failed : Result (Vec ℕ Global) StoreFault = Err c.in_err-named.field-0.0 in
@@ -39,21 +39,20 @@ returns-in_err-named-clause-faults g c xs stored small clean free =
 
 pub returns-in_err-extend_from_slice-clause-reads : goal.returns-in_err-extend_from_slice-clause-reads
 returns-in_err-extend_from_slice-clause-reads g c =
-    let a = state g.S.Store c.args.conn.now in
-    let b = state g.S.Store c.loop-unit.conn in
-    let d = state g.S.Store c.containers_of.new.conn in
+    let a = state g.S.Store c.args.tables.now in
+    let b = state g.S.Store c.loop-unit.tables in
+    let d = state g.S.Store c.containers_of.new.tables in
     let e = c.from_residual-in_err-extend_from_slice.ensures in
     read_not a d c.from_residual-in_err-extend_from_slice.result fault.Memory (same_fault c.from_residual-in_err-extend_from_slice.result fault.Memory e.0 e.1)
     (cut_after a d (looks_then a b d c.loop-unit.invariant.looks c.in_ok-named.ensures.reads.looks).goes.on) (spares_full a d (looks_then a b d c.loop-unit.invariant.looks c.in_ok-named.ensures.reads.looks))
 
 pub loop-unit-preserved : goal.loop-unit-preserved
 loop-unit-preserved g c =
-    let a = state g.S.Store c.args.conn.now in
-    let b = state g.S.Store c.loop-unit.conn in
-    let d = state g.S.Store c.containers_of.new.conn in
+    let a = state g.S.Store c.args.tables.now in
+    let b = state g.S.Store c.loop-unit.tables in
+    let d = state g.S.Store c.containers_of.new.tables in
     let looks = c.loop-unit.invariant.looks in
     record {
-      inside = c.loop-unit.invariant.inside;
       looks = looks_then a b d looks c.in_ok-named.ensures.reads.looks;
       so_far = λ clean xs stored n.
           let at_b = early b d _ c.in_ok-named.ensures.reads.crash clean in

@@ -12,7 +12,7 @@ use Rattle.office_tables.specs.Schema as tables
 use Rattle.office_tables.specs.declared.fault.StoreFault.{StoreFault}
 use Rattle.office_tables.specs.declared.fault.StoreFault.TheVariants as fault
 use Rattle.office_tables.proofs.CallEnds.{excused_then, read_cut, read_not, read_well, same_fault}
-use Rattle.office_tables.proofs.Calls.{cut_after, early, looks_then, still_office}
+use Rattle.office_tables.proofs.Calls.{cut_after, early, looks_then}
 use Rattle.office_tables.proofs.Sparing.{spares_full}
 use Rattle.refinement.specs.Gate.{has_row, says_so}
 use Rattle.refinement.proofs.NearRows.{all_last}
@@ -25,30 +25,26 @@ returns-in_err-boxed-clause-faults g c xs stored small clean free =
 
 pub returns-in_err-units-clause-reads : goal.returns-in_err-units-clause-reads
 returns-in_err-units-clause-reads g c =
-    let a = state g.S.Store c.args.conn.now in
-    let b = state g.S.Store c.last_with_containers.new.conn in
+    let a = state g.S.Store c.args.tables.now in
+    let b = state g.S.Store c.last_with_containers.new.tables in
     let looked = c.in_ok-boxed.ensures.reads.looks in
     let e = c.from_residual-in_err-units.ensures in
     read_not a b c.from_residual-in_err-units.result fault.Memory (same_fault c.from_residual-in_err-units.result fault.Memory e.0 e.1) (cut_after a b looked.goes.on) (spares_full a b looked)
 
-pub containers_of_each-requires : goal.containers_of_each-requires
-containers_of_each-requires g c =
-    record { inside = still_office (state g.S.Store c.args.conn.now) (state g.S.Store c.last_with_containers.new.conn) c.requires.inside c.in_ok-boxed.ensures.reads.looks.goes }
-
 pub returns-in_err-containers-clause-reads : goal.returns-in_err-containers-clause-reads
 returns-in_err-containers-clause-reads g c =
-    let a = state g.S.Store c.args.conn.now in
-    let b = state g.S.Store c.last_with_containers.new.conn in
-    let d = state g.S.Store c.containers_of_each.new.conn in
+    let a = state g.S.Store c.args.tables.now in
+    let b = state g.S.Store c.last_with_containers.new.tables in
+    let d = state g.S.Store c.containers_of_each.new.tables in
     let e = c.from_residual-in_err-containers.ensures in
     read_cut a b d c.from_residual-in_err-containers.result c.in_err-containers.field-0.0 (same_fault c.from_residual-in_err-containers.result c.in_err-containers.field-0.0 e.0 e.1)
     c.in_ok-boxed.ensures.reads.looks c.in_err-containers.ensures.reads.cut c.in_err-containers.ensures.reads.spares
 
 pub returns-in_err-containers-clause-faults : goal.returns-in_err-containers-clause-faults
 returns-in_err-containers-clause-faults g c xs stored small clean free =
-    let a = state g.S.Store c.args.conn.now in
-    let b = state g.S.Store c.last_with_containers.new.conn in
-    let d = state g.S.Store c.containers_of_each.new.conn in
+    let a = state g.S.Store c.args.tables.now in
+    let b = state g.S.Store c.last_with_containers.new.tables in
+    let d = state g.S.Store c.containers_of_each.new.tables in
     let e = c.from_residual-in_err-containers.ensures in
     let boxed = c.in_ok-boxed.ensures in
     let looks = boxed.reads.looks in
@@ -62,16 +58,16 @@ returns-in_err-containers-clause-faults g c xs stored small clean free =
 
 pub returns-clause-reads : goal.returns-clause-reads
 returns-clause-reads g c =
-    let a = state g.S.Store c.args.conn.now in
-    let b = state g.S.Store c.last_with_containers.new.conn in
-    let d = state g.S.Store c.containers_of_each.new.conn in
+    let a = state g.S.Store c.args.tables.now in
+    let b = state g.S.Store c.last_with_containers.new.tables in
+    let d = state g.S.Store c.containers_of_each.new.tables in
     read_well a d (looks_then a b d c.in_ok-boxed.ensures.reads.looks c.in_ok-containers.ensures.reads.looks)
 
 pub returns-clause-rows : goal.returns-clause-rows
 returns-clause-rows g c clean xs stored n =
-    let a = state g.S.Store c.args.conn.now in
-    let b = state g.S.Store c.last_with_containers.new.conn in
-    let d = state g.S.Store c.containers_of_each.new.conn in
+    let a = state g.S.Store c.args.tables.now in
+    let b = state g.S.Store c.last_with_containers.new.tables in
+    let d = state g.S.Store c.containers_of_each.new.tables in
     let boxed = c.in_ok-boxed.ensures in
     let at_b = early b d _ c.in_ok-containers.ensures.reads.crash clean in
     let here = subst (λ (db : Database). HasNumbered housing_row (db.trees tables.housing.tree) xs) (sym (boxed.reads.looks.same at_b)) stored in

@@ -6,41 +6,41 @@ use Rattle.desk_store.specs.declared.holdings.Loan.{Loan}
 use Rattle.desk_store.proofs.ToldCalls.{ends_not, ends_well, shown_on}
 use Rattle.office_core.specs.Words.{some_and}
 use Rattle.office_tables.proofs.CallEnds.{same_fault}
-use Rattle.office_tables.proofs.Calls.{early, looks_nowhere, looks_then, office_of, still}
+use Rattle.office_tables.proofs.Calls.{early, looks_nowhere, looks_then}
 use Rattle.refinement.specs.AccessConditions.{CanBeJudged, RepresentsWhole}
 use Rattle.refinement.specs.Gate.{IsWithheldAt, is_withheld_in}
 use Rattle.refinement.proofs.housed_units.first_withheld.Goals as goal
 
 pub loop-place-init : goal.loop-place-init
 loop-place-init g c =
-    let a = state g.S.Store c.args.conn.now in
-    record { inside = c.requires.inside; looks = looks_nowhere a (office_of g.P.Places.version a c.requires.inside) }
+    let a = state g.S.Store c.args.tables.now in
+    record { looks = looks_nowhere a }
 
 pub is_withheld_in-requires : goal.is_withheld_in-requires
-is_withheld_in-requires g c = record { inside = c.loop-place.invariant.inside; rise = c.requires.rise }
+is_withheld_in-requires g c = record { rise = c.requires.rise }
 
 pub returns-in_err-is_withheld_in-clause-tells : goal.returns-in_err-is_withheld_in-clause-tells
 returns-in_err-is_withheld_in-clause-tells g c =
     let e = c.from_residual.ensures in
     let told = c.in_err-is_withheld_in.ensures.tells in
-    ends_not (RepresentsWhole g.P.Places.represents g.P.Places.version) CanBeJudged (λ _. ⊤) g.S.Store c.args.conn.now c.loop-place.conn c.is_withheld_in.new.conn
+    ends_not (RepresentsWhole g.P.Places.represents g.P.Versioned.version) CanBeJudged (λ _. ⊤) g.S.Store c.args.tables.now c.loop-place.tables c.is_withheld_in.new.tables
     (λ _ s found. CanBeJudged s → c.args.today ≡ s.day → IfSome found (IsWithheldAt s c.args.unit.now c.args.loans.now)) c.loop-place.invariant.looks c.in_err-is_withheld_in.field-0.0 told.cut
     (λ s it may judged clean free. told.faults tt s it tt judged clean free)
     c.from_residual.result (same_fault c.from_residual.result c.in_err-is_withheld_in.field-0.0 e.0 e.1)
 
 pub returns-then-branch-clause-tells : goal.returns-then-branch-clause-tells
 returns-then-branch-clause-tells g c =
-    let represents = RepresentsWhole g.P.Places.represents g.P.Places.version in
-    let a = state g.S.Store c.args.conn.now in
-    let b = state g.S.Store c.loop-place.conn in
-    let d = state g.S.Store c.is_withheld_in.new.conn in
+    let represents = RepresentsWhole g.P.Places.represents g.P.Versioned.version in
+    let a = state g.S.Store c.args.tables.now in
+    let b = state g.S.Store c.loop-place.tables in
+    let d = state g.S.Store c.is_withheld_in.new.tables in
     let looks = c.loop-place.invariant.looks in
     let told = c.in_ok-is_withheld_in.ensures.tells in
     let loans = c.args.loans.now in
     let place = c.loop-place.place in
     let none : Loan = record { container = 0; order = 0; ticket = 0 } in
     let low : place < length loans = omega arith in
-    ends_well represents CanBeJudged (λ _. ⊤) g.S.Store c.args.conn.now c.args.conn.now c.is_withheld_in.new.conn
+    ends_well represents CanBeJudged (λ _. ⊤) g.S.Store c.args.tables.now c.args.tables.now c.is_withheld_in.new.tables
     (λ _ s found. CanBeJudged s → c.args.today ≡ s.day → IfSome found (IsWithheldAt s c.args.unit.now loans)) (looks_then a b d looks told.looks) _
     (λ clean s it judged day.
     let before = early b d _ told.looks.goes.on.crash clean in
@@ -49,9 +49,9 @@ returns-then-branch-clause-tells g c =
 
 pub loop-place-preserved : goal.loop-place-preserved
 loop-place-preserved g c =
-    let v = g.P.Places.version in
-    let a = state g.S.Store c.args.conn.now in
-    let b = state g.S.Store c.loop-place.conn in
-    let d = state g.S.Store c.is_withheld_in.new.conn in
+    let v = g.P.Versioned.version in
+    let a = state g.S.Store c.args.tables.now in
+    let b = state g.S.Store c.loop-place.tables in
+    let d = state g.S.Store c.is_withheld_in.new.tables in
     let looked = c.in_ok-is_withheld_in.ensures.tells.looks in
-    record { inside = still v b d c.loop-place.invariant.inside looked.goes; looks = looks_then a b d c.loop-place.invariant.looks looked }
+    record { looks = looks_then a b d c.loop-place.invariant.looks looked }

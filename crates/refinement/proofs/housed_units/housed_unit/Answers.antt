@@ -15,7 +15,7 @@ use Rattle.office_tables.specs.Schema as tables
 use Rattle.office_tables.specs.declared.fault.StoreFault.{StoreFault}
 use Rattle.office_tables.specs.declared.fault.StoreFault.TheVariants as fault
 use Rattle.office_tables.proofs.CallEnds.{excused_then, same_fault, tells_not}
-use Rattle.office_tables.proofs.Calls.{cut_after, cut_then, early, looks_then, office_of, still}
+use Rattle.office_tables.proofs.Calls.{cut_after, cut_then, early, looks_then}
 use Rattle.refinement.specs.Gate.{IsHoused, has_row, says_so}
 use Rattle.refinement.specs.AccessConditions.{CanBeJudged, RepresentsWhole}
 use Rattle.refinement.specs.Representation as shown
@@ -25,41 +25,34 @@ use Rattle.refinement.proofs.housed_units.housed_unit.Goals as goal
 
 pub returns-in_err-path-clause-tells : goal.returns-in_err-path-clause-tells
 returns-in_err-path-clause-tells g c =
-    let v = g.P.Places.version in
+    let v = g.P.Versioned.version in
     let e = c.from_residual.ensures in
     let told = c.in_err-path.ensures.tells in
-    tells_not g.S.Store (RepresentsWhole g.P.Places.represents v) CanBeJudged (λ _. ⊤) c.args.conn.now c.path_marks.new.conn c.from_residual.result (λ _ s found. IsHoused c.args.unit s found) c.in_err-path.field-0.0
+    tells_not g.S.Store (RepresentsWhole g.P.Places.represents v) CanBeJudged (λ _. ⊤) c.args.tables.now c.path_marks.new.tables c.from_residual.result (λ _ s found. IsHoused c.args.unit s found) c.in_err-path.field-0.0
     (same_fault c.from_residual.result c.in_err-path.field-0.0 e.0 e.1) told.cut
     (λ beside s it may judged clean free. told.faults (shown.office_of s) s.catalogue it.catalogue tt judged.catalogue clean free)
 
 pub returns-in_err-units-clause-tells : goal.returns-in_err-units-clause-tells
 returns-in_err-units-clause-tells g c =
-    let v = g.P.Places.version in
-    let a = state g.S.Store c.args.conn.now in
-    let b = state g.S.Store c.path_marks.new.conn in
+    let v = g.P.Versioned.version in
+    let a = state g.S.Store c.args.tables.now in
+    let b = state g.S.Store c.path_marks.new.tables in
     let e = c.from_residual-in_err-units.ensures in
-    tells_not g.S.Store (RepresentsWhole g.P.Places.represents v) CanBeJudged (λ _. ⊤) c.args.conn.now c.path_marks.new.conn c.from_residual-in_err-units.result (λ _ s found. IsHoused c.args.unit s found) fault.Memory
+    tells_not g.S.Store (RepresentsWhole g.P.Places.represents v) CanBeJudged (λ _. ⊤) c.args.tables.now c.path_marks.new.tables c.from_residual-in_err-units.result (λ _ s found. IsHoused c.args.unit s found) fault.Memory
     (same_fault c.from_residual-in_err-units.result fault.Memory e.0 e.1) (cut_after a b c.in_ok-path.ensures.tells.looks.goes.on) (λ beside s it may judged clean free. tt)
-
-pub containers_on_path-requires : goal.containers_on_path-requires
-containers_on_path-requires g c =
-    let v = g.P.Places.version in
-    let a = state g.S.Store c.args.conn.now in
-    let b = state g.S.Store c.path_marks.new.conn in
-    record { inside = office_of v b (still v a b c.requires.inside c.in_ok-path.ensures.tells.looks.goes) }
 
 pub returns-in_err-containers-clause-tells : goal.returns-in_err-containers-clause-tells
 returns-in_err-containers-clause-tells g c =
-    let v = g.P.Places.version in
-    let a = state g.S.Store c.args.conn.now in
-    let b = state g.S.Store c.path_marks.new.conn in
-    let d = state g.S.Store c.containers_on_path.new.conn in
+    let v = g.P.Versioned.version in
+    let a = state g.S.Store c.args.tables.now in
+    let b = state g.S.Store c.path_marks.new.tables in
+    let d = state g.S.Store c.containers_on_path.new.tables in
     let u = c.args.unit in
     let e = c.from_residual-in_err-containers.ensures in
     let one = c.in_ok-path.ensures.tells in
     let last = c.in_err-containers.ensures in
     let failed : Result (Vec ℕ Global) StoreFault = Err c.in_err-containers.field-0.0 in
-    tells_not g.S.Store (RepresentsWhole g.P.Places.represents v) CanBeJudged (λ _. ⊤) c.args.conn.now c.containers_on_path.new.conn c.from_residual-in_err-containers.result (λ _ s found. IsHoused c.args.unit s found) c.in_err-containers.field-0.0
+    tells_not g.S.Store (RepresentsWhole g.P.Places.represents v) CanBeJudged (λ _. ⊤) c.args.tables.now c.containers_on_path.new.tables c.from_residual-in_err-containers.result (λ _ s found. IsHoused c.args.unit s found) c.in_err-containers.field-0.0
     (same_fault c.from_residual-in_err-containers.result c.in_err-containers.field-0.0 e.0 e.1) (cut_then a b d one.looks.goes.on last.reads.cut)
     (λ beside s it may judged. excused_then a b d one.looks.goes.on failed last.reads.cut (λ at_b.
     let f = s.catalogue.forest in
@@ -72,15 +65,15 @@ returns-in_err-containers-clause-tells g c =
 
 pub returns : goal.returns
 returns g c =
-    let v = g.P.Places.version in
-    let a = state g.S.Store c.args.conn.now in
-    let b = state g.S.Store c.path_marks.new.conn in
-    let d = state g.S.Store c.containers_on_path.new.conn in
+    let v = g.P.Versioned.version in
+    let a = state g.S.Store c.args.tables.now in
+    let b = state g.S.Store c.path_marks.new.tables in
+    let d = state g.S.Store c.containers_on_path.new.tables in
     let u = c.args.unit in
     let one = c.in_ok-path.ensures.tells in
     let last = c.in_ok-containers.ensures in
     record {
-      tells = ends_well (RepresentsWhole g.P.Places.represents v) CanBeJudged (λ _. ⊤) g.S.Store c.args.conn.now c.args.conn.now c.containers_on_path.new.conn (λ _ s found. IsHoused u s found)
+      tells = ends_well (RepresentsWhole g.P.Places.represents v) CanBeJudged (λ _. ⊤) g.S.Store c.args.tables.now c.args.tables.now c.containers_on_path.new.tables (λ _ s found. IsHoused u s found)
           (looks_then a b d one.looks last.reads.looks) (record { containers = c.in_ok-containers.containers; path = c.in_ok-path.path })
           (λ clean s it.
           let at_b = early b d _ last.reads.crash clean in

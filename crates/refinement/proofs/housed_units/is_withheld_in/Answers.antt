@@ -10,7 +10,7 @@ use Rattle.office_core.specs.State.{is_permitted}
 use Rattle.state_encoding.specs.OfficeRows.{tables}
 use Rattle.office_tables.specs.declared.fault.StoreFault.TheVariants as fault
 use Rattle.office_tables.proofs.CallEnds.{same_fault, tells_not}
-use Rattle.office_tables.proofs.Calls.{cut_after, looks_nowhere, office_of}
+use Rattle.office_tables.proofs.Calls.{cut_after, looks_nowhere}
 use Rattle.refinement.specs.AccessConditions.{CanBeJudged, RepresentsWhole}
 use Rattle.refinement.specs.Gate.{is_one_of, is_withheld_in}
 use Rattle.refinement.specs.Openness.{allows}
@@ -23,43 +23,40 @@ is_among-requires g c = record { rise = subst IsNonDecreasing (sym c.deref.ensur
 
 pub returns-then-not-is_among : goal.returns-then-not-is_among
 returns-then-not-is_among g c =
-    let v = g.P.Places.version in
-    let a = state g.S.Store c.args.conn.now in
+    let v = g.P.Versioned.version in
+    let a = state g.S.Store c.args.tables.now in
     let it = c.args.unit.now in
     let loan = c.args.loan in
     let far : is_one_of loan.container it.containers.items ≡ false = ap (is_one_of loan.container) (sym c.deref.ensures.value) ∙ sym c.if-not-is_among.ensures in
     record {
-      tells = ends_well (RepresentsWhole g.P.Places.represents v) CanBeJudged (λ _. ⊤) g.S.Store c.args.conn.now c.args.conn.now c.args.conn.now (λ _ s yes. CanBeJudged s → c.args.today ≡ s.day → yes ≡ is_withheld_in s it loan)
-          (looks_nowhere a (office_of v a c.requires.inside)) false
+      tells = ends_well (RepresentsWhole g.P.Places.represents v) CanBeJudged (λ _. ⊤) g.S.Store c.args.tables.now c.args.tables.now c.args.tables.now (λ _ s yes. CanBeJudged s → c.args.today ≡ s.day → yes ≡ is_withheld_in s it loan)
+          (looks_nowhere a) false
           (λ clean s shown judged day. sym (ap (λ b. b && withholds s.day false (map (with_permit (is_permitted s.day (s.permits loan.ticket))) it.path.items)) far));
       disk = λ clean. tt;
     }
 
-pub permits-requires : goal.permits-requires
-permits-requires g c = record { inside = office_of g.P.Places.version (state g.S.Store c.args.conn.now) c.requires.inside }
-
 pub returns-in_err-permits : goal.returns-in_err-permits
 returns-in_err-permits g c =
-    let v = g.P.Places.version in
+    let v = g.P.Versioned.version in
     let e = c.from_residual.ensures in
     let told = c.in_err-permits.ensures.tells in
     let same = same_fault c.from_residual.result c.in_err-permits.field-0.0 e.0 e.1 in
     record {
-      tells = tells_not g.S.Store (RepresentsWhole g.P.Places.represents v) CanBeJudged (λ _. ⊤) c.args.conn.now c.permits.new.conn c.from_residual.result (λ _ s yes. CanBeJudged s → c.args.today ≡ s.day → yes ≡ is_withheld_in s c.args.unit.now c.args.loan) c.in_err-permits.field-0.0
+      tells = tells_not g.S.Store (RepresentsWhole g.P.Places.represents v) CanBeJudged (λ _. ⊤) c.args.tables.now c.permits.new.tables c.from_residual.result (λ _ s yes. CanBeJudged s → c.args.today ≡ s.day → yes ≡ is_withheld_in s c.args.unit.now c.args.loan) c.in_err-permits.field-0.0
           same told.cut
           (λ beside s it may judged clean free. told.faults tt (tables v s).desk it.desk tt (judged.desk v) clean free);
-      disk = λ clean. blames_first (state g.S.Store c.args.conn.now) (state g.S.Store c.permits.new.conn) c.from_residual.result c.in_err-permits.field-0.0 same (told.spares clean).disk;
+      disk = λ clean. blames_first (state g.S.Store c.args.tables.now) (state g.S.Store c.permits.new.tables) c.from_residual.result c.in_err-permits.field-0.0 same (told.spares clean).disk;
     }
 
 pub returns-in_err-path : goal.returns-in_err-path
 returns-in_err-path g c =
-    let v = g.P.Places.version in
-    let a = state g.S.Store c.args.conn.now in
-    let b = state g.S.Store c.permits.new.conn in
+    let v = g.P.Versioned.version in
+    let a = state g.S.Store c.args.tables.now in
+    let b = state g.S.Store c.permits.new.tables in
     let e = c.from_residual-in_err-path.ensures in
     let same = same_fault c.from_residual-in_err-path.result fault.Memory e.0 e.1 in
     record {
-      tells = tells_not g.S.Store (RepresentsWhole g.P.Places.represents v) CanBeJudged (λ _. ⊤) c.args.conn.now c.permits.new.conn c.from_residual-in_err-path.result (λ _ s yes. CanBeJudged s → c.args.today ≡ s.day → yes ≡ is_withheld_in s c.args.unit.now c.args.loan) fault.Memory
+      tells = tells_not g.S.Store (RepresentsWhole g.P.Places.represents v) CanBeJudged (λ _. ⊤) c.args.tables.now c.permits.new.tables c.from_residual-in_err-path.result (λ _ s yes. CanBeJudged s → c.args.today ≡ s.day → yes ≡ is_withheld_in s c.args.unit.now c.args.loan) fault.Memory
           same (cut_after a b c.in_ok-permits.ensures.tells.looks.goes.on) (λ beside s it may judged clean free. tt);
       disk = λ clean. blames_first a b c.from_residual-in_err-path.result fault.Memory same tt;
     }
@@ -70,7 +67,7 @@ twice_not false = refl
 
 pub returns : goal.returns
 returns g c =
-    let v = g.P.Places.version in
+    let v = g.P.Versioned.version in
     let it = c.args.unit.now in
     let loan = c.args.loan in
     let told = c.in_ok-permits.ensures.tells in
@@ -82,7 +79,7 @@ returns g c =
     let read : not c.clean_path.result ≡ withholds c.args.today false (map (with_permit permitted) it.path.items) =
     ap not (c.clean_path.ensures ∙ ap₂ (λ t l. not (withholds t false l)) day_is path_is) ∙ twice_not (withholds c.args.today false (map (with_permit permitted) it.path.items)) in
     record {
-      tells = ends_well (RepresentsWhole g.P.Places.represents v) CanBeJudged (λ _. ⊤) g.S.Store c.args.conn.now c.args.conn.now c.permits.new.conn (λ _ s yes. CanBeJudged s → c.args.today ≡ s.day → yes ≡ is_withheld_in s it loan)
+      tells = ends_well (RepresentsWhole g.P.Places.represents v) CanBeJudged (λ _. ⊤) g.S.Store c.args.tables.now c.args.tables.now c.permits.new.tables (λ _ s yes. CanBeJudged s → c.args.today ≡ s.day → yes ≡ is_withheld_in s it loan)
           told.looks (not c.clean_path.result)
           (λ clean s shown judged day.
           read

@@ -16,9 +16,9 @@ use Rattle.refinement.proofs.housed_units.last_with_containers.Goals.{then-branc
 
 pub returns-in_err-has_containers-clause-faults : goal.returns-in_err-has_containers-clause-faults
 returns-in_err-has_containers-clause-faults g c xs stored small clean free =
-    let a = state g.S.Store c.args.conn.now in
-    let b = state g.S.Store c.loop-unit.conn in
-    let d = state g.S.Store c.has_containers.new.conn in
+    let a = state g.S.Store c.args.tables.now in
+    let b = state g.S.Store c.loop-unit.tables in
+    let d = state g.S.Store c.has_containers.new.tables in
     let e = c.from_residual.ensures in
     let looks = c.loop-unit.invariant.looks in
     let failed : Result (Option ℕ) StoreFault = Err c.in_err-has_containers.field-0.0 in
@@ -28,15 +28,14 @@ returns-in_err-has_containers-clause-faults g c xs stored small clean free =
 
 pub loop-unit-preserved : goal.loop-unit-preserved
 loop-unit-preserved g c =
-    let a = state g.S.Store c.args.conn.now in
-    let b = state g.S.Store c.loop-unit.conn in
-    let d = state g.S.Store c.has_containers.new.conn in
+    let a = state g.S.Store c.args.tables.now in
+    let b = state g.S.Store c.loop-unit.tables in
+    let d = state g.S.Store c.has_containers.new.tables in
     let looks = c.loop-unit.invariant.looks in
     let units = c.args.units.now in
     let i = c.loop-unit.unit-index in
     let unit = get_or units i 0 in
     record {
-      inside = c.loop-unit.invariant.inside;
       looks = looks_then a b d looks c.in_ok-has_containers.ensures.reads.looks;
       so_far = λ clean xs stored.
           let at_b = early b d _ c.in_ok-has_containers.ensures.reads.crash clean in

@@ -1,27 +1,33 @@
-use Rattle.sqlite.specs.Held.{state}
-use Rattle.store_tests.proofs.Written.{reader_is_ours, seat_is_ours, permit_is_ours, order_is_ours, state_is_ours, holding_is_ours, run_is_ours, line_is_ours}
+use Rattle.std.proofs.Common.{refl}
+use Rattle.tree_core.specs.Versions.{Links}
+use Rattle.desk_store.proofs.ReaderRows.{insert_reader_command, insert_reader_means}
+use Rattle.desk_store.proofs.SeatRows.{insert_seat_command, insert_seat_means}
+use Rattle.desk_store.proofs.PermitRows.{insert_permit_command, insert_permit_means}
+use Rattle.desk_store.proofs.OrderWrites.{insert_order_command, insert_order_means, set_state_command, set_state_means}
+use Rattle.desk_store.proofs.HoldingWrites.{insert_holding_command, insert_holding_means}
+use Rattle.desk_store.proofs.RunRows.{insert_run_command, insert_run_means, insert_line_command, insert_line_means}
 use Rattle.store_tests.proofs.checks.put.Goals as goal
 
 pub change-requires : goal.change-requires
-change-requires g c = reader_is_ours (state g.S.Store c.args.conn.now) c.requires.inside
+change-requires g c = record { count = 3; command = insert_reader_command; changes = refl; means = insert_reader_means Links }
 
 pub change-requires-in-Seat : goal.change-requires-in-Seat
-change-requires-in-Seat g c = seat_is_ours (state g.S.Store c.args.conn.now) c.requires.inside
+change-requires-in-Seat g c = record { count = 2; command = insert_seat_command; changes = refl; means = insert_seat_means Links }
 
 pub change-requires-in-Permit : goal.change-requires-in-Permit
-change-requires-in-Permit g c = permit_is_ours (state g.S.Store c.args.conn.now) c.requires.inside
+change-requires-in-Permit g c = record { count = 3; command = insert_permit_command; changes = refl; means = insert_permit_means Links }
 
 pub change-requires-in-Order : goal.change-requires-in-Order
-change-requires-in-Order g c = order_is_ours (state g.S.Store c.args.conn.now) c.requires.inside
+change-requires-in-Order g c = record { count = 4; command = insert_order_command; changes = refl; means = insert_order_means Links }
 
 pub change-requires-in-State : goal.change-requires-in-State
-change-requires-in-State g c = state_is_ours (state g.S.Store c.args.conn.now) c.requires.inside
+change-requires-in-State g c = record { count = 2; command = set_state_command; changes = refl; means = set_state_means Links }
 
 pub change-requires-in-Holding : goal.change-requires-in-Holding
-change-requires-in-Holding g c = holding_is_ours (state g.S.Store c.args.conn.now) c.requires.inside
+change-requires-in-Holding g c = record { count = 3; command = insert_holding_command; changes = refl; means = insert_holding_means Links }
 
 pub change-requires-in-Run : goal.change-requires-in-Run
-change-requires-in-Run g c = run_is_ours (state g.S.Store c.args.conn.now) c.requires.inside
+change-requires-in-Run g c = record { count = 2; command = insert_run_command; changes = refl; means = insert_run_means Links }
 
 pub change-requires-in-Line : goal.change-requires-in-Line
-change-requires-in-Line g c = line_is_ours (state g.S.Store c.args.conn.now) c.requires.inside
+change-requires-in-Line g c = record { count = 4; command = insert_line_command; changes = refl; means = insert_line_means Links }

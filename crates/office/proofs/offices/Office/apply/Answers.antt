@@ -13,8 +13,8 @@ use Rattle.office.proofs.offices.Office.apply.Goals.{in-Ok, in-Err}
 
 pub returns-clause-steps : goal.returns-clause-steps
 returns-clause-steps g c clean s sound is =
-    let there = subst (λ h. IsIn g.P.Places.represents g.P.Places.version s (state g.S.Store h)) (sym c.self.view_is) is in
-    let takes : Reply → Type 0 = λ reply. TakesStep g.P.Places.represents g.P.Places.version s c.args.command.now reply.done (state g.S.Store c.apply_to.new.conn) in
+    let there = subst (λ h. IsIn g.P.Places.represents g.P.Versioned.version s (state g.S.Store h)) (sym c.self.view_is) is in
+    let takes : Reply → Type 0 = λ reply. TakesStep g.P.Places.represents g.P.Versioned.version s c.args.command.now reply.done (state g.S.Store c.apply_to.new.closed) in
     let it = c.apply_to.ensures.steps clean s sound there in
     elim c.match-apply_to.branch [
       | in-Ok w ↦ subst (λ r. IfOk r takes) (sym w.result-is) (subst (λ r. IfOk r takes) w.in-Ok.is it)
@@ -30,11 +30,11 @@ pub returns-clause-call : goal.returns-clause-call
 returns-clause-call g c =
     let named = c.names_days_and_texts.ensures in
     let does = c.apply_to.ensures in
-    let call = applied_call g.S.Store g.P.Places.represents g.P.Places.version c.self.inside.conn c.apply_to.new.conn c.args.command.now c.apply_to.result
-    (early (state g.S.Store c.self.inside.conn) (state g.S.Store c.apply_to.new.conn) _ does.crash) does.was_open does.kept does.steps
+    let call = applied_call g.S.Store g.P.Places.represents g.P.Versioned.version c.self.inside.closed c.apply_to.new.closed c.args.command.now c.apply_to.result
+    (early (state g.S.Store c.self.inside.closed) (state g.S.Store c.apply_to.new.closed) _ does.crash) does.was_open does.kept does.steps
     (λ s sound. always_sound_office s (c.args.command.now ∷ []) (named.days, tt) (named.texts, tt) sound) does.busy does.bytes in
     search (rules, call)
 
 pub returns-clause-rested : goal.returns-clause-rested
 returns-clause-rested g c =
-    subst (λ h. HasCleanDisk (state g.S.Store h) → IsAtRest g.P.Places.version (state g.S.Store h)) c.self.view_is c.self.invariant.rests
+    subst (λ h. HasCleanDisk (state g.S.Store h) → IsAtRest g.P.Versioned.version (state g.S.Store h)) c.self.view_is c.self.invariant.rests

@@ -10,17 +10,17 @@ use Rattle.catalogue_statements.specs.Representation.{Represents}
 use Rattle.nested_sets.specs.Representation.{RepresentsSpanRows}
 use Rattle.refinement.specs.Representation.{RepresentsState, office_of}
 use Rattle.refinement.proofs.Frames.{desk_kept}
-use Rattle.office.proofs.migration.to_spans.Goals as goal
+use Rattle.office.proofs.migration.convert.Goals as goal
 
 pub returns : goal.returns
 returns g c =
-    let a = state g.S.Store c.args.conn.now in
-    let b = state g.S.Store c.migrate.new.conn in
+    let a = state g.S.Store c.args.conn in
+    let b = state g.S.Store c.migrate.result.0 in
     let touched = tables.office.tree ∷ tables.link.tree ∷ [] in
-    let it = c.migrate.ensures in
+    let it = rw c.inside.ensures at c.migrate.ensures in
     record {
       represents = λ clean s shown.
-          on_ok_both c.migrate.result (OnlyTouches touched a.now b.now) (Represents RepresentsSpanRows Spans b.now (office_of s) s.catalogue) (RepresentsState RepresentsSpanRows Spans b.now s)
+          on_ok_both c.migrate.result.1 (OnlyTouches touched a.now b.now) (Represents RepresentsSpanRows Spans b.now (office_of s) s.catalogue) (RepresentsState RepresentsSpanRows Spans b.now s)
           (λ only catalogue. record { catalogue = catalogue; desk = desk_kept a.now b.now touched only (rows.tables Links s).desk refl shown.desk; texts = shown.texts })
           (it.only clean) (it.represents clean (office_of s, s.catalogue) shown.catalogue);
       only = it.only;

@@ -1,0 +1,101 @@
+//! One statement on the tables of an office.
+
+ghost use Rattle.std.specs.Prelude.{◌≡◌, ◌<◌, ◌^◌, pos, List, [], ◌∷◌, slice_get};
+ghost use Rattle.sqlite.specs.Held.{state};
+ghost use Rattle.sqlite.specs.State.{HasCleanDisk, IsLive};
+ghost use Rattle.sqlite.specs.Values.{bound};
+ghost use Rattle.sqlite.specs.declared.types.Value.TheVariants.{Int};
+ghost use Rattle.office_tables.specs.ChangeStatement.{IsChange, Leaves, RanInside};
+ghost use Rattle.office_tables.specs.Query.{IsQuery, Reads, Finds, FindsFirst, FoundInside, Misses};
+
+use crate::fault::StoreFault;
+use crate::from_row::FromRow;
+use crate::tables::Tables;
+use crate::versions::Versioned;
+use crate::{change_statement, query};
+use sqlite::Alter;
+use sqlite::types::ValueRef;
+use std::alloc::Global;
+
+/// Runs one of our statements that change rows. Outside a transaction it fails with `StoreFault::Schema`.
+pub fn change<P: Versioned, S: Alter>(
+    tables: &mut Tables<P, S>,
+    sql: &str,
+    params: &[ValueRef<'_>],
+) -> Result<(), StoreFault>
+    requires { IsChange P.version sql.now }
+    ensures leaves { Leaves (state S.Store tables.old) (state S.Store tables.new) result }
+    ensures ran { HasCleanDisk (state S.Store tables.new) → RanInside P.version sql.now (bound params.now)
+        (state S.Store tables.old) (state S.Store tables.new) result }
+    ensures live { IsLive (state S.Store tables.old) }
+{
+    // An open connection's rows keep the rules of its tables.
+    let _ = tables.conn.schema();
+    if tables.conn.is_autocommit() {
+        return Err(StoreFault::Schema);
+    }
+    change_statement::change(&mut tables.conn, sql, params)
+}
+
+/// The records that one of our queries returns. Outside a transaction it fails with `StoreFault::Schema`.
+pub fn find<T: FromRow + Drop, P: Versioned, S: Alter>(
+    alloc: Global,
+    tables: &mut Tables<P, S>,
+    sql: &str,
+    params: &[ValueRef<'_>],
+) -> Result<Vec<T>, StoreFault>
+    requires { IsQuery P.version sql.now }
+    ensures reads { Reads (state S.Store tables.old) (state S.Store tables.new) result }
+    ensures ran { HasCleanDisk (state S.Store tables.new) → FoundInside P.version (state S.Store tables.old)
+        (λ found. Finds T.cells sql.now (bound params.now) (state S.Store tables.old)
+        (state S.Store tables.new) found.items)
+        (Misses T.cells T.is_legible sql.now (bound params.now) (state S.Store tables.old)
+        (state S.Store tables.new)) result }
+{
+    if tables.conn.is_autocommit() {
+        return Err(StoreFault::Schema);
+    }
+    query::find(alloc, &mut tables.conn, sql, params)
+}
+
+/// The first of the records that one of our queries returns, or none if it returns none. Outside a transaction it fails
+/// with `StoreFault::Schema`.
+pub fn find_one<T: FromRow + Drop, P: Versioned, S: Alter>(
+    alloc: Global,
+    tables: &mut Tables<P, S>,
+    sql: &str,
+    params: &[ValueRef<'_>],
+) -> Result<Option<T>, StoreFault>
+    requires { IsQuery P.version sql.now }
+    ensures reads { Reads (state S.Store tables.old) (state S.Store tables.new) result }
+    ensures ran { HasCleanDisk (state S.Store tables.new) → FoundInside P.version (state S.Store tables.old)
+        (λ first. (all : List T) × Finds T.cells sql.now (bound params.now) (state S.Store tables.old)
+        (state S.Store tables.new) all × (first ≡ slice_get all 0))
+        (Misses T.cells T.is_legible sql.now (bound params.now) (state S.Store tables.old)
+        (state S.Store tables.new)) result }
+{
+    if tables.conn.is_autocommit() {
+        return Err(StoreFault::Schema);
+    }
+    query::find_one(alloc, &mut tables.conn, sql, params)
+}
+
+/// The number in the first row that one of our queries returns, or 0 if it returns none. Outside a transaction it fails
+/// with `StoreFault::Schema`.
+pub fn find_number<P: Versioned, S: Alter>(
+    tables: &mut Tables<P, S>,
+    sql: &str,
+    params: &[ValueRef<'_>],
+) -> Result<u32, StoreFault>
+    requires { IsQuery P.version sql.now }
+    ensures reads { Reads (state S.Store tables.old) (state S.Store tables.new) result }
+    ensures ran { HasCleanDisk (state S.Store tables.new) → FoundInside P.version (state S.Store tables.old)
+        (FindsFirst sql.now (bound params.now) (state S.Store tables.old) (state S.Store tables.new))
+        (Misses (λ n. Int (pos n) ∷ []) (λ n. n < 2 ^ 32) sql.now (bound params.now) (state S.Store tables.old)
+        (state S.Store tables.new)) result }
+{
+    if tables.conn.is_autocommit() {
+        return Err(StoreFault::Schema);
+    }
+    query::find_number(&mut tables.conn, sql, params)
+}
