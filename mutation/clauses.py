@@ -3,34 +3,37 @@
 
     mutation/clauses.py OLD_TREE NEW_TREE [--names FILE] [--new] [--why]
 
-Public clauses are the ensures and requires of public functions, of the methods of traits and of the impls of traits, the
-ghost members of traits and impls, and the invariants of public types. The names that can be imported from a crate (its
-`pub use`, and the items of its public modules) are compared too. Definitions are all lines of crates/*/specs except imports
-and comments; the fields of a record, the cases of a type and the members of a section (`module _ .. where`) are compared one
-by one. White space, comments and the module within a crate make no difference; the crate, the owner (a trait or a type) and
-the name of the function do.
+Public clauses are the ensures and requires of public functions (in a library: not those of a private module that it
+does not pass on), of the methods of traits and of the impls of traits, the ghost members of traits and impls, and the
+invariants of public types. The names that can be imported from a crate (its `pub use`, and the items of its public
+modules) are compared too. Definitions are all lines of crates/*/specs except imports and comments; the fields of a
+record, the cases of a type and the members of a section (`module _ .. where`) are compared one by one. White space,
+comments and the module within a crate make no difference; the crate, the owner (a trait or a type) and the name of the
+function do. A parameter (`@NAME` in what is printed) may have another name if it has the same place. A name that an
+import gives (`use .. as ..`) is written out.
 
-FILE (without it: mutation/names.txt beside this script) has the names that changed, one a line:
+FILE (without it: mutation/names.txt beside this script) has the names that changed, one a line, or on more lines of
+which all but the first begin with a space:
 
     crate OLD NEW             a crate's new name, or the crate that it went to
     module CRATE OLD NEW      a module of the old crate; NEW has dots where it is nested
     spec CRATE OLD NEW        a file of the old crate's specs
     word OLD NEW [CRATE ..]   an identifier, in all old crates or in these
     file CRATE NAME NEW       a file of the old crate's src or specs that went to the crate NEW by itself
-    above CRATE OLD NEW USER ..   each field of the record OLD must be one of the record NEW, too; a clause of the crates
-                              USER may cite NEW in place of OLD
-    changed CRATE KEY ..: WHY     what says something else since, by its new names, and why; the new tree must still have
-                              something new under each of these keys, and of clauses as many
+    above CRATE OLD NEW USER ..   each field of the record OLD must be one of the record NEW, too; a clause of the
+                              crates USER may cite NEW in place of OLD
+    changed CRATE KEY ..: WHY     what says something else since, by its new names, and why; the new tree must still
+                              have something new under each of these keys, and of clauses as many
     gone CRATE KEY ..: WHY        what the new tree has no more, and why
 
 A key is FUNCTION.LABEL for a clause (TYPE::FUNCTION.LABEL for a method; without a label: FUNCTION.ensures or
-FUNCTION.requires), FUNCTION.fn for a public function itself, NAME.importable for a name that can be imported, TYPE::NAME.ghost
-for a ghost member, NAME for a definition, RECORD.FIELD and TYPE.CASE for a part of one, and FILE.section for the head of a
-section in a file of specs.
+FUNCTION.requires), FUNCTION.fn for a public function itself, NAME.importable for a name that can be imported,
+TYPE::NAME.ghost for a ghost member, NAME for a definition, RECORD.FIELD and TYPE.CASE for a part of one, and
+FILE.section for the head of a section in a file of specs.
 
-The script prints what is lost without a reason, how much is lost with one, and how many clauses and definitions are new (with
---new: which; with --why: what is lost with a reason, and the reason). It ends with 1 if something is lost without a reason,
-or if a reason explains nothing.
+The script prints what is lost without a reason, how much is lost with one, and how many clauses and definitions are new
+(with --new: which; with --why: what is lost with a reason, and the reason). It ends with 1 if something is lost without
+a reason, or if a reason explains nothing.
 """
 import argparse
 import collections
@@ -39,7 +42,10 @@ import re
 import sys
 
 HERE = os.path.dirname(os.path.abspath(__file__))
-TOKEN = re.compile(r"""//[^\n]*|/\*.*?\*/|"(?:[^"\\]|\\.)*"|b?'(?:[^'\\\n]|\\[^\n]+?)'|'\w+|[A-Za-z_]\w*|\d\w*|\s+|.""", re.S)
+TOKEN = re.compile(
+    r"""//[^\n]*|/\*.*?\*/|"(?:[^"\\]|\\.)*"|b?'(?:[^'\\\n]|\\[^\n]+?)'|'\w+|[A-Za-z_]\w*|\d\w*|\s+|.""", re.S
+)
+IMPORT = re.compile(r"\buse ([\w.«»]+?)(?:\.\{([^}]*)\}| as (\w+))")
 GHOST = re.compile(r"\bRattle\.(\w+)\.specs\.([\w.]+)")
 WORD = re.compile(r"(?<![\w'])(?<!specs\.)(?<!proofs\.)([A-Za-z_]\w*)(?![\w'])")
 CLOSE = {"(": ")", "[": "]", "{": "}"}
@@ -51,7 +57,8 @@ class Names:
     def __init__(self, file=None):
         self.crates, self.modules, self.specs, self.words, self.files = {}, {}, {}, {}, {}
         self.reasons, self.above = {}, []
-        for line in open(file, encoding="utf-8") if file else []:
+        text = open(file, encoding="utf-8").read() if file else ""
+        for line in re.sub(r"\n[ \t]+", " ", text).split("\n"):
             kind, *rest = line.split("#")[0].split() or [""]
             if kind in ("changed", "gone"):
                 what, _, why = line.partition(": ")
@@ -73,23 +80,27 @@ class Names:
     def crate(self, old, file=""):
         return self.files.get((old, file)) or self.crates.get(old, old)
 
-    def path(self, found):
+    def path(self, found, word):
         old, first, *rest = found[1], *found[2].split(".")
         if first == "declared" and rest:
             rest[0] = self.modules.get((old, rest[0]), rest[0])
-            return ".".join(["Rattle", self.crate(old), "specs", first, *rest])
-        return ".".join(["Rattle", self.crate(old, first), "specs", self.specs.get((old, first), first), *rest])
+            return ".".join(["Rattle", self.crate(old), "specs", first, rest[0], *map(word, rest[1:])])
+        first_now = self.specs.get((old, first), first)
+        return ".".join(["Rattle", self.crate(old, first), "specs", first_now, *map(word, rest)])
 
     def text(self, text, crate):
         """The text as the new tree would have it."""
-        def word(found):
-            return self.words.get((crate, found[1])) or self.words.get(("", found[1])) or found[1]
+        def word(old):
+            return self.words.get((crate, old)) or self.words.get(("", old)) or old
+
+        def of_match(found):
+            return word(found[1])
 
         parts, at = [], 0
         for found in GHOST.finditer(text):
-            parts += [WORD.sub(word, text[at : found.start()]), self.path(found)]
+            parts += [WORD.sub(of_match, text[at : found.start()]), self.path(found, word)]
             at = found.end()
-        return "".join([*parts, WORD.sub(word, text[at:])])
+        return "".join([*parts, WORD.sub(of_match, text[at:])])
 
 
 def tokens(text):
@@ -118,11 +129,67 @@ def said(items):
     return " ".join("".join(items).split())
 
 
+def imports(uses):
+    """What the names that imports give stand for: the path of a module or a type; of what stands in one, its own name,
+    or the path if that name means something else here."""
+    paths, members, own = {}, {}, set()
+    for path, braces, name in IMPORT.findall(uses):
+        for it in braces.split(","):
+            what, _, new = it.strip().partition(" as ")
+            members.update({new: (path, what)} if new else {})
+            own.add(new or what)
+        paths.update({name: path} if name else {})
+    return paths, {new: f"{path}.{what}" if what in own else what for new, (path, what) in members.items()}
+
+
+def written_out(text, given):
+    """The text without the names that imports give."""
+    paths, members = given
+
+    def meant(found):
+        path = paths.get(found[1]) if found[2] else None
+        return (path or members.get(found[1]) or found[1]) + found[2]
+
+    return re.sub(r"(?<![\w.'@«])([A-Za-z_]\w*)(?![\w'»])((?:\.(?=\S))?)", meant, text)
+
+
+def after_angles(items, at):
+    """The index of the next token that is not between angle brackets and is no white space."""
+    deep = 0
+    while at < len(items) and (deep or items[at] == "<" or items[at].isspace()):
+        deep += (items[at] == "<") - (items[at] == ">" and items[at - 1] not in ("-", "="))
+        at += 1
+    return at
+
+
+def parameters(items):
+    """The names of the parameters between these brackets: what stands before the first colon of each."""
+    names, begin, at = [], 1, after_angles(items, 1)
+    while at < len(items):
+        if items[at] == "," or at == len(items) - 1:
+            names += said(items[begin:at]).split(":")[0].split()[-1:]
+            begin = at + 1
+        at = after_angles(items, block_end(items, at) if items[at] in CLOSE else at + 1)
+    return [it if it.isidentifier() and it != "self" else "" for it in names]
+
+
+def marked(clause, names):
+    """The clause with `@NAME` for each parameter; what stands before `=` is the field of a record."""
+    head, brace, text = clause.partition("{")
+    for name in filter(None, names):
+        text = re.sub(rf"(?<![\w.'@«]){name}(?![\w'»]| = )", f"@{name}", text)
+    return head + brace + text
+
+
 class Source:
     """A file of Rust: walks its items and notes what is public."""
 
-    def __init__(self, text, note):
-        self.items, self.note = tokens(text), note
+    def __init__(self, text, open_to_all=False):
+        self.items, self.uses, self.noted = tokens(text), "", []
+        self.walk(open_to_all=open_to_all)
+
+    def note(self, owner, name, text, names=()):
+        self.noted.append((owner, name, written_out(marked(text, names), imports(self.uses)), names))
 
     def walk(self, at=0, end=None, owner="", open_to_all=False):
         """owner: the impl, trait or type around; open_to_all: whether each function in it is public, as in a trait."""
@@ -158,12 +225,14 @@ class Source:
         if "cfg(test)" in "".join(head).replace(" ", ""):
             return after
         public = is_public(head)
+        uses = self.uses
         if kind == "mod":
             self.walk(stop + 1, after - 1, owner)
         elif kind == "impl":
             self.walk(stop + 1, after - 1, name, " for " in f" {name} ")
         elif kind == "trait" or public:
             self.walk(stop + 1, after - 1, re.split(r"[<:\s]", name)[0], kind == "trait" and public)
+        self.uses = uses
         return after
 
     def ghost(self, at, owner):
@@ -171,7 +240,9 @@ class Source:
         while self.items[stop : stop + 1] not in ([";"], [","], []):
             stop = block_end(self.items, stop) if self.items[stop] in CLOSE else stop + 1
         text = said(self.items[at:stop])
-        if owner and not text.startswith("ghost use"):
+        if text.startswith("ghost use"):
+            self.uses += f"{text};"
+        elif owner:
             self.note(owner, text.split()[1].rstrip(":"), text)
         return stop + 1
 
@@ -180,8 +251,10 @@ class Source:
         public = open_to_all or is_public(self.items[begin:at])
         at = bare(self.items, at + 1)
         name = self.items[at]
+        at = after_angles(self.items, at + 1)
+        names = parameters(self.items[at : block_end(self.items, at)])
         if public:
-            self.note(owner, name, "fn")
+            self.note(owner, name, "fn", names)
         while self.items[at] not in ("{", ";"):
             if self.items[at] in ("ensures", "requires"):
                 stop = at
@@ -189,7 +262,7 @@ class Source:
                     stop += 1
                 stop = block_end(self.items, stop)
                 if public:
-                    self.note(owner, name, said(self.items[at:stop]))
+                    self.note(owner, name, said(self.items[at:stop]), names)
                 at = stop
             else:
                 at = block_end(self.items, at) if self.items[at] in ("(", "[") else at + 1
@@ -224,7 +297,7 @@ def whole(line, inner):
 
 
 def definitions(text):
-    """The definitions of a file of specs, and the parts of records, types and sections: each with its key and its text."""
+    """The definitions of a file of specs, and the parts of records, types and sections: each with its key and text."""
     return list(parts(nested(text)))
 
 
@@ -278,30 +351,47 @@ def texts(folder, ending):
             yield os.path.splitext(path.split("/")[0])[0], open(f"{inside}/{file}", encoding="utf-8").read()
 
 
-def promises(tree, names):
-    """What the tree promises, counted: by crate, owner, name and text."""
-    found = collections.Counter()
+def with_new_names(clause, mine, others):
+    """The clause with the parameters of the function that has its name in the other tree: those that are in both, if
+    they are in one order there; for each other one, the one at its place."""
+    new = {}
+    for theirs in [it for it in others if it == mine] or others:
+        kept = [it for it in mine if it in theirs]
+        kept = kept if kept == [it for it in theirs if it in mine] else []
+        new.update({old: now for old, now in zip(mine, theirs) if old not in kept and now not in kept})
+    return re.sub(r"@(\w+)", lambda found: f"@{new.get(found[1], found[1])}", clause)
+
+
+def promises(tree, names, after):
+    """What the tree promises, counted: by crate, owner, name and text; and the parameters of its functions. Given are
+    those of the functions in the tree after it."""
+    found, functions = collections.Counter(), collections.defaultdict(list)
     for crate in sorted(os.listdir(f"{tree}/crates")):
         files = list(texts(f"{tree}/crates/{crate}/src", ".rt"))
         root = "".join(text for file, text in files if file in ("lib", "main"))
+        is_program = all(file != "lib" for file, _ in files)
         for file, text in files:
-            def note(owner, name, clause, crate=crate, file=file):
-                said_now = [names.text(it, crate) for it in (owner, name, clause)]
-                found[names.crate(crate, file), *said_now] += 1
-
-            Source(text, note).walk()
-            for name in importable(text, re.search(rf"^pub mod {file};", root, re.M)):
-                found[names.crate(crate, file), "importable", names.text(name, crate), ""] = 1
+            at, is_open = names.crate(crate, file), re.search(rf"^pub mod {file};", root, re.M)
+            passed_on = " ".join(re.findall(rf"^pub use {file}::([^;]+);", root, re.M))
+            for owner, name, clause, mine in Source(text).noted:
+                if owner or is_open or is_program or file == "lib" or re.search(rf"\b{name}\b", passed_on):
+                    owner, name, clause, *mine = (names.text(it, crate) for it in (owner, name, clause, *mine))
+                    clause = with_new_names(clause, mine, after.get((at, owner, name), []))
+                    found[at, owner, name, clause] += 1
+                    functions[at, owner, name] += [mine] if clause == "fn" else []
+            for name in importable(text, is_open):
+                found[at, "importable", names.text(name, crate), ""] = 1
         for file, text in texts(f"{tree}/crates/{crate}/specs", ".antt"):
             at, spec = names.crate(crate, file), names.specs.get((crate, file), file)
+            given = imports("\n".join(re.findall(r"^(?:pub )?use .*", text, re.M)))
             for key, line in definitions(text):
                 key = f"{spec}.section" if key == "section" else names.text(key, crate)
-                found[at, "specs", key, names.text(line, crate)] += 1
+                found[at, "specs", key, names.text(written_out(line, given), crate)] += 1
     for crate, lower, upper, _ in names.above:
         for (at, owner, key, line), count in list(found.items()):
             if at == crate and owner == "specs" and key.startswith(f"{lower}."):
                 found[at, owner, upper + key.removeprefix(lower), line] += count
-    return found
+    return found, functions
 
 
 def key_of(owner, name, text):
@@ -325,7 +415,7 @@ def keyed(counted):
 
 
 def stays(lines, there, is_clause):
-    """Whether something of the kind of these lines still stands. What is required and what is ensured may have one label."""
+    """Whether something of the kind of these lines still stands. What is required and ensured may have one label."""
     if not is_clause:
         return bool(there)
     return any(text.partition(" ")[0] == other.partition(" ")[0] for _, _, text in lines for _, _, other in there)
@@ -354,7 +444,8 @@ def main():
     words.add_argument("--why", action="store_true", help="print what is lost with a reason, too")
     given = words.parse_args()
     names = Names(given.names)
-    old, new = promises(given.old, names), promises(given.new, Names())
+    new, functions = promises(given.new, Names(), {})
+    old, _ = promises(given.old, names, functions)
     lost, more = old - new, new - old
     cited = cited_above(lost, more, names.above)
     lost, more, there = +lost, +more, keyed(new)

@@ -45,13 +45,11 @@ class Tree:
                 self.names |= set(re.findall(r"\w+", text))
 
     def read_code(self, module, text):
-        def note(owner, name, clause):
+        for owner, name, clause, _ in Source(text, open_to_all=True).noted:
             holder = re.sub(r"<[^<>]*>", "", owner).split()
             path = "::".join([module, *holder[-1:], name])
             label = re.match(r"(?:ensures|requires) (\w+)", clause)
             self.clauses[path] |= {label[1]} if label else set()
-
-        Source(text, note).walk(open_to_all=True)
         self.modules |= {module, module.split("::")[0]}
         self.names |= set(re.findall(r"\w+", text))
 

@@ -28,8 +28,6 @@ import unused_read as reader
 EXPLAINED = {
     ('crates/catalogue_core/proofs/DistinctLists.antt', 'all_so'):
         'atom_csv has it for itself: no crate below it has lemmas on lists',
-    ('crates/store_tests/proofs/Going.antt', 'went_on'):
-        'hierarchy_tests has it, too: the two crates of tests stand beside each other',
     # Short lemmas that a lower crate has for its own proofs. To be shared, they would have to become public there.
     ('crates/refinement/proofs/BranchesApart.antt', 'housed_more'): 'of catalogue_core, by recursion on the units above',
     ('crates/refinement/proofs/HoldingRows.antt', 'greater'): 'of office_tables, on numbers in cells',
