@@ -1,27 +1,34 @@
 -- An office over tables of any origin, against which there is no cause.
-use Rattle.std.proofs.Common.{◌≡◌, ◌≤◌, ◌∙◌, ℕ, List, Err, None, IsTrue, inl, inr, arith, refl, sym, subst}
+use Rattle.std.proofs.Common.{◌≡◌, ◌≤◌, ◌∙◌, ℕ, List, Ok, Err, None, IsTrue, inl, inr, arith, refl, sym, subst}
 use Rattle.std.proofs.lemmas.Bool.{both_ways, cases_Bool}
+use Rattle.sqlite_trees.specs.declared.store.Store as trees
 use Rattle.sqlite.specs.Effect.{Database}
+use Rattle.sqlite.specs.Held.{Held, state}
 use Rattle.sqlite.specs.State as store
 use Rattle.sqlite.specs.Order.{Row}
 use Rattle.sqlite.specs.State.{Executes, ExecutesIn, HasCleanDisk, IsLive, IsNotRun, Shows, Survives}
 use Rattle.sqlite.specs.declared.error.Error.{Error}
 use Rattle.sqlite.specs.Tree.{Trees}
+use Rattle.sqlite.proofs.StateLemmas.{survives_then}
 use Rattle.tree_core.specs.Forest.{Forest}
 use Rattle.tree_core.specs.Versions.{Version}
+use Rattle.row_completeness.specs.WholePlaces.{RepresentsWhatItDescribes}
 use Rattle.adoption.specs.Verdicts.{IsVerdict}
 use Rattle.adoption.specs.declared.verdict.Verdict.{Verdict}
 use Rattle.adoption.specs.declared.verdict.Verdict.TheVariants as verdict
 use Rattle.office_core.specs.SoundOffice.{IsSoundOffice}
-use Rattle.adoption.specs.SoundTables.{AreSoundTables}
-use Rattle.adoption.specs.Tables.{SoundTablesRepresentTheirState}
+use Rattle.adoption.specs.Tables.{RepresentsItsState, SoundTablesRepresentTheirState}
 use Rattle.adoption.specs.OrderedTables.{StandInOrder}
+use Rattle.adoption.proofs.catalogue.Shown.{catalogue_shown}
+use Rattle.adoption.proofs.tables.ShownTables.{sound_are_good, sound_state}
 use Rattle.office_tables.specs.Faults.{BlamesDisk, HasOuterCause}
 use Rattle.office_tables.specs.Transactions.{IsStopped}
 use Rattle.office_tables.specs.declared.fault.StoreFault.{StoreFault}
 use Rattle.office_tables.specs.declared.fault.StoreFault.TheVariants as cause
+use Rattle.office_tables.proofs.Calls.{early}
 use Rattle.office.specs.Adoption.{HasAdoptCause, IsAdopted, refusal_of, state_in}
 use Rattle.office.specs.IdleOffice.{IsAsBefore, IsIn}
+use Rattle.office.specs.Inspection.{ConfirmsOpen, Inspects}
 use Rattle.office.specs.NewOffice.{open_fault_of}
 use Rattle.refinement.specs.Representation.{RepresentsState}
 
@@ -34,30 +41,33 @@ none_refused verdict.NewVersion none = absurd cc
 none_refused verdict.OtherTables none = absurd cc
 none_refused (verdict.Unsound n) none = absurd cc
 
-module _ (version : Version) (old new : store.State) (told : Verdict) (none : refusal_of told ≡ None) (is : IsVerdict version old.now told) (back : IsAsBefore old new) where
-  are_sound : IsVerdict version old.now verdict.Sound
-  are_sound = subst (IsVerdict version old.now) (none_refused told none) is
+-- tables without a cause represent the state that their rows describe
+pub sound_shown : (places : Trees → Forest ℕ → Type 0) (version : Version) → ((db : Trees) → RepresentsWhatItDescribes places version db) → (db : Database) → SoundTablesRepresentTheirState places version db
+sound_shown places version shows db sound = sound_state places version db sound (catalogue_shown version db (sound_are_good version db sound) places shows)
 
-  pub adopted : IsAdopted version old new
-  adopted = record { sound = are_sound; same = back.now }
+-- they were looked over, and no fault is told of them
+module _ {S : Type 0} {g : trees.Ghosts S} {before after : Held S} {version : Version} {told : Verdict} (looked : Inspects g before after version (Ok told)) (none : refusal_of told ≡ None) where
+  are_sound : HasCleanDisk (state g after) → IsVerdict version (state g before).now verdict.Sound
+  are_sound clean = subst (IsVerdict version (state g before).now) (none_refused told none) (looked.tells clean)
 
-  sound_tables : IsLive old → IsTrue new.is_open → StandInOrder old.now → AreSoundTables version old.now
-  sound_tables live opened ordered = record {
-    schema_is = are_sound.0.schema_is;
-    live = (live (back.was_open opened)).0;
-    ordered = ordered;
-    causeless = are_sound.1 ordered;
-  }
+  pub adopted : HasCleanDisk (state g after) → IsAdopted version (state g before) (state g after)
+  adopted clean = record { sound = are_sound clean; same = (looked.back clean).now }
 
-  module _ (places : Trees → Forest ℕ → Type 0) (law : (db : Database) → SoundTablesRepresentTheirState places version db) (live : IsLive old) where
-    pub adopted_sound : IsTrue new.is_open → StandInOrder old.now → IsSoundOffice (state_in version old.now.trees)
-    adopted_sound opened ordered = (law old.now (sound_tables live opened ordered)).sound
+  module _ (places : Trees → Forest ℕ → Type 0) (shows : (db : Trees) → RepresentsWhatItDescribes places version db) (live : IsLive (state g before)) (clean : HasCleanDisk (state g after)) where
+    its_state : IsTrue (state g after).is_open → StandInOrder (state g before).now → RepresentsItsState places version (state g before).now
+    its_state opened ordered =
+        sound_shown places version shows (state g before).now
+        (record { schema_is = (are_sound clean).0.schema_is; live = (live ((looked.back clean).was_open opened)).0; ordered = ordered; causeless = (are_sound clean).1 ordered })
 
-    pub adopted_shown : StandInOrder old.now → IsIn places version (state_in version old.now.trees) new
+    pub adopted_sound : IsTrue (state g after).is_open → StandInOrder (state g before).now → IsSoundOffice (state_in version (state g before).now.trees)
+    adopted_sound opened ordered = (its_state opened ordered).sound
+
+    pub adopted_shown : StandInOrder (state g before).now → IsIn places version (state_in version (state g before).now.trees) (state g after)
     adopted_shown ordered opened =
-        subst (λ (db : Database). RepresentsState places version db (state_in version old.now.trees)) (sym (back.now opened)) (law old.now (sound_tables live opened ordered)).represents
+        subst (λ (db : Database). RepresentsState places version db (state_in version (state g before).now.trees)) (sym ((looked.back clean).now opened)) (its_state opened ordered).represents
 
--- a fault of the store: the disk is blamed for its own failures only, and the tables are not to blame if they are ordered
+-- a fault of the store: the disk is blamed for its own failures only, and the tables are not blamed if they are in
+-- order
 pub store_cause : (version : Version) (old new : store.State) (f : StoreFault) → BlamesDisk old new f → (StandInOrder old.now → HasOuterCause old new f) → HasAdoptCause version old new (open_fault_of f)
 store_cause version old new cause.Memory blames why = tt
 store_cause version old new cause.Disk blames why = blames
@@ -114,3 +124,38 @@ caused_later a b d crash counts clean cause.Disk (inr shut) = elim (cases_Bool a
   | inr none ↦ inr none
 ]
 caused_later a b d crash counts clean cause.Schema why = why
+
+apart : (a b d : store.State) → Survives a b (λ _. ⊥) → Survives b d (λ _. ⊥) → Survives a d (λ _. ⊥)
+apart a b d first second = survives_then a b d (λ _. ⊥) (λ _. ⊥) (λ _. ⊥) (λ _ db none. none) (λ _ db none. none) first second
+
+module _ {S X : Type 0} {g : trees.Ghosts S} {before mid after : Held S} {version : Version} {told : Verdict} (judged : Inspects g before mid version (Ok told)) where
+  -- it is open
+  pub found_open : {x : X} → ConfirmsOpen g mid after (Ok x) → Inspects g before after version (Ok told)
+  found_open found =
+      let a = state g before in
+      let b = state g mid in
+      let d = state g after in
+      record {
+        tells = λ clean. judged.tells (early b d _ found.crash clean);
+        back = λ clean. still_before a b d (judged.back (early b d _ found.crash clean)) (found.still_open clean);
+        disk = λ clean. tt;
+        faults = λ clean ordered. tt;
+        crash = apart a b d judged.crash found.crash;
+      }
+
+  -- it is shut, or there is no memory to see that
+  pub found_shut : {e : StoreFault} → (HasCleanDisk (state g mid) → IsTrue (state g mid).is_open → (state g mid).now ≡ (state g mid).committed) → ConfirmsOpen g mid after {X = X} (Err e) → Inspects g before after version (Err e)
+  found_shut {e} settled found =
+      let a = state g before in
+      let b = state g mid in
+      let d = state g after in
+      let why = λ (clean : HasCleanDisk d).
+      let at_b = early b d _ found.crash clean in
+      caused_later a b d judged.crash found.crash.counts at_b e (found.faults clean (judged.back at_b).ended) in
+      record {
+        tells = λ clean. tt;
+        back = λ clean. let at_b = early b d _ found.crash clean in stopped_before a b d (judged.back at_b) (settled at_b) (found.stopped clean);
+        disk = λ clean. outer_blames a d e (why clean);
+        faults = λ clean ordered. why clean;
+        crash = apart a b d judged.crash found.crash;
+      }

@@ -1,27 +1,37 @@
 -- A command's transaction, from its begin to its end.
-use Rattle.std.proofs.Common.{◌≡◌, ℕ, true, Option, Some, None, Result, Ok, Err, OnOk, OnErr, refl, sym, ap, subst, ◌∙◌}
-use Rattle.std.specs.Prelude.{IfOk, IsOk, IsErr}
+use Rattle.std.proofs.Common.{rules, ◌≡◌, ℕ, true, IsTrue, Option, Some, None, Result, Ok, Err, OnOk, refl, sym, ap, subst, ◌∙◌}
+use Rattle.std.specs.Prelude.{IfErr, IfOk, IsOk, IsErr}
+use Rattle.std.proofs.lemmas.Result.{IfOk-weaker}
+use Rattle.sqlite_trees.specs.declared.store.Store as trees
 use Rattle.sqlite.specs.Effect.{Database}
+use Rattle.sqlite.specs.Held.{Held, state}
 use Rattle.sqlite.specs.State.{State, HasCleanDisk, Survives, Shows}
 use Rattle.sqlite.specs.Tree.{Trees}
 use Rattle.sqlite.proofs.StateLemmas.{survives_then}
 use Rattle.tree_core.specs.Forest.{Forest}
 use Rattle.tree_core.specs.Versions.{Version}
 use Rattle.desk_core.specs.declared.refusal.Refusal.{Refusal}
-use Rattle.office_core.specs.Rules.{Reply, step, refusal, decided, after, told}
+use Rattle.office_core.specs.Json.{reply_text}
+use Rattle.office_core.specs.Rules as machine
+use Rattle.office_core.specs.Rules.{step, refusal, decided, after, told}
 use Rattle.office_core.specs.SoundOffice.{IsSoundOffice}
 use Rattle.office_core.specs.State as office
 use Rattle.office_core.specs.declared.command.Command.{Command}
-use Rattle.office_tables.specs.Schema.{schema}
-use Rattle.office_tables.specs.Step.{GoesOn, Goes, IsAborted}
+use Rattle.office_core.specs.declared.machine.Reply.{Reply}
+use Rattle.office_tables.specs.Step.{GoesOn, Goes}
 use Rattle.office_tables.specs.Transactions.{Committed, IsEnded}
+use Rattle.office_tables.specs.declared.fault.StoreFault.{StoreFault}
+use Rattle.office_tables.specs.declared.fault.StoreFault.TheVariants as fault
 use Rattle.office_tables.proofs.Calls.{early}
 use Rattle.refinement.specs.CommandSteps.{CarriesOutStep}
 use Rattle.refinement.specs.Representation.{RepresentsState}
 use Rattle.refinement.proofs.Crashes.{went}
 use Rattle.refinement.proofs.Doings.{refused}
+use Rattle.office.specs.CallTransactions.{Applies, Replies}
 use Rattle.office.specs.OfficeCall.{MayFind, TakesStep}
 use Rattle.office.specs.IdleOffice.{IsAsBefore, IsAtRest, IsIn, IsOffice}
+use Rattle.office.specs.Transactions.{Settles}
+use Rattle.office.proofs.States.{found_committed, shown_begun}
 
 -- a step that is refused changes nothing
 pub refused_same : (s : office.State) (asked : Command) → IsErr (step s asked).1 → (step s asked).0 ≡ s
@@ -32,14 +42,34 @@ refused_same s asked h = at (refusal s asked) h
     at None h = absurd (cc)
 
 -- a command that is refused is its step, where nothing is done for it
-pub refused_at_once : (places : Trees → Forest ℕ → Type 0) (version : Version) (a : State) (s : office.State) (asked : Command) (why : Refusal) → refusal s asked ≡ Some why → IsIn places version s a
+refused_at_once : (places : Trees → Forest ℕ → Type 0) (version : Version) (a : State) (s : office.State) (asked : Command) (why : Refusal) → refusal s asked ≡ Some why → IsIn places version s a
     → TakesStep places version s asked (Err why) a
 refused_at_once places version a s asked why is here =
     let one : step s asked ≡ (s, Err why) = refused s asked why is in
-    (sym (ap (λ (p : office.State × Reply). p.1) one), λ opened. subst (RepresentsState places version a.now) (sym (ap (λ (p : office.State × Reply). p.0) one)) (here opened))
+    (sym (ap (λ (p : office.State × machine.Reply). p.1) one), λ opened. subst (RepresentsState places version a.now) (sym (ap (λ (p : office.State × machine.Reply). p.0) one)) (here opened))
+
+-- and the whole call then is that step
+module _ {S : Type 0} (g : trees.Ghosts S) (before : Held S) {places : Trees → Forest ℕ → Type 0} {version : Version} {asked : Command} {why : Refusal} {r : Result Reply StoreFault} where
+  pub refused_whole : IsOffice version (state g before) → ((s : office.State) → refusal s asked ≡ Some why) → IfOk r (λ reply. reply.done ≡ Err why) → IfOk r (λ reply. reply.json ≡ reply_text (Err why)) → IfErr r (λ e. e ≡ fault.Memory)
+      → Applies places version g before before asked r
+  refused_whole rest is same bytes full =
+      let a = state g before in
+      record {
+        office = rest;
+        steps = λ clean s sound here.
+            IfOk-weaker r _ (λ (reply : Reply). TakesStep places version s asked reply.done a)
+            (λ reply same. subst (λ (done : machine.Reply). TakesStep places version s asked done a) (sym same) (refused_at_once places version a s asked why (is s) here)) same;
+        was_open = search rules;
+        kept = search rules;
+        bytes = search rules;
+        refused = search rules;
+        busy = search rules;
+        faults = search rules;
+        crash = search rules;
+      }
 
 -- what was done was taken back: all is as it was before the transaction
-pub taken_back : (version : Version) (a b m z : State) → IsAtRest version a → Shows a b a.now a.committed true → GoesOn b m → IsEnded m z → IsAsBefore a z
+taken_back : (version : Version) (a b m z : State) → IsAtRest version a → Shows a b a.now a.committed true → GoesOn b m → IsEnded m z → IsAsBefore a z
 taken_back version a b m z rest begun on ended =
     let back = ended.back (on.mode ∙ begun.mode) in
     record {
@@ -49,9 +79,9 @@ taken_back version a b m z rest begun on ended =
       ended = back.ended;
     }
 
+-- a step that was committed, or taken back where it is a refusal
 module _ (places : Trees → Forest ℕ → Type 0) (version : Version) (a b m z : State) (s : office.State) (asked : Command) where
-  -- a step that was committed, or taken back where it is a refusal
-  pub stepped : IsAtRest version a → Shows a b a.now a.committed true → IsIn places version s a → GoesOn b m → (reply : Reply) → CarriesOutStep places version s asked reply m.now
+  stepped : IsAtRest version a → Shows a b a.now a.committed true → IsIn places version s a → GoesOn b m → (reply : machine.Reply) → CarriesOutStep places version s asked reply m.now
       → (IsOk reply → Committed m z) → (IsErr reply → IsEnded m z) → TakesStep places version s asked reply z
   stepped rest begun is on (Ok done) does committed ended =
       (does.told, λ h. subst (λ (db : Database). RepresentsState places version db (step s asked).0) (sym (committed refl).now) (does.represents refl))
@@ -60,41 +90,67 @@ module _ (places : Trees → Forest ℕ → Type 0) (version : Version) (a b m z
       let same = refused_same s asked (subst IsErr does.told refl) in
       (does.told, λ h. subst (λ (db : Database). RepresentsState places version db (step s asked).0) (sym (back.now h)) (subst (RepresentsState places version a.now) (sym same) (is begun.was_open)))
 
-  -- what a crash may find is the state of the step
-  pub found : (reply : Reply) → IsOk reply → CarriesOutStep places version s asked reply m.now → (db : Trees) → db ≡ m.now.trees → RepresentsState places version (record { schema = schema version; trees = db }) (step s asked).0
-  found reply ok does db same =
-      let represents = does.represents ok in
-      subst (λ (t : Trees). RepresentsState places version (record { schema = schema version; trees = t }) (step s asked).0) (sym same)
-      (subst (λ sc. RepresentsState places version (record { schema = sc; trees = m.now.trees }) (step s asked).0) represents.catalogue.catalogue.schema_is represents)
+-- ---- the whole of it: the transaction begins, the command is carried out and replied to, and the transaction ends
 
--- ---- the same of what the calls answered
+module _ {S : Type 0} (g : trees.Ghosts S) (before begun done after : Held S) where
+  abbrev a : State
+  a = state g before
 
--- `done` is the reply of an answer
-module _ {R E : Type 0} (done : R → Reply) (places : Trees → Forest ℕ → Type 0) (version : Version) (a b m z : State) (outcome r : Result R E) where
-  pub goes_on : OnOk outcome (Goes b m) → HasCleanDisk m → (x : R) → outcome ≡ Ok x → GoesOn b m
-  goes_on goes clean x is = (subst (λ o. OnOk o (Goes b m)) is goes).on.within clean
+  abbrev b : State
+  b = state g begun
 
-  pub steps_on : (s : office.State) (asked : Command) → IsAtRest version a → Shows a b a.now a.committed true → IsIn places version s a → OnOk outcome (Goes b m) → HasCleanDisk m
-      → IfOk outcome (λ x. CarriesOutStep places version s asked (done x) m.now) → IfOk r (λ x. outcome ≡ Ok x) → IfOk r (λ x. IsOk (done x) → Committed m z) → IfOk r (λ x. IsErr (done x) → IsEnded m z)
-      → IfOk r (λ x. TakesStep places version s asked (done x) z)
-  steps_on s asked rest begun is goes clean does same committed ended = at r same committed ended
-    where
-      at : (r : Result R E) → IfOk r (λ x. outcome ≡ Ok x) → IfOk r (λ x. IsOk (done x) → Committed m z) → IfOk r (λ x. IsErr (done x) → IsEnded m z) → IfOk r (λ x. TakesStep places version s asked (done x) z)
-      at (Ok x) same committed ended =
-          stepped places version a b m z s asked rest begun is (goes_on goes clean x same) (done x)
-          (subst (λ o. IfOk o (λ x. CarriesOutStep places version s asked (done x) m.now)) same does) committed ended
-      at (Err e) same committed ended = tt
+  abbrev m : State
+  m = state g done
 
-  pub finds : (asked : Command) → IsOffice version a → Survives a b (λ _. ⊥) → (HasCleanDisk b → Shows a b a.now a.committed true) → OnOk outcome (Goes b m) → OnErr outcome (IsAborted b m)
-      → (HasCleanDisk m → (s : office.State) → IsSoundOffice s → RepresentsState places version b.now s → IfOk outcome (λ x. CarriesOutStep places version s asked (done x) m.now))
-      → Survives m z (λ db. (x : R) × (outcome ≡ Ok x) × IsOk (done x) × (db ≡ m.now.trees)) → Survives a z (MayFind places version asked a)
-  finds asked rest first begun goes cut does last =
-      let second = went outcome b m goes cut in
-      let before = survives_then a b m (λ _. ⊥) (λ _. ⊥) (λ _. ⊥) (λ _ db none. none) (λ _ db none. none) first second in
-      survives_then a m z (λ _. ⊥) _ (MayFind places version asked a) (λ _ db none. absurd none) (λ clean db it s sound is.
-      let at_m = early m z _ last clean in
-      let begun = begun (early b m _ second at_m) in
-      let shown = subst (λ (db : Database). RepresentsState places version db s) (sym begun.now_is) (is begun.was_open) in
-      let did = subst (λ o. IfOk o (λ x. CarriesOutStep places version s asked (done x) m.now)) it.1 (does at_m s sound shown) in
-      found places version a b m z s asked (done it.0) it.2 did db it.3)
-      before last
+  abbrev z : State
+  z = state g after
+
+  module _ {places : Trees → Forest ℕ → Type 0} {version : Version} {asked : Command} {outcome r : Result Reply StoreFault} (rest : IsOffice version a) (first : Survives a b (λ _. ⊥)) (begins : HasCleanDisk b → Shows a b a.now a.committed true)
+      (does : Replies places version g begun done asked outcome) (last : Settles g done after outcome r) where
+    second : Survives b m (λ _. ⊥)
+    second = went outcome b m does.goes does.cut
+
+    clean_m : HasCleanDisk z → HasCleanDisk m
+    clean_m clean = early m z _ last.crash clean
+
+    clean_b : HasCleanDisk z → HasCleanDisk b
+    clean_b clean = early b m _ second (clean_m clean)
+
+    was_open : HasCleanDisk z → IsTrue z.is_open → IsTrue a.is_open
+    was_open clean opened = (begins (clean_b clean)).was_open
+
+    -- what a reply tells of the step
+    carried : (x : Reply) → outcome ≡ Ok x → HasCleanDisk z → (s : office.State) → IsSoundOffice s → IsIn places version s a → CarriesOutStep places version s asked x.done m.now
+    carried x same clean s sound is =
+        subst (λ o. IfOk o (λ reply. CarriesOutStep places version s asked reply.done m.now)) same (does.steps (clean_m clean) s sound (shown_begun places version s a b (begins (clean_b clean)) is))
+
+    went_on : (x : Reply) → outcome ≡ Ok x → HasCleanDisk z → GoesOn b m
+    went_on x same clean = (subst (λ o. OnOk o (Goes b m)) same does.goes).on.within (clean_m clean)
+
+    takes : HasCleanDisk z → (s : office.State) → IsSoundOffice s → IsIn places version s a → IfOk r (λ reply. TakesStep places version s asked reply.done z)
+    takes clean s sound is = at r last.same (last.committed clean) (last.refused clean)
+      where
+        at : (r : Result Reply StoreFault) → IfOk r (λ x. outcome ≡ Ok x) → IfOk r (λ x. IsOk x.done → Committed m z) → IfOk r (λ x. IsErr x.done → IsEnded m z) → IfOk r (λ x. TakesStep places version s asked x.done z)
+        at (Ok x) same committed ended =
+            stepped places version a b m z s asked (rest.rests (early a b _ first (clean_b clean))) (begins (clean_b clean)) is (went_on x same clean) x.done (carried x same clean s sound is) committed ended
+        at (Err e) same committed ended = tt
+
+    finds : Survives a z (MayFind places version asked a)
+    finds =
+        let so_far = survives_then a b m (λ _. ⊥) (λ _. ⊥) (λ _. ⊥) (λ _ db none. none) (λ _ db none. none) first second in
+        survives_then a m z (λ _. ⊥) _ (MayFind places version asked a) (λ _ db none. absurd none)
+        (λ clean db it s sound is. found_committed places version (step s asked).0 m.now ((carried it.0 it.1 clean s sound is).represents it.2) db it.3)
+        so_far last.crash
+
+    pub applies : Applies places version g before after asked r
+    applies = record {
+      office = search rules;
+      steps = takes;
+      was_open = was_open;
+      kept = search rules;
+      bytes = search rules;
+      refused = search rules;
+      busy = search rules;
+      faults = search rules;
+      crash = finds;
+    }

@@ -18,16 +18,16 @@ use Rattle.refinement.specs.QueryAnswers.{AnswersQuery}
 use Rattle.refinement.specs.Representation.{RepresentsState}
 use Rattle.public_queries.specs.InformedAnswers.{AnswersKnowing}
 
-module _ (places : Trees → Forest ℕ → Type 0) (version : Version) where
-  looked_on : (a b : store.State) (r : Result Answer StoreFault) → OnOk r (LeavesUnchanged a b) → OnErr r (IsAborted a b) → store.Survives a b (λ _. ⊥)
-  looked_on a b (Ok x) looks cut = looks.goes.on.crash
-  looked_on a b (Err e) looks cut = cut.crash
+looked_on : (a b : store.State) (r : Result Answer StoreFault) → OnOk r (LeavesUnchanged a b) → OnErr r (IsAborted a b) → store.Survives a b (λ _. ⊥)
+looked_on a b (Ok x) looks cut = looks.goes.on.crash
+looked_on a b (Err e) looks cut = cut.crash
 
+module _ {places : Trees → Forest ℕ → Type 0} {version : Version} where
   -- a question that is asked once more is known
-  pub answers_after : (known : State → Type 0) (asked : Query) (a b c : store.State) (r : Result Answer StoreFault) → LeavesUnchanged a b
+  pub answers_after : {known : State → Type 0} {asked : Query} {a b c : store.State} {r : Result Answer StoreFault} → LeavesUnchanged a b
       → (HasCleanDisk b → (s : State) → IsSoundOffice s → RepresentsState places version a.now s → known s)
       → AnswersKnowing places version known asked b c r → AnswersQuery places version asked a c r
-  answers_after known asked a b c r looked learns last =
+  answers_after {known} {asked} {a} {b} {c} {r} looked learns last =
       let still = λ (at_b : HasCleanDisk b) (s : State) (it : RepresentsState places version a.now s).
       subst (λ (db : Database). RepresentsState places version db s) (sym (looked.same at_b)) it in
       record {

@@ -1,6 +1,5 @@
 -- An office of version 1, judged and brought to version 2.
-use Rattle.std.proofs.Common.{◌≡◌, [], ◌∷◌, ◌≤◌, None, Result, Ok, Err, IfErr, IsTrue, inl, inr, sym, arith, subst, ◌∙◌}
-use Rattle.std.specs.Prelude.{IsErrAnd}
+use Rattle.std.proofs.Common.{◌≡◌, [], ◌∷◌, ◌≤◌, None, IsTrue, inl, inr, sym, arith, subst, ◌∙◌}
 use Rattle.sqlite.specs.Effect.{Database, IsDatabase}
 use Rattle.sqlite.specs.State.{State}
 use Rattle.tree_core.specs.Versions.{Links, Spans}
@@ -15,9 +14,6 @@ use Rattle.office_tables.specs.Step.{OnlyTouches}
 use Rattle.office_tables.specs.declared.fault.StoreFault.{StoreFault}
 use Rattle.office_tables.specs.declared.fault.StoreFault.TheVariants as store
 use Rattle.row_completeness.proofs.KeptPlaces.{links_represent}
-use Rattle.adoption.proofs.catalogue.Shown.{catalogue_shown}
-use Rattle.adoption.proofs.tables.ShownTables.{sound_are_good, sound_state}
-use Rattle.adoption.specs.SoundTables.{AreSoundTables}
 use Rattle.adoption.specs.Tables.{RepresentsItsState}
 use Rattle.adoption.specs.OrderedTables.{StandInOrder}
 use Rattle.office.specs.Adoption.{HasAdoptCause, refusal_of, state_in}
@@ -25,7 +21,7 @@ use Rattle.office.specs.Migration.{IsMigrated}
 use Rattle.office.specs.NewOffice.{open_fault_of}
 use Rattle.office.specs.declared.faults.OpenFault.{OpenFault}
 use Rattle.office.specs.declared.faults.OpenFault.TheVariants as fault
-use Rattle.office.proofs.Adoptions.{none_refused}
+use Rattle.office.proofs.Adoptions.{none_refused, sound_shown}
 use Rattle.refinement.specs.Representation.{RepresentsState}
 use Rattle.nested_sets.specs.Representation.{RepresentsSpanRows}
 
@@ -38,8 +34,7 @@ module _ (db : Database) (told : Verdict) (none : refusal_of told ≡ None) (is 
     -- if they are ordered, they show the state that their rows say
     pub shows_its_state : StandInOrder db → RepresentsItsState RepresentsLinkRows Links db
     shows_its_state ordered =
-        let tables : AreSoundTables Links db = record { schema_is = judged_sound.0.schema_is; live = live; ordered = ordered; causeless = judged_sound.1 ordered } in
-        sound_state RepresentsLinkRows Links db tables (catalogue_shown Links db (sound_are_good Links db tables) RepresentsLinkRows links_represent)
+        sound_shown RepresentsLinkRows Links links_represent db (record { schema_is = judged_sound.0.schema_is; live = live; ordered = ordered; causeless = judged_sound.1 ordered })
 
     pub migrated : (new : Database) → ((s : office.State) → RepresentsState RepresentsLinkRows Links db s → RepresentsState RepresentsSpanRows Spans new s)
         → OnlyTouches (tables.office.tree ∷ tables.link.tree ∷ []) db new → IsMigrated db new
@@ -75,8 +70,3 @@ module _ (before old new after : State) (counts : before.faults ≤ old.faults) 
   cause_outside fault.OldVersion why = why
   cause_outside fault.NewVersion why = subst (λ (db : Database). IsVerdict Links db verdict.NewVersion) same why
   cause_outside (fault.Unsound n) why = subst (λ (db : Database). IsVerdict Links db (verdict.Unsound n)) same why
-
--- what a call leaves of a refusal that was made of a fault
-pub told_as : {X Y : Type 0} (r : Result X Y) (o : Y) (P : Y → Type 0) → IsErrAnd r (λ e. e ≡ o) → P o → IfErr r P
-told_as (Ok x) o P is why = tt
-told_as (Err e) o P is why = subst P (sym is) why

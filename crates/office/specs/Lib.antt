@@ -59,5 +59,8 @@ pub mod Migration
 pub mod Sight
 pub mod Rows
 pub mod OfficeCall
+pub mod Transactions
+pub mod CallTransactions
+pub mod Inspection
 pub mod Runs
 pub mod Adoption

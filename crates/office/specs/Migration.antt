@@ -1,7 +1,10 @@
--- The migration of an office from version 1 to version 2: its result, and what a crash may find.
-use Rattle.std.specs.Prelude.{[], ◌∷◌}
+-- The migration of an office from version 1 to version 2: its result, what a crash may find, and the calls inside it.
+use Rattle.std.specs.Prelude.{[], ◌∷◌, Result, IfErr, IsTrue, OnErr, OnOk}
+use Rattle.sqlite_trees.specs.declared.store.Store as trees
 use Rattle.sqlite.specs.Effect.{Database}
+use Rattle.sqlite.specs.Held.{Held, state}
 use Rattle.sqlite.specs.State as store
+use Rattle.sqlite.specs.State.{HasCleanDisk, Survives}
 use Rattle.sqlite.specs.Tree.{Trees}
 use Rattle.tree_core.specs.Versions.{Links, Spans}
 use Rattle.catalogue_statements.specs.Representation.{RepresentsLinkRows}
@@ -9,12 +12,15 @@ use Rattle.adoption.specs.Verdicts.{IsVerdict}
 use Rattle.adoption.specs.declared.verdict.Verdict.TheVariants as verdict
 use Rattle.office_core.specs.SoundOffice.{IsSoundOffice}
 use Rattle.office_core.specs.State.{State}
+use Rattle.office_tables.specs.Faults.{HasOuterCause}
 use Rattle.office_tables.specs.Schema as tables
 use Rattle.office_tables.specs.Schema.{schema}
-use Rattle.office_tables.specs.Step.{OnlyTouches}
+use Rattle.office_tables.specs.Step.{Continues, InTransaction, IsAborted, OnlyTouches}
+use Rattle.office_tables.specs.declared.fault.StoreFault.{StoreFault}
 use Rattle.adoption.specs.OrderedTables.{StandInOrder}
-use Rattle.office.specs.Adoption.{state_in}
-use Rattle.office.specs.IdleOffice.{IsIn}
+use Rattle.office.specs.Adoption.{HasAdoptCause, state_in}
+use Rattle.office.specs.IdleOffice.{IsAsBefore, IsIn, IsOffice}
+use Rattle.office.specs.declared.faults.OpenFault.{OpenFault}
 use Rattle.refinement.specs.Representation.{RepresentsState}
 use Rattle.nested_sets.specs.Representation.{RepresentsSpanRows}
 
@@ -37,3 +43,32 @@ pub record IsMigrated (old new : Database) : Type 0 where
 -- in addition to what it might have found before: all of that
 abbrev pub MayFindMigrated : store.State → Trees → Type 0
 MayFindMigrated old db = IsMigrated old.now (record { schema = schema Spans; trees = db })
+
+-- ---- the calls
+
+module _ {S : Type 0} (g : trees.Ghosts S) (before after : Held S) where
+  abbrev old : store.State
+  old = state g before
+
+  abbrev new : store.State
+  new = state g after
+
+  -- The call brings an office from version 1 to version 2, in one transaction and the same state. If it succeeds, the
+  -- connection is open. If it fails, nothing is changed.
+  pub record MigratesOffice {X : Type 0} (r : Result X StoreFault) : Type 0 where
+    pub office : OnOk r (IsOffice Spans new)
+    pub old_office : OnErr r (IsOffice Links new)
+    pub same : HasCleanDisk new → (s : State) → IsIn RepresentsLinkRows Links s old → OnOk r (IsIn RepresentsSpanRows Spans s new)
+    pub kept : HasCleanDisk new → OnOk r (IsTrue new.is_open)
+    pub back : HasCleanDisk new → OnErr r (IsAsBefore old new)
+    pub faults : HasCleanDisk new → (s : State) → IsSoundOffice s → IsIn RepresentsLinkRows Links s old → IfErr r (HasOuterCause old new)
+    pub crash : Survives old new (MayFindSpans old)
+
+  -- Inside a transaction, the call judges tables of any origin, and brings them to version 2 if they are a sound
+  -- office's of version 1. Otherwise the fault says why no office of version 1 can be opened over them.
+  pub record MigratesIfSound {X : Type 0} (r : Result X OpenFault) : Type 0 where
+    pub same : HasCleanDisk new → IsTrue old.is_open → OnOk r (IsMigrated old.now new.now)
+    pub inside : OnOk r (InTransaction Spans new)
+    pub goes : OnOk r (Continues old new)
+    pub cut : OnErr r (IsAborted old new)
+    pub cause : HasCleanDisk new → IsTrue old.is_open → IfErr r (HasAdoptCause Links old new)

@@ -1,19 +1,15 @@
 //! Commands: each is one transaction and one step.
 
-ghost use Rattle.std.specs.Prelude.{◌≡◌, ⊤, None, IfErr, IfOk, IsErr, IsOk, IsTrue, OnErr, OnOk};
+ghost use Rattle.std.specs.Prelude.{◌≡◌, ⊤, None, IfErr, IfOk};
 ghost use Rattle.sqlite.specs.Held.{state};
-ghost use Rattle.sqlite.specs.State.{HasCleanDisk, Survives};
 ghost use Rattle.office_core.specs.Json.{reply_text};
-ghost use Rattle.office_core.specs.SoundOffice.{IsSoundOffice, NamesTexts};
-ghost use Rattle.office_core.specs.State.{State};
-ghost use Rattle.office_tables.specs.Faults.{FaultsHaveCause, HasOuterCause};
-ghost use Rattle.office_tables.specs.Step.{Goes, IsAborted};
+ghost use Rattle.office_core.specs.SoundOffice.{NamesTexts};
 ghost use Rattle.office_tables.specs.declared.fault.StoreFault.TheVariants as fault;
-ghost use Rattle.office.specs.OfficeCall.{MayFind, TakesStep};
-ghost use Rattle.office.specs.IdleOffice.{IsAsBefore, IsIn, IsOffice};
+ghost use Rattle.office.specs.CallTransactions.{Applies, Replies};
+ghost use Rattle.office.specs.IdleOffice.{IsOffice};
 ghost use Rattle.office.specs.Sight.{misdated, misnamed};
-ghost use Rattle.refinement.specs.CommandSteps.{CarriesOut, CarriesOutStep};
-ghost use Rattle.refinement.specs.Representation.{RepresentsState, office_of};
+ghost use Rattle.refinement.specs.CommandSteps.{Performs};
+ghost use Rattle.refinement.specs.Representation.{office_of};
 
 use crate::names::{refused_by_day, refused_by_name};
 use crate::office_row::{limits_in, own_row};
@@ -42,8 +38,8 @@ fn perform<P: Places, S: Alter>(
     requires named { misnamed command.now ≡ None }
     requires dated { misdated row.now.day command.now ≡ None }
     requires texts { NamesTexts command.now }
-    ensures { CarriesOut P.represents P.version (λ s. row.now ≡ office_of s) command.now (state S.Store tables.old)
-        (state S.Store tables.new) result }
+    ensures { Performs P.represents P.version S.Store (λ s. row.now ≡ office_of s) command.now tables.old tables.new
+        result }
 {
     let today = row.day;
     let limits = limits_in(row);
@@ -93,9 +89,7 @@ fn carry_out<P: Places, S: Alter>(
 ) -> Result<Result<Done, Refusal>, StoreFault>
     requires named { misnamed command.now ≡ None }
     requires texts { NamesTexts command.now }
-    ensures { CarriesOut P.represents P.version (λ _. ⊤) command.now (state S.Store tables.old)
-        (state S.Store tables.new)
-        result }
+    ensures { Performs P.represents P.version S.Store (λ _. ⊤) command.now tables.old tables.new result }
 {
     let row = own_row(alloc, tables)?;
     if let Some(why) = refused_by_day(row.day, command) {
@@ -122,16 +116,7 @@ fn reply_to<P: Places, S: Alter>(
 ) -> Result<Reply, StoreFault>
     requires named { misnamed command.now ≡ None }
     requires texts { NamesTexts command.now }
-    ensures steps { HasCleanDisk (state S.Store tables.new)
-        → (s : State) → IsSoundOffice s → RepresentsState P.represents P.version (state S.Store tables.old).now s
-        → IfOk result (λ reply.
-        CarriesOutStep P.represents P.version s command.now reply.done (state S.Store tables.new).now) }
-    ensures bytes { IfOk result (λ reply. reply.json ≡ reply_text reply.done) }
-    ensures goes { OnOk result (Goes (state S.Store tables.old) (state S.Store tables.new)) }
-    ensures cut { OnErr result (IsAborted (state S.Store tables.old) (state S.Store tables.new)) }
-    ensures faults { (s : State) → IsSoundOffice s
-        → RepresentsState P.represents P.version (state S.Store tables.old).now s
-        → FaultsHaveCause (state S.Store tables.old) (state S.Store tables.new) result }
+    ensures { Replies P.represents P.version S.Store tables.old tables.new command.now result }
 {
     let done = carry_out(alloc, tables, command)?;
     told(alloc, done)
@@ -146,24 +131,7 @@ pub(crate) fn apply_to<P: Places, S: Alter>(
 ) -> Result<Reply, StoreFault>
     requires office { IsOffice P.version (state S.Store closed.old) }
     requires texts { NamesTexts command.now }
-    ensures office { IsOffice P.version (state S.Store closed.new) }
-    ensures steps { HasCleanDisk (state S.Store closed.new)
-        → (s : State) → IsSoundOffice s → IsIn P.represents P.version s (state S.Store closed.old)
-        → IfOk result (λ reply. TakesStep P.represents P.version s command.now reply.done (state S.Store closed.new)) }
-    ensures was_open { HasCleanDisk (state S.Store closed.new)
-        → IsTrue (state S.Store closed.new).is_open → IsTrue (state S.Store closed.old).is_open }
-    ensures kept { HasCleanDisk (state S.Store closed.new)
-        → IfOk result (λ reply. IsOk reply.done → IsTrue (state S.Store closed.new).is_open) }
-    ensures bytes { IfOk result (λ reply. reply.json ≡ reply_text reply.done) }
-    ensures refused { HasCleanDisk (state S.Store closed.new) → IfOk result (λ reply. IsErr reply.done
-        → IsAsBefore (state S.Store closed.old) (state S.Store closed.new)) }
-    ensures busy { HasCleanDisk (state S.Store closed.new)
-        → OnErr result (IsAsBefore (state S.Store closed.old) (state S.Store closed.new)) }
-    ensures faults { HasCleanDisk (state S.Store closed.new)
-        → (s : State) → IsSoundOffice s → IsIn P.represents P.version s (state S.Store closed.old)
-        → IfErr result (HasOuterCause (state S.Store closed.old) (state S.Store closed.new)) }
-    ensures crash { Survives (state S.Store closed.old) (state S.Store closed.new)
-        (MayFind P.represents P.version command.now (state S.Store closed.old)) }
+    ensures { Applies P.represents P.version S.Store closed.old closed.new command.now result }
 {
     if let Some(why) = refused_by_name(command) {
         return told(alloc, Err(why));

@@ -1,13 +1,10 @@
 //! Judges tables of any origin.
 
-ghost use Rattle.std.specs.Prelude.{◌≡◌, false, IfErr, IfOk, IsTrue, OnErr, OnOk};
+ghost use Rattle.std.specs.Prelude.{IsTrue, OnOk};
 ghost use Rattle.sqlite.specs.Held.{state};
-ghost use Rattle.sqlite.specs.State.{HasCleanDisk, Shows, Survives};
-ghost use Rattle.adoption.specs.OrderedTables.{StandInOrder};
-ghost use Rattle.adoption.specs.Verdicts.{IsVerdict};
-ghost use Rattle.office_tables.specs.Faults.{BlamesDisk, HasOuterCause, IsUnlimited};
-ghost use Rattle.office_tables.specs.Transactions.{IsStopped};
-ghost use Rattle.office.specs.IdleOffice.{IsAsBefore};
+ghost use Rattle.sqlite.specs.State.{HasCleanDisk};
+ghost use Rattle.office.specs.Inspection.{ConfirmsOpen, Inspects};
+ghost use Rattle.office.specs.Transactions.{IsBetweenTransactions};
 
 use crate::transactions::take_back;
 use adoption::{Verdict, judge};
@@ -21,17 +18,8 @@ fn judge_apart<P: CheckedPlaces, S: Alter>(
     alloc: Global,
     conn: &mut Connection<S>,
 ) -> Result<Verdict, StoreFault>
-    requires outside { HasCleanDisk (state S.Store conn.old) → (state S.Store conn.old).in_transaction ≡ false }
-    requires unlimited { IsUnlimited (state S.Store conn.old) }
-    ensures tells { HasCleanDisk (state S.Store conn.new)
-        → IfOk result (IsVerdict P.version (state S.Store conn.old).now) }
-    ensures back { HasCleanDisk (state S.Store conn.new)
-        → IsAsBefore (state S.Store conn.old) (state S.Store conn.new) }
-    ensures disk { HasCleanDisk (state S.Store conn.new)
-        → IfErr result (BlamesDisk (state S.Store conn.old) (state S.Store conn.new)) }
-    ensures faults { HasCleanDisk (state S.Store conn.new) → StandInOrder (state S.Store conn.old).now
-        → IfErr result (HasOuterCause (state S.Store conn.old) (state S.Store conn.new)) }
-    ensures crash { Survives (state S.Store conn.old) (state S.Store conn.new) (λ _. ⊥) }
+    requires { IsBetweenTransactions (state S.Store conn.old) }
+    ensures { Inspects S.Store conn.old conn.new P.version result }
 {
     // Outside a transaction a connection that is open shows what was committed.
     let _ = conn.is_autocommit();
@@ -44,14 +32,7 @@ fn judge_apart<P: CheckedPlaces, S: Alter>(
 /// Fails if a failure of the disk has shut the connection: no statement can be prepared on it then. It may also lack
 /// memory. None is run.
 fn confirm_open<S: Alter>(conn: &mut Connection<S>) -> Result<(), StoreFault>
-    ensures open { HasCleanDisk (state S.Store conn.new)
-        → OnOk result (Shows (state S.Store conn.old) (state S.Store conn.new) (state S.Store conn.old).now
-        (state S.Store conn.old).committed (state S.Store conn.old).in_transaction) }
-    ensures stopped { HasCleanDisk (state S.Store conn.new)
-        → OnErr result (IsStopped (state S.Store conn.old) (state S.Store conn.new)) }
-    ensures faults { HasCleanDisk (state S.Store conn.new) → (state S.Store conn.old).in_transaction ≡ false
-        → IfErr result (HasOuterCause (state S.Store conn.old) (state S.Store conn.new)) }
-    ensures crash { Survives (state S.Store conn.old) (state S.Store conn.new) (λ _. ⊥) }
+    ensures { ConfirmsOpen S.Store conn.old conn.new result }
 {
     conn.prepare("BEGIN")?;
     Ok(())
@@ -62,18 +43,9 @@ pub(crate) fn look_over<P: CheckedPlaces, S: Alter>(
     alloc: Global,
     conn: &mut Connection<S>,
 ) -> Result<Verdict, StoreFault>
-    requires outside { HasCleanDisk (state S.Store conn.old) → (state S.Store conn.old).in_transaction ≡ false }
-    requires unlimited { IsUnlimited (state S.Store conn.old) }
-    ensures tells { HasCleanDisk (state S.Store conn.new)
-        → IfOk result (IsVerdict P.version (state S.Store conn.old).now) }
+    requires { IsBetweenTransactions (state S.Store conn.old) }
+    ensures looks { Inspects S.Store conn.old conn.new P.version result }
     ensures kept { HasCleanDisk (state S.Store conn.new) → OnOk result (IsTrue (state S.Store conn.new).is_open) }
-    ensures back { HasCleanDisk (state S.Store conn.new)
-        → IsAsBefore (state S.Store conn.old) (state S.Store conn.new) }
-    ensures disk { HasCleanDisk (state S.Store conn.new)
-        → IfErr result (BlamesDisk (state S.Store conn.old) (state S.Store conn.new)) }
-    ensures faults { HasCleanDisk (state S.Store conn.new) → StandInOrder (state S.Store conn.old).now
-        → IfErr result (HasOuterCause (state S.Store conn.old) (state S.Store conn.new)) }
-    ensures crash { Survives (state S.Store conn.old) (state S.Store conn.new) (λ _. ⊥) }
 {
     let verdict = judge_apart::<P, S>(alloc, conn)?;
     // Outside a transaction a connection that is open shows what was committed.

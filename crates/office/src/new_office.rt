@@ -1,14 +1,11 @@
 //! Making a new office.
 
-ghost use Rattle.std.specs.Prelude.{◌≡◌, false, IsTrue, IfErr, OnErr, OnOk};
+ghost use Rattle.std.specs.Prelude.{◌≡◌};
 ghost use Rattle.sqlite.specs.Held.{state};
-ghost use Rattle.sqlite.specs.State.{HasCleanDisk, Survives};
 ghost use Rattle.isad_core.specs.Limits.{IsNumber};
-ghost use Rattle.office_tables.specs.Faults.{FaultsHaveCause, HasOuterCause, IsUnlimited};
-ghost use Rattle.office_tables.specs.Schema.{no_schema, schema};
-ghost use Rattle.office_tables.specs.Step.{Continues, IsAborted};
-ghost use Rattle.office.specs.NewOffice.{RepresentsNew};
-ghost use Rattle.office.specs.IdleOffice.{IsAsBefore, IsOffice};
+ghost use Rattle.office_tables.specs.Schema.{no_schema};
+ghost use Rattle.office.specs.NewOffice.{AwaitsTables, Founds, MakesTables};
+ghost use Rattle.office.specs.Transactions.{IsBetweenTransactions};
 
 use crate::transactions::{keep, take_back};
 use catalogue_statements::OfficeRow;
@@ -22,14 +19,9 @@ fn make_tables<P: Places, S: Alter>(
     conn: &mut Connection<S>,
     row: &OfficeRow,
 ) -> Result<(), StoreFault>
-    requires blank { HasCleanDisk (state S.Store conn.old)
-        → ((state S.Store conn.old).now.schema ≡ no_schema) × IsTrue (state S.Store conn.old).in_transaction }
+    requires blank { AwaitsTables (state S.Store conn.old) }
     requires small { IsNumber row.now.next_unit }
-    ensures represents { HasCleanDisk (state S.Store conn.new)
-        → OnOk result (RepresentsNew P.represents P.version (state S.Store conn.new).now row.now) }
-    ensures goes { OnOk result (Continues (state S.Store conn.old) (state S.Store conn.new)) }
-    ensures cut { OnErr result (IsAborted (state S.Store conn.old) (state S.Store conn.new)) }
-    ensures faults { FaultsHaveCause (state S.Store conn.old) (state S.Store conn.new) result }
+    ensures { MakesTables P.represents P.version S.Store conn.old conn.new row.now result }
 {
     create_desk(conn)?;
     create::<P, S>(conn, row)
@@ -42,19 +34,9 @@ pub(crate) fn found<P: Places, S: Alter>(
     row: &OfficeRow,
 ) -> Result<(), StoreFault>
     requires blank { (state S.Store conn.old).now.schema ≡ no_schema }
-    requires outside { HasCleanDisk (state S.Store conn.old) → (state S.Store conn.old).in_transaction ≡ false }
-    requires unlimited { IsUnlimited (state S.Store conn.old) }
+    requires between { IsBetweenTransactions (state S.Store conn.old) }
     requires small { IsNumber row.now.next_unit }
-    ensures represents { HasCleanDisk (state S.Store conn.new) → OnOk result (IsTrue (state S.Store conn.new).is_open
-        → RepresentsNew P.represents P.version (state S.Store conn.new).now row.now) }
-    ensures kept { HasCleanDisk (state S.Store conn.new) → OnOk result (IsTrue (state S.Store conn.new).is_open) }
-    ensures office { OnOk result (IsOffice P.version (state S.Store conn.new)) }
-    ensures back { HasCleanDisk (state S.Store conn.new)
-        → OnErr result (IsAsBefore (state S.Store conn.old) (state S.Store conn.new)) }
-    ensures faults { HasCleanDisk (state S.Store conn.new)
-        → IfErr result (HasOuterCause (state S.Store conn.old) (state S.Store conn.new)) }
-    ensures crash { Survives (state S.Store conn.old) (state S.Store conn.new)
-        (λ db. RepresentsNew P.represents P.version (record { schema = schema P.version; trees = db }) row.now) }
+    ensures { Founds P.represents P.version S.Store conn.old conn.new row.now result }
 {
     // Outside a transaction a connection that is open shows what was committed.
     let _ = conn.is_autocommit();

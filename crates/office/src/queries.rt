@@ -1,15 +1,11 @@
 //! Questions, each answered from one state of the tables.
 
-ghost use Rattle.std.specs.Prelude.{◌≡◌, IfErr, IfOk};
+ghost use Rattle.std.specs.Prelude.{◌≡◌};
 ghost use Rattle.sqlite.specs.Held.{state};
-ghost use Rattle.sqlite.specs.State.{HasCleanDisk, Survives};
-ghost use Rattle.office_core.specs.Queries.{answer};
-ghost use Rattle.office_core.specs.SoundOffice.{IsSoundOffice};
-ghost use Rattle.office_core.specs.State.{State};
-ghost use Rattle.office_tables.specs.Faults.{HasOuterCause};
-ghost use Rattle.public_queries.specs.InformedAnswers.{AnswersKnowing};
-ghost use Rattle.office.specs.IdleOffice.{IsAsBefore, IsIn, IsOffice};
-ghost use Rattle.refinement.specs.QueryAnswers.{AnswersQuery};
+ghost use Rattle.public_queries.specs.InformedAnswers.{RespondsKnowing};
+ghost use Rattle.office.specs.CallTransactions.{Asks};
+ghost use Rattle.office.specs.IdleOffice.{IsOffice};
+ghost use Rattle.refinement.specs.QueryAnswers.{Responds};
 ghost use Rattle.refinement.specs.Representation.{office_of};
 
 use crate::office_row::own_row;
@@ -29,8 +25,8 @@ fn read<P: Places, S: Alter>(
     row: &OfficeRow,
     query: Query,
 ) -> Result<Answer, StoreFault>
-    ensures { AnswersKnowing P.represents P.version (λ s. row.now ≡ office_of s) query (state S.Store tables.old)
-        (state S.Store tables.new) result }
+    ensures { RespondsKnowing P.represents P.version S.Store (λ s. row.now ≡ office_of s) query tables.old tables.new
+        result }
 {
     match query {
         Query::Fonds => fonds(alloc, tables, row),
@@ -50,7 +46,7 @@ fn answer_to<P: Places, S: Alter>(
     tables: &mut Tables<P, S>,
     query: Query,
 ) -> Result<Answer, StoreFault>
-    ensures { AnswersQuery P.represents P.version query (state S.Store tables.old) (state S.Store tables.new) result }
+    ensures { Responds P.represents P.version S.Store query tables.old tables.new result }
 {
     let row = own_row(alloc, tables)?;
     read(alloc, tables, &row, query)
@@ -63,16 +59,7 @@ pub(crate) fn ask_in<P: Places, S: Alter>(
     query: Query,
 ) -> Result<Answer, StoreFault>
     requires office { IsOffice P.version (state S.Store closed.old) }
-    ensures office { IsOffice P.version (state S.Store closed.new) }
-    ensures answers { HasCleanDisk (state S.Store closed.new)
-        → (s : State) → IsSoundOffice s → IsIn P.represents P.version s (state S.Store closed.old)
-        → IfOk result (λ told. told ≡ answer s query) }
-    ensures same { HasCleanDisk (state S.Store closed.new)
-        → IsAsBefore (state S.Store closed.old) (state S.Store closed.new) }
-    ensures faults { HasCleanDisk (state S.Store closed.new)
-        → (s : State) → IsSoundOffice s → IsIn P.represents P.version s (state S.Store closed.old)
-        → IfErr result (HasOuterCause (state S.Store closed.old) (state S.Store closed.new)) }
-    ensures crash { Survives (state S.Store closed.old) (state S.Store closed.new) (λ _. ⊥) }
+    ensures { Asks P.represents P.version S.Store closed.old closed.new query result }
 {
     let tables = closed.begin()?;
     let outcome = answer_to(alloc, tables, query);
