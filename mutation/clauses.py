@@ -19,6 +19,9 @@ which all but the first begin with a space:
     module CRATE OLD NEW      a module of the old crate; NEW has dots where it is nested
     spec CRATE OLD NEW        a file of the old crate's specs
     word OLD NEW [CRATE ..]   an identifier, in all old crates or in these
+    definition CRATE FILE OLD NEW   a definition of the old crate's specs/FILE, there and in each file that imports it
+    function CRATE OLD NEW    a public function of the old crate
+    label OLD NEW CRATE ..    a label of clauses and a field of records, in these old crates
     file CRATE NAME NEW       a file of the old crate's src or specs that went to the crate NEW by itself
     above CRATE OLD NEW USER ..   each field of the record OLD must be one of the record NEW, too; a clause of the
                               crates USER may cite NEW in place of OLD
@@ -56,7 +59,7 @@ class Names:
 
     def __init__(self, file=None):
         self.crates, self.modules, self.specs, self.words, self.files = {}, {}, {}, {}, {}
-        self.reasons, self.above = {}, []
+        self.reasons, self.above, self.definitions, self.labels, self.functions = {}, [], [], [], {}
         text = open(file, encoding="utf-8").read() if file else ""
         for line in re.sub(r"\n[ \t]+", " ", text).split("\n"):
             kind, *rest = line.split("#")[0].split() or [""]
@@ -74,8 +77,32 @@ class Names:
             elif kind == "word":
                 for crate in rest[2:] or [""]:
                     self.words[crate, rest[0]] = rest[1]
+            elif kind == "definition":
+                self.definitions.append(rest)
+            elif kind == "label":
+                self.labels.append(rest)
+            elif kind == "function":
+                self.functions[rest[0], rest[1]] = rest[2]
             elif kind:
                 sys.exit(f"{file}: no such line: {line.strip()}")
+
+    def in_file(self, text, crate, file):
+        """The text of a file with the new names of the definitions in it or imported by it, and of labels."""
+        for home, spec, old, new in self.definitions:
+            path = rf"Rattle\.{home}\.specs\.{spec}"
+            names = rf"(use {path}\.\{{(?:[^}}]*[{{, ])?){old}(?=[,}} ])"
+            is_bare = (crate, file) == (home, spec) or re.search(rf"{names}(?! as )", text)
+            text = re.sub(names, rf"\g<1>{new}", text)
+            for alias in [path, *re.findall(rf"use {path} as (\w+)", text)]:
+                text = re.sub(rf"(?<![\w.]){alias}\.{old}(?![\w'])", f"{alias}.{new}".replace("\\", ""), text)
+            if is_bare:
+                label = "" if (crate, file) == (home, spec) else r"|\s=(?![=>≡])"
+                text = re.sub(rf"(?<![\w.'-]){old}(?![\w'-]{label})", new, text)
+        for old, new, *crates in self.labels:
+            label = r"((?:^|\n) +(?:pub )?(?:ensures )?|(?<=\w)\.)"
+            if crate in crates:
+                text = re.sub(rf"{label}{old}(?= \{{| : |[ );.\n]|$)", rf"\g<1>{new}", text)
+        return text
 
     def crate(self, old, file=""):
         return self.files.get((old, file)) or self.crates.get(old, old)
@@ -367,22 +394,24 @@ def promises(tree, names, after):
     those of the functions in the tree after it."""
     found, functions = collections.Counter(), collections.defaultdict(list)
     for crate in sorted(os.listdir(f"{tree}/crates")):
-        files = list(texts(f"{tree}/crates/{crate}/src", ".rt"))
+        files = [(file, names.in_file(text, crate, "")) for file, text in texts(f"{tree}/crates/{crate}/src", ".rt")]
         root = "".join(text for file, text in files if file in ("lib", "main"))
         is_program = all(file != "lib" for file, _ in files)
         for file, text in files:
             at, is_open = names.crate(crate, file), re.search(rf"^pub mod {file};", root, re.M)
             passed_on = " ".join(re.findall(rf"^pub use {file}::([^;]+);", root, re.M))
             for owner, name, clause, mine in Source(text).noted:
-                if owner or is_open or is_program or file == "lib" or re.search(rf"\b{name}\b", passed_on):
+                was, name = name, names.functions.get((crate, name), name)
+                if owner or is_open or is_program or file == "lib" or re.search(rf"\b{was}\b", passed_on):
                     owner, name, clause, *mine = (names.text(it, crate) for it in (owner, name, clause, *mine))
                     clause = with_new_names(clause, mine, after.get((at, owner, name), []))
                     found[at, owner, name, clause] += 1
                     functions[at, owner, name] += [mine] if clause == "fn" else []
             for name in importable(text, is_open):
-                found[at, "importable", names.text(name, crate), ""] = 1
+                found[at, "importable", names.text(names.functions.get((crate, name), name), crate), ""] = 1
         for file, text in texts(f"{tree}/crates/{crate}/specs", ".antt"):
             at, spec = names.crate(crate, file), names.specs.get((crate, file), file)
+            text = names.in_file(text, crate, file)
             given = imports("\n".join(re.findall(r"^(?:pub )?use .*", text, re.M)))
             for key, line in definitions(text):
                 key = f"{spec}.section" if key == "section" else names.text(key, crate)

@@ -1,9 +1,10 @@
 -- The checks of the parts, one after another, tell the least cause.
 use Rattle.std.proofs.Common.{◌≡◌, ℕ, List, [], ◌∷◌, Bool, true, false, cond, ◌||◌, Option, Some, None, option_map, unwrap_or, inl, inr, refl, sym, ap, ◌∙◌}
 use Rattle.std.proofs.lemmas.Bool.{cases_Bool}
+use Rattle.sqlite.specs.Effect.{Database}
 use Rattle.sqlite.specs.Tree.{Trees}
 use Rattle.isad_core.specs.Words.{is_between}
-use Rattle.tree_core.specs.Versions.{Version, Links, Spans}
+use Rattle.office_tables.specs.Versions.{Version, First, Second, encoding}
 use Rattle.catalogue_core.specs.CatalogueCauses.{places_are_bad, units_are_bad, elements_are_bad, containers_are_bad}
 use Rattle.office_tables.specs.Cells.{has_unread}
 use Rattle.office_tables.specs.CatalogueCells.{read_unit, read_element, read_container, read_housing}
@@ -20,8 +21,10 @@ use Rattle.state_encoding.specs.CellCauses.{rows_in, cell_cause}
 use Rattle.state_encoding.specs.OfficeRows.{OfficeRows}
 use Rattle.adoption.specs.DeskCheck.{AreOfOffice, catalogue_cell_cause, of_desk}
 use Rattle.adoption.proofs.DeskChecked.{told_alike}
-use Rattle.adoption.specs.Causes.{CatalogueChecksTellTheCause, HasNoEarlierCause}
+use Rattle.adoption.specs.Causes.{CatalogueChecksTellTheCause}
+use Rattle.adoption.specs.Judgments.{HasGoodCatalogue}
 use Rattle.adoption.specs.OwnRows.{office_is_defective, own_of, own_row_of}
+use Rattle.adoption.specs.SoundTables.{AreGoodTables}
 use Rattle.adoption.specs.declared.own_row.OwnRow.{OwnRow}
 
 -- ---- 2 to 5
@@ -37,14 +40,14 @@ found false false false false = refl
 module _ (db : Trees) where
   -- both lists are of the same rows
   catalogue_alike : (version : Version) → catalogue_cell_cause version db
-      ≡ first_held (office_is_defective version db ∷ places_are_defective version db ∷ units_are_defective version (rows_in version db).office.next_unit db
+      ≡ first_held (office_is_defective version db ∷ places_are_defective (encoding version) db ∷ units_are_defective version (rows_in version db).office.next_unit db
       ∷ elements_are_defective version db ∷ containers_are_defective version db ∷ [])
-  catalogue_alike Links = refl
-  catalogue_alike Spans = refl
+  catalogue_alike First = refl
+  catalogue_alike Second = refl
 
   pub catalogue_told : (version : Version) → CatalogueChecksTellTheCause version db
   catalogue_told version fine =
-      let b2 = places_are_defective version db in
+      let b2 = places_are_defective (encoding version) db in
       let b3 = units_are_defective version (rows_in version db).office.next_unit db in
       let b4 = elements_are_defective version db in
       let b5 = containers_are_defective version db in
@@ -90,7 +93,7 @@ module _ (version : Version) (db : Trees) where
   t = rows_in version db
 
   abbrev b2 : Bool
-  b2 = places_are_unread version db || places_are_bad version t.catalogue
+  b2 = places_are_unread (encoding version) db || places_are_bad (encoding version) t.catalogue
 
   abbrev b3 : Bool
   b3 = has_unread read_unit (db tables.unit.tree) || units_are_bad t.office.next_unit t.catalogue
@@ -131,14 +134,14 @@ module _ (version : Version) (db : Trees) where
   pub no_cause_of_desk : (told : Option DeskDefect) → told ≡ None → option_map desk.cause_of told ≡ of_desk (cell_cause version db) → of_desk (cell_cause version db) ≡ None
   no_cause_of_desk told is alike = sym alike ∙ ap (option_map desk.cause_of) is
 
-  last_cause : HasNoEarlierCause version db → cell_cause version db ≡ cond (day_is_broken (rows_in version db)) (Some 10) None
-  last_cause none = tenth (office_is_defective version db) b2 b3 b4 b5 b6 b7 b8 b9 (day_is_broken t) none.catalogue none.desk
+  last_cause : catalogue_cell_cause version db ≡ None → of_desk (cell_cause version db) ≡ None → cell_cause version db ≡ cond (day_is_broken (rows_in version db)) (Some 10) None
+  last_cause catalogue others = tenth (office_is_defective version db) b2 b3 b4 b5 b6 b7 b8 b9 (day_is_broken t) catalogue others
 
-  pub broken_day : HasNoEarlierCause version db → day_is_broken (rows_in version db) ≡ true → cell_cause version db ≡ Some 10
-  broken_day none is = last_cause none ∙ ap (λ b. cond b (Some 10) None) is
+  pub broken_day : catalogue_cell_cause version db ≡ None → of_desk (cell_cause version db) ≡ None → day_is_broken (rows_in version db) ≡ true → cell_cause version db ≡ Some 10
+  broken_day catalogue others is = last_cause catalogue others ∙ ap (λ b. cond b (Some 10) None) is
 
-  pub kept_day : HasNoEarlierCause version db → day_is_broken (rows_in version db) ≡ false → cell_cause version db ≡ None
-  kept_day none is = last_cause none ∙ ap (λ b. cond b (Some 10) None) is
+  pub kept_day : catalogue_cell_cause version db ≡ None → of_desk (cell_cause version db) ≡ None → day_is_broken (rows_in version db) ≡ false → cell_cause version db ≡ None
+  kept_day catalogue others is = last_cause catalogue others ∙ ap (λ b. cond b (Some 10) None) is
 
   -- ---- by the office's own row
 
@@ -187,5 +190,14 @@ module _ (version : Version) (db : Trees) where
       pub told_desk : (defect : DeskDefect) → Some defect ≡ desk.desk_defect own.limits own.today db → cell_cause version db ≡ Some (desk.cause_of defect)
       told_desk defect told = cause_of_desk defect (desk.desk_defect own.limits own.today db) (sym told) alike
 
-      pub fine_desk : None ≡ desk.desk_defect own.limits own.today db → HasNoEarlierCause version db
-      fine_desk told = record { catalogue = fine; desk = no_cause_of_desk (desk.desk_defect own.limits own.today db) (sym told) alike }
+      fine_desk : None ≡ desk.desk_defect own.limits own.today db → of_desk (cell_cause version db) ≡ None
+      fine_desk told = no_cause_of_desk (desk.desk_defect own.limits own.today db) (sym told) alike
+
+pub good_tables : (version : Version) (db : Database) (own : OwnRow) → HasGoodCatalogue version own db → None ≡ desk.desk_defect own.limits own.today db.trees → AreGoodTables version db
+good_tables version db own it told = record {
+  schema_is = it.schema_is;
+  live = it.live;
+  ordered = it.ordered;
+  catalogue = it.catalogue;
+  desk = fine_desk version db.trees own (sym it.own_row) it.catalogue told;
+}

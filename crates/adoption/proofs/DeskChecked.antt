@@ -5,7 +5,7 @@ use Rattle.std.specs.Cmp.{both_ways}
 use Rattle.std.proofs.lemmas.Bool.{or_parts, eqb-true, eq-eqb}
 use Rattle.sqlite.specs.Order.{Row, column}
 use Rattle.sqlite.specs.Tree.{Trees}
-use Rattle.tree_core.specs.Versions.{Version}
+use Rattle.office_tables.specs.Versions.{Version, encoding}
 use Rattle.desk_core.specs.DeskCauses.{Around}
 use Rattle.desk_core.specs.Orders.{in_order}
 use Rattle.desk_core.specs.declared.reader.Limits.{Limits}
@@ -100,7 +100,7 @@ module _ (version : Version) (db : Trees) where
   b1 = has_unread read_office (db tables.office.tree) || office_is_bad version t
 
   abbrev b2 : Bool
-  b2 = places_are_unread version db || places_are_bad version t.catalogue
+  b2 = places_are_unread (encoding version) db || places_are_bad (encoding version) t.catalogue
 
   abbrev b3 : Bool
   b3 = has_unread read_unit (db tables.unit.tree) || units_are_bad t.office.next_unit t.catalogue

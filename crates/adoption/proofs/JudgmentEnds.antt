@@ -1,12 +1,11 @@
 -- How a call ends that judges tables.
-use Rattle.std.proofs.Common.{◌≡◌, Ok, Err, Result, Some, None, sym, subst}
+use Rattle.std.proofs.Common.{◌≡◌, Ok, Err, Result, sym, subst}
 use Rattle.std.specs.Prelude.{IsErr, IsErrAnd, IfErr, IfOk, ⊤}
 use Rattle.sqlite_trees.specs.declared.store.Store as store
 use Rattle.sqlite.specs.Effect.{Database}
 use Rattle.sqlite.specs.Held.{Held, state}
 use Rattle.sqlite.specs.State.{State, HasCleanDisk}
 use Rattle.sqlite.specs.Tree.{Trees}
-use Rattle.tree_core.specs.Versions.{Version}
 use Rattle.office_tables.specs.Faults.{BlamesDisk, HasCause, IsUnlimited}
 use Rattle.office_tables.specs.Step.{IsAborted, IsSame, LeavesUnchanged, Spares}
 use Rattle.office_tables.specs.declared.fault.StoreFault.{StoreFault}
@@ -17,13 +16,7 @@ use Rattle.office_tables.proofs.Causes.{still_unlimited}
 use Rattle.office_tables.proofs.LaterCauses.{next_cause}
 use Rattle.office_tables.proofs.WriteCauses.{disk_then, last_disk}
 use Rattle.row_decoding.specs.Examinations.{Examines}
-use Rattle.adoption.specs.Causes.{HasNoEarlierCause}
-use Rattle.adoption.specs.DeskCheck.{catalogue_cell_cause}
-use Rattle.adoption.specs.Judgments.{HasGoodCatalogue, HasNoCauseBeforeTheDay, Judges}
-use Rattle.adoption.specs.OrderedTables.{StandInOrder}
-use Rattle.adoption.specs.OwnRows.{own_row_of}
-use Rattle.adoption.specs.declared.own_row.OwnRow.{OwnRow}
-use Rattle.adoption.proofs.DayRules.{opened_then}
+use Rattle.adoption.specs.Judgments.{Judges}
 use Rattle.adoption.proofs.Lookings.{looked_then, looked_well}
 
 -- the result is this fault
@@ -40,7 +33,7 @@ module _ {S X : Type 0} {g : store.Ghosts S} {before after : Held S} {kept : Sta
       → (kept (state g before) → HasCleanDisk (state g after) → IsUnlimited (state g before) → HasCause (state g before) (state g after) e) → Judges g before after r kept answer
   passes_of {r} e handed cut blames why =
       subst (λ (r : Result X StoreFault). Judges g before after r kept answer) (sym (same_fault r e handed.0 handed.1))
-      (record { reads = record { crash = cut.crash; looks = tt; cut = cut }; answers = λ clean. tt; disk = blames; faults = why })
+      (record { reads = record { crash = cut.crash; looks = tt; aborts = cut }; answers = λ clean. tt; disk = blames; faults = why })
 
   -- there was no memory for what was read
   pub is_full : {r : Result X StoreFault} {e : StoreFault} → Hands r e → e ≡ fault.Memory → LeavesUnchanged (state g before) (state g after) → Judges g before after r kept answer
@@ -50,7 +43,7 @@ module _ {S X : Type 0} {g : store.Ghosts S} {before after : Held S} {kept : Sta
 
   -- it passes on the fault of its first call
   pub passes : {r : Result X StoreFault} {e : StoreFault} {Y : Type 0} {first : State → Type 0} {other : State → Y → Type 0} → Hands r e → Judges g before after (Err e) first other → (kept (state g before) → first (state g before)) → Judges g before after r kept answer
-  passes {e = e} handed it learns = passes_of e handed it.reads.cut it.disk (λ known. it.faults (learns known))
+  passes {e = e} handed it learns = passes_of e handed it.reads.aborts it.disk (λ known. it.faults (learns known))
 
   -- of a later one
   pub passes_later : {r : Result X StoreFault} {e : StoreFault} {mid : Held S} {Y : Type 0} {later : State → Type 0} {other : State → Y → Type 0} → Hands r e → LeavesUnchanged (state g before) (state g mid) → Judges g mid after (Err e) later other
@@ -59,8 +52,8 @@ module _ {S X : Type 0} {g : store.Ghosts S} {before after : Held S} {kept : Sta
       let a = state g before in
       let b = state g mid in
       let c = state g after in
-      passes_of e handed (cut_then a b c looked.goes.on it.reads.cut) (λ clean. disk_then a b c looked.goes.on (early b c _ it.reads.crash clean) e (it.disk clean))
-      (λ known clean free. next_cause a b c looked.goes.on it.reads.cut clean e (λ at_b. it.faults (learns at_b known) clean (still_unlimited a b looked.goes.on free)))
+      passes_of e handed (cut_then a b c looked.goes.on it.reads.aborts) (λ clean. disk_then a b c looked.goes.on (early b c _ it.reads.crash clean) e (it.disk clean))
+      (λ known clean free. next_cause a b c looked.goes.on it.reads.aborts clean e (λ at_b. it.faults (learns at_b known) clean (still_unlimited a b looked.goes.on free)))
 
 blamed : {X : Type 0} (old new : State) (r : Result X StoreFault) → IfErr r (Spares IsSame old new) → IfErr r (BlamesDisk old new)
 blamed old new (Ok x) spared = tt
@@ -77,8 +70,8 @@ module _ {S X : Type 0} {g : store.Ghosts S} {mid after : Held S} {r : Result X 
       record {
         reads = looked_then a b c r looked it.reads;
         answers = λ clean. on_ok r (is (early b c _ it.reads.crash clean)) (it.answers clean);
-        disk = λ clean. last_disk a b c looked.goes.on r it.reads.cut clean (it.disk clean);
-        faults = λ known. excused_then a b c looked.goes.on r it.reads.cut (λ at_b. it.faults (learns at_b known));
+        disk = λ clean. last_disk a b c looked.goes.on r it.reads.aborts clean (it.disk clean);
+        faults = λ known. excused_then a b c looked.goes.on r it.reads.aborts (λ at_b. it.faults (learns at_b known));
       }
     where
       on_ok : (r : Result X StoreFault) → ((x : X) → other (state g mid) x → answer (state g before) x) → IfOk r (other (state g mid)) → IfOk r (answer (state g before))
@@ -88,28 +81,12 @@ module _ {S X : Type 0} {g : store.Ghosts S} {mid after : Held S} {r : Result X 
   -- a call that examines rows judges them
   pub as_judged : {other : Trees → X → Type 0} → Examines g mid after r other → Judges g mid after r (λ _. ⊤) (λ s. other s.now.trees)
   as_judged it = record {
-    reads = record { crash = it.reads.crash; looks = it.reads.looks; cut = it.reads.cut };
+    reads = record { crash = it.reads.crash; looks = it.reads.looks; aborts = it.reads.aborts };
     answers = it.answers;
     disk = λ clean. blamed (state g mid) (state g after) r (it.reads.spares clean);
     faults = λ _. it.faults;
   }
 
 -- what is known of tables is known after a look
-module _ {old mid : State} (looked : LeavesUnchanged old mid) (clean : HasCleanDisk mid) where
-  pub still_in_order : StandInOrder old.now → StandInOrder mid.now
-  still_in_order ordered = subst StandInOrder (sym (looked.same clean)) ordered
-
-  pub still_before_the_day : {v : Version} → HasNoCauseBeforeTheDay v old → HasNoCauseBeforeTheDay v mid
-  still_before_the_day {v} known = record {
-    opened = opened_then old mid looked clean known.opened;
-    ordered = still_in_order known.ordered;
-    none = subst (λ (db : Database). HasNoEarlierCause v db.trees) (sym (looked.same clean)) known.none;
-  }
-
-  pub still_good : {v : Version} {own : OwnRow} → HasGoodCatalogue v own old → HasGoodCatalogue v own mid
-  still_good {v} {own} known = record {
-    opened = opened_then old mid looked clean known.opened;
-    ordered = still_in_order known.ordered;
-    own_row = subst (λ (db : Database). own_row_of v db.trees ≡ Some own) (sym (looked.same clean)) known.own_row;
-    catalogue = subst (λ (db : Database). catalogue_cell_cause v db.trees ≡ None) (sym (looked.same clean)) known.catalogue;
-  }
+pub still_known : {old mid : State} (Known : Database → Type 0) → LeavesUnchanged old mid → HasCleanDisk mid → Known old.now → Known mid.now
+still_known Known looked clean known = subst Known (sym (looked.same clean)) known

@@ -10,7 +10,7 @@ use Rattle.sqlite_trees.specs.View.{is_int}
 use Rattle.sqlite_value.specs.Order.{value_cmp}
 use Rattle.sqlite_value.proofs.OrderLemmas.{value_cmp-Int}
 use Rattle.tree_core.specs.Forest.{Forest}
-use Rattle.tree_core.specs.Versions.{Version, Links, Spans}
+use Rattle.office_tables.specs.Versions.{Version, First, Second, encoding}
 use Rattle.tree_core.specs.declared.rows.Link.{Link}
 use Rattle.tree_core.specs.declared.rows.Span.{Span}
 use Rattle.isad_core.specs.declared.values.BoxKey.{BoxKey}
@@ -57,7 +57,7 @@ numbered_ordered {R} cells first rows told has = stored_ordered cells (λ (x : �
 
 -- ---- all tables
 
-module _ (v : Version) (places : Trees → Forest ℕ → Type 0) (place : (db : Trees) (f : Forest ℕ) → places db f → StandsInOrder (db (tables.place_table v).tree)) (db : Database) (s : State) (it : RepresentsState places v db s) where
+module _ (v : Version) (places : Trees → Forest ℕ → Type 0) (place : (db : Trees) (f : Forest ℕ) → places db f → StandsInOrder (db (tables.place_table (encoding v)).tree)) (db : Database) (s : State) (it : RepresentsState places v db s) where
   office_ordered : StandsInOrder (db.trees tables.office.tree)
   office_ordered = subst StandsInOrder (sym it.catalogue.catalogue.office) (record { rise = (tt, tt); numbers = (refl, tt) })
 
@@ -107,8 +107,8 @@ module _ (v : Version) (places : Trees → Forest ℕ → Type 0) (place : (db :
         ),
       )
 
-pub links_ordered : (db : Database) (s : State) → ShownTablesStandInOrder RepresentsLinkRows Links db s
-links_ordered = shown_ordered Links RepresentsLinkRows (λ db f represents. stored_ordered link_cells (λ (l : Link). pos l.id) (λ l. refl) (db tables.link.tree) represents.links represents.rows represents.rise)
+pub links_ordered : (db : Database) (s : State) → ShownTablesStandInOrder RepresentsLinkRows First db s
+links_ordered = shown_ordered First RepresentsLinkRows (λ db f represents. stored_ordered link_cells (λ (l : Link). pos l.id) (λ l. refl) (db tables.link.tree) represents.links represents.rows represents.rise)
 
-pub spans_ordered : (db : Database) (s : State) → ShownTablesStandInOrder RepresentsSpanRows Spans db s
-spans_ordered = shown_ordered Spans RepresentsSpanRows (λ db f represents. stored_ordered span_cells (λ (l : Span). pos l.id) (λ l. refl) (db tables.span.tree) represents.spans represents.rows represents.rise)
+pub spans_ordered : (db : Database) (s : State) → ShownTablesStandInOrder RepresentsSpanRows Second db s
+spans_ordered = shown_ordered Second RepresentsSpanRows (λ db f represents. stored_ordered span_cells (λ (l : Span). pos l.id) (λ l. refl) (db tables.span.tree) represents.spans represents.rows represents.rise)

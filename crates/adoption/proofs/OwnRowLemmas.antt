@@ -4,11 +4,10 @@ use Rattle.std.proofs.Math.Nat.{le_refl}
 use Rattle.std.specs.List.{AllByRecursion, cons_option}
 use Rattle.std.specs.Option.{option_map_or}
 use Rattle.std.specs.List.Sorted.{IsPermutation}
-use Rattle.std.proofs.lemmas.Bool.{cases_Bool, both_ways, or_parts, eqb-true}
+use Rattle.std.proofs.lemmas.Bool.{cases_Bool, or_parts, eqb-true}
 use Rattle.std.proofs.lemmas.List.{length-map}
 use Rattle.std.proofs.lemmas.List.Sorted.{length_permutation}
 use Rattle.sqlite.specs.declared.types.Value.TheVariants.{Int}
-use Rattle.sqlite.specs.declared.error.Error.{Error}
 use Rattle.sqlite.specs.Order.{Row, column}
 use Rattle.sqlite.specs.Tree.{IsTable}
 use Rattle.sqlite.specs.Term.{Term, col}
@@ -16,12 +15,11 @@ use Rattle.sqlite.specs.Collation.TheVariants.{Binary}
 use Rattle.sqlite_value.specs.Keys.{ascending}
 use Rattle.sqlite_value.specs.declared.keys.Key.{Key}
 use Rattle.sqlite_value.proofs.OrderLemmas.{then-Equal, value_cmp-Int}
-use Rattle.sqlite.specs.Command.{Command}
 use Rattle.sqlite.specs.Command.TheVariants.{Select}
 use Rattle.sqlite.specs.Listing.{understood}
-use Rattle.sqlite.specs.State.{State, Shown, FailsToQuery}
-use Rattle.sqlite.proofs.Callers.{IsPlain, one_permutation}
-use Rattle.sqlite.specs.Effect.{Database}
+use Rattle.sqlite.specs.State.{State, IsLive, Shown}
+use Rattle.sqlite.proofs.Callers.{one_permutation}
+use Rattle.sqlite.specs.Effect.{Database, IsDatabase}
 use Rattle.sqlite.specs.Schema.{Schema}
 use Rattle.sqlite.specs.Table.{Table}
 use Rattle.adoption.specs.OrderedTables.{StandsInOrder, StandInOrder}
@@ -32,22 +30,18 @@ use Rattle.isad_core.specs.Days.{is_day_number}
 use Rattle.isad_core.specs.Limits.{most_unit_numbers, most_seats, most_daily, most_hands, most_run_size}
 use Rattle.isad_core.specs.Words.{is_between}
 use Rattle.isad_core.specs.Texts.{Bytes}
-use Rattle.tree_core.specs.Versions.{Version, Links, Spans, version_number}
+use Rattle.office_tables.specs.Versions.{Version, First, Second, version_number}
 use Rattle.catalogue_core.specs.CatalogueRows.{OfficeRow}
 use Rattle.office_core.specs.Soundness.{is_country, is_repository}
 use Rattle.office_core.specs.Words.{first}
 use Rattle.office_tables.specs.Cells.{has_unread, number_in, whole_in, text_in, from}
 use Rattle.office_tables.specs.CatalogueCells.{read_office}
-use Rattle.office_tables.specs.Faults.{fault_of, IsUnlimited, HasCause}
 use Rattle.office_tables.specs.StatementMeaning.{Means}
 use Rattle.office_tables.specs.Schema.{schema, office}
-use Rattle.office_tables.proofs.Causes.{read_cause, none_refuse, sums_nothing}
 use Rattle.office_tables.proofs.CellTexts.{from_first}
 use Rattle.row_decoding.proofs.ToldCells.{is_number}
-use Rattle.office_tables.proofs.Rows.{kept_all}
 use Rattle.office_tables.proofs.Queries.{asking}
-use Rattle.office_tables.proofs.statements.SelectOf.{select_rows}
-use Rattle.row_decoding.proofs.TableReads.{same_rows}
+use Rattle.row_decoding.proofs.TableReads.{in_table, was_open}
 use Rattle.row_decoding.specs.Readings.{by_rowid}
 use Rattle.state_encoding.specs.Causes.{is_good_office}
 use Rattle.state_encoding.specs.CellCauses.{no_office}
@@ -152,8 +146,8 @@ own_of_table version table =
     cond (has_unread read_office table || not (is_good_office version (office_in table))) None (Some (own_of (office_in table)))
 
 none_there : (version : Version) → own_of_table version [] ≡ None
-none_there Links = refl
-none_there Spans = refl
+none_there First = refl
+none_there Second = refl
 
 flip : (b : Bool) (x : OwnRow) → cond (not b) None (Some x) ≡ cond b (Some x) None
 flip true x = refl
@@ -201,31 +195,20 @@ many_there version a b more risen = elim (cases_Bool (has_unread read_office (a 
 abbrev pub own_text : List ℕ
 own_text = codes "SELECT one, version, seats, daily, hands, run_size, day, next_unit, country, repo FROM office ORDER BY one"
 
-abbrev own_terms : List Term
+abbrev pub own_terms : List Term
 own_terms = col 1 0 ∷ col 1 2 ∷ col 1 5 ∷ col 1 6 ∷ col 1 7 ∷ col 1 8 ∷ col 1 9 ∷ col 1 10 ∷ col 1 3 ∷ col 1 4 ∷ []
 
-abbrev by_one : List (Term × Key)
+abbrev pub by_one : List (Term × Key)
 by_one = (col 1 0, ascending Binary) ∷ []
 
-abbrev own_names : List (List ℕ)
+abbrev pub own_names : List (List ℕ)
 own_names =
     codes "one" ∷ codes "version" ∷ codes "seats" ∷ codes "daily" ∷ codes "hands" ∷ codes "run_size" ∷ codes "day" ∷ codes "next_unit" ∷ codes "country"
     ∷ codes "repo" ∷ []
 
-abbrev pub own_command : Command
-own_command = Select (asking office [] own_terms by_one) own_names
-
-pub own_means : (v : Version) → Means v own_text 0 own_command
+pub own_means : (v : Version) → Means v own_text 0 (Select (asking office [] own_terms by_one) own_names)
 unfolding understood everything
 own_means v = record { is = refl; plain = (refl, refl); whole = (le_refl _, refl, refl); unlisted = refl }
-
-pub own_cause : (old new : State) (v : Version) → old.now.schema ≡ schema v → IsUnlimited old → (e : Error) → FailsToQuery own_text [] old new e → HasCause old new (fault_of e)
-own_cause old new v has free e h =
-    read_cause own_text [] old new (schema v) has _ _ (own_means v).is (own_means v).plain (own_means v).whole (own_means v).unlisted
-    (λ db e r. none_refuse r (λ t. both_ways _ t refl) (sums_nothing _)) free e h
-
-pub own_plain : (v : Version) (old : State) → old.now.schema ≡ schema v → IsPlain (understood old.now.schema own_text)
-own_plain v old has = subst (λ s. IsPlain (understood s own_text)) (sym has) (own_means v).plain
 
 -- the row numbers of the office's table rise
 pub office_risen : (v : Version) (db : Database) → db.schema ≡ schema v → StandInOrder db → IsTable (db.trees 14)
@@ -237,13 +220,12 @@ abbrev shown_office : Row → Row
 shown_office row =
     column row 0 ∷ column row 2 ∷ column row 5 ∷ column row 6 ∷ column row 7 ∷ column row 8 ∷ column row 9 ∷ column row 10 ∷ column row 3 ∷ column row 4 ∷ []
 
-pub scanned_office : (old new : State) (rows : List Row) (v : Version) → old.now.schema ≡ schema v → Shown own_text [] old new rows
-    → (ys : List Row) × IsPermutation (old.now.trees 14) ys × (rows ≡ map shown_office ys)
-scanned_office old new rows v has shown =
-    let table = old.now.trees 14 in
-    let got = select_rows v office own_text [] own_terms by_one own_names [] (own_means v) old new has (λ (r : Row). r) table (same_rows table) (λ _. true) (λ _. refl)
-    shown_office (λ (r : Row). column r 0 ∷ []) (λ _. refl) by_rowid (λ _. refl) (λ a b. then-Equal _) rows shown in
-    (got.0, subst (λ l. IsPermutation l got.0) (kept_all table) got.1.0, got.2)
+-- the tables keep their rules, and these are the rows
+pub scanned_office : (old new : State) (rows : List Row) (v : Version) → old.now.schema ≡ schema v → IsLive old → Shown own_text [] old new rows
+    → IsDatabase old.now × (ys : List Row) × IsPermutation (old.now.trees 14) ys × (rows ≡ map shown_office ys)
+scanned_office old new rows v has live shown =
+    let got = in_table office own_terms by_one own_names own_text v (own_means v) by_rowid (λ a b. then-Equal _) old new has rows shown in
+    ((live (was_open office own_terms by_one own_names own_text v (own_means v) old new has rows shown)).0, got.0, got.1, got.3)
 
 module _ (version : Version) (ys rows : List Row) (count : ℕ) (told : Option Numbers) (shown : rows ≡ map shown_office ys) (held : AreOwnRows rows count told) where
   counted : (table : List Row) → IsPermutation table ys → count ≡ length table

@@ -1,6 +1,6 @@
 -- What comes of the question for the version.
-use Rattle.std.proofs.Common.{◌≡◌, ◌⊎◌, inl, inr, ℕ, pos, List, [], ◌∷◌, length, slice_index_or, true, false, cond, nat_eq, Option, Some, None, unwrap_or, IsSome, IsTrue, refl, sym, ap, subst, ◌∙◌}
-use Rattle.std.proofs.lemmas.Bool.{cases_Bool, eqb-true, eq-eqb}
+use Rattle.std.proofs.Common.{◌≡◌, ◌≢◌, ◌⊎◌, ◌≤◌, ◌<◌, ◌&&◌, inl, inr, ℕ, zero, suc, pos, List, [], ◌∷◌, length, slice_index_or, Bool, true, false, cond, nat_le, nat_lt, Option, Some, None, unwrap_or, IsSome, IsTrue, arith, refl, sym, ap, subst, ◌∙◌}
+use Rattle.std.proofs.lemmas.Bool.{and_cases, and_parts, leb-false, leb-true, ltb-false, ltb-true}
 use Rattle.sqlite.specs.declared.types.Value.{Value}
 use Rattle.sqlite.specs.declared.types.Value.TheVariants.{Int}
 use Rattle.sqlite.specs.Order.{Row, column}
@@ -18,12 +18,12 @@ use Rattle.office_tables.specs.declared.fault.StoreFault.TheVariants as fault
 use Rattle.office_tables.proofs.Calls.{early, unchanged_on, stopped}
 use Rattle.office_tables.proofs.Causes.{failed_cause, failed_outer}
 use Rattle.office_tables.proofs.Errors.{fails}
-use Rattle.tree_core.specs.Versions.{Version, Links, Spans, version_number}
+use Rattle.office_tables.specs.Versions.{newest, Version, First, Second, version_number}
 use Rattle.office_tables.specs.Cells.{number_in}
 use Rattle.row_decoding.proofs.ToldCells.{is_number}
 use Rattle.adoption.specs.declared.verdict.Verdict.TheVariants as verdict
 use Rattle.adoption.specs.Verdicts.{IsVersionVerdict, verdict_of_version}
-use Rattle.adoption.specs.Versions.{version_text, ShowsVersions, CannotTell, TellsVersion, TellsNoOther, other}
+use Rattle.adoption.specs.Versions.{version_text, ShowsVersions, CannotTell, IsToldVersion, TellsVersion, TellsNoOther}
 use Rattle.adoption.proofs.Asked.{understood_with}
 
 -- a query that is refused, beside the failures of the store
@@ -100,47 +100,72 @@ module _ (old new : State) where
     pub cut_by : (e : Error) → (HasCleanDisk new → FailsToQuery version_text [] old new e) → IsAborted old new
     cut_by e failed = record {
       crash = versions_crash;
-      cut = λ clean. stopped old new (inside (early old new _ versions_crash clean)) (fails version_text [] old new e (failed clean));
+      aborts = λ clean. stopped old new (inside (early old new _ versions_crash clean)) (fails version_text [] old new e (failed clean));
     }
 
 -- ---- what the version makes of the tables
 
+-- versions are numbered from 1 to the newest
+numbers_of : (version : Version) → (1 ≤ version_number version) × (version_number version ≤ version_number newest)
+numbers_of First = (omega arith, omega arith)
+numbers_of Second = (omega arith, omega arith)
+
+version_with : (n : ℕ) → 1 ≤ n → n ≤ version_number newest → (version : Version) × (version_number version ≡ n)
+version_with zero first last = absurd (omega (arith, first))
+version_with (suc zero) first last = (First, refl)
+version_with (suc (suc zero)) first last = (Second, refl)
+version_with (suc (suc (suc n))) first last = absurd (omega (arith, last))
+
 module _ (db : Database) (row : Row) (only : ShowsVersions db (row ∷ [])) where
-  tells : (cell : Value) → column row 0 ≡ cell → TellsVersion db cell
-  tells cell is = record { row = row; only = only; is = is }
+  answers : (cell : Value) → column row 0 ≡ cell → TellsVersion db cell
+  answers cell is = record { row = row; only = only; is = is }
 
-  no_other : (version : Version) → (column row 0 ≡ Int (pos (version_number (other version))) → ⊥) → TellsNoOther version db
-  no_other version not = record { cell = column row 0; told = tells (column row 0) refl; not_other = not }
+  no_other : (version : Version) → ((other : Version) → version_number other ≢ version_number version → column row 0 ≡ Int (pos (version_number other)) → ⊥) → TellsNoOther version db
+  no_other version not = record { cell = column row 0; told = answers (column row 0) refl; not_other = not }
 
-  -- it tells this number, or not
-  is_told : (n m : ℕ) → number_in (column row 0) ≡ Some n → nat_eq n m ≡ true → column row 0 ≡ Int (pos m)
-  is_told n m some same = is_number (column row 0) n some ∙ ap (λ k. Int (pos k)) (eqb-true n m same)
+  -- the number that it tells is the version's, or not
+  is_told : (n : ℕ) (version : Version) → number_in (column row 0) ≡ Some n → version_number version ≡ n → IsToldVersion version db
+  is_told n version some is = answers (Int (pos (version_number version))) (is_number (column row 0) n some ∙ ap (λ k. Int (pos k)) (sym is))
 
-  is_not_told : (n m : ℕ) → number_in (column row 0) ≡ Some n → nat_eq n m ≡ false → column row 0 ≡ Int (pos m) → ⊥
-  is_not_told n m some other is =
-      let same : n ≡ m = ap (λ o. unwrap_or o 0) (sym some ∙ ap number_in is) in
-      let clash : true ≡ false = sym (eq-eqb n m same) ∙ other in
-      absurd (cc)
+  is_number_told : (n m : ℕ) → number_in (column row 0) ≡ Some n → column row 0 ≡ Int (pos m) → n ≡ m
+  is_number_told n m some is = ap (λ o. unwrap_or o 0) (sym some ∙ ap number_in is)
 
-  links : (n : ℕ) → number_in (column row 0) ≡ Some n → IsVersionVerdict Links db (cond (nat_eq n 2) (Some verdict.NewVersion) None)
-  links n some = elim (cases_Bool (nat_eq n 2)) [
-    | inl same ↦ subst (λ b. IsVersionVerdict Links db (cond b (Some verdict.NewVersion) None)) (sym same) (tells (Int (pos 2)) (is_told n 2 some same))
-    | inr differs ↦ subst (λ b. IsVersionVerdict Links db (cond b (Some verdict.NewVersion) None)) (sym differs) (no_other Links (is_not_told n 2 some differs))
-  ]
-
-  spans : (n : ℕ) → number_in (column row 0) ≡ Some n → IsVersionVerdict Spans db (cond (nat_eq n 1) (Some verdict.OldVersion) None)
-  spans n some = elim (cases_Bool (nat_eq n 1)) [
-    | inl same ↦ subst (λ b. IsVersionVerdict Spans db (cond b (Some verdict.OldVersion) None)) (sym same) (tells (Int (pos 1)) (is_told n 1 some same))
-    | inr differs ↦ subst (λ b. IsVersionVerdict Spans db (cond b (Some verdict.OldVersion) None)) (sym differs) (no_other Spans (is_not_told n 1 some differs))
-  ]
+  number_judged : (version : Version) (n : ℕ) (older newer : Bool) → nat_le 1 n && nat_lt n (version_number version) ≡ older
+      → nat_lt (version_number version) n && nat_le n (version_number newest) ≡ newer → number_in (column row 0) ≡ Some n
+      → IsVersionVerdict version db (cond older (Some verdict.OldVersion) (cond newer (Some verdict.NewVersion) None))
+  number_judged version n true newer old new some =
+      let h = and_parts (nat_le 1 n) (nat_lt n (version_number version)) old in
+      let low : n < version_number version = ltb-true n (version_number version) h.1 in
+      let first : 1 ≤ n = leb-true 1 n h.0 in
+      let last : version_number version ≤ version_number newest = (numbers_of version).1 in
+      let older = version_with n first (omega (arith, low, last)) in
+      (older.0, subst (λ k. k < version_number version) (sym older.1) low, is_told n older.0 some older.1)
+  number_judged version n false true old new some =
+      let h = and_parts (nat_lt (version_number version) n) (nat_le n (version_number newest)) new in
+      let high : version_number version < n = ltb-true (version_number version) n h.0 in
+      let newer = version_with n (omega (arith, high)) (leb-true n (version_number newest) h.1) in
+      (newer.0, subst (λ k. version_number version < k) (sym newer.1) high, is_told n newer.0 some newer.1)
+  number_judged version n false false old new some = no_other version (λ other apart is.
+      let same : n ≡ version_number other = is_number_told n (version_number other) some is in
+      let first = (numbers_of other).0 in
+      let last = (numbers_of other).1 in
+      elim (and_cases (nat_le 1 n) (nat_lt n (version_number version)) old) [
+        | inl low ↦ let below : n < 1 = leb-false 1 n low in absurd (omega (arith, below, same, first))
+        | inr high ↦ elim (and_cases (nat_lt (version_number version) n) (nat_le n (version_number newest)) new) [
+          | inl up ↦
+              let above : version_number version ≤ n = ltb-false n (version_number version) high in
+              let not_above : n ≤ version_number version = ltb-false (version_number version) n up in
+              apart (omega (arith, above, not_above, same))
+          | inr beyond ↦ let over : version_number newest < n = leb-false n (version_number newest) beyond in absurd (omega (arith, over, same, last))
+        ]
+      ])
 
   pub version_judged : (version : Version) → IsVersionVerdict version db (verdict_of_version (version_number version) (number_in (column row 0)))
-  version_judged version = at version (number_in (column row 0)) refl
+  version_judged version = at (number_in (column row 0)) refl
     where
-      at : (version : Version) (o : Option ℕ) → number_in (column row 0) ≡ o → IsVersionVerdict version db (verdict_of_version (version_number version) o)
-      at version None none = no_other version (λ is. let clash : Some (version_number (other version)) ≡ None = ap number_in (sym is) ∙ none in absurd (cc))
-      at Links (Some n) some = links n some
-      at Spans (Some n) some = spans n some
+      at : (o : Option ℕ) → number_in (column row 0) ≡ o → IsVersionVerdict version db (verdict_of_version (version_number version) o)
+      at None none = no_other version (λ other apart is. let clash : Some (version_number other) ≡ None = ap number_in (sym is) ∙ none in absurd (cc))
+      at (Some n) some = number_judged version n _ _ refl refl some
 
 pub one_row : (rows : List Row) (row : Row) → length rows ≡ 1 → row ≡ slice_index_or rows 0 row → rows ≡ row ∷ []
 one_row [] row long first = absurd (cc)

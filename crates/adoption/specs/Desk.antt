@@ -1,7 +1,7 @@
 -- Tables of any origin represent the desk that their rows describe, if no cause holds for them, except perhaps for the
 -- rules of the day.
 use Rattle.sqlite.specs.Effect.{Database}
-use Rattle.tree_core.specs.Versions.{Version}
+use Rattle.office_tables.specs.Versions.{Version}
 use Rattle.desk_core.specs.DeskCauses.{MeetsDeskKeys}
 use Rattle.desk_store.specs.Representation.{RepresentsDesk}
 use Rattle.state_encoding.specs.CellCauses.{rows_in}

@@ -2,7 +2,7 @@
 use Rattle.std.specs.Prelude.{◌≡◌, ℕ, ℤ, cond, Option, Some, None, option_map}
 use Rattle.sqlite.specs.Tree.{Trees}
 use Rattle.isad_core.specs.Words.{is_between}
-use Rattle.tree_core.specs.Versions.{Version}
+use Rattle.office_tables.specs.Versions.{Version}
 use Rattle.desk_core.specs.declared.reader.Limits.{Limits}
 use Rattle.catalogue_core.specs.CatalogueRows.{OfficeRow}
 use Rattle.state_encoding.specs.Causes.{catalogue_tests, first_held}

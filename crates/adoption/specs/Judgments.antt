@@ -1,12 +1,13 @@
 -- What a call gives that judges tables of any origin.
 use Rattle.std.specs.Prelude.{◌≡◌, Some, None, Result, IfErr, IfOk, IsTrue}
 use Rattle.sqlite_trees.specs.declared.store.Store as store
+use Rattle.sqlite.specs.Effect.{Database, IsDatabase}
 use Rattle.sqlite.specs.Held.{Held, state}
 use Rattle.sqlite.specs.State.{State, HasCleanDisk}
-use Rattle.tree_core.specs.Versions.{Version}
+use Rattle.office_tables.specs.Versions.{Version}
 use Rattle.office_tables.specs.Faults.{BlamesDisk, FaultsHaveCause}
+use Rattle.office_tables.specs.Schema.{schema}
 use Rattle.office_tables.specs.declared.fault.StoreFault.{StoreFault}
-use Rattle.adoption.specs.Causes.{HasNoEarlierCause}
 use Rattle.adoption.specs.DeskCheck.{catalogue_cell_cause}
 use Rattle.adoption.specs.OrderedTables.{StandInOrder}
 use Rattle.adoption.specs.OwnRows.{own_row_of}
@@ -27,15 +28,11 @@ HasTransaction s = HasCleanDisk s → IsTrue s.in_transaction
 
 -- ---- what is known of tables before a part of them is judged
 
--- the rows of the open connection stand in order, and none of the causes 1 to 9 holds
-pub record HasNoCauseBeforeTheDay (version : Version) (s : State) : Type 0 where
-  pub opened : IsTrue s.is_open
-  pub ordered : StandInOrder s.now
-  pub none : HasNoEarlierCause version s.now.trees
-
--- the rows of the open connection stand in order, this is the office's own row, and none of the causes 1 to 5 holds
-pub record HasGoodCatalogue (version : Version) (own : OwnRow) (s : State) : Type 0 where
-  pub opened : IsTrue s.is_open
-  pub ordered : StandInOrder s.now
-  pub own_row : own_row_of version s.now.trees ≡ Some own
-  pub catalogue : catalogue_cell_cause version s.now.trees ≡ None
+-- they are of the version and keep its rules, their rows stand in order, this is the office's own row, and none of the
+-- causes 1 to 5 holds
+pub record HasGoodCatalogue (version : Version) (own : OwnRow) (db : Database) : Type 0 where
+  pub schema_is : db.schema ≡ schema version
+  pub live : IsDatabase db
+  pub ordered : StandInOrder db
+  pub own_row : own_row_of version db.trees ≡ Some own
+  pub catalogue : catalogue_cell_cause version db.trees ≡ None

@@ -8,7 +8,7 @@ use Rattle.sqlite.specs.Tree.{Trees}
 use Rattle.isad_core.specs.Days.{is_day_number}
 use Rattle.isad_core.specs.Limits.{most_daily, most_hands, most_run_size, most_seats, most_unit_numbers}
 use Rattle.isad_core.specs.Words.{is_between}
-use Rattle.tree_core.specs.Versions.{Version}
+use Rattle.office_tables.specs.Versions.{Version}
 use Rattle.catalogue_core.specs.CatalogueRows.{OfficeRow}
 use Rattle.office_core.specs.Soundness.{is_country, is_repository}
 use Rattle.office_tables.specs.Cells.{number_in, whole_in, text_in, from, has_unread}

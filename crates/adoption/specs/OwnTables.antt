@@ -3,7 +3,7 @@ use Rattle.std.specs.Prelude.{ℕ}
 use Rattle.sqlite.specs.Effect.{Database}
 use Rattle.sqlite.specs.Tree.{Trees}
 use Rattle.tree_core.specs.Forest.{Forest}
-use Rattle.tree_core.specs.Versions.{Version}
+use Rattle.office_tables.specs.Versions.{Version}
 use Rattle.office_core.specs.State.{State}
 use Rattle.refinement.specs.Representation.{RepresentsState}
 use Rattle.adoption.specs.OrderedTables.{StandInOrder}

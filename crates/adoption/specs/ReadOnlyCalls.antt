@@ -8,4 +8,4 @@ use Rattle.office_tables.specs.declared.fault.StoreFault.{StoreFault}
 pub record Looks {X : Type 0} (old new : State) (r : Result X StoreFault) : Type 0 where
   pub crash : Survives old new (λ _. ⊥)
   pub looks : OnOk r (LeavesUnchanged old new)
-  pub cut : OnErr r (IsAborted old new)
+  pub aborts : OnErr r (IsAborted old new)

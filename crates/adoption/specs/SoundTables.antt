@@ -1,7 +1,7 @@
 -- Tables of any origin that a live connection has, and for which no cause holds.
 use Rattle.std.specs.Prelude.{◌≡◌, None}
 use Rattle.sqlite.specs.Effect.{Database, IsDatabase}
-use Rattle.tree_core.specs.Versions.{Version}
+use Rattle.office_tables.specs.Versions.{Version}
 use Rattle.state_encoding.specs.CellCauses.{cell_cause}
 use Rattle.office_tables.specs.Schema.{schema}
 use Rattle.adoption.specs.DeskCheck.{catalogue_cell_cause, of_desk}

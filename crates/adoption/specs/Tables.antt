@@ -3,7 +3,7 @@ use Rattle.std.specs.Prelude.{◌≡◌, ℕ, false}
 use Rattle.sqlite.specs.Effect.{Database}
 use Rattle.sqlite.specs.Tree.{Trees}
 use Rattle.tree_core.specs.Forest.{Forest}
-use Rattle.tree_core.specs.Versions.{Version}
+use Rattle.office_tables.specs.Versions.{Version}
 use Rattle.desk_core.specs.declared.reader.Place.TheVariants.{Shelf}
 use Rattle.office_core.specs.SoundDesk.{AreFiled, AreGoodOrders, AreGoodSeats, AreGoodRuns, AreGoodReaders, AreGoodPermits}
 use Rattle.office_core.specs.SoundOffice.{IsSoundOffice, AreTexts}
@@ -13,15 +13,15 @@ use Rattle.state_encoding.specs.DeskSoundness.{AreGoodDeskDays}
 use Rattle.state_encoding.specs.RowSoundness.{IsSoundCatalogue}
 use Rattle.refinement.specs.AccessConditions.{CanBeJudged}
 use Rattle.refinement.specs.Representation.{RepresentsState}
-use Rattle.adoption.specs.Catalogue.{said}
+use Rattle.adoption.specs.Catalogue.{described_state}
 use Rattle.adoption.specs.SoundTables.{AreGoodTables, AreSoundTables}
 
 -- ---- without a cause
 
 -- the state that the rows describe is sound, and the tables represent it
 pub record RepresentsItsState (places : Trees → Forest ℕ → Type 0) (version : Version) (db : Database) : Type 0 where
-  pub sound : IsSoundOffice (said version db)
-  pub represents : RepresentsState places version db (said version db)
+  pub sound : IsSoundOffice (described_state version db)
+  pub represents : RepresentsState places version db (described_state version db)
 
 -- tables for which no cause holds represent the sound state that their rows describe
 abbrev pub SoundTablesRepresentTheirState : (Trees → Forest ℕ → Type 0) → Version → Database → Type 0
@@ -47,9 +47,9 @@ pub record IsSoundButForTheDay (s : State) : Type 0 where
 -- The state that the rows describe is sound except for the rules of the day, it determines who may see what, and the
 -- tables represent it.
 pub record RepresentsAGoodState (places : Trees → Forest ℕ → Type 0) (version : Version) (db : Database) : Type 0 where
-  pub sound : IsSoundButForTheDay (said version db)
-  pub judged : CanBeJudged (said version db)
-  pub represents : RepresentsState places version db (said version db)
+  pub sound : IsSoundButForTheDay (described_state version db)
+  pub judged : CanBeJudged (described_state version db)
+  pub represents : RepresentsState places version db (described_state version db)
 
 -- tables for which none of the causes 1 to 9 holds represent the state that their rows describe
 abbrev pub GoodTablesRepresentTheirState : (Trees → Forest ℕ → Type 0) → Version → Database → Type 0

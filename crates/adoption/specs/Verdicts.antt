@@ -1,8 +1,8 @@
 -- What tables of any origin are, judged as those of an office of one version. The verdict is the first that holds: no
--- office, the other version, other tables, or the least cause that holds for the rows.
-use Rattle.std.specs.Prelude.{◌≡◌, ◌≢◌, ℕ, ◌&&◌, cond, nat_eq, Option, Some, None}
+-- office, another version, other tables, or the least cause that holds for the rows.
+use Rattle.std.specs.Prelude.{◌≡◌, ◌≢◌, ◌<◌, ℕ, ◌&&◌, cond, nat_le, nat_lt, Option, Some, None}
 use Rattle.sqlite.specs.Effect.{Database}
-use Rattle.tree_core.specs.Versions.{Version, Links, Spans}
+use Rattle.office_tables.specs.Versions.{newest, Version, version_number}
 use Rattle.state_encoding.specs.CellCauses.{cell_cause}
 use Rattle.office_tables.specs.Schema.{schema}
 use Rattle.adoption.specs.OrderedTables.{StandInOrder}
@@ -21,10 +21,8 @@ pub record AreOthers (version : Version) (db : Database) : Type 0 where
 
 abbrev pub IsVerdict : Version → Database → Verdict → Type 0
 IsVerdict version db verdict.NoOffice = HasNoOffice db
-IsVerdict Links db verdict.OldVersion = ⊥
-IsVerdict Spans db verdict.OldVersion = IsToldVersion Links db
-IsVerdict Links db verdict.NewVersion = IsToldVersion Spans db
-IsVerdict Spans db verdict.NewVersion = ⊥
+IsVerdict version db verdict.OldVersion = (older : Version) × (version_number older < version_number version) × IsToldVersion older db
+IsVerdict version db verdict.NewVersion = (newer : Version) × (version_number version < version_number newer) × IsToldVersion newer db
 IsVerdict version db verdict.OtherTables = AreOthers version db
 IsVerdict version db (verdict.Unsound cause) = AreOurs version db × (StandInOrder db → cell_cause version db.trees ≡ Some cause)
 IsVerdict version db verdict.Sound = AreOurs version db × (StandInOrder db → cell_cause version db.trees ≡ None)
@@ -35,7 +33,8 @@ IsVerdict version db verdict.Sound = AreOurs version db × (StandInOrder db → 
 abbrev pub verdict_of_version : ℕ → Option ℕ → Option Verdict
 verdict_of_version own None = None
 verdict_of_version own (Some told) =
-    cond (nat_eq own 2 && nat_eq told 1) (Some verdict.OldVersion) (cond (nat_eq own 1 && nat_eq told 2) (Some verdict.NewVersion) None)
+    cond (nat_le 1 told && nat_lt told own) (Some verdict.OldVersion)
+    (cond (nat_lt own told && nat_le told (version_number newest)) (Some verdict.NewVersion) None)
 
 abbrev pub IsVersionVerdict : Version → Database → Option Verdict → Type 0
 IsVersionVerdict version db None = TellsNoOther version db

@@ -9,7 +9,7 @@ use Rattle.sqlite.specs.Listing.{understood, reads_listing, IsSourceOf}
 use Rattle.sqlite.specs.Order.{Row, column}
 use Rattle.sqlite_resolve.specs.declared.compiled.Compiled.{Compiled}
 use Rattle.sqlite_resolve.specs.declared.error.CompileError.{CompileError}
-use Rattle.tree_core.specs.Versions.{Version, Links, Spans, version_number}
+use Rattle.office_tables.specs.Versions.{Version, version_number}
 
 -- the query
 abbrev pub version_text : List ℕ
@@ -51,15 +51,11 @@ pub record TellsVersion (db : Database) (cell : Value) : Type 0 where
 abbrev pub IsToldVersion : Version → Database → Type 0
 IsToldVersion version db = TellsVersion db (Int (pos (version_number version)))
 
-abbrev pub other : Version → Version
-other Links = Spans
-other Spans = Links
-
--- they have some version, or something that is not a version, but not the other of the two
+-- they have this version, or something that is not a version
 pub record TellsNoOther (version : Version) (db : Database) : Type 0 where
   pub cell : Value
   pub told : TellsVersion db cell
-  pub not_other : cell ≢ Int (pos (version_number (other version)))
+  pub not_other : (other : Version) → version_number other ≢ version_number version → cell ≢ Int (pos (version_number other))
 
 -- the table `office` cannot be read, or does not have exactly one row
 abbrev pub HasNoOffice : Database → Type 0

@@ -1,7 +1,7 @@
 //! Laws of the checks of an office's tables. Each function does nothing; its contract is the law.
 
 ghost use Rattle.sqlite.specs.Tree.{Trees};
-ghost use Rattle.tree_core.specs.Versions.{Version};
+ghost use Rattle.office_tables.specs.Versions.{Version};
 ghost use Rattle.adoption.specs.Causes.{CatalogueChecksTellTheCause};
 ghost use Rattle.std.specs.Prelude.{ℤ};
 ghost use Rattle.desk_core.specs.declared.reader.Limits.{Limits};

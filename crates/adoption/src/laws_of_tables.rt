@@ -8,7 +8,7 @@ ghost use Rattle.adoption.specs.OwnTables.{ShownTablesStandInOrder};
 ghost use Rattle.adoption.specs.Tables.{GoodTablesRepresentTheirState, SoundTablesRepresentTheirState};
 ghost use Rattle.nested_sets.specs.Representation.{RepresentsSpanRows};
 ghost use Rattle.sqlite.specs.Effect.{Database};
-ghost use Rattle.tree_core.specs.Versions.{Links, Spans, Version};
+ghost use Rattle.office_tables.specs.Versions.{Version, First, Second};
 
 use integrity_checks::CheckedPlaces;
 
@@ -36,10 +36,10 @@ pub fn sound_tables_represent_their_state<P: CheckedPlaces>()
 
 /// The rows of the tables of an office of version 1 stand in order, as tables that are opened must.
 pub fn tables_of_links_stand_in_order()
-    ensures { (db : Database) (s : State) → ShownTablesStandInOrder RepresentsLinkRows Links db s }
+    ensures { (db : Database) (s : State) → ShownTablesStandInOrder RepresentsLinkRows First db s }
 {}
 
 /// The rows of the tables of an office of version 2 stand in order, as tables that are opened must.
 pub fn tables_of_spans_stand_in_order()
-    ensures { (db : Database) (s : State) → ShownTablesStandInOrder RepresentsSpanRows Spans db s }
+    ensures { (db : Database) (s : State) → ShownTablesStandInOrder RepresentsSpanRows Second db s }
 {}

@@ -1,14 +1,14 @@
 //! The office's own row.
 
-ghost use Rattle.std.specs.Prelude.{◌≡◌, false, true, Some, ⊤, IsTrue};
+ghost use Rattle.std.specs.Prelude.{◌≡◌, false, true, Some, ⊤};
 ghost use Rattle.std.specs.List.{list_all};
 ghost use Rattle.std.specs.Option.{option_map_or};
-ghost use Rattle.sqlite.specs.Held.{state};
+ghost use Rattle.sqlite.specs.Effect.{IsDatabase};
 ghost use Rattle.sqlite.specs.Value.{owned};
 ghost use Rattle.isad_core.specs.Words.{is_between};
 ghost use Rattle.office_core.specs.Soundness.{is_country as is_country_code, is_repository as is_repository_code};
 ghost use Rattle.office_tables.specs.Cells.{text_in};
-ghost use Rattle.office_tables.specs.Step.{InTransaction};
+ghost use Rattle.office_tables.specs.Schema.{schema};
 ghost use Rattle.adoption.specs.Judgments.{Judges};
 ghost use Rattle.adoption.specs.OwnRows.{are_good_numbers, are_good_texts, numbers_said, numbers_told};
 ghost use Rattle.adoption.specs.OwnRows.{own_from as own_of_numbers, own_judged, own_row_of};
@@ -17,10 +17,10 @@ ghost use Rattle.adoption.specs.OrderedTables.{StandInOrder};
 use catalogue_store::Places;
 use desk_core::Limits;
 use isad_core::{Day, is_day, limits};
-use office_tables::{Gathering, StoreFault, gather};
+use office_tables::{Gathering, StoreFault, Tables, gather};
 use row_decoding::{cell, number_in, whole_in};
 use sqlite::types::ValueRef;
-use sqlite::{Alter, Connection, Row};
+use sqlite::{Alter, Row};
 
 /// What the checks of the other tables need from the office's own row.
 #[derive(Clone, Copy, Debug)]
@@ -186,16 +186,17 @@ impl Gathering for OwnRows {
     }
 }
 
-/// Reads the office's own row. Returns none if no office of this version has such a row.
+/// Reads the office's own row. Returns none if no office of this version has such a row. If it was read, the tables
+/// keep the rules of their version.
 pub(crate) fn own_row<P: Places, S: Alter>(
-    conn: &mut Connection<S>,
+    tables: &mut Tables<P, S>,
 ) -> Result<Option<OwnRow>, StoreFault>
-    requires inside { InTransaction P.version (state S.Store conn.old) }
-    ensures { Judges S.Store conn.old conn.new result (λ _. ⊤) (λ s found. IsTrue s.is_open
+    ensures { Judges S.Store tables.old tables.new result (λ _. ⊤) (λ s found.
+        (s.now.schema ≡ schema P.version) × IsDatabase s.now
         × (StandInOrder s.now → found ≡ own_row_of P.version s.now.trees)) }
 {
     let all = gather(
-        conn,
+        tables,
         "SELECT one, version, seats, daily, hands, run_size, day, next_unit, country, repo FROM office ORDER BY one",
         OwnRows {
             count: 0,
@@ -205,11 +206,11 @@ pub(crate) fn own_row<P: Places, S: Alter>(
     if all.count != 1 {
         return Ok(None);
     }
-    Ok(judged(P::number(), all.told))
+    Ok(valid_row(P::number(), all.told))
 }
 
 /// The office's own row with these numbers, if an office of this version may have them.
-fn judged(version: u64, told: Option<Numbers>) -> Option<OwnRow>
+fn valid_row(version: u64, told: Option<Numbers>) -> Option<OwnRow>
     ensures { result ≡ own_judged version told }
 {
     let numbers = told?;

@@ -50,7 +50,7 @@ pub(crate) fn are_ours<P: Places, S: Alter>(
     alloc: Global,
     conn: &Connection<S>,
 ) -> Result<bool, StoreFault>
-    ensures tells { IfOk result (λ yes. IsTrue yes ↔ ((state S.Store conn.now).now.schema ≡ schema P.version)) }
+    ensures answers { IfOk result (λ yes. IsTrue yes ↔ ((state S.Store conn.now).now.schema ≡ schema P.version)) }
     ensures memory { IfErr result (λ e. e ≡ StoreFault.Memory) }
 {
     // A store in memory fails only for want of memory.

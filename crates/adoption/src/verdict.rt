@@ -7,9 +7,9 @@ pub enum Verdict {
     Sound,
     /// The table `office` cannot be read, or does not have exactly one row.
     NoOffice,
-    /// They are of version 1, but version 2 was expected.
+    /// They are of an older version than was expected.
     OldVersion,
-    /// They are of version 2, but version 1 was expected.
+    /// They are of a newer version than was expected.
     NewVersion,
     /// They are not this product's.
     OtherTables,

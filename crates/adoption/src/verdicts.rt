@@ -14,26 +14,27 @@ use crate::own_row::{OwnRow, own_row};
 use crate::own_tables::are_ours;
 use crate::verdict::Verdict;
 use crate::version::judge_version;
+use core::mem::replace_with;
 use integrity_checks::{CheckedPlaces, load_check, load_check_desk};
-use office_tables::StoreFault;
+use office_tables::{StoreFault, Tables};
 use sqlite::{Alter, Connection};
 use std::alloc::Global;
+use std::marker::PhantomData;
 
 /// The least of the desk's causes and the rules of the day that holds, or none. Assumes that none of the catalogue's
 /// causes holds.
 fn desk_cause<P: CheckedPlaces, S: Alter>(
     alloc: Global,
-    conn: &mut Connection<S>,
+    tables: &mut Tables<P, S>,
     own: &OwnRow,
 ) -> Result<Option<u8>, StoreFault>
-    requires inside { InTransaction P.version (state S.Store conn.old) }
-    ensures { Judges S.Store conn.old conn.new result (HasGoodCatalogue P.version own.now)
-        (λ s cause. HasGoodCatalogue P.version own.now s → cause ≡ cell_cause P.version s.now.trees) }
+    ensures { Judges S.Store tables.old tables.new result (λ s. HasGoodCatalogue P.version own.now s.now)
+        (λ s cause. HasGoodCatalogue P.version own.now s.now → cause ≡ cell_cause P.version s.now.trees) }
 {
-    if let Some(defect) = load_check_desk(alloc, conn, &own.limits, own.today)? {
+    if let Some(defect) = load_check_desk(alloc, tables, &own.limits, own.today)? {
         return Ok(Some(defect.cause()));
     }
-    if breaks_day_rules::<P, S>(alloc, conn, own)? {
+    if breaks_day_rules(alloc, tables, own)? {
         return Ok(Some(10));
     }
     Ok(None)
@@ -42,19 +43,34 @@ fn desk_cause<P: CheckedPlaces, S: Alter>(
 /// The least of the ten causes that holds for the rows, or none.
 fn least_cause<P: CheckedPlaces, S: Alter>(
     alloc: Global,
-    conn: &mut Connection<S>,
+    tables: &mut Tables<P, S>,
 ) -> Result<Option<u8>, StoreFault>
-    requires inside { InTransaction P.version (state S.Store conn.old) }
-    ensures { Judges S.Store conn.old conn.new result (λ s. StandInOrder s.now)
+    ensures { Judges S.Store tables.old tables.new result (λ s. StandInOrder s.now)
         (λ s cause. StandInOrder s.now → cause ≡ cell_cause P.version s.now.trees) }
 {
-    let Some(own) = own_row::<P, S>(conn)? else {
+    let Some(own) = own_row(tables)? else {
         return Ok(Some(1));
     };
-    if let Some(defect) = load_check::<P, S>(alloc, conn, own.next_unit)? {
+    if let Some(defect) = load_check(alloc, tables, own.next_unit)? {
         return Ok(Some(defect.cause()));
     }
-    desk_cause::<P, S>(alloc, conn, &own)
+    desk_cause(alloc, tables, &own)
+}
+
+/// The same, for a connection whose tables are known to be ours. It is given back. The last of what is given only says
+/// how places are stored.
+fn cause_inside<P: CheckedPlaces, S: Alter>(
+    conn: Connection<S>,
+    given: (Global, PhantomData<P>),
+) -> (Connection<S>, Result<Option<u8>, StoreFault>)
+    requires inside { InTransaction P.version (state S.Store conn) }
+    ensures { Judges S.Store conn result.0 result.1 (λ s. StandInOrder s.now)
+        (λ s cause. StandInOrder s.now → cause ≡ cell_cause P.version s.now.trees) }
+{
+    let (alloc, _) = given;
+    let mut tables: Tables<P, S> = Tables::inside(conn);
+    let cause = least_cause(alloc, &mut tables);
+    (tables.into_connection(), cause)
 }
 
 /// Judges what the tables are, inside a transaction. Reads all of them, unless the verdict is found before, and changes
@@ -73,7 +89,7 @@ pub fn judge<P: CheckedPlaces, S: Alter>(
     if !are_ours::<P, S>(alloc, conn)? {
         return Ok(Verdict::OtherTables);
     }
-    match least_cause::<P, S>(alloc, conn)? {
+    match replace_with(conn, (alloc, PhantomData), cause_inside::<P, S>)? {
         Some(cause) => Ok(Verdict::Unsound(cause)),
         None => Ok(Verdict::Sound),
     }

@@ -9,7 +9,7 @@ ghost use Rattle.adoption.specs.Versions.{AreVersions};
 
 use crate::verdict::Verdict;
 use catalogue_store::Places;
-use office_tables::StoreFault;
+use office_tables::{NEWEST_VERSION, StoreFault};
 use row_decoding::{cell, number_in};
 use sqlite::{Alter, Connection, Row};
 
@@ -28,18 +28,21 @@ fn versions<S: Alter>(conn: &mut Connection<S>) -> Result<Option<Vec<Row>>, Stor
     }
 }
 
-/// The verdict on tables that have the version `told` and were expected to have `own`, if that is the other of the two.
+/// The verdict on tables that have the version `told` and were expected to have `own`, if that is another of ours.
 fn other_version(own: u64, told: Option<u64>) -> Option<Verdict>
     ensures { result ≡ verdict_of_version own told }
 {
-    match (own, told) {
-        (2, Some(1)) => Some(Verdict::OldVersion),
-        (1, Some(2)) => Some(Verdict::NewVersion),
-        _ => None,
+    let told = told?;
+    if 1 <= told && told < own {
+        Some(Verdict::OldVersion)
+    } else if own < told && told <= NEWEST_VERSION {
+        Some(Verdict::NewVersion)
+    } else {
+        None
     }
 }
 
-/// The verdict on the tables by their version, or none if that is not the other of the two. It is `NoOffice` if the
+/// The verdict on the tables by their version, or none if that is not another of ours. It is `NoOffice` if the
 /// table `office` cannot be read or does not have exactly one row.
 pub(crate) fn judge_version<P: Places, S: Alter>(
     conn: &mut Connection<S>,

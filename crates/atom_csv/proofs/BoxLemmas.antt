@@ -16,7 +16,7 @@ use Rattle.std.proofs.Math.Seq.{take-suc}
 use Rattle.std.proofs.Math.Bool.{and_assoc}
 use Rattle.isad_core.specs.Texts.{Bytes}
 use Rattle.isad_core.proofs.BoxLemmas.{distinct_more, stood_more}
-use Rattle.atom_csv.specs.Fields.{is_empty, seen}
+use Rattle.atom_csv.specs.Fields.{is_empty, borrowed_fields}
 use Rattle.isad_core.specs.declared.values.BoxKey.{BoxKey}
 use Rattle.isad_core.specs.Boxes.{distinct, is_same}
 use Rattle.atom_csv.specs.Values.{entry_at, is_named_box, triple, triples}
@@ -70,35 +70,35 @@ has_more old new k updates q =
 
 -- ---- one more container
 
-length_seen : (xs : List (Bor Bytes)) → length (seen xs) ≡ length xs
+length_seen : (xs : List (Bor Bytes)) → length (borrowed_fields xs) ≡ length xs
 length_seen [] = refl
 length_seen (x ∷ xs) = ap suc (length_seen xs)
 
 -- the triples, one more at a time
 triples_more : (names : List (Bor Bytes)) (locations kinds : List Bytes) (i : ℕ) (d : Bor Bytes) → i < length names
-    → take (i + 1) (triples (seen names) locations kinds)
-    ≡ take i (triples (seen names) locations kinds) ++ key (get_or names i d).now (entry_at locations i) (entry_at kinds i) ∷ []
+    → take (i + 1) (triples (borrowed_fields names) locations kinds)
+    ≡ take i (triples (borrowed_fields names) locations kinds) ++ key (get_or names i d).now (entry_at locations i) (entry_at kinds i) ∷ []
 triples_more names locations kinds i d lt =
     let next : i + 1 ≡ suc i = omega arith in
-    let long : length (triples (seen names) locations kinds) ≡ length names =
-    length-map (enumerate_from 0 (seen names)) (triple locations kinds) ∙ (length-enumerate_from 0 (seen names) ∙ length_seen names) in
-    let there : i < length (seen names) = subst (λ n. i < n) (sym (length_seen names)) lt in
-    let within : i < length (triples (seen names) locations kinds) = subst (λ n. i < n) (sym long) lt in
+    let long : length (triples (borrowed_fields names) locations kinds) ≡ length names =
+    length-map (enumerate_from 0 (borrowed_fields names)) (triple locations kinds) ∙ (length-enumerate_from 0 (borrowed_fields names) ∙ length_seen names) in
+    let there : i < length (borrowed_fields names) = subst (λ n. i < n) (sym (length_seen names)) lt in
+    let within : i < length (triples (borrowed_fields names) locations kinds) = subst (λ n. i < n) (sym long) lt in
     let zero_i : 0 + i ≡ i = omega arith in
-    ap (λ n. take n (triples (seen names) locations kinds)) next
-    ∙ (take-suc (triples (seen names) locations kinds) i (triple locations kinds (0, d.now)) within
-    ∙ ap (λ b. take i (triples (seen names) locations kinds) ++ b ∷ [])
-    (get_or-map (triple locations kinds) (enumerate_from 0 (seen names)) i (0, d.now)
-    ∙ (ap (triple locations kinds) (get_or-enumerate_from 0 (seen names) i (0, d.now) there)
+    ap (λ n. take n (triples (borrowed_fields names) locations kinds)) next
+    ∙ (take-suc (triples (borrowed_fields names) locations kinds) i (triple locations kinds (0, d.now)) within
+    ∙ ap (λ b. take i (triples (borrowed_fields names) locations kinds) ++ b ∷ [])
+    (get_or-map (triple locations kinds) (enumerate_from 0 (borrowed_fields names)) i (0, d.now)
+    ∙ (ap (triple locations kinds) (get_or-enumerate_from 0 (borrowed_fields names) i (0, d.now) there)
     ∙ ap₂ (λ n text. triple locations kinds (n, text)) zero_i (get_or-map (λ (x : Bor Bytes). x.now) names i d))))
 
 -- the triples with a name, one more
 pub named_more : (names : List (Bor Bytes)) (locations kinds : List Bytes) (i : ℕ) (d : Bor Bytes) → i < length names
-    → filter is_named_box (take i (triples (seen names) locations kinds))
+    → filter is_named_box (take i (triples (borrowed_fields names) locations kinds))
     ++ (if is_empty (get_or names i d).now then [] else key (get_or names i d).now (entry_at locations i) (entry_at kinds i) ∷ [])
-    ≡ filter is_named_box (take (i + 1) (triples (seen names) locations kinds))
+    ≡ filter is_named_box (take (i + 1) (triples (borrowed_fields names) locations kinds))
 named_more names locations kinds i d lt =
-    let before = take i (triples (seen names) locations kinds) in
+    let before = take i (triples (borrowed_fields names) locations kinds) in
     let b = key (get_or names i d).now (entry_at locations i) (entry_at kinds i) in
     ap (λ bs. filter is_named_box before ++ bs) (go (is_empty (get_or names i d).now))
     ∙ sym (ap (filter is_named_box) (triples_more names locations kinds i d lt) ∙ filter-append is_named_box before (b ∷ []))
@@ -163,17 +163,17 @@ holds_added old new boxes after told b item is_new there added is told_new same 
     subst (λ bs. Holds new bs (told ++ (if is_empty b.name then [] else b ∷ []))) (sym (pushed ∙ ap (λ x. boxes ++ x ∷ []) same))
     (named_told new (boxes ++ b ∷ []) told b there (holds_new old new boxes told b h added (not_true (has old b) (sym told_new ∙ is))))
 
-pub length-triples : (names : List (Bor Bytes)) (locations kinds : List Bytes) → length (triples (seen names) locations kinds) ≡ length names
+pub length-triples : (names : List (Bor Bytes)) (locations kinds : List Bytes) → length (triples (borrowed_fields names) locations kinds) ≡ length names
 length-triples names locations kinds =
-    length-map (enumerate_from 0 (seen names)) (triple locations kinds) ∙ (length-enumerate_from 0 (seen names) ∙ length_seen names)
+    length-map (enumerate_from 0 (borrowed_fields names)) (triple locations kinds) ∙ (length-enumerate_from 0 (borrowed_fields names) ∙ length_seen names)
 
 pub holds_more : (names : List (Bor Bytes)) (locations kinds : List Bytes) (i : ℕ) (d : Bor Bytes) (known : Set) (boxes : List BoxKey) (location kind : Bytes) → i < length names
     → location ≡ entry_at locations i → kind ≡ entry_at kinds i
-    → Holds known boxes (filter is_named_box (take i (triples (seen names) locations kinds))
+    → Holds known boxes (filter is_named_box (take i (triples (borrowed_fields names) locations kinds))
     ++ (if is_empty (get_or names i d).now then [] else key (get_or names i d).now location kind ∷ []))
-    → Holds known boxes (filter is_named_box (take (i + 1) (triples (seen names) locations kinds)))
+    → Holds known boxes (filter is_named_box (take (i + 1) (triples (borrowed_fields names) locations kinds)))
 holds_more names locations kinds i d known boxes location kind lt place sort h =
     subst (Holds known boxes)
-    (ap₂ (λ l k. filter is_named_box (take i (triples (seen names) locations kinds)) ++ (if is_empty (get_or names i d).now then [] else key (get_or names i d).now l k ∷ [])) place sort
+    (ap₂ (λ l k. filter is_named_box (take i (triples (borrowed_fields names) locations kinds)) ++ (if is_empty (get_or names i d).now then [] else key (get_or names i d).now l k ∷ [])) place sort
     ∙ named_more names locations kinds i d lt)
     h

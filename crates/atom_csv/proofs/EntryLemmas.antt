@@ -4,10 +4,10 @@ use Rattle.std.specs.Prelude.{◌==◌, codes, if◌then◌else◌, not}
 use Rattle.std.proofs.lemmas.List.Elements.{filter-append}
 use Rattle.std.proofs.lemmas.Bool.{ne_eqb}
 use Rattle.isad_core.specs.Texts.{Bytes}
-use Rattle.atom_csv.specs.Fields.{is_empty, seen}
-use Rattle.atom_csv.specs.Entries.{entry_of, filled, joined, with_entry}
+use Rattle.atom_csv.specs.Fields.{is_empty, borrowed_fields}
+use Rattle.atom_csv.specs.Entries.{entry_of, nonblank_entries, joined, with_entry}
 
-pub entries_seen : (parts : List (Bor Bytes)) → map (λ part. entry_of part.now) parts ≡ map entry_of (seen parts)
+pub entries_seen : (parts : List (Bor Bytes)) → map (λ part. entry_of part.now) parts ≡ map entry_of (borrowed_fields parts)
 entries_seen [] = refl
 entries_seen (p ∷ ps) = ap (λ es. entry_of p.now ∷ es) (entries_seen ps)
 
@@ -35,15 +35,15 @@ joined_there e (d ∷ es) there = front_there (e ++ codes "; ") (joined (d ∷ e
 Starts : List Bytes → Type 0
 Starts es = (es ≡ []) ⊎ ((e : Bytes) × (rest : List Bytes) × (es ≡ e ∷ rest) × (is_empty e ≡ false))
 
-filled_starts : (es : List Bytes) → Starts (filled es)
+filled_starts : (es : List Bytes) → Starts (nonblank_entries es)
 unfolding Starts
 filled_starts [] = inl refl
 filled_starts (e ∷ es) = go (is_empty e) refl (filled_starts es)
   where
-    go : (b : Bool) → is_empty e ≡ b → (filled es ≡ []) ⊎ ((f : Bytes) × (rest : List Bytes) × (filled es ≡ f ∷ rest) × (is_empty f ≡ false))
-        → (cond (not b) (e ∷ filled es) (filled es) ≡ []) ⊎ ((f : Bytes) × (rest : List Bytes) × (cond (not b) (e ∷ filled es) (filled es) ≡ f ∷ rest) × (is_empty f ≡ false))
+    go : (b : Bool) → is_empty e ≡ b → (nonblank_entries es ≡ []) ⊎ ((f : Bytes) × (rest : List Bytes) × (nonblank_entries es ≡ f ∷ rest) × (is_empty f ≡ false))
+        → (cond (not b) (e ∷ nonblank_entries es) (nonblank_entries es) ≡ []) ⊎ ((f : Bytes) × (rest : List Bytes) × (cond (not b) (e ∷ nonblank_entries es) (nonblank_entries es) ≡ f ∷ rest) × (is_empty f ≡ false))
     go true is later = later
-    go false is later = inr (e, filled es, refl, is)
+    go false is later = inr (e, nonblank_entries es, refl, is)
 
 -- one more entry that is not blank
 added_there : (fs : List Bytes) (e : Bytes) → Starts fs → (if is_empty (joined fs) then e else joined fs ++ codes "; " ++ e) ≡ joined (fs ++ e ∷ [])
@@ -57,19 +57,19 @@ added_there fs e starts = elim starts [
       ∙ (sym (joined_more f rest e) ∙ sym (ap (λ (gs : List Bytes). joined (gs ++ e ∷ [])) is)))
 ]
 
-added : (es : List Bytes) (e : Bytes) → with_entry (joined (filled es)) e ≡ joined (filled (es ++ e ∷ []))
+added : (es : List Bytes) (e : Bytes) → with_entry (joined (nonblank_entries es)) e ≡ joined (nonblank_entries (es ++ e ∷ []))
 added es e = go (is_empty e) refl ∙ ap joined (sym (filter-append _ es (e ∷ [])))
   where
     go : (b : Bool) → is_empty e ≡ b
-        → (if b then joined (filled es) else if is_empty (joined (filled es)) then e else joined (filled es) ++ codes "; " ++ e) ≡ joined (filled es ++ cond (not b) (e ∷ []) [])
-    go true is = ap joined (sym (append-nil (filled es)))
-    go false is = added_there (filled es) e (filled_starts es)
+        → (if b then joined (nonblank_entries es) else if is_empty (joined (nonblank_entries es)) then e else joined (nonblank_entries es) ++ codes "; " ++ e) ≡ joined (nonblank_entries es ++ cond (not b) (e ∷ []) [])
+    go true is = ap joined (sym (append-nil (nonblank_entries es)))
+    go false is = added_there (nonblank_entries es) e (filled_starts es)
 
 -- entries added in turn are the entries joined
-joined_from : (es fs : List Bytes) → fold with_entry (joined (filled es)) fs ≡ joined (filled (es ++ fs))
-joined_from es [] = ap (λ gs. joined (filled gs)) (sym (append-nil es))
+joined_from : (es fs : List Bytes) → fold with_entry (joined (nonblank_entries es)) fs ≡ joined (nonblank_entries (es ++ fs))
+joined_from es [] = ap (λ gs. joined (nonblank_entries gs)) (sym (append-nil es))
 joined_from es (f ∷ fs) =
-    ap (λ t. fold with_entry t fs) (added es f) ∙ (joined_from (es ++ f ∷ []) fs ∙ ap (λ gs. joined (filled gs)) (append_assoc es (f ∷ []) fs))
+    ap (λ t. fold with_entry t fs) (added es f) ∙ (joined_from (es ++ f ∷ []) fs ∙ ap (λ gs. joined (nonblank_entries gs)) (append_assoc es (f ∷ []) fs))
 
-pub fold_joined : (fs : List Bytes) → fold with_entry [] fs ≡ joined (filled fs)
+pub fold_joined : (fs : List Bytes) → fold with_entry [] fs ≡ joined (nonblank_entries fs)
 fold_joined fs = joined_from [] fs

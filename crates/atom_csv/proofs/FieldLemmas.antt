@@ -13,7 +13,7 @@ use Rattle.isad_core.specs.Texts.{Bytes}
 use Rattle.atom_csv.specs.Columns.{columns, name_of}
 use Rattle.atom_csv.specs.FileContents.{has_twice}
 use Rattle.atom_csv.specs.declared.column.Column.{Column}
-use Rattle.atom_csv.specs.Fields.{Fields, is_blank, is_empty, field_in, field_under, is_named, place_of, places_in, seen, trimmed, value}
+use Rattle.atom_csv.specs.Fields.{Fields, is_blank, is_empty, field_in, field_under, is_named, place_of, places_in, borrowed_fields, trimmed, value}
 
 shift : {X : Type 0} (p : X → Bool) (i : ℕ) (xs : List X) → position_from p (i + 1) xs ≡ option_map (λ k. k + 1) (position_from p i xs)
 shift p i [] = refl
@@ -24,19 +24,19 @@ shift p i (x ∷ xs) = go (p x) (shift p (i + 1) xs)
     go true later = refl
     go false later = later
 
-seen_from : (p : Bytes → Bool) (i : ℕ) (xs : List (Bor Bytes)) → position_from (λ x. p x.now) i xs ≡ position_from p i (seen xs)
+seen_from : (p : Bytes → Bool) (i : ℕ) (xs : List (Bor Bytes)) → position_from (λ x. p x.now) i xs ≡ position_from p i (borrowed_fields xs)
 seen_from p i [] = refl
 seen_from p i (x ∷ xs) = ap (λ o. cond (p x.now) (Some i) o) (seen_from p (i + 1) xs)
 
-place_seen : (name : Bytes) (xs : List (Bor Bytes)) → position (λ x. is_named name x.now) xs ≡ place_of name (seen xs)
+place_seen : (name : Bytes) (xs : List (Bor Bytes)) → position (λ x. is_named name x.now) xs ≡ place_of name (borrowed_fields xs)
 place_seen name xs =
-    position_from-zero (λ (x : Bor Bytes). is_named name x.now) xs ∙ (seen_from (is_named name) 0 xs ∙ sym (position_from-zero (is_named name) (seen xs)))
+    position_from-zero (λ (x : Bor Bytes). is_named name x.now) xs ∙ (seen_from (is_named name) 0 xs ∙ sym (position_from-zero (is_named name) (borrowed_fields xs)))
 
-places_from : (cs : List Column) (xs : List (Bor Bytes)) → map (λ k. position (λ x. is_named (name_of k) x.now) xs) cs ≡ map (λ k. place_of (name_of k) (seen xs)) cs
+places_from : (cs : List Column) (xs : List (Bor Bytes)) → map (λ k. position (λ x. is_named (name_of k) x.now) xs) cs ≡ map (λ k. place_of (name_of k) (borrowed_fields xs)) cs
 places_from [] xs = refl
 places_from (k ∷ ks) xs = ap₂ (λ o os. o ∷ os) (place_seen (name_of k) xs) (places_from ks xs)
 
-pub places_seen : (xs : List (Bor Bytes)) → map (λ k. position (λ x. is_named (name_of k) x.now) xs) columns ≡ places_in (seen xs)
+pub places_seen : (xs : List (Bor Bytes)) → map (λ k. position (λ x. is_named (name_of k) x.now) xs) columns ≡ places_in (borrowed_fields xs)
 places_seen xs = places_from columns xs
 
 -- the field in a column's place is the one under its name
@@ -117,18 +117,18 @@ blank_more fs i f e blank before =
 
 -- ---- names in a header
 
-pub column_seen : (p : Bytes → Bool) (xs : List (Bor Bytes)) → list_any (λ x. p x.now) xs ≡ list_any p (seen xs)
+pub column_seen : (p : Bytes → Bool) (xs : List (Bor Bytes)) → list_any (λ x. p x.now) xs ≡ list_any p (borrowed_fields xs)
 column_seen p [] = refl
 column_seen p (x ∷ xs) = ap (λ b. p x.now || b) (column_seen p xs)
 
-count_from : (p : Bytes → Bool) (n : ℕ) (xs : List (Bor Bytes)) → fold (λ a x. a + cond (p x.now) 1 0) n xs ≡ fold (λ a x. a + cond (p x) 1 0) n (seen xs)
+count_from : (p : Bytes → Bool) (n : ℕ) (xs : List (Bor Bytes)) → fold (λ a x. a + cond (p x.now) 1 0) n xs ≡ fold (λ a x. a + cond (p x) 1 0) n (borrowed_fields xs)
 count_from p n [] = refl
 count_from p n (x ∷ xs) = count_from p (n + cond (p x.now) 1 0) xs
 
 twice_from : (ks : List Column) (xs : List (Bor Bytes))
-    → list_any (λ k. nat_lt 1 (count_by (λ x. is_named (name_of k) x.now) xs)) ks ≡ list_any (λ k. nat_lt 1 (count_by (is_named (name_of k)) (seen xs))) ks
+    → list_any (λ k. nat_lt 1 (count_by (λ x. is_named (name_of k) x.now) xs)) ks ≡ list_any (λ k. nat_lt 1 (count_by (is_named (name_of k)) (borrowed_fields xs))) ks
 twice_from [] xs = refl
 twice_from (k ∷ ks) xs = ap₂ (λ a b. nat_lt 1 a || b) (count_from (is_named (name_of k)) 0 xs) (twice_from ks xs)
 
-pub twice_seen : (xs : List (Bor Bytes)) → list_any (λ k. nat_lt 1 (count_by (λ x. is_named (name_of k) x.now) xs)) columns ≡ has_twice (seen xs)
+pub twice_seen : (xs : List (Bor Bytes)) → list_any (λ k. nat_lt 1 (count_by (λ x. is_named (name_of k) x.now) xs)) columns ≡ has_twice (borrowed_fields xs)
 twice_seen xs = twice_from columns xs

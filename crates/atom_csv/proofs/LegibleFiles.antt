@@ -13,7 +13,7 @@ use Rattle.isad_core.specs.declared.element.Element.TheVariants as element
 use Rattle.csv.specs.Reading.{default_config, records, strip_bom}
 use Rattle.atom_csv.specs.Causes.{number_of}
 use Rattle.atom_csv.specs.Columns.{columns_of, is_split, name_of}
-use Rattle.atom_csv.specs.Entries.{entries, entry_of, filled, joined, parts_of}
+use Rattle.atom_csv.specs.Entries.{entries, entry_of, nonblank_entries, joined, parts_of}
 use Rattle.atom_csv.specs.Fields.{Fields, field_under, is_blank, is_empty, is_named, trim_start, trimmed, value}
 use Rattle.atom_csv.specs.FileContents.{Fault, below, faults, file_of, header_causes, is_told_again, lines_below, of_records, or_fault, records_of, row_of, row_told, rows, translations, under}
 use Rattle.atom_csv.specs.FileProperties.{IsLegibleRow, AreLegibleRows}
@@ -145,7 +145,7 @@ columns_legible header fields h (k ∷ ks) =
 text_legible : (header fields : Fields) (e : Element) → AllByRecursion IsUtf8 fields → IsUtf8 (text_of header fields e)
 text_legible header fields e h =
     let told = flat_map (λ k. told_by k (value k header fields)) (columns_of e) in
-    joined_legible (filled told) (all_filter IsUtf8 (λ entry. not (is_empty entry)) told (columns_legible header fields h (columns_of e)))
+    joined_legible (nonblank_entries told) (all_filter IsUtf8 (λ entry. not (is_empty entry)) told (columns_legible header fields h (columns_of e)))
 
 some_legible : (text : Bytes) → IsUtf8 text → IfSome (nonblank text) IsUtf8
 some_legible text u = at (is_empty text)

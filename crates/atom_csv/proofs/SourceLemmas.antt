@@ -11,19 +11,19 @@ use Rattle.csv.specs.declared.parser.Config.{Config}
 use Rattle.csv.specs.declared.parser.State.{State}
 use Rattle.csv.proofs.ReadFacts.{rows-end, rows-more}
 use Rattle.isad_core.specs.Texts.{Bytes}
-use Rattle.atom_csv.specs.Source.{IsReading, Source, left, unread}
+use Rattle.atom_csv.specs.Source.{IsReading, Source, rows_left, unread}
 use Rattle.atom_csv.proofs.RecordLemmas.{records_none, records_taken}
 use Rattle.atom_csv.proofs.TextLemmas.{record_text}
 
 abbrev known : Bor Bytes → Option Bytes
 known s = Some s.now
 
-left_is : (r : Source) (text : Bytes) → unread r ≡ Some text → left r ≡ records_from default_config (length text + 1) r.state text
+left_is : (r : Source) (text : Bytes) → unread r ≡ Some text → rows_left r ≡ records_from default_config (length text + 1) r.state text
 left_is r text is = ap (λ o. option_map_or (λ ys. records_from default_config (length ys + 1) r.state ys) o []) is
 
 -- a record that was read is the first of those that were left
 pub read_more : (a b : Source) (fields : List Bytes) → IsReading a → ReadRecord known a b true fields → took_first b ≡ true → is_flexible b ≡ is_flexible a
-    → IsReading b × (left a ≡ fields ∷ left b)
+    → IsReading b × (rows_left a ≡ fields ∷ rows_left b)
 unfolding Reached
 read_more a b fields reading r first flexible =
     let (z, source, (p, next, head, (state, rest))) = rows-more known a b fields default_config a.state reading.text reading.text [] reading.config reading.source (refl, refl) r in (
@@ -43,7 +43,7 @@ read_more a b fields reading r first flexible =
     )
 
 -- where there was no record, none was left
-pub read_none : (a b : Source) (fields : List Bytes) → IsReading a → ReadRecord known a b false fields → left a ≡ []
+pub read_none : (a b : Source) (fields : List Bytes) → IsReading a → ReadRecord known a b false fields → rows_left a ≡ []
 read_none a b fields reading r =
     left_is a reading.text reading.source
     ∙ records_none a.state reading.text (rows-end known a b fields default_config reading.text reading.config reading.source r)

@@ -14,7 +14,7 @@ use Rattle.atom_csv.specs.Fields.{Fields, field_under, is_blank, is_empty, is_na
 use Rattle.atom_csv.specs.FileContents.{has_other_width, is_late, is_long, is_translation, has_slug_alone, Fault, below, causes, culture, fault_of, faults, file_of, first_culture, header_causes, is_told_again, legacy, lines_below, lowest, of_records, or_fault, records_of, row_causes, row_of, row_told, rows, stood_above, translations, under, when}
 use Rattle.atom_csv.specs.FileProperties.{AllDiffer, AreValues, IsThere, IsTold}
 use Rattle.atom_csv.specs.Columns.{columns_of, is_split, name_of}
-use Rattle.atom_csv.specs.Entries.{entries, entry_of, filled, joined, parts_of}
+use Rattle.atom_csv.specs.Entries.{entries, entry_of, nonblank_entries, joined, parts_of}
 use Rattle.atom_csv.specs.Values.{described, is_named_box, nonblank, text_of, told_by, triple, values_of}
 use Rattle.isad_core.specs.Boxes.{distinct, is_same}
 use Rattle.atom_csv.specs.declared.column.Column.{Column}
@@ -153,11 +153,11 @@ joined_blank e (f ∷ rest) there =
     list_all-append is_space (e ++ codes "; ") (joined (f ∷ rest))
     ∙ ap (λ b. b && list_all is_space (joined (f ∷ rest))) (list_all-append is_space e (codes "; ") ∙ ap (λ b. b && list_all is_space (codes "; ")) there)
 
-filled_there : (es : List Bytes) → AreTidy es → AllByRecursion IsThere (filled es)
+filled_there : (es : List Bytes) → AreTidy es → AllByRecursion IsThere (nonblank_entries es)
 filled_there [] t = tt
 filled_there (e ∷ es) t = go (is_empty e) refl (filled_there es t.1)
   where
-    go : (b : Bool) → is_empty e ≡ b → AllByRecursion IsThere (filled es) → AllByRecursion IsThere (cond (not b) (e ∷ filled es) (filled es))
+    go : (b : Bool) → is_empty e ≡ b → AllByRecursion IsThere (nonblank_entries es) → AllByRecursion IsThere (cond (not b) (e ∷ nonblank_entries es) (nonblank_entries es))
     go true is later = later
     go false is later = (t.0 ∙ is, later)
 
@@ -173,7 +173,7 @@ text_there (e ∷ es) t = go (is_empty (joined (e ∷ es)))
 texts_there : (header fields : Fields) → AreTidy fields → (es : List Element) → AllByRecursion (λ text. IfSome text IsThere) (map (λ e. nonblank (text_of header fields e)) es)
 texts_there header fields t [] = tt
 texts_there header fields t (e ∷ es) =
-    (text_there (filled (flat_map (λ k. told_by k (value k header fields)) (columns_of e))) (filled_there (flat_map (λ k. told_by k (value k header fields)) (columns_of e)) (columns_tidy header fields t (columns_of e))), texts_there header fields t es)
+    (text_there (nonblank_entries (flat_map (λ k. told_by k (value k header fields)) (columns_of e))) (filled_there (flat_map (λ k. told_by k (value k header fields)) (columns_of e)) (columns_tidy header fields t (columns_of e))), texts_there header fields t es)
 
 -- ---- containers
 

@@ -22,8 +22,8 @@ abbrev pub entries : Bytes → List Bytes
 entries text = map entry_of (parts_of text)
 
 -- the entries that are not blank
-abbrev pub filled : List Bytes → List Bytes
-filled = filter (λ entry. not (is_empty entry))
+abbrev pub nonblank_entries : List Bytes → List Bytes
+nonblank_entries = filter (λ entry. not (is_empty entry))
 
 -- the entries, joined with `; `
 abbrev pub joined : List Bytes → Bytes

@@ -64,8 +64,8 @@ field_in None fields = []
 field_in (Some i) fields = unwrap_or (slice_get fields i) []
 
 -- the fields that the code holds by reference
-abbrev pub seen : List (Bor Bytes) → Fields
-seen = map (λ field. field.now)
+abbrev pub borrowed_fields : List (Bor Bytes) → Fields
+borrowed_fields = map (λ field. field.now)
 
 -- the fields of a record of the reader, without white space at their ends
 abbrev pub fields_in : Row → Fields

@@ -17,8 +17,8 @@ abbrev pub unread : Source → Option Bytes
 unread r = source_of (λ s. Some s.now) r
 
 -- the records that it has not returned yet
-abbrev pub left : Source → List (List Bytes)
-left r = option_map_or (λ ys. records_from default_config (length ys + 1) (reader_state r) ys) (unread r) []
+abbrev pub rows_left : Source → List (List Bytes)
+rows_left r = option_map_or (λ ys. records_from default_config (length ys + 1) (reader_state r) ys) (unread r) []
 
 -- it reads a text with the crate's settings; records may differ in length, and none is a header
 pub record IsReading (r : Source) : Type 0 where

@@ -12,7 +12,7 @@ use Rattle.atom_csv.specs.declared.column.Column.{Column}
 use Rattle.atom_csv.specs.declared.column.Column.TheVariants as column
 use Rattle.atom_csv.specs.Columns.{columns_of, is_split}
 use Rattle.atom_csv.specs.Fields.{Fields, is_empty, value}
-use Rattle.atom_csv.specs.Entries.{entries, filled, joined}
+use Rattle.atom_csv.specs.Entries.{entries, nonblank_entries, joined}
 
 -- a text, or none if it is empty
 abbrev pub nonblank : Bytes → Option Bytes
@@ -26,7 +26,7 @@ told_by k text = if is_split k then entries text else text ∷ []
 
 -- the text of an element: the non-blank entries of its columns, in their order, joined
 abbrev pub text_of : Fields → Fields → Element → Bytes
-text_of header fields e = joined (filled (flat_map (λ k. told_by k (value k header fields)) (columns_of e)))
+text_of header fields e = joined (nonblank_entries (flat_map (λ k. told_by k (value k header fields)) (columns_of e)))
 
 -- the level of description is stored apart from the other elements
 abbrev pub is_level : Element → Bool

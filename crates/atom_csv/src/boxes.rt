@@ -1,7 +1,7 @@
 //! The containers that a row names.
 ghost use Rattle.std.specs.Prelude.{◌≡◌, ◌||◌, not, IfOk, OnOk};
 ghost use Rattle.isad_core.specs.declared.values.BoxKey.{BoxKey};
-ghost use Rattle.atom_csv.specs.Fields.{seen};
+ghost use Rattle.atom_csv.specs.Fields.{borrowed_fields};
 ghost use Rattle.atom_csv.specs.Values.{boxes_of};
 ghost use Rattle.isad_core.specs.Boxes.{is_same};
 ghost use Rattle.atom_csv.specs.Values as spec;
@@ -32,7 +32,7 @@ fn keep<'a>(
 
 // The entry at a place, or a blank one if there is none.
 fn entry_at<'a>(entries: &[&'a str], i: usize) -> &'a str
-    ensures { result.now ≡ spec.entry_at (seen entries.now) i }
+    ensures { result.now ≡ spec.entry_at (borrowed_fields entries.now) i }
 {
     entries.get(i).copied().unwrap_or("")
 }

@@ -1,16 +1,16 @@
 //! The entries of a split column.
 ghost use Rattle.std.specs.Prelude.{◌≡◌, IfOk, map};
 ghost use Rattle.atom_csv.specs.Entries as spec;
-ghost use Rattle.atom_csv.specs.Fields.{seen};
+ghost use Rattle.atom_csv.specs.Fields.{borrowed_fields};
 
-use crate::trim::trimmed;
+use crate::trim::trim;
 use std::alloc::{AllocError, Global};
 
 /// The entry in one part of a split text. `NULL` is blank.
 pub fn entry(part: &str) -> &str
     ensures { result.now ≡ spec.entry_of part.now }
 {
-    match trimmed(part) {
+    match trim(part) {
         "NULL" => "",
         entry => entry,
     }
@@ -18,7 +18,7 @@ pub fn entry(part: &str) -> &str
 
 /// The entries of a text, including blank ones.
 pub fn entries(alloc: Global, text: &str) -> Result<Vec<&str>, AllocError>
-    ensures { IfOk result (λ v. seen v.items ≡ spec.entries text.now) }
+    ensures { IfOk result (λ v. borrowed_fields v.items ≡ spec.entries text.now) }
 {
     text.split('|').map(entry).collect(alloc)
 }

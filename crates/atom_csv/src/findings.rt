@@ -9,7 +9,7 @@ ghost use Rattle.atom_csv.specs.Findings.{causes_of, findings};
 use crate::cause::Cause;
 use crate::column::Column;
 use crate::header::Header;
-use crate::trim::trimmed;
+use crate::trim::trim;
 use csv::StringRecord;
 use isad_core::Text;
 use isad_core::limits::{MOST_BYTES, MOST_ROWS};
@@ -35,7 +35,7 @@ fn is_blank(row: &StringRecord) -> bool
     ensures { result ≡ fields.is_blank (fields_in row.now) }
 {
     for field in row.iter() {
-        if !trimmed(field).is_empty() {
+        if !trim(field).is_empty() {
             return false;
         }
     }

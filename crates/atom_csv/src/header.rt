@@ -2,24 +2,24 @@
 ghost use Rattle.std.specs.Prelude.{◌≡◌, ◌==◌, IfOk, count_by, map, nat_lt, length, position};
 ghost use Rattle.std.specs.List.{list_any};
 ghost use Rattle.atom_csv.specs.Columns.{columns, name_of};
-ghost use Rattle.atom_csv.specs.Fields.{field_in, fields_in, is_named, seen};
+ghost use Rattle.atom_csv.specs.Fields.{field_in, fields_in, is_named, borrowed_fields};
 ghost use Rattle.atom_csv.specs.Fields as spec;
 ghost use Rattle.atom_csv.specs.FileContents.{header_causes, lowest};
 
 use crate::cause::Cause;
 use crate::column::Column;
-use crate::trim::trimmed;
+use crate::trim::trim;
 use csv::StringRecord;
 use std::alloc::{AllocError, Global};
 use std::marker::Model;
 
 // The fields of a record, without white space at their ends.
 fn names(alloc: Global, row: &StringRecord) -> Result<Vec<&str>, AllocError>
-    ensures { IfOk result (λ v. seen v.items ≡ fields_in row.now) }
+    ensures { IfOk result (λ v. borrowed_fields v.items ≡ fields_in row.now) }
 {
     let mut names = Vec::new(alloc);
     for field in row.iter() {
-        names.push(trimmed(field))?;
+        names.push(trim(field))?;
     }
     Ok(names)
 }
@@ -71,7 +71,7 @@ fn field_at<'r>(row: &'r StringRecord, place: Option<usize>) -> &'r str
     ensures { result.now ≡ field_in place (fields_in row.now) }
 {
     match place {
-        Some(i) => trimmed(row.get(i).unwrap_or("")),
+        Some(i) => trim(row.get(i).unwrap_or("")),
         None => "",
     }
 }
@@ -86,13 +86,13 @@ pub struct Header<'a> {
 
 impl<'a> Model for Header<'a> {
     ghost use Rattle.std.specs.Prelude.{◌≡◌};
-    ghost use Rattle.atom_csv.specs.Fields.{Fields, places_in, seen};
+    ghost use Rattle.atom_csv.specs.Fields.{Fields, places_in, borrowed_fields};
 
     ghost Value = { Fields };
 
-    ghost view = { λ h. seen h.names.items };
+    ghost view = { λ h. borrowed_fields h.names.items };
 
-    ghost invariant = { λ h. h.places.items ≡ places_in (seen h.names.items) };
+    ghost invariant = { λ h. h.places.items ≡ places_in (borrowed_fields h.names.items) };
 }
 
 impl<'a> Header<'a> {

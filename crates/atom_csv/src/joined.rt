@@ -49,7 +49,7 @@ fn add_told(text: &mut String, column: Column, value: &str) -> Result<(), AllocE
 }
 
 /// The text of an element: the non-blank entries of its columns, in their order, joined.
-pub fn joined(
+pub fn join_entries(
     alloc: Global,
     header: &Header,
     row: &StringRecord,

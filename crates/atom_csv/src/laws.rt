@@ -2,7 +2,7 @@
 ghost use Rattle.std.specs.Prelude.{◌≡◌, ◌∷◌, ◌++◌, [], codes, replicate, true};
 ghost use Rattle.std.specs.Prelude.{Err, Ok, None, Some};
 ghost use Rattle.isad_core.specs.Texts.{Bytes};
-ghost use Rattle.atom_csv.specs.Entries.{entries, filled, joined};
+ghost use Rattle.atom_csv.specs.Entries.{entries, nonblank_entries, joined};
 ghost use Rattle.atom_csv.specs.FileContents.{file_of};
 ghost use Rattle.atom_csv.specs.KnownContainers.{key};
 ghost use Rattle.atom_csv.specs.FileProperties.{IsTold, AreLegibleRows};
@@ -50,7 +50,7 @@ pub fn a_blank_row_counts()
 
 /// `NULL` and blank entries are left out when entries are joined.
 pub fn entries_are_joined()
-    ensures { joined (filled (entries (codes "Smith|NULL| |Jones"))) ≡ codes "Smith; Jones" }
+    ensures { joined (nonblank_entries (entries (codes "Smith|NULL| |Jones"))) ≡ codes "Smith; Jones" }
 {}
 
 /// The entries for containers are matched by place.

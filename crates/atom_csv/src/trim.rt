@@ -32,7 +32,7 @@ fn trim_end(text: &str) -> &str
 }
 
 /// The text without spaces, tabs, CR and LF at its ends.
-pub fn trimmed(text: &str) -> &str
+pub fn trim(text: &str) -> &str
     ensures { result.now ≡ spec.trimmed text.now }
 {
     trim_end(trim_start(text))

@@ -7,7 +7,7 @@ ghost use Rattle.atom_csv.specs.Values as spec;
 use crate::boxes::boxes;
 use crate::column::Column;
 use crate::header::Header;
-use crate::joined::joined;
+use crate::joined::join_entries;
 use csv::StringRecord;
 use isad_core::{Element, Text, Values};
 use std::alloc::{AllocError, Global};
@@ -56,7 +56,7 @@ fn optional(
 ) -> Result<Option<Text>, AllocError>
     ensures { IfOk result (λ t. t ≡ nonblank (text_of header.now (fields_in row.now) element)) }
 {
-    let text = joined(alloc, header, row, element)?;
+    let text = join_entries(alloc, header, row, element)?;
     if text.is_empty() {
         return Ok(None);
     }
@@ -86,7 +86,7 @@ pub fn values(alloc: Global, header: &Header, row: &StringRecord) -> Result<Valu
     let locations = header.value(Column::PhysicalObjectLocation, row);
     let kinds = header.value(Column::PhysicalObjectType, row);
     Ok(Values {
-        level: Text(joined(alloc, header, row, Element::Level)?),
+        level: Text(join_entries(alloc, header, row, Element::Level)?),
         texts: texts(alloc, header, row)?,
         boxes: boxes(alloc, names, locations, kinds)?,
     })

@@ -5,7 +5,7 @@ use Rattle.sqlite.specs.State as store
 use Rattle.sqlite.specs.State.{HasCleanDisk}
 use Rattle.sqlite.specs.Tree.{Trees}
 use Rattle.tree_core.specs.Forest.{Forest, cut, each, nodes}
-use Rattle.tree_core.specs.Versions.{Version}
+use Rattle.office_tables.specs.Versions.{Version}
 use Rattle.catalogue_core.specs.UnitLookup.{has_unit}
 use Rattle.catalogue_core.specs.GoodCatalogues.{IsSomeDay}
 use Rattle.catalogue_core.specs.LegibleCatalogues.{IsLegibleCatalogue}
@@ -56,14 +56,14 @@ module _ (u : ℕ) (until : Option ℤ) where
   pub closes : (places : Trees → Forest ℕ → Type 0) (version : Version) (old new : store.State) (today : ℤ) → IsSomeDay until
       → (HasCleanDisk new → (o : OfficeRow) (k : Catalogue) → Represents places version old.now o k → ⊤ → Represents places version new.now o (with_closure u until k)) → (HasCleanDisk new → OnlyTouches (tables.unit.tree ∷ []) old.now new.now)
       → IsChange places version (λ s. (today ≡ s.day) × (has_unit s.catalogue.forest u ≡ true)) (command.SetClosure u until) today (done.SetClosure u) old new
-  closes places version old new today day makes only = record {
+  closes places version old new today day updates only = record {
     represents = λ clean s sound so it.
         shown_with s (each change s.catalogue.forest) places version old.now new.now (tables.unit.tree ∷ []) refl (only clean) it (legible_after s sound)
-        (makes clean (office_of s) s.catalogue it.catalogue tt);
+        (updates clean (office_of s) s.catalogue it.catalogue tt);
     judged = λ s sound so. judged_after s sound day;
     day = λ s so. so.0;
     last = λ s so. (let there = so.1 in rw there refl);
-    tells = λ clean s so it. refl;
+    answers = λ clean s so it. refl;
   }
 
   same_id : (b : Bool) (unit : Unit) → (let new : Unit = cond b (record unit { until = until }) unit in new.id) ≡ unit.id

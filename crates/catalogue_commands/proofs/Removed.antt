@@ -9,7 +9,7 @@ use Rattle.sqlite.specs.Tree.{Trees}
 use Rattle.isad_core.specs.Days.{is_day_number}
 use Rattle.tree_core.specs.ChangeConditions.{MayCut}
 use Rattle.tree_core.specs.Forest.{Forest, branch, cut, each, nodes}
-use Rattle.tree_core.specs.Versions.{Version}
+use Rattle.office_tables.specs.Versions.{Version}
 use Rattle.tree_core.proofs.EachLemmas.{branch-each}
 use Rattle.desk_core.specs.DeskRows.{Desk, PermitRow}
 use Rattle.desk_store.specs.Holdings.{issued_of}
@@ -98,7 +98,7 @@ module _ (u : ℕ) where
     judged = λ s sound so. judged_after s sound so.1;
     day = λ s so. so.0;
     last = λ s so. (let there = so.1 in rw there refl);
-    tells = λ clean s so it.
+    answers = λ clean s so it.
         let f = s.catalogue.forest in
         ap done.Remove (count clean (each (λ (unit : Unit). unit.id) f) it.catalogue.shown
         ∙ ap length (branch-each (nat_eq u) (λ (unit : Unit). unit.id) f) ∙ length-map (branch (has_id u) f) (λ (unit : Unit). unit.id));

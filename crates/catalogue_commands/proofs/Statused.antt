@@ -10,7 +10,7 @@ use Rattle.tree_core.specs.Forest.{Forest, HasDistinctIds, branch, cut, each, ha
 use Rattle.tree_core.proofs.EachLemmas.{cut-each, has-each}
 use Rattle.tree_core.proofs.Lists.{any_agree, eqb_comm}
 use Rattle.tree_core.proofs.SpanShifts.{tree_apart}
-use Rattle.tree_core.specs.Versions.{Version}
+use Rattle.office_tables.specs.Versions.{Version}
 use Rattle.catalogue_core.specs.UnitLookup.{has_unit}
 use Rattle.catalogue_core.specs.GoodCatalogues.{IsSomeDay}
 use Rattle.catalogue_core.specs.LegibleCatalogues.{IsLegibleCatalogue}
@@ -71,14 +71,14 @@ module _ (u : ℕ) (draft whole : Bool) where
       → (HasCleanDisk new → (o : OfficeRow) (k : Catalogue) → Represents places version old.now o k → ⊤ → Represents places version new.now o (with_status (chosen whole u k) draft k)) → (HasCleanDisk new → OnlyTouches (tables.unit.tree ∷ []) old.now new.now)
       → (HasCleanDisk new → (f : Forest ℕ) → places old.now.trees f → n ≡ length (chosen_units whole u f))
       → IsChange places version (λ s. (today ≡ s.day) × (has_unit s.catalogue.forest u ≡ true)) (command.SetStatus u draft whole) today (done.SetStatus n) old new
-  sets places version old new today n makes only count = record {
+  sets places version old new today n updates only count = record {
     represents = λ clean s sound so it.
         shown_with s (each (change (chosen whole u s.catalogue)) s.catalogue.forest) places version old.now new.now (tables.unit.tree ∷ []) refl (only clean) it (legible_after s sound)
-        (makes clean (office_of s) s.catalogue it.catalogue tt);
+        (updates clean (office_of s) s.catalogue it.catalogue tt);
     judged = λ s sound so. judged_after s sound;
     day = λ s so. so.0;
     last = λ s so. (let there = so.1 in rw there refl);
-    tells = λ clean s so it. ap done.SetStatus (count clean (each (λ (unit : Unit). unit.id) s.catalogue.forest) it.catalogue.shown);
+    answers = λ clean s so it. ap done.SetStatus (count clean (each (λ (unit : Unit). unit.id) s.catalogue.forest) it.catalogue.shown);
   }
 
   same_id : (b : Bool) (unit : Unit) → (let new : Unit = cond b (record unit { draft = draft }) unit in new.id) ≡ unit.id

@@ -90,8 +90,8 @@ tells_at header line row false false e c =
       long = none_alone (is_long header line.fields) cause.TooLong g.1;
     }
 
-pub tells : (header : Fields) (line : Line) (row : Row) → fault_of header line ≡ None → row_told header line ≡ Some row → TellsRow header line row
-tells header line row f e = tells_at header line row (is_blank line.fields) (is_told_again header line) e (no_lowest (causes header line) (row_number line) f)
+pub answers : (header : Fields) (line : Line) (row : Row) → fault_of header line ≡ None → row_told header line ≡ Some row → TellsRow header line row
+answers header line row f e = tells_at header line row (is_blank line.fields) (is_told_again header line) e (no_lowest (causes header line) (row_number line) f)
 
 -- nobody above has its legacyId
 
@@ -138,7 +138,7 @@ none_above header above (fields ∷ rest) f =
   where
     at : (r : Option Row) → row_told header (line_at above fields) ≡ r → fault_of header (line_at above fields) ≡ None → AllByRecursion (λ row. list_any (has_id header row.legacy) above ≡ false) (filter_map (row_told header) (lines_below (above ++ fields ∷ []) rest)) → AllByRecursion (λ row. list_any (has_id header row.legacy) above ≡ false) (cons_option r (filter_map (row_told header) (lines_below (above ++ fields ∷ []) rest)))
     at None e g k = k
-    at (Some row) e g k = (stood_nowhere header (line_at above fields) row (tells header (line_at above fields) row g e), k)
+    at (Some row) e g k = (stood_nowhere header (line_at above fields) row (answers header (line_at above fields) row g e), k)
 
 apart_below : (header : Fields) (above rest : List Fields) → filter_map (fault_of header) (lines_below above rest) ≡ [] → AreApartRows (filter_map (row_told header) (lines_below above rest))
 apart_below header above [] f = tt
@@ -149,7 +149,7 @@ apart_below header above (fields ∷ rest) f =
     at : (r : Option Row) → row_told header (line_at above fields) ≡ r → fault_of header (line_at above fields) ≡ None → AllByRecursion (λ row. list_any (has_id header row.legacy) (above ++ fields ∷ []) ≡ false) (filter_map (row_told header) (lines_below (above ++ fields ∷ []) rest)) → AreApartRows (filter_map (row_told header) (lines_below (above ++ fields ∷ []) rest)) → AreApartRows (cons_option r (filter_map (row_told header) (lines_below (above ++ fields ∷ []) rest)))
     at None e g k a = a
     at (Some row) e g k a =
-        let t = tells header (line_at above fields) row g e in (
+        let t = answers header (line_at above fields) row g e in (
           all_so (λ later. list_any (has_id header later.legacy) (above ++ fields ∷ []) ≡ false) (λ later. bytes_eq row.legacy later.legacy ≡ false)
               (λ later h. subst (λ r. bytes_eq r.legacy later.legacy ≡ false) (sym t.is) (not_above_less header above fields later h).1)
               (filter_map (row_told header) (lines_below (above ++ fields ∷ []) rest)) k,

@@ -6,7 +6,7 @@ use Rattle.std.proofs.lemmas.Bool.{and_from, or_parts, ltb-false}
 use Rattle.isad_core.specs.Texts.{Bytes, is_blank_text}
 use Rattle.isad_core.specs.declared.element.Element.TheVariants as element
 use Rattle.atom_csv.specs.Columns.{columns}
-use Rattle.atom_csv.specs.Entries.{entries, filled, joined}
+use Rattle.atom_csv.specs.Entries.{entries, nonblank_entries, joined}
 use Rattle.atom_csv.specs.Fields.{Fields, is_empty, value}
 use Rattle.atom_csv.specs.FileContents.{lines_below, row_number, is_long, row_of, row_told, fault_of, file_of}
 use Rattle.atom_csv.specs.FileProperties.{IsThere, AreValues}
@@ -21,7 +21,7 @@ use Rattle.catalogue_core.specs.GoodCatalogues.{is_good_text}
 use Rattle.catalogue_core.specs.GoodRows.{IsGoodRow}
 use Rattle.isad_core.specs.Limits.{most_bytes}
 use Rattle.catalogue_core.proofs.EachOf.{all_and}
-use Rattle.catalogue_core.proofs.FileRows.{read_from, tells, line_at, no_fault_cons}
+use Rattle.catalogue_core.proofs.FileRows.{read_from, answers, line_at, no_fault_cons}
 use Rattle.catalogue_core.proofs.Imported.{distinct_again}
 
 -- ---- how long and how many
@@ -49,7 +49,7 @@ unfolding columns
 level_at = refl
 
 -- one column tells the level
-one_text : (text : Bytes) → length (joined (filled (text ∷ []))) ≤ length text
+one_text : (text : Bytes) → length (joined (nonblank_entries (text ∷ []))) ≤ length text
 one_text text = at (is_empty text)
   where
     at : (b : Bool) → length (joined (cond (not b) (text ∷ []) [])) ≤ length text
@@ -84,7 +84,7 @@ short_below header above (fields ∷ rest) f =
     at : (r : Option Row) → row_told header (line_at above fields) ≡ r → fault_of header (line_at above fields) ≡ None → AllByRecursion IsShortRow (filter_map (row_told header) (lines_below (above ++ fields ∷ []) rest)) → AllByRecursion IsShortRow (cons_option r (filter_map (row_told header) (lines_below (above ++ fields ∷ []) rest)))
     at None e g k = k
     at (Some row) e g k =
-        let t = tells header (line_at above fields) row g e in
+        let t = answers header (line_at above fields) row g e in
         (subst IsShortRow (sym t.is) (short_row header fields (row_number (line_at above fields)) t.long), k)
 
 short_rows : (bytes : Bytes) (file : File) → file_of bytes ≡ Ok file → AllByRecursion IsShortRow file.rows

@@ -226,7 +226,7 @@ merged_none source rows f h = join_none (grown source [] (each (revised source r
 -- the catalogue after a file: each of its rows is known, and tells what its unit has
 pub record HasTaken (source : Bytes) (rows : List Row) (f : Forest Unit) : Type 0 where
   pub known : AllByRecursion (λ row. is_known f source row ≡ true) rows
-  pub tells : AllByRecursion (Tells source rows) (nodes f)
+  pub answers : AllByRecursion (Tells source rows) (nodes f)
 
 is_its : (source : Bytes) (x : New) → is_from source x.row.legacy (new_unit source x) ≡ true
 is_its source x = and_from (bytes_eq source source) (bytes_eq x.row.legacy x.row.legacy) (same_text source) (same_text x.row.legacy)
@@ -276,7 +276,7 @@ has_taken c source rows apart =
     let itself = all_filtered (λ row. find (has_legacy row.legacy) rows ≡ Some row) (λ row. not (is_known c.forest source row)) rows (row_itself rows apart) in
     record {
       known = known_or_new c source rows (λ row. is_known (merged_forest source rows new c.forest) source row ≡ true) (still_known source rows new c.forest) (now_known c source rows);
-      tells = all_merged (Tells source rows) source rows new c.forest
+      answers = all_merged (Tells source rows) source rows new c.forest
           (numbered_tells new (numbered_rows c.forest source c.next [] news (λ row. find (has_legacy row.legacy) rows ≡ Some row) itself))
           (all_true (λ u. Tells source rows (revised source rows u)) (revised_tells source rows) (nodes c.forest));
     }
@@ -289,7 +289,7 @@ has_taken c source rows apart =
 pub merge_again : (c : Catalogue) (source : Bytes) (rows : List Row) → HasTaken source rows c.forest → merged_boxes rows c.containers ≡ c.containers → merge c source rows ≡ Ok c
 merge_again c source rows t b =
     let none : new_rows c source rows ≡ [] = none_kept (λ row. not (is_known c.forest source row)) rows (all_not rows t.known) in
-    let same = merged_none source rows c.forest (all_same (nodes c.forest) t.tells) in
+    let same = merged_none source rows c.forest (all_same (nodes c.forest) t.answers) in
     let made : List Row → Result Catalogue (ℕ × ℕ) = λ new. or_first (faults_below c.forest source [] new) (merged c source rows (numbered_from c.forest source c.next [] new)) in
     let next : c.next + 0 ≡ c.next = omega arith in
     ap made none
@@ -334,7 +334,7 @@ row_same source rows f row t k r =
 pub rows_same : (source : Bytes) (rows : List Row) (f : Forest Unit) → AreApartRows rows → HasTaken source rows f → AllByRecursion (λ row. is_same f source row ≡ true) rows
 rows_same source rows f apart t =
     all_and (λ row. is_known f source row ≡ true) (λ row. find (has_legacy row.legacy) rows ≡ Some row) (λ row. is_same f source row ≡ true)
-    (λ row k r. row_same source rows f row t.tells k r) rows t.known (row_itself rows apart)
+    (λ row k r. row_same source rows f row t.answers k r) rows t.known (row_itself rows apart)
 
 pub none_new : (source : Bytes) (rows : List Row) (f : Forest Unit) → HasTaken source rows f → count_by (is_new f source) rows ≡ 0
 none_new source rows f t = count_none (is_new f source) rows (all_and (λ row. is_known f source row ≡ true) (λ row. Prim.Unit {0}) (λ row. is_new f source row ≡ false) (λ row k w. ap not k) rows t.known (all_true (λ row. Prim.Unit {0}) (λ row. tt) rows))

@@ -76,7 +76,7 @@ public_stands day above (Node unit children others) told way (inr h) d c t = eli
     aside false s = inr (stands_right told (nodes (each public_unit (cond (is_closed day unit) Empty (public (λ (u : Unit). u.draft) (is_closed day) children)))) (nodes (public_of day others)) s)
 
 pub published_in_public : PublishedInPublic
-published_in_public day f told p = public_stands day [] f told p.way p.stands p.no_draft p.open_above p.tells
+published_in_public day f told p = public_stands day [] f told p.way p.stands p.no_draft p.open_above p.answers
 
 all_stand : {X : Type 0} (P : X → Type 0) (xs : List X) (x : X) → AllByRecursion P xs → StandsIn x xs → P x
 all_stand P [] x h s = absurd s

@@ -12,7 +12,7 @@ use Rattle.isad_core.specs.declared.display.Page.{Page}
 use Rattle.tree_core.specs.Forest.{Forest, Empty, Node}
 use Rattle.catalogue_core.specs.Aids.{Repository, identifier_of}
 use Rattle.catalogue_core.specs.PublicForest.{PublicUnit, Told, Stub, public_of}
-use Rattle.catalogue_core.specs.Pages.{Press, Coded, PageLine, is_numbered, before_last, coded_below, coded, nearest_value, page_line, page_at}
+use Rattle.catalogue_core.specs.Pages.{Press, Coded, PageLine, is_numbered, before_last, coded_below, with_codes, nearest_value, page_line, page_at}
 use Rattle.catalogue_core.specs.NearestValues.{has_value, IsNearestValue, LinesAreNearest}
 use Rattle.catalogue_core.proofs.EachOf.{all_append}
 use Rattle.catalogue_core.proofs.PublishedUnits.{before_last-push}
@@ -71,7 +71,7 @@ line_nearest at way head higher c element line e = elim (by_option (text_of elem
 
 -- ---- the page
 
-way_chained : (press : Press) (above : List PublicUnit) (unit : PublicUnit) → AllByRecursion IsTold above → IsTold unit → (head : Coded) × (rest : List Coded) × (coded press (above ++ unit ∷ []) ≡ head ∷ rest) × Chained press.at (above ++ unit ∷ []) [] (head ∷ rest)
+way_chained : (press : Press) (above : List PublicUnit) (unit : PublicUnit) → AllByRecursion IsTold above → IsTold unit → (head : Coded) × (rest : List Coded) × (with_codes press (above ++ unit ∷ []) ≡ head ∷ rest) × Chained press.at (above ++ unit ∷ []) [] (head ∷ rest)
 way_chained press [] unit a t = chained press (unit ∷ []) [] [] unit [] refl (t, tt) refl
 way_chained press (top ∷ above) unit a t = chained press (top ∷ (above ++ unit ∷ [])) [] [] top (above ++ unit ∷ []) refl (a.0, all_append IsTold above (unit ∷ []) a.1 (t, tt)) refl
 

@@ -17,8 +17,8 @@ use Rattle.tree_core.proofs.LinkPaths.{parts, other_id}
 use Rattle.tree_core.proofs.Lists.{list_any-map, any_agree}
 use Rattle.tree_core.proofs.MarkWalks.{list_all-append}
 use Rattle.tree_core.proofs.Sharing.{open_by_paths}
-use Rattle.catalogue_core.specs.ContainerContents.{own_or, housed_below, housed, paths_below, is_withheld_from, is_some_there, is_open}
-use Rattle.catalogue_core.specs.UnitMarks.{mark_of, unnumbered}
+use Rattle.catalogue_core.specs.ContainerContents.{own_or, housed_below, containers_of, paths_below, is_withheld_from, is_some_there, is_open}
+use Rattle.catalogue_core.specs.UnitMarks.{mark_of, without_number}
 use Rattle.std.proofs.lemmas.List.Folds.{list_any-append}
 use Rattle.catalogue_core.proofs.PublishedUnits.{before_last-push}
 use Rattle.catalogue_core.specs.OpenMarks.{with_permit, mark_for, is_opened_above, is_clean, OpenByMarks, NumbersTellNothing, MarksSayClean}
@@ -134,7 +134,7 @@ module _ (box : BoxKey) (permitted : ℕ → Bool) (today : ℤ) where
   seen way = not (is_withheld_from permitted today way)
 
   abbrev lies_there : List Unit → Bool
-  lies_there way = in_it (housed way)
+  lies_there way = in_it (containers_of way)
 
   -- ---- marks of a way
 
@@ -198,7 +198,7 @@ module _ (box : BoxKey) (permitted : ℕ → Bool) (today : ℤ) where
       ≡ (cond (lies_there A) (list_all seen (cond some (sharing_paths boxed A o) ((A ++ u ∷ []) ∷ (sharing_paths boxed (A ++ u ∷ []) c ++ sharing_paths boxed A o)))) true
       && (cond names (clean_there A u c) true && (clean_all (A ++ u ∷ []) c && clean_all A o)))
 
-  by_boxes : (A : List Unit) (u : Unit) (c o : Forest Unit) (boxes : List BoxKey) → housed (A ++ u ∷ []) ≡ own_or boxes (housed A) → Agrees A u c o (lies_there (A ++ u ∷ [])) (in_it boxes) (is_some_there boxes)
+  by_boxes : (A : List Unit) (u : Unit) (c o : Forest Unit) (boxes : List BoxKey) → containers_of (A ++ u ∷ []) ≡ own_or boxes (containers_of A) → Agrees A u c o (lies_there (A ++ u ∷ [])) (in_it boxes) (is_some_there boxes)
   by_boxes A u c o [] e =
       subst (λ b. Agrees A u c o b false false) (sym (ap in_it e))
       (handed (lies_there A) (seen (A ++ u ∷ [])) (shared (A ++ u ∷ []) c) (clean_all (A ++ u ∷ []) c) (shared A o) (clean_all A o)
@@ -239,7 +239,7 @@ module _ (box : BoxKey) (permitted : ℕ → Bool) (today : ℤ) where
       rest ih true e = ap (λ l. l || (is_some_there (below_it (A ++ u ∷ []) c) || is_some_there (filter names_it (nodes o)))) e
       rest ih false e = ap₂ (λ l s. l || (s || is_some_there (filter names_it (nodes o)))) e (ih e)
 
-      by_test : (lies_there (A ++ u ∷ []) ≡ false → is_some_there (below_it (A ++ u ∷ []) c) ≡ is_some_there (filter names_it (nodes c))) → (boxes : List BoxKey) → housed (A ++ u ∷ []) ≡ own_or boxes (housed A)
+      by_test : (lies_there (A ++ u ∷ []) ≡ false → is_some_there (below_it (A ++ u ∷ []) c) ≡ is_some_there (filter names_it (nodes c))) → (boxes : List BoxKey) → containers_of (A ++ u ∷ []) ≡ own_or boxes (containers_of A)
           → (lies_there (A ++ u ∷ []) || (is_some_there (below_it (A ++ u ∷ []) c) || is_some_there (filter names_it (nodes o)))) ≡ (in_it boxes || (is_some_there (filter names_it (nodes c)) || is_some_there (filter names_it (nodes o))))
       by_test ih [] e = rest ih false (ap in_it e ∙ h)
       by_test ih (b ∷ boxes) e = rest ih (in_it (b ∷ boxes)) (ap in_it e)
@@ -287,32 +287,32 @@ open_by_marks f box permitted today d =
 
 -- ---- numbers
 
-any_bare : (p : Mark → Bool) → ((m : Mark) → p (unnumbered m) ≡ p m) → (marks : List Mark) → list_any p marks ≡ list_any p (map unnumbered marks)
-any_bare p same marks = sym (list_any-map p unnumbered marks ∙ any_agree (λ m. p (unnumbered m)) p marks same)
+any_bare : (p : Mark → Bool) → ((m : Mark) → p (without_number m) ≡ p m) → (marks : List Mark) → list_any p marks ≡ list_any p (map without_number marks)
+any_bare p same marks = sym (list_any-map p without_number marks ∙ any_agree (λ m. p (without_number m)) p marks same)
 
-bare_closed : (today : ℤ) (m : Mark) → is_mark_closed today (unnumbered m) ≡ is_mark_closed today m
-bare_closed today m = elim m.until as (λ o. is_mark_closed today (unnumbered (record m { until = o })) ≡ is_mark_closed today (record m { until = o })) [ None ↦ refl | Some day ↦ refl ]
+bare_closed : (today : ℤ) (m : Mark) → is_mark_closed today (without_number m) ≡ is_mark_closed today m
+bare_closed today m = elim m.until as (λ o. is_mark_closed today (without_number (record m { until = o })) ≡ is_mark_closed today (record m { until = o })) [ None ↦ refl | Some day ↦ refl ]
 
-bare_way : (today : ℤ) (above : Bool) (way : List Mark) → not (withholds today above way) ≡ not (withholds today above (map unnumbered way))
+bare_way : (today : ℤ) (above : Bool) (way : List Mark) → not (withholds today above way) ≡ not (withholds today above (map without_number way))
 bare_way today above way =
     ap not (ap₂ ◌||◌ (any_bare (λ (m : Mark). m.draft) (λ _. refl) way)
     (ap₂ ◌&&◌ (any_bare (is_mark_closed today) (bare_closed today) way) (ap (λ b. not (above || b)) (any_bare (λ (m : Mark). m.permit) (λ _. refl) way))))
 
-bare_above : (path : List Mark) → is_opened_above path ≡ is_opened_above (map unnumbered path)
+bare_above : (path : List Mark) → is_opened_above path ≡ is_opened_above (map without_number path)
 bare_above [] = refl
 bare_above (m ∷ []) = refl
 bare_above (m ∷ n ∷ path) = ap (λ b. m.permit || b) (bare_above (n ∷ path))
 
-bare_sharing : (A : List Mark) (f : Forest Mark) → sharing_paths boxed_mark (map unnumbered A) (each unnumbered f) ≡ map (map unnumbered) (sharing_paths boxed_mark A f)
+bare_sharing : (A : List Mark) (f : Forest Mark) → sharing_paths boxed_mark (map without_number A) (each without_number f) ≡ map (map without_number) (sharing_paths boxed_mark A f)
 bare_sharing A Empty = refl
 bare_sharing A (Node m c o) =
-    elim m.boxed as (λ b. cond b (sharing_paths boxed_mark (map unnumbered A) (each unnumbered o)) ((map unnumbered A ++ unnumbered m ∷ []) ∷ (sharing_paths boxed_mark (map unnumbered A ++ unnumbered m ∷ []) (each unnumbered c) ++ sharing_paths boxed_mark (map unnumbered A) (each unnumbered o)))
-    ≡ map (map unnumbered) (cond b (sharing_paths boxed_mark A o) ((A ++ m ∷ []) ∷ (sharing_paths boxed_mark (A ++ m ∷ []) c ++ sharing_paths boxed_mark A o)))) [
+    elim m.boxed as (λ b. cond b (sharing_paths boxed_mark (map without_number A) (each without_number o)) ((map without_number A ++ without_number m ∷ []) ∷ (sharing_paths boxed_mark (map without_number A ++ without_number m ∷ []) (each without_number c) ++ sharing_paths boxed_mark (map without_number A) (each without_number o)))
+    ≡ map (map without_number) (cond b (sharing_paths boxed_mark A o) ((A ++ m ∷ []) ∷ (sharing_paths boxed_mark (A ++ m ∷ []) c ++ sharing_paths boxed_mark A o)))) [
       | true ↦ bare_sharing A o
       | false ↦
-          ap (λ w. w ∷ (sharing_paths boxed_mark w (each unnumbered c) ++ sharing_paths boxed_mark (map unnumbered A) (each unnumbered o))) (sym (map-append unnumbered A (m ∷ [])))
-          ∙ ap (λ l. map unnumbered (A ++ m ∷ []) ∷ l)
-          (ap₂ ◌++◌ (bare_sharing (A ++ m ∷ []) c) (bare_sharing A o) ∙ sym (map-append (map unnumbered) (sharing_paths boxed_mark (A ++ m ∷ []) c) (sharing_paths boxed_mark A o)))
+          ap (λ w. w ∷ (sharing_paths boxed_mark w (each without_number c) ++ sharing_paths boxed_mark (map without_number A) (each without_number o))) (sym (map-append without_number A (m ∷ [])))
+          ∙ ap (λ l. map without_number (A ++ m ∷ []) ∷ l)
+          (ap₂ ◌++◌ (bare_sharing (A ++ m ∷ []) c) (bare_sharing A o) ∙ sym (map-append (map without_number) (sharing_paths boxed_mark (A ++ m ∷ []) c) (sharing_paths boxed_mark A o)))
     ]
 
 pub numbers_tell_nothing : NumbersTellNothing
@@ -321,10 +321,10 @@ numbers_tell_nothing today path (Node unit below others) =
     let ways = contents_paths unit below in
     let above = is_opened_above path in
     ap₂ ◌&&◌ (bare_way today false path)
-    (all_agree (λ way. not (withholds today above way)) (λ way. not (withholds today above (map unnumbered way))) ways (λ way h. bare_way today above way)
-    ∙ sym (all_map (λ way. not (withholds today above way)) (map unnumbered) ways)
-    ∙ ap (list_all (λ way. not (withholds today above way))) (ap (λ l. (unnumbered unit ∷ []) ∷ l) (sym (bare_sharing (unit ∷ []) below)))
-    ∙ ap (λ b. list_all (λ way. not (withholds today b way)) (contents_paths (unnumbered unit) (each unnumbered below))) (bare_above path))
+    (all_agree (λ way. not (withholds today above way)) (λ way. not (withholds today above (map without_number way))) ways (λ way h. bare_way today above way)
+    ∙ sym (all_map (λ way. not (withholds today above way)) (map without_number) ways)
+    ∙ ap (list_all (λ way. not (withholds today above way))) (ap (λ l. (without_number unit ∷ []) ∷ l) (sym (bare_sharing (unit ∷ []) below)))
+    ∙ ap (λ b. list_all (λ way. not (withholds today b way)) (contents_paths (without_number unit) (each without_number below))) (bare_above path))
 
 -- ---- the marks that are read
 
@@ -338,10 +338,10 @@ tree_alone is (Node u c o) h = elim (cases_Bool (is u)) [
   ]
 ]
 
-alone : (g : Forest Mark) (u : Mark) (c : Forest Mark) → each unnumbered g ≡ Node u c Empty → (m : Mark) × (b : Forest Mark) × (g ≡ Node m b Empty)
+alone : (g : Forest Mark) (u : Mark) (c : Forest Mark) → each without_number g ≡ Node u c Empty → (m : Mark) × (b : Forest Mark) × (g ≡ Node m b Empty)
 alone Empty u c e = absurd (cc)
 alone (Node m b Empty) u c e = (m, b, refl)
-alone (Node m b (Node x y z)) u c e = absurd (let k : Node (unnumbered x) (each unnumbered y) (each unnumbered z) ≡ Empty = cc in cc)
+alone (Node m b (Node x y z)) u c e = absurd (let k : Node (without_number x) (each without_number y) (each without_number z) ≡ Empty = cc in cc)
 
 -- permits change no numbers, and numbers no permits
 numbered_permits : (permitted : ℕ → Bool) (k : ℕ) (f : Forest Mark) → IsNumbered k f → IsNumbered k (each (with_permit permitted) f)
@@ -352,13 +352,13 @@ numbered_permits permitted k (Node m c o) h =
     let high : m.rgt ≡ k + 2 * size (each (with_permit permitted) c) + 1 = h.1 ∙ ap (λ s. k + 2 * s + 1) (sym n) in
     (low, high, numbered_permits permitted (k + 1) c h.2, subst (λ s. IsNumbered (k + 2 * s + 2) (each (with_permit permitted) o)) (sym n) (numbered_permits permitted (k + 2 * size c + 2) o h.3))
 
-permits_after : (permitted : ℕ → Bool) (marks : List Mark) → map unnumbered (map (with_permit permitted) marks) ≡ map (with_permit permitted) (map unnumbered marks)
+permits_after : (permitted : ℕ → Bool) (marks : List Mark) → map without_number (map (with_permit permitted) marks) ≡ map (with_permit permitted) (map without_number marks)
 permits_after permitted [] = refl
-permits_after permitted (m ∷ marks) = ap (λ l. unnumbered (with_permit permitted m) ∷ l) (permits_after permitted marks)
+permits_after permitted (m ∷ marks) = ap (λ l. without_number (with_permit permitted m) ∷ l) (permits_after permitted marks)
 
-permits_below : (permitted : ℕ → Bool) (f : Forest Mark) → each unnumbered (each (with_permit permitted) f) ≡ each (with_permit permitted) (each unnumbered f)
+permits_below : (permitted : ℕ → Bool) (f : Forest Mark) → each without_number (each (with_permit permitted) f) ≡ each (with_permit permitted) (each without_number f)
 permits_below permitted Empty = refl
-permits_below permitted (Node m c o) = ap₂ (Node (unnumbered (with_permit permitted m))) (permits_below permitted c) (permits_below permitted o)
+permits_below permitted (Node m c o) = ap₂ (Node (without_number (with_permit permitted m))) (permits_below permitted c) (permits_below permitted o)
 
 marks_for : (permitted : ℕ → Bool) (units : List Unit) → map (with_permit permitted) (map mark_of units) ≡ map (mark_for permitted) units
 marks_for permitted [] = refl
@@ -378,5 +378,5 @@ marks_say_clean f unit permitted today marks branch path_clean contents_clean th
     ap₂ ◌&&◌ says_path says
     ∙ ap (is_clean today (map for marks)) (sym alike)
     ∙ numbers_tell_nothing today (map for marks) (each for walk.forest)
-    ∙ ap (λ l. is_clean today l (each unnumbered (each for walk.forest))) (permits_after permitted marks ∙ ap (map for) way ∙ marks_for permitted (path (has_id unit) f))
+    ∙ ap (λ l. is_clean today l (each without_number (each for walk.forest))) (permits_after permitted marks ∙ ap (map for) way ∙ marks_for permitted (path (has_id unit) f))
     ∙ ap (is_clean today (map (mark_for permitted) (path (has_id unit) f))) (permits_below permitted walk.forest ∙ ap (each for) walk.theirs ∙ forest_for permitted (tree (has_id unit) f))

@@ -18,7 +18,7 @@ use Rattle.catalogue_core.specs.CatalogueMerge.{box_number}
 use Rattle.catalogue_core.specs.ContainerContents.{own_or, housed_below}
 use Rattle.catalogue_core.specs.Aids.{Repository, identifier_of, numbered_boxes}
 use Rattle.catalogue_core.specs.PublicForest.{PublicUnit, Told, Stub, public_unit, public_of}
-use Rattle.catalogue_core.specs.Pages.{Press, Coded, PageLine, PageBox, is_numbered, before_last, coded_below, coded, nearest_value, page_line, page_boxes, boxes_or, nearest_boxes, boxes_on_page, page_at, page_of}
+use Rattle.catalogue_core.specs.Pages.{Press, Coded, PageLine, PageBox, is_numbered, before_last, coded_below, with_codes, nearest_value, page_line, page_boxes, boxes_or, nearest_boxes, boxes_on_page, page_at, page_of}
 use Rattle.catalogue_core.specs.PublishedUnits.{AreToldOn, LineIsTold, BoxIsTold}
 use Rattle.catalogue_core.specs.OneRule.{is_told, number_and_name, PagesTellTheHousing}
 use Rattle.catalogue_core.proofs.EachOf.{all_append}
@@ -75,7 +75,7 @@ coded_on press full pre higher (Told id values) (next ∷ way) e t h =
     subst (λ ids. AreCoded press.at full (coded_below press ids (unit ∷ higher) (next ∷ way))) (map-append identifier_of pre (Told id values ∷ []))
     (coded_on press full (pre ++ Told id values ∷ []) (unit ∷ higher) next way (e ∙ sym (append_assoc pre (Told id values ∷ []) (next ∷ way))) t.1 ((next, way, its), h))
 
-coded_way : (press : Press) (above : List PublicUnit) (unit : PublicUnit) → AllByRecursion IsTold above → IsTold unit → AreCoded press.at (above ++ unit ∷ []) (coded press (above ++ unit ∷ []))
+coded_way : (press : Press) (above : List PublicUnit) (unit : PublicUnit) → AllByRecursion IsTold above → IsTold unit → AreCoded press.at (above ++ unit ∷ []) (with_codes press (above ++ unit ∷ []))
 coded_way press [] unit a t = coded_on press (unit ∷ []) [] [] unit [] refl (t, tt) tt
 coded_way press (top ∷ above) unit a t = coded_on press (top ∷ (above ++ unit ∷ [])) [] [] top (above ++ unit ∷ []) refl (a.0, all_append IsTold above (unit ∷ []) a.1 (t, tt)) tt
 
@@ -187,7 +187,7 @@ near_housed press day ids higher (unit ∷ way) h =
     ap (λ x. near (coded_below press ids higher (x ∷ map (known_of day) way))) (open_known day unit none.0)
     ∙ near_housed press day (ids ++ identifier_of told ∷ []) (coded_unit ∷ higher) way none.1
 
-boxes_of_page : (press : Press) (way : List PublicUnit) (unit : PublicUnit) (below : Forest PublicUnit) (shown : Page) → IsTold unit → page_at press way (Node unit below Empty) ≡ Some shown → shown.boxes ≡ boxes_on_page press (coded press way)
+boxes_of_page : (press : Press) (way : List PublicUnit) (unit : PublicUnit) (below : Forest PublicUnit) (shown : Page) → IsTold unit → page_at press way (Node unit below Empty) ≡ Some shown → shown.boxes ≡ boxes_on_page press (with_codes press way)
 boxes_of_page press way (Stub id identifier level until) below shown t e = absurd (false≢true t)
 boxes_of_page press way (Told id values) below shown t e = sym (ap (λ (p : Page). p.boxes) (same_Some _ shown e))
 
@@ -214,8 +214,8 @@ pages_tell_the_housing press day f u shown d e p =
     let told = last_told day (path (has_id u) f) it.above it.unit none (sym way ∙ it.way) in
     let k : page_at press (path (is_numbered u) (public_of day f)) (Node it.unit it.below Empty) ≡ Some shown = sym (ap (page_at press (path (is_numbered u) (public_of day f))) it.alone) ∙ e in
     ap (map number_and_name) (boxes_of_page press (path (is_numbered u) (public_of day f)) it.unit it.below shown told k)
-    ∙ (bare_page press (coded press (path (is_numbered u) (public_of day f)))
-    ∙ ap (numbered_boxes (box_number press.containers)) (ap (λ l. near (coded press l)) way ∙ near_housed press day [] [] (path (has_id u) f) none))
+    ∙ (bare_page press (with_codes press (path (is_numbered u) (public_of day f)))
+    ∙ ap (numbered_boxes (box_number press.containers)) (ap (λ l. near (with_codes press l)) way ∙ near_housed press day [] [] (path (has_id u) f) none))
   where
     not_so : (b : Bool) → not b ≡ true → b ≡ false
     not_so true e = absurd (false≢true e)

@@ -14,7 +14,7 @@ use Rattle.catalogue_core.proofs.EachOf.{all_append, all_split}
 use Rattle.catalogue_core.specs.CatalogueMerge.{box_number}
 use Rattle.catalogue_core.specs.PublicForest.{PublicUnit, Told, Stub}
 use Rattle.catalogue_core.specs.Aids.{Repository, identifier_of, numbered_boxes, shown_unit, shown_below}
-use Rattle.catalogue_core.specs.Pages.{Press, Coded, PageBox, number_of, side_by_side, coded_below, coded, page_line, page_boxes, boxes_or, nearest_boxes, boxes_on_page, page_at}
+use Rattle.catalogue_core.specs.Pages.{Press, Coded, PageBox, number_of, side_by_side, coded_below, with_codes, page_line, page_boxes, boxes_or, nearest_boxes, boxes_on_page, page_at}
 use Rattle.catalogue_core.specs.PublishedUnits.{boxes_told}
 
 -- the containers have the same numbers in both lists
@@ -128,10 +128,10 @@ page_at_alike at xs ys way (Node (Told id values) c o) h k =
     let r = all_split (λ unit. Alike xs ys (boxes_told unit)) (nodes c) (nodes o) k.1 in
     let e = coded_same at xs ys [] [] way in
     let made : Shown → List Coded → List PageBox → List (ℕ × Shown) → Option Page = λ head units boxes below. Some (record { head = head; lines = filter_map (page_line units) line_elements; boxes = boxes; below = below }) in
-    ap (λ head. made head (coded (with_boxes at xs) way) (boxes_on_page (with_boxes at xs) (coded (with_boxes at xs) way)) (side_by_side (with_boxes at xs) (map identifier_of way) c)) (unit_alike at xs ys (map identifier_of way) 0 (Told id values) k.0)
-    ∙ (ap (λ boxes. made (shown_unit at ys (map identifier_of way) 0 (Told id values)) (coded (with_boxes at xs) way) boxes (side_by_side (with_boxes at xs) (map identifier_of way) c)) (on_page_alike at xs ys (coded (with_boxes at xs) way) (coded_alike at xs ys [] [] way h tt))
+    ap (λ head. made head (with_codes (with_boxes at xs) way) (boxes_on_page (with_boxes at xs) (with_codes (with_boxes at xs) way)) (side_by_side (with_boxes at xs) (map identifier_of way) c)) (unit_alike at xs ys (map identifier_of way) 0 (Told id values) k.0)
+    ∙ (ap (λ boxes. made (shown_unit at ys (map identifier_of way) 0 (Told id values)) (with_codes (with_boxes at xs) way) boxes (side_by_side (with_boxes at xs) (map identifier_of way) c)) (on_page_alike at xs ys (with_codes (with_boxes at xs) way) (coded_alike at xs ys [] [] way h tt))
     ∙ (ap (λ units. made (shown_unit at ys (map identifier_of way) 0 (Told id values)) units (boxes_on_page (with_boxes at ys) units) (side_by_side (with_boxes at xs) (map identifier_of way) c)) e
-    ∙ ap (λ below. made (shown_unit at ys (map identifier_of way) 0 (Told id values)) (coded (with_boxes at ys) way) (boxes_on_page (with_boxes at ys) (coded (with_boxes at ys) way)) below) (beside_alike at xs ys (map identifier_of way) c r.0)))
+    ∙ ap (λ below. made (shown_unit at ys (map identifier_of way) 0 (Told id values)) (with_codes (with_boxes at ys) way) (boxes_on_page (with_boxes at ys) (with_codes (with_boxes at ys) way)) below) (beside_alike at xs ys (map identifier_of way) c r.0)))
 
 -- the answers
 

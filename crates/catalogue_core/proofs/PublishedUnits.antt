@@ -24,7 +24,7 @@ stands_right x [] ys h = h
 stands_right x (z ∷ zs) ys h = inr (stands_right x zs ys h)
 
 abbrev pub wider : (day : ℤ) (ways more : List (List Unit)) → ((way : List Unit) → StandsIn way ways → StandsIn way more) → (told : PublicUnit) → IsPublished day ways told → IsPublished day more told
-wider day ways more f told p = record { way = p.way; stands = f p.way p.stands; no_draft = p.no_draft; open_above = p.open_above; tells = p.tells }
+wider day ways more f told p = record { way = p.way; stands = f p.way p.stands; no_draft = p.no_draft; open_above = p.open_above; answers = p.answers }
 
 pub before_last-push : {X : Type 0} (xs : List X) (x : X) → before_last (xs ++ x ∷ []) ≡ xs
 before_last-push [] x = refl
@@ -52,7 +52,7 @@ here day w unit ways d h k =
       stands = inl refl;
       no_draft = none_pushed (λ (u : Unit). u.draft) w unit h d;
       open_above = subst (λ l. list_any (is_closed day) l ≡ false) (sym (before_last-push w unit)) k;
-      tells = subst (λ l. TellsOf day l (public_unit (unit, is_closed day unit))) (sym (last_of-push w unit)) (told_of day unit (is_closed day unit) refl);
+      answers = subst (λ l. TellsOf day l (public_unit (unit, is_closed day unit))) (sym (last_of-push w unit)) (told_of day unit (is_closed day unit) refl);
     }
 
 below_at : (day : ℤ) (w : List Unit) (unit : Unit) (c : Forest Unit) (b : Bool) → is_closed day unit ≡ b → (b ≡ false → AllByRecursion (IsPublished day (paths_below (w ++ unit ∷ []) c)) (nodes (public_of day c))) → AllByRecursion (IsPublished day (paths_below (w ++ unit ∷ []) c)) (nodes (each public_unit (cond b Empty (public (λ (u : Unit). u.draft) (is_closed day) c))))

@@ -14,7 +14,7 @@ use Rattle.tree_core.specs.declared.rows.Link.{Link}
 use Rattle.tree_core.specs.declared.rows.Span.{Span}
 use Rattle.tree_core.specs.LinkFaults.{link_fault}
 use Rattle.tree_core.specs.SpanFaults.{span_fault}
-use Rattle.tree_core.specs.Versions.{Version, Links, Spans}
+use Rattle.tree_core.specs.Encodings.{TreeEncoding, Links, Spans}
 use Rattle.catalogue_core.specs.Sources.{is_source}
 use Rattle.catalogue_core.specs.Moves.{height}
 use Rattle.catalogue_core.specs.CatalogueRows.{CatalogueRows, UnitRow, ElementRow, ContainerRow, HousingRow, PlaceRows, LinkRows, SpanRows, places_said, box_from, housings_of}
@@ -37,13 +37,13 @@ abbrev pub is_good_span : Span → Bool
 is_good_span span = is_unit_number span.id && (is_place_number span.lft && is_place_number span.rgt)
 
 -- the places are of the version, have valid numbers, and have no fault
-abbrev pub are_good_places : Version → PlaceRows → Bool
+abbrev pub are_good_places : TreeEncoding → PlaceRows → Bool
 are_good_places Links (LinkRows links) = list_all is_good_link links && not (is_some (link_fault links))
 are_good_places Spans (SpanRows spans) = list_all is_good_span spans && not (is_some (span_fault spans))
 are_good_places _ _ = false
 
-abbrev pub places_are_bad : Version → CatalogueRows → Bool
-places_are_bad version c = not (are_good_places version c.places)
+abbrev pub places_are_bad : TreeEncoding → CatalogueRows → Bool
+places_are_bad way c = not (are_good_places way c.places)
 
 -- ---- 3: the units
 

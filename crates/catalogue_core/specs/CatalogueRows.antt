@@ -9,7 +9,7 @@ use Rattle.tree_core.specs.Spans.{number}
 use Rattle.tree_core.specs.Steps.{is_at}
 use Rattle.tree_core.specs.declared.rows.Link.{Link}
 use Rattle.tree_core.specs.declared.rows.Span.{Span}
-use Rattle.tree_core.specs.Versions.{Version, Links, Spans}
+use Rattle.tree_core.specs.Encodings.{TreeEncoding, Links, Spans}
 use Rattle.catalogue_core.specs.Units.{Unit}
 use Rattle.catalogue_core.specs.CatalogueMerge.{box_number}
 
@@ -80,7 +80,7 @@ pub data PlaceRows : Type 0 where
   LinkRows : List Link → PlaceRows
   SpanRows : List Span → PlaceRows
 
-abbrev pub place_rows : Version → Forest ℕ → PlaceRows
+abbrev pub place_rows : TreeEncoding → Forest ℕ → PlaceRows
 place_rows Links f = LinkRows (siblings f)
 place_rows Spans f = SpanRows (number 1 f)
 
@@ -102,23 +102,23 @@ grow (Some row) below beside = Node row.id (below row.id) beside
 
 -- The forest of link rows below a parent: the row at each place from k on, with the rows below it, until there is none.
 -- `fuel` is more than the number of rows.
-abbrev pub linked : ℕ → List Link → Option ℕ → ℕ → Forest ℕ
-linked zero links parent k = Empty
-linked (suc fuel) links parent k =
-    grow (find (is_at parent k) links) (λ u. linked fuel links (Some u) 1) (linked fuel links parent (k + 1))
+abbrev pub forest_of_links : ℕ → List Link → Option ℕ → ℕ → Forest ℕ
+forest_of_links zero links parent k = Empty
+forest_of_links (suc fuel) links parent k =
+    grow (find (is_at parent k) links) (λ u. forest_of_links fuel links (Some u) 1) (forest_of_links fuel links parent (k + 1))
 
 -- the forest of span rows in ascending lft: what lies inside the first row is below it, and the rest beside it
-abbrev pub nested : ℕ → List Span → Forest ℕ
-nested zero spans = Empty
-nested (suc fuel) [] = Empty
-nested (suc fuel) (span ∷ spans) =
+abbrev pub forest_of_spans : ℕ → List Span → Forest ℕ
+forest_of_spans zero spans = Empty
+forest_of_spans (suc fuel) [] = Empty
+forest_of_spans (suc fuel) (span ∷ spans) =
     Node span.id
-    (nested fuel (filter (λ (other : Span). nat_lt other.lft span.rgt) spans))
-    (nested fuel (filter (λ (other : Span). not (nat_lt other.lft span.rgt)) spans))
+    (forest_of_spans fuel (filter (λ (other : Span). nat_lt other.lft span.rgt) spans))
+    (forest_of_spans fuel (filter (λ (other : Span). not (nat_lt other.lft span.rgt)) spans))
 
 abbrev pub places_said : PlaceRows → Forest ℕ
-places_said (LinkRows links) = linked (suc (length links)) links None 1
-places_said (SpanRows spans) = nested (suc (length spans)) spans
+places_said (LinkRows links) = forest_of_links (suc (length links)) links None 1
+places_said (SpanRows spans) = forest_of_spans (suc (length spans)) spans
 
 abbrev pub box_from : ContainerRow → BoxKey
 box_from row = record { name = row.name; location = row.location; kind = row.kind }

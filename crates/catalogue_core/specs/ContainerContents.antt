@@ -21,8 +21,8 @@ housed_below above (unit ∷ path) = housed_below (own_or unit.values.boxes abov
 
 -- A unit lies in its own containers or, if it has none, in those of the nearest unit above that has some. The unit is
 -- the last of the path.
-abbrev pub housed : List Unit → List BoxKey
-housed = housed_below []
+abbrev pub containers_of : List Unit → List BoxKey
+containers_of = housed_below []
 
 -- the path of each unit in walk order, with the units above the forest before it
 abbrev pub paths_below : List Unit → Forest Unit → List (List Unit)
@@ -35,7 +35,7 @@ paths = paths_below []
 
 -- the units that lie in a container, each by its path
 abbrev pub contents : Forest Unit → BoxKey → List (List Unit)
-contents f box = filter (λ path. list_any (is_same_box box) (housed path)) (paths f)
+contents f box = filter (λ path. list_any (is_same_box box) (containers_of path)) (paths f)
 
 -- ---- who may see them
 

@@ -8,7 +8,7 @@ use Rattle.isad_core.specs.declared.display.Page.{Page}
 use Rattle.isad_core.specs.declared.values.BoxKey.{BoxKey}
 use Rattle.tree_core.specs.Forest.{Forest, nodes, each, path, HasDistinctIds}
 use Rattle.catalogue_core.specs.Units.{Unit, has_id, is_closed}
-use Rattle.catalogue_core.specs.ContainerContents.{paths, housed, is_withheld_from}
+use Rattle.catalogue_core.specs.ContainerContents.{paths, containers_of, is_withheld_from}
 use Rattle.catalogue_core.specs.PublicForest.{PublicUnit, Told, Stub, stub_of, public_of}
 use Rattle.catalogue_core.specs.CatalogueMerge.{box_number}
 use Rattle.catalogue_core.specs.Aids.{numbered_boxes}
@@ -62,7 +62,7 @@ abbrev pub PagesTellTheHousing : Type 0
 PagesTellTheHousing = (press : Press) (day : ℤ) (f : Forest Unit) (u : ℕ) (shown : Page) →
     HasDistinctIds (each (λ (unit : Unit). unit.id) f) →
     page_of press u (public_of day f) ≡ Some shown → is_open_to_public day (path (has_id u) f) ≡ true →
-    map number_and_name shown.boxes ≡ numbered_boxes (box_number press.containers) (housed (path (has_id u) f))
+    map number_and_name shown.boxes ≡ numbered_boxes (box_number press.containers) (containers_of (path (has_id u) f))
 
 -- The number of a container, as shown on pages and in finding aids, is its place among the containers, counted from 1.
 abbrev pub NumbersArePlaces : Type 0

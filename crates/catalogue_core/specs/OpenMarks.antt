@@ -7,7 +7,7 @@ use Rattle.tree_core.specs.Forest.{Forest, Empty, Node, nodes, each, has, path, 
 use Rattle.tree_core.specs.Marks.{IsNumbered, withholds, contents_paths}
 use Rattle.tree_core.specs.declared.marks.Mark.{Mark}
 use Rattle.catalogue_core.specs.ContainerContents.{is_some_there, is_open}
-use Rattle.catalogue_core.specs.UnitMarks.{mark_of, unnumbered, AreMarks, AreWalkMarks}
+use Rattle.catalogue_core.specs.UnitMarks.{mark_of, without_number, AreMarks, AreWalkMarks}
 use Rattle.catalogue_core.specs.Pages.{before_last}
 use Rattle.catalogue_core.specs.Units.{Unit, has_id}
 
@@ -50,7 +50,7 @@ OpenByMarks = (f : Forest Unit) (box : BoxKey) (permitted : ℕ → Bool) (today
 -- The numbers of the marks do not matter for this.
 abbrev pub NumbersTellNothing : Type 0
 NumbersTellNothing = (today : ℤ) (path : List Mark) (branch : Forest Mark) →
-    is_clean today path branch ≡ is_clean today (map unnumbered path) (each unnumbered branch)
+    is_clean today path branch ≡ is_clean today (map without_number path) (each without_number branch)
 
 -- The answers of `clean_path` and `clean_contents` on the marks that are read for a unit, with the reader's permits
 -- added: both are true exactly if the unit is clean. The last two premises are the contracts of these calls.

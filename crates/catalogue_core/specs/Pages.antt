@@ -80,8 +80,8 @@ coded_below press above higher (Told id values ∷ way) =
     way
 coded_below press above higher (Stub id identifier level until ∷ way) = higher
 
-abbrev pub coded : Press → List PublicUnit → List Coded
-coded press = coded_below press [] []
+abbrev pub with_codes : Press → List PublicUnit → List Coded
+with_codes press = coded_below press [] []
 
 abbrev pub PageLine : Type 0
 PageLine = Element × Bytes × Option Bytes
@@ -140,8 +140,8 @@ page_at press way (Node (Told id values) children others) =
     Some
     (record {
       head = shown_unit press.at press.containers (map identifier_of way) 0 (Told id values);
-      lines = filter_map (page_line (coded press way)) line_elements;
-      boxes = boxes_on_page press (coded press way);
+      lines = filter_map (page_line (with_codes press way)) line_elements;
+      boxes = boxes_on_page press (with_codes press way);
       below = side_by_side press (map identifier_of way) children;
     })
 

@@ -34,7 +34,7 @@ pub record IsPublished (day : ℤ) (ways : List (List Unit)) (told : PublicUnit)
   pub stands : StandsIn way ways
   pub no_draft : list_any (λ (unit : Unit). unit.draft) way ≡ false
   pub open_above : list_any (is_closed day) (before_last way) ≡ false
-  pub tells : TellsOf day (last_of way) told
+  pub answers : TellsOf day (last_of way) told
 
 abbrev pub identifiers : List Unit → List Bytes
 identifiers way = map (λ (unit : Unit). identifier unit.values) way

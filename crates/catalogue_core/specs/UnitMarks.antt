@@ -25,12 +25,12 @@ mark_of unit = record {
 }
 
 -- the same mark without its numbers
-abbrev pub unnumbered : Mark → Mark
-unnumbered mark = record mark { lft = 0; rgt = 0 }
+abbrev pub without_number : Mark → Mark
+without_number mark = record mark { lft = 0; rgt = 0 }
 
 -- The marks of these units, in order. Their numbers have no meaning.
 abbrev pub AreMarks : List Unit → List Mark → Type 0
-AreMarks units marks = map unnumbered marks ≡ map mark_of units
+AreMarks units marks = map without_number marks ≡ map mark_of units
 
 -- the marks of the units of this forest in walk order, with the numbers that they have if the forest is numbered from
 -- some number on
@@ -38,7 +38,7 @@ pub record AreWalkMarks (f : Forest Unit) (marks : List Mark) : Type 0 where
   pub first : ℕ
   pub forest : Forest Mark
   pub numbered : IsNumbered first forest
-  pub theirs : each unnumbered forest ≡ each mark_of f
+  pub theirs : each without_number forest ≡ each mark_of f
   pub walked : marks ≡ nodes forest
 
 -- a unit with all units below it, or all units if no unit is given

@@ -25,7 +25,7 @@ use Rattle.sqlite_tied.specs.Compute.{everything}
 use Rattle.sqlite_trees.proofs.ListLemmas.{all_of, map-map}
 use Rattle.sqlite_typing.specs.Types.{accepts_program}
 use Rattle.sqlite_value.specs.Keys.{joined, first_key, plain}
-use Rattle.tree_core.specs.Versions.{Version}
+use Rattle.office_tables.specs.Versions.{Version}
 use Rattle.office_tables.specs.Query.{Finds, Misses}
 use Rattle.office_tables.specs.ChangeStatement.{Ran}
 use Rattle.office_tables.specs.Faults.{IsUnlimited, HasCause}
@@ -142,7 +142,7 @@ module _ (old new : State) (unit_id : ℕ) (v : Version) (has : old.now.schema �
 module _ (old new : State) (sql : List ℕ) (where_terms project : List Term) (names : List (List ℕ)) (params : Row) (v : Version)
     (means : Means v sql (length params) (Select (asking housing where_terms project by_unit) names)) (has : old.now.schema ≡ schema v) (xs : List HousingRow) (at : HoldsNumbered housing housing_row old xs)
     (keep : HousingRow → Bool) (keeps : (x : ℤ × HousingRow) → list_all (holds (params ∷ housing_row x ∷ [])) where_terms ≡ keep x.1)
-    {T X : Type 0} (cells : T → Row) (items : X → List T) (tell : HousingRow → T) (tells : (x : ℤ × HousingRow) → eval_all project (params ∷ housing_row x ∷ []) ≡ cells (tell x.1)) (r : Result X StoreFault) where
+    {T X : Type 0} (cells : T → Row) (items : X → List T) (tell : HousingRow → T) (answers : (x : ℤ × HousingRow) → eval_all project (params ∷ housing_row x ∷ []) ≡ cells (tell x.1)) (r : Result X StoreFault) where
   pub housings_finds : IfOk r (λ found. Finds cells sql params old new (items found)) → IfOk r (λ found. (ys : List HousingRow) × IsOrdered by_housing (filter keep xs) ys × (items found ≡ map tell ys))
   housings_finds finds =
       IfOk-weaker r _ _ (λ found it. (
@@ -151,13 +151,13 @@ module _ (old new : State) (sql : List ℕ) (where_terms project : List Term) (n
         it.2 ∙ sym (map-map tell (λ (x : ℤ × HousingRow). x.1) it.0),
       ))
       (select_finds v housing sql where_terms project by_unit names params means old new has housing_row at.numbered at.are (λ x. keep x.1) keeps
-      (λ x. cells (tell x.1)) (λ (x : ℤ × HousingRow). Int (pos x.1.unit) ∷ Int (pos x.1.ord) ∷ []) tells (λ x y. by_housing x.1 y.1) (λ _. refl) (λ x y. by_two_ints (pos x.1.unit) (pos y.1.unit) (pos x.1.ord) (pos y.1.ord))
+      (λ x. cells (tell x.1)) (λ (x : ℤ × HousingRow). Int (pos x.1.unit) ∷ Int (pos x.1.ord) ∷ []) answers (λ x y. by_housing x.1 y.1) (λ _. refl) (λ x y. by_two_ints (pos x.1.unit) (pos y.1.unit) (pos x.1.ord) (pos y.1.ord))
       cells items (λ x. tell x.1) (λ _. refl) r finds)
 
   pub housings_faults : accepts_program (schema v) [] (plain_query (inner housing.tree end) where_terms project by_unit) params ≡ true → IsUnlimited old → IfErr r (Misses cells (λ _. ⊤) sql params old new) → IfErr r (HasCause old new)
   housings_faults accepted free =
       select_faults v housing sql where_terms project by_unit names params means old new has housing_row at.numbered at.are (λ x. keep x.1) keeps
-      (λ x. cells (tell x.1)) (λ (x : ℤ × HousingRow). Int (pos x.1.unit) ∷ Int (pos x.1.ord) ∷ []) tells (λ x y. by_housing x.1 y.1) (λ _. refl) (λ x y. by_two_ints (pos x.1.unit) (pos y.1.unit) (pos x.1.ord) (pos y.1.ord))
+      (λ x. cells (tell x.1)) (λ (x : ℤ × HousingRow). Int (pos x.1.unit) ∷ Int (pos x.1.ord) ∷ []) answers (λ x y. by_housing x.1 y.1) (λ _. refl) (λ x y. by_two_ints (pos x.1.unit) (pos y.1.unit) (pos x.1.ord) (pos y.1.ord))
       cells items (λ x. tell x.1) (λ _. refl) (λ _. ⊤) accepted free (all_of (λ (_ : ℤ × HousingRow). ⊤) (λ _. tt) at.numbered) r
 
 abbrev pub housings_text : List ℕ

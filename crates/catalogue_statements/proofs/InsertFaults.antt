@@ -10,7 +10,7 @@ use Rattle.sqlite.specs.State.{State, IsLive, Executes}
 use Rattle.sqlite.specs.Tree.{Trees}
 use Rattle.sqlite_tied.specs.Compute.{everything}
 use Rattle.office_tables.specs.Faults.{fault_of, IsUnlimited, HasCause}
-use Rattle.tree_core.specs.Versions.{version_number, Version}
+use Rattle.office_tables.specs.Versions.{Version, version_number}
 use Rattle.catalogue_statements.specs.Rows.{office_row}
 use Rattle.office_tables.specs.Schema.{schema, office}
 use Rattle.office_tables.specs.Schema as tables

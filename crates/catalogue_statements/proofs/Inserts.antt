@@ -13,7 +13,7 @@ use Rattle.sqlite.specs.Listing.{understood}
 use Rattle.sqlite.specs.State.{State, Shows, Writes, Executes, mode_of}
 use Rattle.sqlite.proofs.Callers.{IsPlain, command_of, statement_of, runs_as}
 use Rattle.sqlite_tied.specs.Compute.{everything}
-use Rattle.tree_core.specs.Versions.{Version, version_number}
+use Rattle.office_tables.specs.Versions.{Version, version_number}
 use Rattle.office_tables.specs.Schema.{schema, office}
 use Rattle.office_tables.specs.Schema as tables
 use Rattle.catalogue_statements.specs.Rows.{office_row, told_cells}

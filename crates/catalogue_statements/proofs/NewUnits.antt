@@ -21,7 +21,7 @@ use Rattle.catalogue_core.specs.Descriptions.{with_boxes, with_numbered, KnowsIt
 use Rattle.catalogue_core.specs.CatalogueMerge.{Catalogue}
 use Rattle.office_tables.specs.OrderedInsertion.{put_by}
 use Rattle.catalogue_statements.specs.Rows.{office_row, unit_row, by_number, ElementRow, HousingRow}
-use Rattle.tree_core.specs.Versions.{Version}
+use Rattle.office_tables.specs.Versions.{Version}
 use Rattle.catalogue_statements.specs.Representation.{Represents, RepresentsNumbered, RepresentsUnits, element_cells, elements_of, housing_cells, housings_of}
 use Rattle.catalogue_core.specs.Units.{Unit, has_id}
 use Rattle.catalogue_statements.specs.declared.office.OfficeRow.{OfficeRow}

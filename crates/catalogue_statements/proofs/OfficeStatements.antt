@@ -23,10 +23,10 @@ use Rattle.sqlite_tied.specs.Compute.{everything}
 use Rattle.sqlite_typing.specs.Types.{accepts_program}
 use Rattle.sqlite_value.specs.declared.keys.Key.{Key}
 use Rattle.sqlite_value.specs.Keys.{ascending}
-use Rattle.tree_core.specs.Versions.{Version, version_number}
+use Rattle.office_tables.specs.Versions.{Version, version_number}
 use Rattle.office_tables.specs.Query.{Finds, Misses}
 use Rattle.office_tables.specs.ChangeStatement.{Ran}
-use Rattle.office_tables.specs.RowCounts.{capped}
+use Rattle.office_tables.specs.RowCounts.{cap}
 use Rattle.office_tables.specs.Faults.{IsUnlimited, HasCause}
 use Rattle.office_tables.specs.StatementMeaning.{Means}
 use Rattle.office_tables.specs.Schema.{schema, office, unit, container}
@@ -149,19 +149,19 @@ number_cells n = Int (pos n) ∷ []
 
 module _ (old new : State) (v : Version) (has : old.now.schema ≡ schema v) {A : Type 0} (table : Table) (row : A → Row) (xs : List A) (stored : old.now.trees table.tree ≡ map row xs)
     (sql : List ℕ) (means : Means v sql 0 (Select (counting table) (codes "count(*)" ∷ []))) {X : Type 0} (items : X → List ℕ) (r : Result X StoreFault) where
-  counted : (rows : List Row) → Shown sql [] old new rows → rows ≡ map number_cells (capped (length xs) ∷ [])
+  counted : (rows : List Row) → Shown sql [] old new rows → rows ≡ map number_cells (cap (length xs) ∷ [])
   counted rows shown =
       let read = reads_as sql [] old new (schema v) has (Select (counting table) (codes "count(*)" ∷ [])) means.is means.plain means.unlisted rows shown in
-      counts table.tree [] old.now.trees [] row xs (λ _. true) stored (λ _. refl) rows (read.answer Null) ∙ ap (λ l. (Int (pos (capped (length l))) ∷ []) ∷ []) (kept_all xs)
+      counts table.tree [] old.now.trees [] row xs (λ _. true) stored (λ _. refl) rows (read.answer Null) ∙ ap (λ l. (Int (pos (cap (length l))) ∷ []) ∷ []) (kept_all xs)
 
-  pub count_finds : IfOk r (λ found. Finds number_cells sql [] old new (items found)) → IfOk r (λ found. items found ≡ capped (length xs) ∷ [])
-  count_finds found = IfOk-weaker r _ _ (λ all it. it.are (capped (length xs) ∷ []) (counted it.rows it.shown)) found
+  pub count_finds : IfOk r (λ found. Finds number_cells sql [] old new (items found)) → IfOk r (λ found. items found ≡ cap (length xs) ∷ [])
+  count_finds found = IfOk-weaker r _ _ (λ all it. it.are (cap (length xs) ∷ []) (counted it.rows it.shown)) found
 
   pub count_faults : accepts_program (schema v) [] (summary_query (inner table.tree end) [] count_rows) [] ≡ true → IsUnlimited old → IfErr r (Misses number_cells (λ _. ⊤) sql [] old new) → IfErr r (HasCause old new)
   count_faults accepted free missed =
       all_caused number_cells (λ _. ⊤) sql [] old new r missed
       (read_cause sql [] old new (schema v) has (counting table) (codes "count(*)" ∷ []) means.is means.plain means.whole means.unlisted (λ db e refused. none_refuse refused (λ t. both_ways _ t accepted) (counts_always _ _)) free)
-      (λ rows shown. (capped (length xs) ∷ [], counted rows shown, (tt, tt)))
+      (λ rows shown. (cap (length xs) ∷ [], counted rows shown, (tt, tt)))
 
 abbrev pub count_units_text : List ℕ
 count_units_text = codes "SELECT count(*) FROM unit"

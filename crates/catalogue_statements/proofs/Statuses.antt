@@ -13,7 +13,7 @@ use Rattle.office_tables.proofs.numbered.OwnNumbers.{still_numbered}
 use Rattle.sqlite_trees.proofs.ListLemmas.{all-append, ascending-map, ascending_weaker, all_weaker}
 use Rattle.tree_core.specs.Forest.{Forest, Empty, Node, nodes, each, has, tree, branch}
 use Rattle.catalogue_core.specs.Bounds.{IsBounded}
-use Rattle.tree_core.specs.Versions.{Version}
+use Rattle.office_tables.specs.Versions.{Version}
 use Rattle.tree_core.proofs.EachLemmas.{nodes-each}
 use Rattle.catalogue_core.specs.Units.{Unit, has_id}
 use Rattle.catalogue_core.specs.CatalogueMerge.{Catalogue}

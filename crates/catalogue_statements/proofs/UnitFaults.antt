@@ -40,7 +40,7 @@ use Rattle.office_tables.specs.Permits.{permit_cells}
 use Rattle.office_tables.specs.Faults.{fault_of, IsUnlimited, HasCause}
 use Rattle.catalogue_statements.specs.Removals.{without, AreRemoved, IsTold}
 use Rattle.catalogue_statements.specs.Rows.{unit_row, ElementRow, element_row, HousingRow, housing_row}
-use Rattle.tree_core.specs.Versions.{Version, Links, Spans}
+use Rattle.office_tables.specs.Versions.{Version, First, Second, encoding}
 use Rattle.office_tables.specs.Schema.{schema, place_table, unit, element, housing, permit, to_unit}
 use Rattle.office_tables.specs.Schema as tables
 use Rattle.catalogue_core.specs.Units.{Unit}
@@ -94,17 +94,17 @@ module _ (v : Version) (place : ℕ) where
   children_left : {R : Type 0} (cells : ℤ × R → Row) (number : R → ℕ) → ((x : ℤ × R) → column (cells x) place ≡ Int (pos (number x.1))) → (gone : List ℕ) (old new : Trees) (units : List Unit)
       → old tables.unit.tree ≡ map unit_row units → new tables.unit.tree ≡ map unit_row (without id_of gone units) → (tree : ℕ) (xs : List R) → HasNumbered cells (old tree) xs → HasNumbered cells (new tree) (without number gone xs)
       → AllByRecursion (λ r. (has_parent (schema v).tables old r (to_unit place) && true) ≡ true) (old tree) → AllByRecursion (λ r. (has_parent (schema v).tables new r (to_unit place) && true) ≡ true) (new tree)
-  children_left {R} cells number tells gone old new units was now tree xs before after all =
+  children_left {R} cells number answers gone old new units was now tree xs before after all =
       let P = λ (r : Row). (has_parent (schema v).tables old r (to_unit place) && true) ≡ true in
       let Q = λ (r : Row). (has_parent (schema v).tables new r (to_unit place) && true) ≡ true in
       let named = λ (us : List Unit) (x : R). list_any (λ (u : Unit). nat_eq (number x) u.id) us ≡ true in
       let those : AllByRecursion (named units) xs = all_told cells (old tree) xs before (named units)
-      (all_weaker (λ x. P (cells x)) (λ x. named units x.1) (λ x h. sym (parent_of old units was (cells x) (number x.1) (tells x)) ∙ (and_parts _ _ h).0) before.numbered
+      (all_weaker (λ x. P (cells x)) (λ x. named units x.1) (λ x h. sym (parent_of old units was (cells x) (number x.1) (answers x)) ∙ (and_parts _ _ h).0) before.numbered
       (all_from_map P cells before.numbered (subst (AllByRecursion P) before.are all))) in
       let left : AllByRecursion (named (without id_of gone units)) (without number gone xs) =
       all_kept (named units) (named (without id_of gone units)) (λ x. list_any (nat_eq (number x)) gone) xs (λ x apart h. still_listed (number x) gone units apart h) those in
       subst (AllByRecursion Q) (sym after.are) (all-map Q cells after.numbered
-      (all_weaker (λ (x : ℤ × R). named (without id_of gone units) x.1) (λ x. Q (cells x)) (λ x h. ap (λ b. b && true) (parent_of new (without id_of gone units) now (cells x) (number x.1) (tells x) ∙ h)) after.numbered
+      (all_weaker (λ (x : ℤ × R). named (without id_of gone units) x.1) (λ x. Q (cells x)) (λ x h. ap (λ b. b && true) (parent_of new (without id_of gone units) now (cells x) (number x.1) (answers x) ∙ h)) after.numbered
       (all_numbered cells (new tree) (without number gone xs) after (named (without id_of gone units)) left)))
 
 -- each row that is left has its parents
@@ -154,7 +154,7 @@ parents_left v old new gone told keeps removed =
     free : (tree : ℕ) → AllByRecursion (λ _. true ≡ true) (new.trees tree)
     free tree = all_of (λ _. true ≡ true) (λ _. refl) (new.trees tree)
 
-    last : (w : Version) → AllByRecursion (λ row. list_all (has_parent (schema v).tables new.trees row) (place_table w).references ≡ true) (new.trees (place_table w).tree)
+    last : (w : Version) → AllByRecursion (λ row. list_all (has_parent (schema v).tables new.trees row) (place_table (encoding w)).references ≡ true) (new.trees (place_table (encoding w)).tree)
     last v = free 24
 
 -- ---- the statement
@@ -174,12 +174,12 @@ leaf v child place moves alone fit = record { bare = record { depth = 0; child =
 -- what goes with units are rows that nothing refers to
 unit_leaves : (v : Version) (olds : List Row) → AllByRecursion (IsLeaf (schema v)) (works (schema v) Enforced 0 tables.unit.tree olds [])
 unfolding joined same_name
-unit_leaves Links olds = elim (cases_Bool (list_any (loses plain (0 ∷ [])) (pairs olds []))) [
-  | inl some ↦ rw some (leaf Links permit 2 _ (permit_alone Links) (permit_fits Links), (leaf Links element 1 _ (element_alone Links) (element_fits Links), (leaf Links housing 1 _ (housing_alone Links) (housing_fits Links), tt)))
+unit_leaves First olds = elim (cases_Bool (list_any (loses plain (0 ∷ [])) (pairs olds []))) [
+  | inl some ↦ rw some (leaf First permit 2 _ (permit_alone First) (permit_fits First), (leaf First element 1 _ (element_alone First) (element_fits First), (leaf First housing 1 _ (housing_alone First) (housing_fits First), tt)))
   | inr none ↦ rw none tt
 ]
-unit_leaves Spans olds = elim (cases_Bool (list_any (loses plain (0 ∷ [])) (pairs olds []))) [
-  | inl some ↦ rw some (leaf Spans permit 2 _ (permit_alone Spans) (permit_fits Spans), (leaf Spans element 1 _ (element_alone Spans) (element_fits Spans), (leaf Spans housing 1 _ (housing_alone Spans) (housing_fits Spans), tt)))
+unit_leaves Second olds = elim (cases_Bool (list_any (loses plain (0 ∷ [])) (pairs olds []))) [
+  | inl some ↦ rw some (leaf Second permit 2 _ (permit_alone Second) (permit_fits Second), (leaf Second element 1 _ (element_alone Second) (element_fits Second), (leaf Second housing 1 _ (housing_alone Second) (housing_fits Second), tt)))
   | inr none ↦ rw none tt
 ]
 

@@ -24,7 +24,7 @@ use Rattle.sqlite_tied.specs.Compute.{everything}
 use Rattle.sqlite_typing.specs.Types.{accepts_program}
 use Rattle.sqlite_value.specs.declared.keys.Key.{Key}
 use Rattle.sqlite_value.specs.Keys.{ascending}
-use Rattle.tree_core.specs.Versions.{Version}
+use Rattle.office_tables.specs.Versions.{Version}
 use Rattle.catalogue_core.specs.Bounds.{IsLegibleUnit}
 use Rattle.catalogue_core.specs.Units.{Unit, is_from}
 use Rattle.office_tables.specs.Query.{Finds, Misses}
@@ -80,18 +80,18 @@ module _ (old new : State) (source legacy : Bytes) (v : Version) (has : old.now.
 
 -- a SELECT of some columns of the unit with this number
 module _ (old new : State) (id : ℕ) (v : Version) (has : old.now.schema ≡ schema v) (sql : List ℕ) (project : List Term) (names : List (List ℕ)) (means : Means v sql 1 (Select (asking unit with_its_number project in_order) names))
-    (xs : List Unit) (stored : Holds unit unit_row old xs) {T X : Type 0} (cells : T → Row) (items : X → List T) (tell : Unit → T) (tells : (u : Unit) → eval_all project ((Int (pos id) ∷ []) ∷ unit_row u ∷ []) ≡ cells (tell u)) (r : Result X StoreFault) where
+    (xs : List Unit) (stored : Holds unit unit_row old xs) {T X : Type 0} (cells : T → Row) (items : X → List T) (tell : Unit → T) (answers : (u : Unit) → eval_all project ((Int (pos id) ∷ []) ∷ unit_row u ∷ []) ≡ cells (tell u)) (r : Result X StoreFault) where
   pub numbered_finds : IfOk r (λ found. Finds cells sql (Int (pos id) ∷ []) old new (items found)) → IfOk r (λ found. (ys : List Unit) × IsOrdered by_number (filter (λ (u : Unit). nat_eq id u.id) xs) ys × (items found ≡ map tell ys))
   numbered_finds =
       select_finds v unit sql with_its_number project in_order names (Int (pos id) ∷ []) means old new has unit_row xs stored
-      (λ (u : Unit). nat_eq id u.id) (λ u. only (same_number u.id id)) (λ u. cells (tell u)) (λ (u : Unit). Int (pos u.id) ∷ []) tells by_number (λ _. refl) (λ a b. by_one_int (pos a.id) (pos b.id))
+      (λ (u : Unit). nat_eq id u.id) (λ u. only (same_number u.id id)) (λ u. cells (tell u)) (λ (u : Unit). Int (pos u.id) ∷ []) answers by_number (λ _. refl) (λ a b. by_one_int (pos a.id) (pos b.id))
       cells items tell (λ _. refl) r
 
   pub numbered_faults : (IsLegible : T → Type 0) → accepts_program (schema v) [] (plain_query (inner tables.unit.tree end) with_its_number project in_order) (Int (pos id) ∷ []) ≡ true → AllByRecursion (λ u. IsLegible (tell u)) xs → IsUnlimited old
       → IfErr r (Misses cells IsLegible sql (Int (pos id) ∷ []) old new) → IfErr r (HasCause old new)
   numbered_faults IsLegible accepted legible free =
       select_faults v unit sql with_its_number project in_order names (Int (pos id) ∷ []) means old new has unit_row xs stored
-      (λ (u : Unit). nat_eq id u.id) (λ u. only (same_number u.id id)) (λ u. cells (tell u)) (λ (u : Unit). Int (pos u.id) ∷ []) tells by_number (λ _. refl) (λ a b. by_one_int (pos a.id) (pos b.id))
+      (λ (u : Unit). nat_eq id u.id) (λ u. only (same_number u.id id)) (λ u. cells (tell u)) (λ (u : Unit). Int (pos u.id) ∷ []) answers by_number (λ _. refl) (λ a b. by_one_int (pos a.id) (pos b.id))
       cells items tell (λ _. refl) IsLegible accepted free legible r
 
 abbrev pub status_text : List ℕ

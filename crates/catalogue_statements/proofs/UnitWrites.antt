@@ -29,7 +29,7 @@ use Rattle.sqlite_sql.specs.declared.ops.CompareOp.TheVariants.{Eq}
 use Rattle.sqlite_tied.specs.Compute.{everything}
 use Rattle.sqlite_typing.specs.Types.{accepts_program}
 use Rattle.sqlite_value.specs.Keys.{joined, first_key, plain}
-use Rattle.tree_core.specs.Versions.{Version, Links, Spans}
+use Rattle.office_tables.specs.Versions.{Version, First, Second}
 use Rattle.catalogue_core.specs.Units.{Unit as Described, has_id, is_from}
 use Rattle.office_tables.specs.ChangeStatement.{Ran}
 use Rattle.office_tables.specs.Faults.{IsUnlimited, HasCause}
@@ -101,8 +101,8 @@ kept_of_unit p = ltb p 4
 
 unit_kept : (v : Version) → KeepsTable kept_of_unit (schema v) 8 unit
 unfolding joined same_name
-unit_kept Links = record { listed = refl; apart = refl; spared = refl; fits = refl }
-unit_kept Spans = record { listed = refl; apart = refl; spared = refl; fits = refl }
+unit_kept First = record { listed = refl; apart = refl; spared = refl; fits = refl }
+unit_kept Second = record { listed = refl; apart = refl; spared = refl; fits = refl }
 
 unit_alike : (a b : Described) → a.id ≡ b.id → a.source ≡ b.source → a.legacy ≡ b.legacy → (p : ℕ) → ltb p 4 ≡ true → column (unit_row a) p ≡ column (unit_row b) p
 unit_alike a b id source legacy zero h = ap (λ n. Int (pos n)) id
@@ -215,10 +215,10 @@ unfolding understood everything
 set_until_means v = record { is = refl; plain = (refl, refl); whole = (le_refl _, refl, refl); unlisted = refl }
 
 until_accepted : (v : Version) (id : ℕ) (until : Option ℤ) → accepts_program (schema v) [] (plain_query (inner tables.unit.tree end) with_its_number set_until_columns []) (Int (pos id) ∷ or_null Int until ∷ []) ≡ true
-until_accepted Links id None = refl
-until_accepted Links id (Some n) = refl
-until_accepted Spans id None = refl
-until_accepted Spans id (Some n) = refl
+until_accepted First id None = refl
+until_accepted First id (Some n) = refl
+until_accepted Second id None = refl
+until_accepted Second id (Some n) = refl
 
 module _ (old new : State) (id : ℕ) (until : Option ℤ) (v : Version) (has : old.now.schema ≡ schema v) (xs : List Described) (stored : Holds unit unit_row old xs) (up : Rises by_number xs)
     (r : Result Unit StoreFault) (ran : Ran set_until_text (Int (pos id) ∷ or_null Int until ∷ []) old new r) where

@@ -11,7 +11,7 @@ use Rattle.isad_core.specs.declared.values.Values.{Values}
 use Rattle.tree_core.specs.Forest.{Forest, nodes, has, each}
 use Rattle.tree_core.specs.Links.{RepresentsLinks}
 use Rattle.tree_core.specs.declared.rows.Link.{Link}
-use Rattle.tree_core.specs.Versions.{Version}
+use Rattle.office_tables.specs.Versions.{Version}
 use Rattle.office_tables.specs.Schema.{schema}
 use Rattle.office_tables.specs.Schema as tables
 use Rattle.catalogue_core.specs.Units.{Unit, has_id}

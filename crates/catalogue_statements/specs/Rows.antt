@@ -8,10 +8,9 @@ use Rattle.sqlite.specs.Order.{Row}
 use Rattle.sqlite.specs.Values.{or_null}
 use Rattle.isad_core.specs.declared.values.BoxKey.{BoxKey}
 use Rattle.tree_core.specs.declared.rows.Link.{Link}
-use Rattle.tree_core.specs.Versions.{Version, Links}
+use Rattle.office_tables.specs.Versions.{Version, First, version_number}
 use Rattle.catalogue_core.specs.Units.{Unit}
 use Rattle.catalogue_statements.specs.declared.office.OfficeRow.{OfficeRow}
-pub use Rattle.tree_core.specs.Versions.{version_number}
 pub use Rattle.catalogue_core.specs.CatalogueRows.{ElementRow, HousingRow}
 pub use Rattle.office_tables.specs.Flags.{flag}
 pub use Rattle.office_tables.specs.RowCells.{element_cells as element_row, housing_cells as housing_row, link_cells as link_row}
@@ -40,7 +39,7 @@ office_row version o = office_cells (told_in version o)
 
 -- the cells of the settings, which are the same in either version
 abbrev pub told_cells : OfficeRow → Row
-told_cells o = settings_cells (told_in Links o)
+told_cells o = settings_cells (told_in First o)
 
 -- ---- units
 

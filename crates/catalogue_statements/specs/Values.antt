@@ -2,7 +2,7 @@
 use Rattle.std.specs.Prelude.{◌≡◌, ℕ, List, length, IsPermutation}
 use Rattle.sqlite.specs.Effect.{Database}
 use Rattle.isad_core.specs.declared.values.Values.{«Values» as Description}
-use Rattle.tree_core.specs.Versions.{Version}
+use Rattle.office_tables.specs.Versions.{Version}
 use Rattle.catalogue_core.specs.Descriptions.{HasAllPlaces}
 use Rattle.catalogue_core.specs.CatalogueMerge.{Catalogue}
 use Rattle.office_tables.specs.RowNumbers.{HasNumbered}

@@ -6,7 +6,7 @@ use office_tables::Versioned;
 pub struct LinkPlaces;
 
 impl Versioned for LinkPlaces {
-    ghost use Rattle.tree_core.specs.Versions.{Links};
+    ghost use Rattle.office_tables.specs.Versions.{First};
 
-    ghost version = { Links };
+    ghost version = { First };
 }

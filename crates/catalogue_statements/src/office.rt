@@ -3,10 +3,10 @@
 ghost use Rattle.std.specs.Prelude.{◌≡◌, [], ◌∷◌, length, OnOk, IfOk, ⊤};
 ghost use Rattle.sqlite.specs.Held.{state};
 ghost use Rattle.sqlite.specs.State.{HasCleanDisk};
-ghost use Rattle.tree_core.specs.Versions.{Version};
+ghost use Rattle.office_tables.specs.Versions.{Version};
 ghost use Rattle.isad_core.specs.Limits.{IsNumber};
 ghost use Rattle.office_tables.specs.ChangeStatement.{Leaves};
-ghost use Rattle.office_tables.specs.RowCounts.{capped};
+ghost use Rattle.office_tables.specs.RowCounts.{cap};
 ghost use Rattle.office_tables.specs.Schema as schema;
 ghost use Rattle.office_tables.specs.Step.{Holds, HasRows};
 ghost use Rattle.office_tables.specs.TableStatements.{LooksUp};
@@ -94,7 +94,7 @@ pub fn count_units<P: Versioned, S: Alter>(
     tables: &mut Tables<P, S>,
 ) -> Result<Vec<u64>, StoreFault>
     ensures { LooksUp S.Store (Holds schema.unit unit_row) tables.old tables.new result
-        (λ _. ⊤) (λ _. ⊤) (λ xs found. found.items ≡ capped (length xs) ∷ []) }
+        (λ _. ⊤) (λ _. ⊤) (λ xs found. found.items ≡ cap (length xs) ∷ []) }
 {
     find(alloc, tables, "SELECT count(*) FROM unit", &[])
 }
@@ -105,7 +105,7 @@ pub fn count_containers<P: Versioned, S: Alter>(
     tables: &mut Tables<P, S>,
 ) -> Result<Vec<u64>, StoreFault>
     ensures { LooksUp S.Store (Holds schema.container container_row) tables.old tables.new result
-        (λ _. ⊤) (λ _. ⊤) (λ xs found. found.items ≡ capped (length xs) ∷ []) }
+        (λ _. ⊤) (λ _. ⊤) (λ xs found. found.items ≡ cap (length xs) ∷ []) }
 {
     find(alloc, tables, "SELECT count(*) FROM container", &[])
 }

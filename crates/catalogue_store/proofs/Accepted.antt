@@ -43,7 +43,7 @@ module _ {S Stays Model : Type 0} (g : store.Ghosts S) (represents : Database 鈫
       record {
         answers = 位 clean s m shown. turn (back clean) s m shown x (it.answers clean s m (subst (位 (db : Database). represents db s m) (sym (looked.same (back clean))) shown));
         looks = looks_then a b c looked it.looks;
-        cut = tt;
+        aborts = tt;
         spares = 位 clean. tt;
         faults = 位 s m shown allowed within clean free. tt;
       }
@@ -54,10 +54,10 @@ module _ {S Stays Model : Type 0} (g : store.Ghosts S) (represents : Database 鈫
       record {
         answers = 位 clean s m shown. tt;
         looks = tt;
-        cut = cut_then a b c looked.goes.on it.cut;
-        spares = 位 clean. looked_spares a b c looked (early b c _ it.cut.crash clean) e (it.spares clean);
+        aborts = cut_then a b c looked.goes.on it.aborts;
+        spares = 位 clean. looked_spares a b c looked (early b c _ it.aborts.crash clean) e (it.spares clean);
         faults = 位 s m shown allowed within clean free.
-            next_cause a b c looked.goes.on it.cut clean e (位 cleaner. it.faults s m (subst (位 (db : Database). represents db s m) (sym (looked.same cleaner)) shown) tt within clean (still_unlimited a b looked.goes.on free));
+            next_cause a b c looked.goes.on it.aborts clean e (位 cleaner. it.faults s m (subst (位 (db : Database). represents db s m) (sym (looked.same cleaner)) shown) tt within clean (still_unlimited a b looked.goes.on free));
       }
 
 -- a call that writes
@@ -80,21 +80,21 @@ module _ {S Stays Model : Type 0} (g : store.Ghosts S) (represents : Database 鈫
         represents_updated = 位 clean s m shown allowed. it.represents_updated clean s m (still_shown (back clean) s m shown) allowed;
         only = 位 clean. subst (位 (db : Database). OnlyTouches touched db c.now) (looked.same (back clean)) (it.only clean);
         goes = goes_then a b c looked.goes it.goes;
-        cut = tt;
+        aborts = tt;
         spares = 位 clean. tt;
         faults = 位 s m shown allowed within clean free. tt;
       }
   makes_after after (Err e) it =
       let c = state g after in
-      let back = early b c _ it.cut.crash in
+      let back = early b c _ it.aborts.crash in
       record {
         represents_updated = 位 clean s m shown allowed. tt;
         only = 位 clean. tt;
         goes = tt;
-        cut = cut_then a b c looked.goes.on it.cut;
+        aborts = cut_then a b c looked.goes.on it.aborts;
         spares = 位 clean. looked_spares a b c looked (back clean) e (it.spares clean);
         faults = 位 s m shown allowed within clean free.
-            next_cause a b c looked.goes.on it.cut clean e (位 cleaner. it.faults s m (still_shown cleaner s m shown) allowed within clean (still_unlimited a b looked.goes.on free));
+            next_cause a b c looked.goes.on it.aborts clean e (位 cleaner. it.faults s m (still_shown cleaner s m shown) allowed within clean (still_unlimited a b looked.goes.on free));
       }
 
   -- it may not, and blames the schema
@@ -103,7 +103,7 @@ module _ {S Stays Model : Type 0} (g : store.Ghosts S) (represents : Database 鈫
     represents_updated = 位 clean s m shown allowed. tt;
     only = 位 clean. tt;
     goes = tt;
-    cut = cut_after a b looked.goes.on;
+    aborts = cut_after a b looked.goes.on;
     spares = 位 clean. record { disk = tt; rows = inl (same_untouched touched a.now b.now (looked.same clean)) };
     faults = 位 s m shown allowed within clean free. absurd (never clean s m shown allowed);
   }

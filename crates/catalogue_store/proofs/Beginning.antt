@@ -7,7 +7,7 @@ use Rattle.sqlite.specs.Change.{KeepsRows}
 use Rattle.sqlite.specs.Tree.{Trees, put_row}
 use Rattle.tree_core.specs.Forest.{Forest, Empty}
 use Rattle.office_tables.specs.Creation.{HasMade}
-use Rattle.tree_core.specs.Versions.{Version}
+use Rattle.office_tables.specs.Versions.{Version}
 use Rattle.office_tables.specs.Schema.{schema, desk_tables}
 use Rattle.catalogue_statements.specs.Rows.{office_row, element_row, housing_row}
 use Rattle.catalogue_statements.specs.Representation.{Represents}

@@ -9,7 +9,7 @@ use Rattle.sqlite.specs.Held.{Held, state}
 use Rattle.sqlite.specs.Tree.{Trees, put_row}
 use Rattle.sqlite_trees.specs.declared.store.Store as store
 use Rattle.tree_core.specs.Forest.{Forest, each, has_place}
-use Rattle.tree_core.specs.Versions.{Version}
+use Rattle.office_tables.specs.Versions.{Version}
 use Rattle.catalogue_core.specs.Descriptions.{KnowsItsContainers}
 use Rattle.catalogue_core.specs.CatalogueMerge.{Catalogue}
 use Rattle.catalogue_core.specs.Units.{Unit, has_id}
@@ -76,7 +76,7 @@ makes_placed g places same version kept may made touched before after r apart st
           (it.represents_updated clean o c shown.catalogue allowed) (it.only clean);
       only = it.only;
       goes = it.goes;
-      cut = it.cut;
+      aborts = it.aborts;
       spares = it.spares;
       faults = λ o c shown. it.faults o c shown.catalogue;
     }

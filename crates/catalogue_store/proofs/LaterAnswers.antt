@@ -42,9 +42,9 @@ module _ {S X Stays Part Model Share : Type 0} (g : store.Ghosts S) (represents 
         IfOk-weaker r (answer_part of.part of.share) (answer s m) of.turn (told.answers clean of.part of.share of.shown))
         told.looks;
     looks = on_ok_then r (LeavesUnchanged b c) (LeavesUnchanged a c) (looks_then a b c looked) told.looks;
-    cut = on_err_then r (IsAborted b c) (IsAborted a c) (cut_then a b c looked.goes.on) told.cut;
-    spares = λ clean. last_spares a b c looked r told.cut clean (told.spares clean);
-    faults = λ s m it allowed within. excused_then a b c looked.goes.on r told.cut (λ before.
+    aborts = on_err_then r (IsAborted b c) (IsAborted a c) (cut_then a b c looked.goes.on) told.aborts;
+    spares = λ clean. last_spares a b c looked r told.aborts clean (told.spares clean);
+    faults = λ s m it allowed within. excused_then a b c looked.goes.on r told.aborts (λ before.
         let of = shares s m it before in
         let both = of.allowed allowed within in
         told.faults of.part of.share of.shown both.0 both.1);

@@ -23,7 +23,7 @@ use Rattle.catalogue_statements.specs.Representation.{RepresentsUnits, Represent
 use Rattle.catalogue_core.specs.Units.{Unit}
 use Rattle.catalogue_statements.specs.declared.row_types.Status.{Status}
 use Rattle.catalogue_statements.proofs.Offices.{length-counted}
-use Rattle.catalogue_store.specs.Attachments.{is_plain_leaf, unboxed, unboxed_leaf}
+use Rattle.catalogue_store.specs.Attachments.{is_plain_leaf, without_containers, unboxed_leaf}
 use Rattle.office_tables.proofs.Rows.{had}
 use Rattle.office_tables.proofs.Reading.{first_shown}
 
@@ -79,13 +79,13 @@ boxes_read db f containers at id n u ys there same perm long =
 -- ---- a unit below the one in question
 
 -- of a plain leaf the status is enough
-pub leaf_read : (mark status : Mark) → status ≡ unboxed mark → is_plain_leaf status ≡ true → status ≡ unboxed_leaf mark
+pub leaf_read : (mark status : Mark) → status ≡ without_containers mark → is_plain_leaf status ≡ true → status ≡ unboxed_leaf mark
 leaf_read mark status is leaf =
     let same : is_plain_leaf mark ≡ true = ap is_plain_leaf (sym is) ∙ leaf in
     is ∙ sym (rw same refl)
 
 -- else it is asked what it names
-pub below_read : (mark status : Mark) (boxed : Bool) → status ≡ unboxed mark → boxed ≡ mark.boxed → is_plain_leaf status ≡ false → record status { boxed = boxed } ≡ unboxed_leaf mark
+pub below_read : (mark status : Mark) (boxed : Bool) → status ≡ without_containers mark → boxed ≡ mark.boxed → is_plain_leaf status ≡ false → record status { boxed = boxed } ≡ unboxed_leaf mark
 below_read mark status boxed is names more =
     let same : is_plain_leaf mark ≡ false = ap is_plain_leaf (sym is) ∙ more in
     ap₂ (λ (m : Mark) (b : Bool). (let with : Mark = record m { boxed = b } in with)) is names ∙ sym (rw same refl)
@@ -124,9 +124,9 @@ next_mark f spans units i d all same low =
 
 pub mark_more : (f : Forest Unit) (spans : List Span) (units : List Unit) (i : ℕ) (d : Span) (mark : Mark) (marks more : List Mark) → AllByRecursion (Has (nodes f)) units → map (λ (s : Span). s.id) spans ≡ map (λ (u : Unit). u.id) units → i < length spans
     → ((u : Unit) → Has (nodes f) u → (get_or spans i d).id ≡ u.id → mark ≡ mark_at (get_or spans i d) u) → marks ≡ marks_at (take i spans) (take i units) → more ≡ marks ++ mark ∷ [] → more ≡ marks_at (take (i + 1) spans) (take (i + 1) units)
-mark_more f spans units i d mark marks more all same low tells so_far pushed =
+mark_more f spans units i d mark marks more all same low answers so_far pushed =
     let next = next_mark f spans units i d all same low in
-    pushed ∙ ap₂ (λ l m. l ++ m ∷ []) so_far (tells next.0 next.1 next.2) ∙ next.3
+    pushed ∙ ap₂ (λ l m. l ++ m ∷ []) so_far (answers next.0 next.1 next.2) ∙ next.3
 
 pub all_marks : (spans : List Span) (units : List Unit) (i : ℕ) → map (λ (s : Span). s.id) spans ≡ map (λ (u : Unit). u.id) units → length spans ≤ i → marks_at (take i spans) (take i units) ≡ marks_at spans units
 all_marks spans units i same high =
@@ -139,9 +139,9 @@ marks_all spans units i marks same high so_far = so_far ∙ all_marks spans unit
 -- the same without what some marks say of containers
 pub told_more : (tell : Mark → Mark) (f : Forest Unit) (spans : List Span) (units : List Unit) (i : ℕ) (d : Span) (mark : Mark) (marks more : List Mark) → AllByRecursion (Has (nodes f)) units → map (λ (s : Span). s.id) spans ≡ map (λ (u : Unit). u.id) units → i < length spans
     → ((u : Unit) → Has (nodes f) u → (get_or spans i d).id ≡ u.id → mark ≡ tell (mark_at (get_or spans i d) u)) → marks ≡ map tell (marks_at (take i spans) (take i units)) → more ≡ marks ++ mark ∷ [] → more ≡ map tell (marks_at (take (i + 1) spans) (take (i + 1) units))
-told_more tell f spans units i d mark marks more all same low tells so_far pushed =
+told_more tell f spans units i d mark marks more all same low answers so_far pushed =
     let next = next_mark f spans units i d all same low in
-    pushed ∙ ap₂ (λ l m. l ++ m ∷ []) so_far (tells next.0 next.1 next.2) ∙ sym (map-append tell (marks_at (take i spans) (take i units)) (mark_at (get_or spans i d) next.0 ∷ [])) ∙ ap (map tell) next.3
+    pushed ∙ ap₂ (λ l m. l ++ m ∷ []) so_far (answers next.0 next.1 next.2) ∙ sym (map-append tell (marks_at (take i spans) (take i units)) (mark_at (get_or spans i d) next.0 ∷ [])) ∙ ap (map tell) next.3
 
 pub told_all : (tell : Mark → Mark) (spans : List Span) (units : List Unit) (i : ℕ) (marks : List Mark) → map (λ (s : Span). s.id) spans ≡ map (λ (u : Unit). u.id) units → length spans ≤ i → marks ≡ map tell (marks_at (take i spans) (take i units)) → marks ≡ map tell (marks_at spans units)
 told_all tell spans units i marks same high so_far = so_far ∙ ap (map tell) (all_marks spans units i same high)

@@ -8,7 +8,7 @@ use Rattle.catalogue_statements.specs.DescriptionRows.{AreElements, AreHoused, I
 use Rattle.catalogue_core.specs.Descriptions.{with_boxes, KnowsItsContainers}
 use Rattle.catalogue_core.specs.CatalogueMerge.{Catalogue}
 use Rattle.catalogue_statements.specs.Rows.{ElementRow, HousingRow, element_row, housing_row}
-use Rattle.tree_core.specs.Versions.{Version}
+use Rattle.office_tables.specs.Versions.{Version}
 use Rattle.office_tables.proofs.numbered.OwnNumbers.{still_numbered}
 use Rattle.catalogue_statements.specs.Representation.{RepresentsCatalogue}
 use Rattle.catalogue_statements.specs.declared.office.OfficeRow.{OfficeRow}

@@ -16,7 +16,7 @@ use Rattle.catalogue_statements.specs.DescriptionRows.{WithTexts, cell_of, WithH
 use Rattle.catalogue_core.specs.Descriptions.{with_boxes, with_values, KnowsItsContainers}
 use Rattle.catalogue_core.specs.CatalogueMerge.{Catalogue}
 use Rattle.catalogue_statements.specs.Rows.{unit_row, ElementRow, HousingRow}
-use Rattle.tree_core.specs.Versions.{Version}
+use Rattle.office_tables.specs.Versions.{Version}
 use Rattle.tree_core.proofs.EachLemmas.{nodes-each}
 use Rattle.catalogue_statements.specs.Representation.{Represents, element_cells, elements_of, housing_cells, housings_of}
 use Rattle.catalogue_core.specs.Units.{Unit, has_id}

@@ -11,10 +11,10 @@ use Rattle.tree_core.specs.declared.rows.Link.{Link}
 use Rattle.tree_core.proofs.LinkPaths.{length-path}
 use Rattle.catalogue_core.specs.Bounds.{IsKept, IsLegibleUnit}
 use Rattle.catalogue_core.specs.Descriptions.{KnowsItsContainers, HasAllPlaces}
-use Rattle.tree_core.specs.Versions.{Links}
+use Rattle.office_tables.specs.Versions.{First}
 use Rattle.catalogue_statements.specs.Representation.{Represents, RepresentsLinkRows}
 use Rattle.catalogue_core.specs.Units.{Unit}
-use Rattle.catalogue_store.specs.WorkedExamples.{box, fonds, series, worked, settings, element_rows, housing_rows, link_rows, tables}
+use Rattle.catalogue_store.specs.WorkedExamples.{box, fonds, series, example_catalogue, settings, element_rows, housing_rows, link_rows, tables}
 use Rattle.office_tables.proofs.Puts.{not_falling}
 
 -- texts that are not there
@@ -34,26 +34,26 @@ legible_series : IsLegibleUnit series
 unfolding is_utf8 chars encode
 legible_series = record { level = text (codes "Series") refl; texts = (tt, (text (codes "Minutes") refl, (tt, (text (codes "2 m") refl, no_texts 21)))); until = refl }
 
-pub worked_kept : IsKept worked
+pub worked_kept : IsKept example_catalogue
 unfolding is_utf8 chars encode
 worked_kept = record {
   places = record {
     few = lit≤ tt;
     low = (lit≤ tt, (lit≤ tt, tt));
-    shallow = λ id. let short = length-path id (each (λ (u : Unit). u.id) worked.forest) in omega (arith, short);
+    shallow = λ id. let short = length-path id (each (λ (u : Unit). u.id) example_catalogue.forest) in omega (arith, short);
   };
   units = (legible_fonds, (legible_series, tt));
   boxes = (record { name = text box.name refl; location = text box.location refl; kind = text box.kind refl }, tt);
   few_boxes = lit≤ tt;
 }
 
-pub worked_known : KnowsItsContainers worked
+pub worked_known : KnowsItsContainers example_catalogue
 worked_known = record { apart = refl; known = (refl, (refl, tt)) }
 
-pub worked_places : HasAllPlaces worked
+pub worked_places : HasAllPlaces example_catalogue
 worked_places = (refl, (refl, tt))
 
-pub worked_shown : Represents RepresentsLinkRows Links tables settings worked
+pub worked_shown : Represents RepresentsLinkRows First tables settings example_catalogue
 unfolding IsDistinct
 worked_shown = record {
   catalogue = record {

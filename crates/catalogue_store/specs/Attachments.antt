@@ -9,7 +9,7 @@ use Rattle.office_tables.specs.Order.{Rises}
 use Rattle.catalogue_statements.specs.Rows.{by_number}
 use Rattle.catalogue_core.specs.Units.{Unit, has_id}
 use Rattle.catalogue_store.specs.declared.container_marks.Attached.{Attached}
-use Rattle.catalogue_core.specs.UnitMarks.{mark_of, unnumbered, AreWalkMarks, names}
+use Rattle.catalogue_core.specs.UnitMarks.{mark_of, without_number, AreWalkMarks, names}
 
 -- the units that name the container, each once, in order of their numbers
 pub record AreAttached (c : Catalogue) (container : ℕ) (units : List Unit) : Type 0 where
@@ -33,13 +33,13 @@ abbrev pub AreAttachedRows : (Forest ℕ → Span → Type 0) → Catalogue → 
 AreAttachedRows stands c container rows = AreRowsOf stands (each (λ (u : Unit). u.id) c.forest) (named_by c container) rows
 
 -- the same mark, as of a unit that names no containers
-abbrev pub unboxed : Mark → Mark
-unboxed mark = record mark { boxed = false }
+abbrev pub without_containers : Mark → Mark
+without_containers mark = record mark { boxed = false }
 
 -- The marks of a path, in order. Neither their numbers nor `boxed` have a meaning: what withholds the last unit of a path
 -- is on the path, whatever lies in which container.
 abbrev pub ArePathMarks : List Unit → List Mark → Type 0
-ArePathMarks units marks = map unboxed (map unnumbered marks) ≡ map unboxed (map mark_of units)
+ArePathMarks units marks = map without_containers (map without_number marks) ≡ map without_containers (map mark_of units)
 
 -- Whether nothing is below its unit, which is neither a draft nor closed. What withholds such a unit withholds the one
 -- above it, too.
@@ -48,13 +48,13 @@ is_plain_leaf mark = not mark.draft && (is_none mark.until && nat_eq (mark.rgt -
 
 -- the same mark, but a plain leaf's is as of a unit that names no containers
 abbrev pub unboxed_leaf : Mark → Mark
-unboxed_leaf mark = if is_plain_leaf mark then unboxed mark else mark
+unboxed_leaf mark = if is_plain_leaf mark then without_containers mark else mark
 
 -- The same marks without `boxed` where it has no meaning: the question is which units take their containers from the
 -- first, and of a plain leaf it does not matter whether it does.
 abbrev pub branch_told : List Mark → List Mark
 branch_told [] = []
-branch_told (mark ∷ marks) = unboxed mark ∷ map unboxed_leaf marks
+branch_told (mark ∷ marks) = without_containers mark ∷ map unboxed_leaf marks
 
 -- The marks of a unit and of all below it in walk order. `boxed` of the first has no meaning, nor has that of a plain
 -- leaf.

@@ -2,10 +2,10 @@
 use Rattle.std.specs.Prelude.{length}
 use Rattle.tree_core.specs.Forest.{size}
 use Rattle.catalogue_core.specs.CatalogueMerge.{Catalogue}
-use Rattle.office_tables.specs.RowCounts.{capped}
+use Rattle.office_tables.specs.RowCounts.{cap}
 use Rattle.catalogue_statements.specs.declared.office.OfficeRow.{OfficeRow}
 use Rattle.catalogue_store.specs.declared.office.Office.{Office}
 
 -- its row, and how many units and containers there are
 abbrev pub told_office : Catalogue → OfficeRow → Office
-told_office c o = record { row = o; units = capped (size c.forest); containers = capped (length c.containers) }
+told_office c o = record { row = o; units = cap (size c.forest); containers = cap (length c.containers) }

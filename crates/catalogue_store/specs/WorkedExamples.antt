@@ -7,7 +7,7 @@ use Rattle.tree_core.specs.Forest.{Empty, Node}
 use Rattle.tree_core.specs.declared.rows.Link.{Link}
 use Rattle.catalogue_core.specs.CatalogueMerge.{Catalogue}
 use Rattle.catalogue_statements.specs.Rows.{office_row, unit_row, ElementRow, element_row, container_row, HousingRow, housing_row, link_row}
-use Rattle.tree_core.specs.Versions.{Links}
+use Rattle.office_tables.specs.Versions.{First}
 use Rattle.office_tables.specs.Schema.{schema, office, unit, element, container, housing, link}
 use Rattle.catalogue_core.specs.Units.{Unit}
 use Rattle.catalogue_statements.specs.declared.office.OfficeRow.{OfficeRow}
@@ -39,8 +39,8 @@ series = record {
   until = Some (pos 20088);
 }
 
-abbrev pub worked : Catalogue
-worked = record { forest = Node fonds (Node series Empty Empty) Empty; containers = box ∷ []; next = 3 }
+abbrev pub example_catalogue : Catalogue
+example_catalogue = record { forest = Node fonds (Node series Empty Empty) Empty; containers = box ∷ []; next = 3 }
 
 -- ---- its tables; the others are empty
 
@@ -60,7 +60,7 @@ link_rows = record { id = 1; parent = None; ord = 1 } ∷ record { id = 2; paren
 
 abbrev pub rows : Trees
 rows tree =
-    if tree == office.tree then office_row Links settings ∷ []
+    if tree == office.tree then office_row First settings ∷ []
     else if tree == unit.tree then unit_row fonds ∷ unit_row series ∷ []
     else if tree == element.tree then map element_row element_rows
     else if tree == container.tree then container_row (1, box) ∷ []
@@ -69,4 +69,4 @@ rows tree =
     else []
 
 abbrev pub tables : Database
-tables = record { schema = schema Links; trees = rows }
+tables = record { schema = schema First; trees = rows }

@@ -53,7 +53,7 @@ pub fn known<P: Versioned, S: Alter>(
     source: &Text,
     legacy: &Text,
 ) -> Result<Option<u64>, StoreFault>
-    ensures tells { StoreAnswers S.Store (RepresentsAlone RepresentsUnits) (λ _. ⊤) tables.old tables.new result
+    ensures answers { StoreAnswers S.Store (RepresentsAlone RepresentsUnits) (λ _. ⊤) tables.old tables.new result
         (λ _. ⊤)
         (λ _ f. FindsUnit (is_from source.now legacy.now) f) }
 {

@@ -59,7 +59,7 @@ pub fn find_head<P: Places, S: Alter>(
     unit: u64,
 ) -> Result<Option<Head>, StoreFault>
     requires small { IsNumber unit }
-    ensures tells { StoreAnswers S.Store (Represents P.represents P.version) IsKept tables.old tables.new result
+    ensures answers { StoreAnswers S.Store (Represents P.represents P.version) IsKept tables.old tables.new result
         (λ _. ⊤)
         (λ _ c head. head ≡ option_map head_of (find (has_id unit) (nodes c.forest))) }
 {
@@ -86,7 +86,7 @@ fn heads_of<P: Places, S: Alter>(
     tables: &mut Tables<P, S>,
     units: &[u64],
 ) -> Result<Vec<Head>, StoreFault>
-    ensures tells { StoreAnswers S.Store (Represents P.represents P.version) IsKept tables.old tables.new result
+    ensures answers { StoreAnswers S.Store (Represents P.represents P.version) IsKept tables.old tables.new result
         (λ c. AllByRecursion (λ unit. has_unit c.forest unit ≡ true) units.now)
         (λ _ c heads. map Some heads.items ≡ map (head_at c.forest) units.now) }
 {
@@ -112,7 +112,7 @@ pub fn path_heads<P: Places, S: Alter>(
     unit: u64,
 ) -> Result<Vec<Head>, StoreFault>
     requires small { IsNumber unit }
-    ensures tells { StoreAnswers S.Store (Represents P.represents P.version) IsKept tables.old tables.new result
+    ensures answers { StoreAnswers S.Store (Represents P.represents P.version) IsKept tables.old tables.new result
         (λ _. ⊤)
         (λ _ c heads. heads.items ≡ map head_of (path (has_id unit) c.forest)) }
 {
@@ -127,7 +127,7 @@ pub fn heads_below<P: Places, S: Alter>(
     unit: Option<u64>,
 ) -> Result<Vec<Head>, StoreFault>
     requires small { IfSome unit IsNumber }
-    ensures tells { StoreAnswers S.Store (Represents P.represents P.version) IsKept tables.old tables.new result
+    ensures answers { StoreAnswers S.Store (Represents P.represents P.version) IsKept tables.old tables.new result
         (λ _. ⊤)
         (λ _ c heads. heads.items ≡ map head_of (tops (part_below has_id unit c.forest))) }
 {

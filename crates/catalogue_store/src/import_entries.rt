@@ -3,7 +3,7 @@
 
 ghost use Rattle.std.specs.Prelude.{ℕ, Option};
 ghost use Rattle.isad_core.specs.Limits.{IsNumber};
-ghost use Rattle.tree_core.specs.Versions.{Version};
+ghost use Rattle.office_tables.specs.Versions.{Version};
 ghost use Rattle.catalogue_core.specs.Bounds.{IsKept};
 ghost use Rattle.catalogue_core.specs.Descriptions.{AreWhole, HasPlaceFor, IsNew, MayDescribe, with_values};
 ghost use Rattle.office_tables.specs.Calls.{StoreUpdates};
@@ -27,7 +27,7 @@ pub fn enter_unit<P: Versioned, S: Alter>(
     unit: &NewUnit<'_>,
 ) -> Result<(), StoreFault>
     requires small { IsNumber unit.now.id }
-    ensures makes { (version : Version) (parent : Option ℕ)
+    ensures updates { (version : Version) (parent : Option ℕ)
         → StoreUpdates S.Store (RepresentsCatalogue version) (λ c. IsKept c × IsNew (unit_of unit.now) c)
         tables.old tables.new result (HasPlaceFor parent) (with_entered parent (unit_of unit.now)) described_trees }
 {
@@ -43,7 +43,7 @@ pub fn enter_values<P: Versioned, S: Alter>(
     values: &Values,
 ) -> Result<(), StoreFault>
     requires small { IsNumber unit }
-    ensures makes { (version : Version)
+    ensures updates { (version : Version)
         → StoreUpdates S.Store (RepresentsCatalogue version) (λ c. IsKept c × AreWhole values.now)
         tables.old tables.new result (MayDescribe unit) (with_values unit values.now) described_trees }
 {

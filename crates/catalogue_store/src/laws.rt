@@ -5,20 +5,20 @@ ghost use Rattle.isad_core.specs.declared.values.Values.{Values};
 ghost use Rattle.catalogue_core.specs.Bounds.{IsKept};
 ghost use Rattle.catalogue_core.specs.Descriptions.{KnowsItsContainers, HasAllPlaces, with_unit, with_values};
 ghost use Rattle.catalogue_core.specs.CatalogueMerge.{Catalogue};
-ghost use Rattle.tree_core.specs.Versions.{Links};
+ghost use Rattle.office_tables.specs.Versions.{First};
 ghost use Rattle.catalogue_statements.specs.Representation.{Represents, RepresentsLinkRows};
 ghost use Rattle.catalogue_core.specs.Units.{«Unit» as Described};
-ghost use Rattle.catalogue_store.specs.WorkedExamples.{settings, tables, worked};
+ghost use Rattle.catalogue_store.specs.WorkedExamples.{settings, tables, example_catalogue};
 
 pub use catalogue_core::laws::open_by_marks;
 
 /// A catalogue of two units is within the limits, and tables represent it. So the premises of the
 /// clauses on a catalogue can be met.
 pub fn worked_catalogue()
-    ensures kept { IsKept worked }
-    ensures known { KnowsItsContainers worked }
-    ensures places { HasAllPlaces worked }
-    ensures shown { Represents RepresentsLinkRows Links tables settings worked }
+    ensures kept { IsKept example_catalogue }
+    ensures known { KnowsItsContainers example_catalogue }
+    ensures places { HasAllPlaces example_catalogue }
+    ensures shown { Represents RepresentsLinkRows First tables settings example_catalogue }
 {}
 
 /// A catalogue that knows its containers still knows them after a unit is added or gets other

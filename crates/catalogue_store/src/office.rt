@@ -73,7 +73,7 @@ pub fn office_row<P: Places, S: Alter>(
     alloc: Global,
     tables: &mut Tables<P, S>,
 ) -> Result<Office, StoreFault>
-    ensures tells { StoreAnswers S.Store (RepresentsSettings P.represents P.version) AreLegibleSettings tables.old
+    ensures answers { StoreAnswers S.Store (RepresentsSettings P.represents P.version) AreLegibleSettings tables.old
         tables.new result (λ _. ⊤) (λ c o office. office ≡ told_office c o) }
 {
     let mut rows = office_rows(alloc, tables)?;
@@ -94,7 +94,7 @@ pub fn settings<P: Places, S: Alter>(
     alloc: Global,
     tables: &mut Tables<P, S>,
 ) -> Result<OfficeRow, StoreFault>
-    ensures tells { StoreAnswers S.Store (RepresentsSettings P.represents P.version) AreLegibleSettings tables.old
+    ensures answers { StoreAnswers S.Store (RepresentsSettings P.represents P.version) AreLegibleSettings tables.old
         tables.new result (λ _. ⊤) (λ _ o row. row ≡ o) }
 {
     let mut rows = office_rows(alloc, tables)?;

@@ -59,7 +59,7 @@ fn place_of(k: u64) -> Option<usize>
 }
 
 /// The texts of these elements, each at the place of its element.
-fn placed(elements: Vec<Element>) -> Result<[Option<Text>; 25], StoreFault>
+fn texts_by_element(elements: Vec<Element>) -> Result<[Option<Text>; 25], StoreFault>
     ensures value { (values : Description) → length values.texts ≡ 25
         → map (λ (e : Element). (e.k, e.value)) elements.items ≡ element_cells values
         → IfOk result (λ texts. texts ≡ values.texts) }
@@ -84,11 +84,11 @@ fn texts_of<P: Versioned, S: Alter>(
     unit: u64,
 ) -> Result<[Option<Text>; 25], StoreFault>
     requires small { IsNumber unit }
-    ensures tells { StoreAnswers S.Store (TellsTexts unit) (AllByRecursion (λ e. IsUtf8 e.value)) tables.old tables.new
-        result (λ _. ⊤) (λ values _ texts. texts ≡ values.texts) }
+    ensures answers { StoreAnswers S.Store (TellsTexts unit) (AllByRecursion (λ e. IsUtf8 e.value)) tables.old
+        tables.new result (λ _. ⊤) (λ values _ texts. texts ≡ values.texts) }
 {
     let found = elements_of(alloc, tables, unit)?;
-    placed(found)
+    texts_by_element(found)
 }
 
 /// The numbers of the containers in these rows.
@@ -176,7 +176,7 @@ pub fn values<P: Versioned, S: Alter>(
     unit: u64,
 ) -> Result<Option<UnitValues>, StoreFault>
     requires small { IsNumber unit }
-    ensures tells { StoreAnswers S.Store RepresentsValues IsKept tables.old tables.new result KnowsItsContainers
+    ensures answers { StoreAnswers S.Store RepresentsValues IsKept tables.old tables.new result KnowsItsContainers
         (λ _ c found. found ≡ values_of unit c) }
 {
     let mut levels = levels_of(alloc, tables, unit)?;

@@ -5,7 +5,7 @@ use Rattle.clap.specs.Walk.{Row, Rule, Text, arg_by_id, nothing_held, stop_after
 use Rattle.clap.specs.Simple.{Shape, built, filled, built_leaf, inherited, names_of, subcommand_of, with_index}
 use Rattle.clap.specs.Faults.{entered_fault, fault_of, level_fault, walk_fault}
 use Rattle.clap.proofs.ValueTestLemmas.{accepts-Accepts}
-use Rattle.command_line.specs.CommandLine.{check_command, import_command, init_command, migrate_command, number_from_to, preview_command, program, serve_command, store_option, talk_command, trial_command, wanted, wanted_file, wanted_within}
+use Rattle.command_line.specs.CommandLine.{check_command, import_command, init_command, migrate_command, number_from_to, preview_command, program, serve_command, store_option, talk_command, trial_command, wanted_option, wanted_file, wanted_within}
 use Rattle.command_line.specs.OptionValues.{HasNeeds, HasNumberWithin, HasSettings, HasText, Previews, Begins, Tries, Imports, Talks, Serves, Checks, Migrates}
 use Rattle.command_line.proofs.Rows.{ArePlain, TextOf, entered_level, first_none, has_text, level_rows, second_none, asking, text_rule}
 
@@ -54,28 +54,28 @@ number_there s words name least most good negates none own =
 
 init_settings : (ws : List Text) → level_fault (made init_command) [] nothing_held ws false [] ≡ [] → HasSettings (level_rows (made init_command) ws)
 init_settings ws e = record {
-  country = wanted_there (made init_command) ws (filled (wanted (codes "country"))) init_plain refl e refl refl;
-  repo = wanted_there (made init_command) ws (filled (wanted (codes "repo"))) init_plain refl e refl refl;
+  country = wanted_there (made init_command) ws (filled (wanted_option (codes "country"))) init_plain refl e refl refl;
+  repo = wanted_there (made init_command) ws (filled (wanted_option (codes "repo"))) init_plain refl e refl refl;
   seats = number_there (made init_command) ws (codes "seats") 0 4294967295 init_plain refl e refl;
   daily = number_there (made init_command) ws (codes "daily") 0 4294967295 init_plain refl e refl;
   hands = number_there (made init_command) ws (codes "hands") 0 4294967295 init_plain refl e refl;
   run_size = number_there (made init_command) ws (codes "run") 0 4294967295 init_plain refl e refl;
-  day = wanted_there (made init_command) ws (filled (wanted (codes "day"))) init_plain refl e refl refl;
+  day = wanted_there (made init_command) ws (filled (wanted_option (codes "day"))) init_plain refl e refl refl;
 }
 
 trial_settings : (ws : List Text) → level_fault (made trial_command) [] nothing_held ws false [] ≡ [] → HasSettings (level_rows (made trial_command) ws)
 trial_settings ws e = record {
-  country = wanted_there (made trial_command) ws (filled (wanted (codes "country"))) trial_plain refl e refl refl;
-  repo = wanted_there (made trial_command) ws (filled (wanted (codes "repo"))) trial_plain refl e refl refl;
+  country = wanted_there (made trial_command) ws (filled (wanted_option (codes "country"))) trial_plain refl e refl refl;
+  repo = wanted_there (made trial_command) ws (filled (wanted_option (codes "repo"))) trial_plain refl e refl refl;
   seats = number_there (made trial_command) ws (codes "seats") 0 4294967295 trial_plain refl e refl;
   daily = number_there (made trial_command) ws (codes "daily") 0 4294967295 trial_plain refl e refl;
   hands = number_there (made trial_command) ws (codes "hands") 0 4294967295 trial_plain refl e refl;
   run_size = number_there (made trial_command) ws (codes "run") 0 4294967295 trial_plain refl e refl;
-  day = wanted_there (made trial_command) ws (filled (wanted (codes "day"))) trial_plain refl e refl refl;
+  day = wanted_there (made trial_command) ws (filled (wanted_option (codes "day"))) trial_plain refl e refl refl;
 }
 
 preview_needs : (ws : List Text) → level_fault (made preview_command) [] nothing_held ws false [] ≡ [] → HasNeeds (codes "preview") (level_rows (made preview_command) ws)
-preview_needs ws e = Previews refl (wanted_there (made preview_command) ws (filled (wanted (codes "country"))) preview_plain refl e refl refl) (wanted_there (made preview_command) ws (filled (wanted (codes "repo"))) preview_plain refl e refl refl)
+preview_needs ws e = Previews refl (wanted_there (made preview_command) ws (filled (wanted_option (codes "country"))) preview_plain refl e refl refl) (wanted_there (made preview_command) ws (filled (wanted_option (codes "repo"))) preview_plain refl e refl refl)
 
 init_needs : (ws : List Text) → level_fault (made init_command) [] nothing_held ws false [] ≡ [] → HasNeeds (codes "init") (level_rows (made init_command) ws)
 init_needs ws e = Begins refl (wanted_there (made init_command) ws (filled store_option) init_plain refl e refl refl) (init_settings ws e)
@@ -86,7 +86,7 @@ trial_needs ws e = Tries refl (trial_settings ws e)
 import_needs : (ws : List Text) → level_fault (made import_command) [] nothing_held ws false [] ≡ [] → HasNeeds (codes "import") (level_rows (made import_command) ws)
 import_needs ws e = Imports refl (record {
   store = wanted_there (made import_command) ws (filled store_option) import_plain refl e refl refl;
-  source = wanted_there (made import_command) ws (filled (wanted (codes "source"))) import_plain refl e refl refl;
+  source = wanted_there (made import_command) ws (filled (wanted_option (codes "source"))) import_plain refl e refl refl;
   file = wanted_there (made import_command) ws (with_index 1 (filled wanted_file)) import_plain refl e refl refl;
 })
 

@@ -7,8 +7,8 @@ use Rattle.clap.specs.declared.builder.value_parser.ValueParser.TheVariants.{Sig
 use Rattle.isad_core.specs.Limits.{most_connections}
 
 -- `--name <VALUE>`, which is required
-abbrev pub wanted : Text → Rule
-wanted name = record (new_rule name) { long = Some name; value_names = 1; required = true }
+abbrev pub wanted_option : Text → Rule
+wanted_option name = record (new_rule name) { long = Some name; value_names = 1; required = true }
 
 -- a number within limits
 abbrev pub number_from_to : ℕ → ℕ → ValueParser
@@ -16,7 +16,7 @@ number_from_to least most = Signed (pos least) (pos most)
 
 -- `--name <NUMBER>`, a number within limits, which is required
 abbrev pub wanted_within : Text → ℕ → ℕ → Rule
-wanted_within name least most = record (wanted name) { parser = Some (number_from_to least most) }
+wanted_within name least most = record (wanted_option name) { parser = Some (number_from_to least most) }
 
 -- `--name <NUMBER>`, a number from 0 to 4294967295, which is required
 abbrev pub wanted_number : Text → Rule
@@ -35,7 +35,7 @@ command name rules = record (new_shape name) { rules = rules }
 
 -- the country and the repository of the office
 abbrev pub repository_options : List Rule
-repository_options = wanted (codes "country") ∷ wanted (codes "repo") ∷ []
+repository_options = wanted_option (codes "country") ∷ wanted_option (codes "repo") ∷ []
 
 -- the seats of the reading room, and how many orders a reader may place per day
 abbrev pub room_options : List Rule
@@ -52,11 +52,11 @@ with_rules (rule ∷ rules) s = with_rules rules (record s { rules = s.rules ++ 
 
 -- the settings of an office, and the day on which it opens
 abbrev pub settings_options : List Rule
-settings_options = repository_options ++ room_options ++ desk_options ++ wanted (codes "day") ∷ []
+settings_options = repository_options ++ room_options ++ desk_options ++ wanted_option (codes "day") ∷ []
 
 -- the office's store
 abbrev pub store_option : Rule
-store_option = wanted (codes "store")
+store_option = wanted_option (codes "store")
 
 -- `preview --country C --repo R [FILE]`
 abbrev pub preview_command : Shape
@@ -72,7 +72,7 @@ trial_command = command (codes "trial") settings_options
 
 -- `import --store F --source S FILE`
 abbrev pub import_command : Shape
-import_command = command (codes "import") (store_option ∷ wanted (codes "source") ∷ wanted_file ∷ [])
+import_command = command (codes "import") (store_option ∷ wanted_option (codes "source") ∷ wanted_file ∷ [])
 
 -- a command with `--store F` alone
 abbrev pub store_command : Text → Shape

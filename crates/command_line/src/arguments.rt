@@ -8,7 +8,7 @@ ghost use Rattle.command_line.specs.CommandLine.{check_command, import_command, 
 ghost use Rattle.command_line.specs.CommandLine.{preview_command, serve_command, store_command, talk_command};
 ghost use Rattle.command_line.specs.CommandLine.{trial_command, bare_program, program, optional_file, store_option};
 ghost use Rattle.command_line.specs.CommandLine.{desk_options, repository_options, room_options, settings_options};
-ghost use Rattle.command_line.specs.CommandLine.{wanted, wanted_file, wanted_number, wanted_within, with_rules};
+ghost use Rattle.command_line.specs.CommandLine.{wanted_option, wanted_file, wanted_number, wanted_within, with_rules};
 ghost use Rattle.command_line.specs.CommandLine.{care_commands, new_commands, with_commands, work_commands};
 
 use clap::{Arg, Command, value_parser};
@@ -22,7 +22,7 @@ const EXITS: &str =
 
 // `--name <VALUE>`, which is required.
 fn option<'a>(alloc: Global, name: &'a str, value: &'a str, help: &'a str) -> Arg<'a>
-    ensures rule { rule_of result ≡ wanted name.entry.now }
+    ensures rule { rule_of result ≡ wanted_option name.entry.now }
     ensures local { result.global ≡ false }
 {
     Arg::new(alloc, name)
@@ -253,7 +253,7 @@ fn migrate<'a>(alloc: Global) -> Result<Command<'a>, AllocError>
 }
 
 // The program without its commands.
-fn bare<'a>(alloc: Global) -> Result<Command<'a>, AllocError>
+fn base_command<'a>(alloc: Global) -> Result<Command<'a>, AllocError>
     ensures { IfOk result (λ c. app_of c ≡ bare_program) }
 {
     Command::new(alloc, "record_office")
@@ -298,7 +298,7 @@ fn with_care<'a>(alloc: Global, program: Command<'a>) -> Result<Command<'a>, All
 pub fn record_office<'a>(alloc: Global) -> Result<Command<'a>, AllocError>
     ensures { IfOk result (λ c. app_of c ≡ program) }
 {
-    let program = with_new(alloc, bare(alloc)?)?;
+    let program = with_new(alloc, base_command(alloc)?)?;
     let program = with_work(alloc, program)?;
     with_care(alloc, program)
 }

@@ -7,4 +7,4 @@ mod option_values;
 pub mod worked;
 
 pub use arguments::record_office;
-pub use option_values::{connections, day, number, optional_text, port, said, text};
+pub use option_values::{connections, day, number, optional_text, port, text, value_of};

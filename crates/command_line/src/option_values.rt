@@ -10,7 +10,7 @@ use isad_core::{Day, Text};
 use std::alloc::{AllocError, Global};
 
 /// The value of an option or file that was given.
-pub fn said<'a>(found: &ArgMatches<'a>, name: &str) -> &'a str
+pub fn value_of<'a>(found: &ArgMatches<'a>, name: &str) -> &'a str
     requires { HasText (rows_of (found_of found.now)) name.now }
     ensures { IsValue (rows_of (found_of found.now)) name.now result.now }
 {
@@ -22,7 +22,7 @@ pub fn text(alloc: Global, found: &ArgMatches, name: &str) -> Result<Text, Alloc
     requires { HasText (rows_of (found_of found.now)) name.now }
     ensures { IfOk result (IsValue (rows_of (found_of found.now)) name.now) }
 {
-    Text::new(alloc, said(found, name))
+    Text::new(alloc, value_of(found, name))
 }
 
 /// The value of an option or file that may be left out, or none if it was.
@@ -71,5 +71,5 @@ pub fn day(found: &ArgMatches, name: &str) -> Option<Day>
     requires { HasText (rows_of (found_of found.now)) name.now }
     ensures { IsDay (rows_of (found_of found.now)) name.now result }
 {
-    Day::parse(said(found, name))
+    Day::parse(value_of(found, name))
 }

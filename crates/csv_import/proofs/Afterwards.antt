@@ -8,7 +8,7 @@ use Rattle.sqlite.specs.Held.{Held, state}
 use Rattle.sqlite.specs.State.{HasCleanDisk}
 use Rattle.sqlite.specs.Tree.{Trees}
 use Rattle.tree_core.specs.Forest.{Forest}
-use Rattle.tree_core.specs.Versions.{Version}
+use Rattle.office_tables.specs.Versions.{Version}
 use Rattle.catalogue_core.specs.CatalogueMerge.{Catalogue}
 use Rattle.catalogue_statements.specs.Representation.{RepresentsNumbered}
 use Rattle.office_tables.specs.Calls.{Updates}
@@ -37,7 +37,7 @@ module _ {S Stays Model : Type 0} {g : store.Ghosts S} {represents : Database �
         represents_updated = λ clean s m it allowed. subst (λ k. represents b.now s k) (same s m it allowed clean) (subst (λ db. represents db s m) (sym (looked.same clean)) it);
         only = λ clean. subst (λ db. OnlyTouches touched a.now db) (sym (looked.same clean)) (nothing_touched touched a.now);
         goes = looked.goes;
-        cut = tt;
+        aborts = tt;
         faults = λ s m it allowed within clean free. tt;
       }
 
@@ -65,22 +65,22 @@ module _ {S Stays Model : Type 0} {g : store.Ghosts S} {represents : Database �
             (λ only. touched_wider touched_less touched a.now c.now less (subst (λ db. OnlyTouches touched_less db c.now) (looked.same at_b) only)) (step.only clean))
             step.goes;
         goes = on_ok_then r (Goes b c) (Goes a c) (goes_then a b c looked.goes) step.goes;
-        cut = on_err_then r (IsAborted b c) (IsAborted a c) (cut_then a b c looked.goes.on) step.cut;
+        aborts = on_err_then r (IsAborted b c) (IsAborted a c) (cut_then a b c looked.goes.on) step.aborts;
         faults = λ s m it allowed within.
-            excused_then a b c looked.goes.on r step.cut
+            excused_then a b c looked.goes.on r step.aborts
             (λ at_b. let so = serves s m it allowed at_b in step.faults s m (subst (λ db. represents db s m) (sym (looked.same at_b)) it) so.allowed so.within);
       }
 
 -- what it tells besides changes nothing of it
 pub makes_same : {S X Y Stays Model : Type 0} {g : store.Ghosts S} {represents : Database → Stays → Model → Type 0} {kept may : Model → Type 0} {made : Model → Model} {touched : List ℕ} {before after : Held S} {x : X} {y : Y}
     → Updates g represents kept before after (Ok x) may made touched → Updates g represents kept before after (Ok y) may made touched
-makes_same it = record { represents_updated = it.represents_updated; only = it.only; goes = it.goes; cut = tt; faults = λ s m shown allowed within clean free. tt }
+makes_same it = record { represents_updated = it.represents_updated; only = it.only; goes = it.goes; aborts = tt; faults = λ s m shown allowed within clean free. tt }
 
 -- it passes the fault of its last step on
 pub makes_fault : {S X Y Stays Model : Type 0} {g : store.Ghosts S} {represents : Database → Stays → Model → Type 0} {kept may : Model → Type 0} {made : Model → Model} {touched : List ℕ} {before after : Held S} (e : StoreFault) {r : Result Y StoreFault}
     → IsErr r × IsErrAnd r (λ f. f ≡ e) → Updates {X = X} g represents kept before after (Err e) may made touched → Updates g represents kept before after r may made touched
 makes_fault {g = g} {represents = represents} {kept = kept} {may = may} {made = made} {touched = touched} {before = before} {after = after} e {r = r} handed it =
-    makes_passed e handed it.cut it.faults
+    makes_passed e handed it.aborts it.faults
 
 -- a call that leaves the settings
 pub makes_legible : {S X : Type 0} {g : store.Ghosts S} {places : Trees → Forest ℕ → Type 0} {version : Version} {kept may : Catalogue → Type 0} {made : Catalogue → Catalogue} {touched : List ℕ} {before after : Held S} {r : Result X StoreFault}
@@ -91,6 +91,6 @@ makes_legible {g = g} {places = places} {version = version} {made = made} {after
       (λ made_so. record { tables = made_so; settings = shown.settings }) (it.represents_updated clean o c shown.tables allowed);
   only = it.only;
   goes = it.goes;
-  cut = it.cut;
+  aborts = it.aborts;
   faults = λ o c shown. it.faults o c shown.tables;
 }

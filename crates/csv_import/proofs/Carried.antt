@@ -14,7 +14,7 @@ use Rattle.atom_csv.specs.FileContents.{file_of}
 use Rattle.atom_csv.specs.declared.file.File.{File}
 use Rattle.atom_csv.specs.declared.file.Row.{Row}
 use Rattle.tree_core.specs.Forest.{Forest}
-use Rattle.tree_core.specs.Versions.{Version}
+use Rattle.office_tables.specs.Versions.{Version}
 use Rattle.desk_core.specs.Refusals.{first_that_holds, when}
 use Rattle.desk_core.specs.declared.refusal.Refusal.{Refusal}
 use Rattle.desk_core.specs.declared.refusal.Refusal.TheVariants.{BadFile, Full}
@@ -26,7 +26,7 @@ use Rattle.catalogue_core.specs.Sources.{is_source}
 use Rattle.catalogue_statements.specs.Settings.{AreLegibleSettings}
 use Rattle.catalogue_statements.specs.Representation.{Represents, RepresentsNumbered, RepresentsSettings, catalogue_trees}
 use Rattle.catalogue_statements.specs.declared.office.OfficeRow.{OfficeRow}
-use Rattle.office_core.specs.Rules.{Reply, after, gate, refusal, told}
+use Rattle.office_core.specs.Rules.{Reply, after, gate, refusal, result_of}
 use Rattle.office_core.specs.SoundOffice.{HasLegibleSettings, IsSoundOffice}
 use Rattle.office_core.specs.State.{State}
 use Rattle.office_core.specs.declared.command.Command.{Command}
@@ -40,7 +40,7 @@ use Rattle.office_tables.specs.declared.fault.StoreFault.{StoreFault}
 use Rattle.office_tables.proofs.CallEnds.{excused_then}
 use Rattle.office_tables.proofs.Calls.{cut_then, early, goes_then, on_err_then, on_ok_then}
 use Rattle.refinement.specs.CommandSteps.{CarriesOut, CarriesOutStep}
-use Rattle.refinement.specs.Gate.{gated, unless_refused}
+use Rattle.refinement.specs.Gate.{gate_reply, unless_refused}
 use Rattle.refinement.specs.AccessConditions.{RepresentsWhole}
 use Rattle.refinement.specs.Representation.{RepresentsState, office_of}
 use Rattle.refinement.proofs.Doings.{accepted, does_then, is_refused, refused}
@@ -48,9 +48,9 @@ use Rattle.refinement.proofs.Frames.{desk_kept}
 use Rattle.refinement.proofs.Tellings.{looked_crash}
 use Rattle.csv_import.specs.Arrivals.{IsReady}
 use Rattle.csv_import.specs.PendingImport.{ReadsCatalogue}
-use Rattle.csv_import.specs.RowEntry.{RepresentsEntering, RepresentsLegible, counts_of, entered}
+use Rattle.csv_import.specs.RowEntry.{RepresentsEntering, RepresentsLegible, counts_of, catalogue_after}
 use Rattle.csv_import.specs.RowPlan.{plan_of}
-use Rattle.csv_import.specs.CatalogueImport.{CanBePlaced, FitsIn, HasNumbered, has_room, judged, next_with_room, told_of}
+use Rattle.csv_import.specs.CatalogueImport.{CanBePlaced, FitsIn, HasNumbered, has_room, reply_after, next_with_room, told_of}
 use Rattle.csv_import.specs.KnownUnits.{KnowsUnits}
 use Rattle.csv_import.specs.Remarks.{HaveUnits}
 use Rattle.csv_import.specs.declared.row_entry.Counts.{Counts}
@@ -71,13 +71,13 @@ pub few_containers : (s : State) {many : Bool} → many ≡ nat_lt most_containe
 few_containers s counted few = ltb-false most_containers (length s.catalogue.containers) (sym counted ∙ few)
 
 -- then the gate has the last word
-pub judged_few : (s : State) (made : Done) → length s.catalogue.containers ≤ most_containers → judged s made ≡ gated s made
-judged_few s made few = ap (λ (b : Bool). cond b (Err Full) (gated s made)) (le-ltb most_containers (length s.catalogue.containers) few)
+pub judged_few : (s : State) (made : Done) → length s.catalogue.containers ≤ most_containers → reply_after s made ≡ gate_reply s made
+judged_few s made few = ap (λ (b : Bool). cond b (Err Full) (gate_reply s made)) (le-ltb most_containers (length s.catalogue.containers) few)
 
 -- the rows' units are there, once they are entered; the same rows and units may be told otherwise
 pub have_units : (source : Bytes) (file : File) (units : List ℕ) (s : State) → length s.catalogue.containers ≤ most_containers → HasNumbered source file units s
-    → (rows : List Row) → rows ≡ file.rows → (told : List ℕ) → told ≡ units → HaveUnits source rows told s.catalogue
-have_units source file units s within has rows same told alike =
+    → (rows : List Row) → rows ≡ file.rows → (result_of : List ℕ) → result_of ≡ units → HaveUnits source rows result_of s.catalogue
+have_units source file units s within has rows same result_of alike =
     subst (λ us. HaveUnits source rows us s.catalogue) (sym alike)
     (subst (λ rs. HaveUnits source rs units s.catalogue) (sym same) (record { entered = has.imported.entered within; numbered = has.numbered }))
 
@@ -95,7 +95,7 @@ fits_now source file today numbers new next s so is =
 
 -- a step that is refused for too many containers, or on which the gate has the last word
 judged_step : (places : Trees → Forest ℕ → Type 0) (version : Version) (s t : State) (asked : Command) (db : Database) → after s asked ≡ t
-    → refusal s asked ≡ first_that_holds (when (nat_lt most_containers (length t.catalogue.containers)) Full ∷ gate t ∷ []) → (r : Reply) → r ≡ judged t (told s asked) → RepresentsState places version db t → CarriesOutStep places version s asked r db
+    → refusal s asked ≡ first_that_holds (when (nat_lt most_containers (length t.catalogue.containers)) Full ∷ gate t ∷ []) → (r : Reply) → r ≡ reply_after t (result_of s asked) → RepresentsState places version db t → CarriesOutStep places version s asked r db
 judged_step places version s t asked db becomes last r is shown = at (nat_lt most_containers (length t.catalogue.containers)) (gate t) refl refl
   where
     refuse : (why : Refusal) → refusal s asked ≡ Some why → r ≡ Err why → CarriesOutStep places version s asked r db
@@ -103,20 +103,20 @@ judged_step places version s t asked db becomes last r is shown = at (nat_lt mos
         let one = refused s asked why some in
         record { told = so ∙ sym (ap (λ (p : State × Reply). p.1) one); represents = λ ok. absurd (let bad : IsOk (let r : Reply = Err why in r) = subst IsOk so ok in cc) }
 
-    accept : refusal s asked ≡ None → r ≡ Ok (told s asked) → CarriesOutStep places version s asked r db
+    accept : refusal s asked ≡ None → r ≡ Ok (result_of s asked) → CarriesOutStep places version s asked r db
     accept none so =
         let one = accepted s asked none in
         record { told = so ∙ sym (ap (λ (p : State × Reply). p.1) one); represents = λ ok. subst (RepresentsState places version db) (sym (ap (λ (p : State × Reply). p.0) one ∙ becomes)) shown }
 
     at : (many : Bool) (why : Option Refusal) → nat_lt most_containers (length t.catalogue.containers) ≡ many → gate t ≡ why → CarriesOutStep places version s asked r db
     at true why e f =
-        refuse Full (last ∙ ap (λ (b : Bool). first_that_holds (when b Full ∷ gate t ∷ [])) e) (is ∙ ap (λ (b : Bool). cond b (Err Full) (gated t (told s asked))) e)
+        refuse Full (last ∙ ap (λ (b : Bool). first_that_holds (when b Full ∷ gate t ∷ [])) e) (is ∙ ap (λ (b : Bool). cond b (Err Full) (gate_reply t (result_of s asked))) e)
     at false (Some why) e f =
         refuse why (last ∙ (ap (λ (b : Bool). first_that_holds (when b Full ∷ gate t ∷ [])) e ∙ ap (λ w. first_that_holds (w ∷ [])) f))
-        (is ∙ (ap (λ (b : Bool). cond b (Err Full) (gated t (told s asked))) e ∙ ap (λ w. unless_refused w (told s asked)) f))
+        (is ∙ (ap (λ (b : Bool). cond b (Err Full) (gate_reply t (result_of s asked))) e ∙ ap (λ w. unless_refused w (result_of s asked)) f))
     at false None e f =
         accept (last ∙ (ap (λ (b : Bool). first_that_holds (when b Full ∷ gate t ∷ [])) e ∙ ap (λ w. first_that_holds (w ∷ [])) f))
-        (is ∙ (ap (λ (b : Bool). cond b (Err Full) (gated t (told s asked))) e ∙ ap (λ w. unless_refused w (told s asked)) f))
+        (is ∙ (ap (λ (b : Bool). cond b (Err Full) (gate_reply t (result_of s asked))) e ∙ ap (λ w. unless_refused w (result_of s asked)) f))
 
 -- the day, the source, the units of the rows, and the next number, where there is room
 abbrev IsFitting : ℤ → Bytes → File → (Bytes → Option ℕ) → ℕ → State → Type 0
@@ -125,9 +125,9 @@ IsFitting today source file numbers next s = (today ≡ s.day) × (is_source sou
 -- what a call that entered the rows did, and how it counted them
 abbrev Entered : {S : Type 0} → kept_in.Ghosts S → (Trees → Forest ℕ → Type 0) → Version → Bytes → (Bytes → Option ℕ) → ℕ → Held S → Held S → Outcome → List Row → Type 0
 Entered g places version source numbers next before after outcome rows =
-    Updates g (RepresentsLegible places version) (λ _. ⊤) before after (let r : Result Outcome StoreFault = Ok outcome in r) (IsReady source rows numbers next) (entered source rows) catalogue_trees
+    Updates g (RepresentsLegible places version) (λ _. ⊤) before after (let r : Result Outcome StoreFault = Ok outcome in r) (IsReady source rows numbers next) (catalogue_after source rows) catalogue_trees
     × ReadsCatalogue g (RepresentsLegible places version) (IsReady source rows numbers next) before after (let r : Result Outcome StoreFault = Ok outcome in r)
-    (λ c made. (made.counts ≡ counts_of c.forest source rows) × (map Some made.units.items ≡ map (λ row. number_there (entered source rows c) source row.legacy) rows))
+    (λ c made. (made.counts ≡ counts_of c.forest source rows) × (map Some made.units.items ≡ map (λ row. number_there (catalogue_after source rows c) source row.legacy) rows))
 
 module _ {S : Type 0} (g : kept_in.Ghosts S) (places : Trees → Forest ℕ → Type 0) (version : Version) (today : ℤ) (source bytes : Bytes) (file : File) (read : file_of bytes ≡ Ok file) (numbers : Bytes → Option ℕ) (next : ℕ) (held mid after_it : Held S) (r : Result Reply StoreFault) (outcome : Outcome) where
   abbrev before : store.State
@@ -172,11 +172,11 @@ module _ {S : Type 0} (g : kept_in.Ghosts S) (places : Trees → Forest ℕ → 
           ∙ ap (λ (k : Catalogue). map (λ (row : Row). number_there k source row.legacy) file.rows) (entered_is s source bytes file read sound so.1 so.2);
     }
 
-    imports_so : Answers g (RepresentsWhole places version) (HasNumbered source file units) mid after_it r (λ _. ⊤) (λ _ s reply. HasNumbered source file units s → today ≡ s.day → reply ≡ judged s (told_of source file counts s))
+    imports_so : Answers g (RepresentsWhole places version) (HasNumbered source file units) mid after_it r (λ _. ⊤) (λ _ s reply. HasNumbered source file units s → today ≡ s.day → reply ≡ reply_after s (told_of source file counts s))
         → CarriesOut places version (λ s. (today ≡ s.day) × (is_source source ≡ true) × FitsIn source file s × KnowsUnits s.catalogue source file.rows numbers × (next ≡ s.catalogue.next)) (command.Import source bytes) before c r
-    imports_so tells =
+    imports_so answers =
         let asked = command.Import source bytes in
-        let still = λ (clean : HasCleanDisk c). early b c _ (looked_crash r b c tells.looks tells.cut) clean in
+        let still = λ (clean : HasCleanDisk c). early b c _ (looked_crash r b c answers.looks answers.aborts) clean in
         record {
           steps = λ clean s sound so it.
               let named = so.1 in
@@ -186,28 +186,28 @@ module _ {S : Type 0} (g : kept_in.Ghosts S) (places : Trees → Forest ℕ → 
               let shown = shown_now at_b s sound so it in
               let has = has_numbered at_b s sound so it in
               let counts_are = (come.1 at_b (office_of s) s.catalogue (shown_legible places version before.now s sound it) (ready s sound so)).0 in
-              if_ok_with r (LeavesUnchanged b c) (λ reply. HasNumbered source file units t → today ≡ t.day → reply ≡ judged t (told_of source file counts t)) (λ reply. CarriesOutStep places version s asked reply c.now)
+              if_ok_with r (LeavesUnchanged b c) (λ reply. HasNumbered source file units t → today ≡ t.day → reply ≡ reply_after t (told_of source file counts t)) (λ reply. CarriesOutStep places version s asked reply c.now)
               (λ reply looked is.
               judged_step places version s t asked c.now (after_is s source bytes file read sound named fits) (refusal_is s source bytes file read sound named fits) reply
-              (is has so.0 ∙ ap (judged t) (ap (λ (n : Counts). told_of source file n t) counts_are ∙ sym (told_is s source bytes file read sound named fits)))
+              (is has so.0 ∙ ap (reply_after t) (ap (λ (n : Counts). told_of source file n t) counts_are ∙ sym (told_is s source bytes file read sound named fits)))
               (subst (λ (db : Database). RepresentsState places version db t) (sym (looked.same clean)) shown))
-              tells.looks (tells.answers clean tt t shown);
-          goes = on_ok_then r (LeavesUnchanged b c) (Goes before c) (λ looked. goes_then before b c come.0.goes looked.goes) tells.looks;
-          cut = on_err_then r (IsAborted b c) (IsAborted before c) (λ cut. cut_then before b c come.0.goes.on cut) tells.cut;
+              answers.looks (answers.answers clean tt t shown);
+          goes = on_ok_then r (LeavesUnchanged b c) (Goes before c) (λ looked. goes_then before b c come.0.goes looked.goes) answers.looks;
+          aborts = on_err_then r (IsAborted b c) (IsAborted before c) (λ cut. cut_then before b c come.0.goes.on cut) answers.aborts;
           faults = λ s sound so it.
-              excused_then before b c come.0.goes.on r tells.cut
-              (λ at_b. tells.faults tt (now s source bytes file read sound so.1 so.2) (shown_now at_b s sound so it) tt (has_numbered at_b s sound so it));
+              excused_then before b c come.0.goes.on r answers.aborts
+              (λ at_b. answers.faults tt (now s source bytes file read sound so.1 so.2) (shown_now at_b s sound so it) tt (has_numbered at_b s sound so it));
         }
 
 -- the same, where the rows are told otherwise
 pub imports : {S : Type 0} {g : kept_in.Ghosts S} {places : Trees → Forest ℕ → Type 0} {version : Version} {today : ℤ} {source bytes : Bytes} {file : File} (read : file_of bytes ≡ Ok file) {numbers : Bytes → Option ℕ} {next : ℕ} {held mid after_it : Held S} {r : Result Reply StoreFault} {outcome : Outcome} {rows : List Row} → rows ≡ file.rows
-    → Updates g (RepresentsLegible places version) (λ _. ⊤) held mid (let r : Result Outcome StoreFault = Ok outcome in r) (IsReady source rows numbers next) (entered source rows) catalogue_trees
+    → Updates g (RepresentsLegible places version) (λ _. ⊤) held mid (let r : Result Outcome StoreFault = Ok outcome in r) (IsReady source rows numbers next) (catalogue_after source rows) catalogue_trees
     → ReadsCatalogue g (RepresentsLegible places version) (IsReady source rows numbers next) held mid (let r : Result Outcome StoreFault = Ok outcome in r)
-    (λ c made. (made.counts ≡ counts_of c.forest source rows) × (map Some made.units.items ≡ map (λ row. number_there (entered source rows c) source row.legacy) rows))
-    → Answers g (RepresentsWhole places version) (HasNumbered source file outcome.units.items) mid after_it r (λ _. ⊤) (λ _ s reply. HasNumbered source file outcome.units.items s → today ≡ s.day → reply ≡ judged s (told_of source file outcome.counts s))
+    (λ c made. (made.counts ≡ counts_of c.forest source rows) × (map Some made.units.items ≡ map (λ row. number_there (catalogue_after source rows c) source row.legacy) rows))
+    → Answers g (RepresentsWhole places version) (HasNumbered source file outcome.units.items) mid after_it r (λ _. ⊤) (λ _ s reply. HasNumbered source file outcome.units.items s → today ≡ s.day → reply ≡ reply_after s (told_of source file outcome.counts s))
     → CarriesOut places version (IsFitting today source file numbers next) (command.Import source bytes) (state g held) (state g after_it) r
-imports {g = g} {places = places} {version = version} {today = today} {source = source} {bytes = bytes} {file = file} read {numbers = numbers} {next = next} {held = held} {mid = mid} {after_it = after_it} {r = r} {outcome = outcome} same made finds tells =
-    imports_so g places version today source bytes file read numbers next held mid after_it r outcome (subst (Entered g places version source numbers next held mid outcome) same (made, finds)) tells
+imports {g = g} {places = places} {version = version} {today = today} {source = source} {bytes = bytes} {file = file} read {numbers = numbers} {next = next} {held = held} {mid = mid} {after_it = after_it} {r = r} {outcome = outcome} same made finds answers =
+    imports_so g places version today source bytes file read numbers next held mid after_it r outcome (subst (Entered g places version source numbers next held mid outcome) same (made, finds)) answers
 
 -- the rows are ready to be entered
 pub ready_for : {today : ℤ} {source : Bytes} (bytes : Bytes) {file : File} (read : file_of bytes ≡ Ok file) {numbers : Bytes → Option ℕ} {next : ℕ} {rows : List Row} → rows ≡ file.rows → (s : State) → IsSoundOffice s
@@ -240,8 +240,8 @@ module _ {places : Trees → Forest ℕ → Type 0} {version : Version} {today :
   pub when_known : {c : store.State} {r : Result Reply StoreFault}
       → (HasCleanDisk b → (o : OfficeRow) (k : Catalogue) → RepresentsEntering version a.now o k → AreGoodUnits k → KnowsUnits k source rows numbers)
       → CarriesOut places version (IsLookedUp today source file numbers) (command.Import source bytes) b c r → CarriesOut places version (HasBegun today source) (command.Import source bytes) a c r
-  when_known told last = does_then looked last (λ clean s sound so it.
-      (so.0, so.1, subst (λ (rs : List Row). KnowsUnits s.catalogue source rs numbers) same (told clean (office_of s) s.catalogue (entering_of version a.now (office_of s) s.catalogue it.catalogue.catalogue) sound.sound.units)))
+  when_known result_of last = does_then looked last (λ clean s sound so it.
+      (so.0, so.1, subst (λ (rs : List Row). KnowsUnits s.catalogue source rs numbers) same (result_of clean (office_of s) s.catalogue (entering_of version a.now (office_of s) s.catalogue it.catalogue.catalogue) sound.sound.units)))
 
   module _ {plan : Planned} (planned : HasCleanDisk b → (o : OfficeRow) (k : Catalogue) → Represents places version a.now o k → AreGoodUnits k → (q : Bytes) → KnowsUnits k q rows numbers → plan ≡ plan_of k.forest q rows) where
     pub when_placed : {new : ℕ} {c : store.State} {r : Result Reply StoreFault} → plan ≡ plans.Fits new
@@ -251,10 +251,10 @@ module _ {places : Trees → Forest ℕ → Type 0} {version : Version} {today :
     pub refused_row : {row cause : ℕ} → plan ≡ plans.Faulty row cause → CarriesOut places version (IsLookedUp today source file numbers) (command.Import source bytes) a b (Ok (Err (BadFile row cause)))
     refused_row {row} {cause} is = is_refused looked (λ clean s sound so it. faulty s source bytes file read sound so.1 row cause (sym is ∙ planned_so file a b same planned clean s sound so it))
 
-  module _ {new : ℕ} {found : Option ℕ} (told : HasCleanDisk b → (k : Catalogue) (o : OfficeRow) → RepresentsSettings places version a.now k o → found ≡ next_with_room new k) where
+  module _ {new : ℕ} {found : Option ℕ} (result_of : HasCleanDisk b → (k : Catalogue) (o : OfficeRow) → RepresentsSettings places version a.now k o → found ≡ next_with_room new k) where
     pub when_roomy : {next : ℕ} {c : store.State} {r : Result Reply StoreFault} → found ≡ Some next
         → CarriesOut places version (IsFitting today source file numbers next) (command.Import source bytes) b c r → CarriesOut places version (IsPlaced today source file numbers new) (command.Import source bytes) a c r
-    when_roomy {next = next} is last = does_then looked last (λ clean s sound so it. fits_now source file today numbers new next s so (sym is ∙ told clean s.catalogue (office_of s) it.catalogue))
+    when_roomy {next = next} is last = does_then looked last (λ clean s sound so it. fits_now source file today numbers new next s so (sym is ∙ result_of clean s.catalogue (office_of s) it.catalogue))
 
     pub refused_full : found ≡ None → CarriesOut places version (IsPlaced today source file numbers new) (command.Import source bytes) a b (Ok (Err Full))
-    refused_full is = is_refused looked (λ clean s sound so it. full s source bytes file read sound so.1 new so.2 (no_room_there new s.catalogue (sym is ∙ told clean s.catalogue (office_of s) it.catalogue)))
+    refused_full is = is_refused looked (λ clean s sound so it. full s source bytes file read sound so.1 new so.2 (no_room_there new s.catalogue (sym is ∙ result_of clean s.catalogue (office_of s) it.catalogue)))

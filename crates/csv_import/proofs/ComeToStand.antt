@@ -21,7 +21,7 @@ use Rattle.catalogue_statements.proofs.Statuses.{each_each}
 use Rattle.catalogue_store.specs.Arrivals.{MayJoin}
 use Rattle.catalogue_store.proofs.Joiners.{size_added}
 use Rattle.csv_import.specs.Arrivals.{arrival_of, arrivals_from, arrivals_of}
-use Rattle.csv_import.specs.RowEntry.{entered, or_as_before}
+use Rattle.csv_import.specs.RowEntry.{catalogue_after, or_as_before}
 use Rattle.csv_import.specs.RowPlan.{new_of}
 use Rattle.csv_import.specs.Turns.{AreToCome}
 use Rattle.csv_import.proofs.OneRow.{entered_new, may_come, none_against}
@@ -135,13 +135,13 @@ module _ (c : Catalogue) (source : Bytes) (good : AreGoodUnits c) where
               ap₂ (λ m above. arrivals_from c.forest source m above (new_of c.forest source rest)) up (sym (onto-more [] nb row))
 
 -- all rows
-pub come_to_stand : (source : Bytes) (rows : List Row) (next : ℕ) (c : Catalogue) → AreToCome source rows next c → Joins (arrivals_of c.forest source next rows) (ids c.forest) (ids (entered source rows c).forest)
+pub come_to_stand : (source : Bytes) (rows : List Row) (next : ℕ) (c : Catalogue) → AreToCome source rows next c → Joins (arrivals_of c.forest source next rows) (ids c.forest) (ids (catalogue_after source rows c).forest)
 come_to_stand source rows next c it =
     let none = none_merged c source it.apart in
     let all = joins c source it.units rows [] [] next it.room.after (begins c source it.units it.apart) (all_true (λ (r : Row). IsApart r []) (λ r. tt) rows)
     (subst (AreToCome source rows next) (sym none) it) (ap (with_rows source rows) none ∙ it.room.placed) in
     let from : c.next + 0 ≡ next = (let number = it.number in omega (arith, number)) in
-    let at_end : it.room.after ≡ entered source rows c = sym (ap (or_as_before c) it.room.placed) in
+    let at_end : it.room.after ≡ catalogue_after source rows c = sym (ap (or_as_before c) it.room.placed) in
     subst (λ (d : Catalogue). Joins (arrivals_of c.forest source next rows) (ids c.forest) (ids d.forest)) at_end
     (subst (λ (d : Catalogue). Joins (arrivals_of c.forest source next rows) (ids d.forest) (ids it.room.after.forest)) none
     (subst (λ n. Joins (arrivals_from c.forest source n [] (new_of c.forest source rows)) (ids (merged c source [] []).forest) (ids it.room.after.forest)) from all))
@@ -151,7 +151,7 @@ pub may_join : (source : Bytes) (rows : List Row) (next : ℕ) (c : Catalogue) �
 may_join source rows next c it =
     let all = come_to_stand source rows next c it in
     let many = all.many in
-    let same = size-each (λ (u : Unit). u.id) (entered source rows c).forest in
+    let same = size-each (λ (u : Unit). u.id) (catalogue_after source rows c).forest in
     let is = ap (λ r. size (or_as_before c r).forest) it.room.placed in
     let few = it.room.few in
     (all.can, omega (arith, many, same, is, few))

@@ -11,24 +11,24 @@ use Rattle.catalogue_core.specs.Units.{Unit}
 use Rattle.catalogue_core.proofs.NodeLemmas.{length-nodes}
 use Rattle.catalogue_statements.specs.Representation.{RepresentsUnits}
 use Rattle.catalogue_statements.proofs.Offices.{same_number}
-use Rattle.office_tables.specs.RowCounts.{capped}
+use Rattle.office_tables.specs.RowCounts.{cap}
 use Rattle.csv_import.specs.CatalogueImport.{has_room, next_with_room}
 
 -- the count has an end, but far above what an office may have
-pub many_counted : (n : ℕ) → nat_lt most_containers (capped n) ≡ nat_lt most_containers n
+pub many_counted : (n : ℕ) → nat_lt most_containers (cap n) ≡ nat_lt most_containers n
 many_counted n = elim (cases_Bool (nat_lt most_containers n)) [
-  | inl high ↦ (let more : most_containers < n = ltb-true most_containers n high in lt-ltb most_containers (capped n) (omega (arith, more)) ∙ sym high)
-  | inr low ↦ (let less : n ≤ most_containers = ltb-false most_containers n low in le-ltb most_containers (capped n) (omega (arith, less)) ∙ sym low)
+  | inl high ↦ (let more : most_containers < n = ltb-true most_containers n high in lt-ltb most_containers (cap n) (omega (arith, more)) ∙ sym high)
+  | inr low ↦ (let less : n ≤ most_containers = ltb-false most_containers n low in le-ltb most_containers (cap n) (omega (arith, less)) ∙ sym low)
 ]
 
-pub room_counted : (n new : ℕ) → nat_le (capped n + new) most_units ≡ nat_le (n + new) most_units
+pub room_counted : (n new : ℕ) → nat_le (cap n + new) most_units ≡ nat_le (n + new) most_units
 room_counted n new = elim (cases_Bool (nat_le (n + new) most_units)) [
-  | inl room ↦ (let less : n + new ≤ most_units = leb-true (n + new) most_units room in le-leb (capped n + new) most_units (omega (arith, less)) ∙ sym room)
-  | inr none ↦ (let more : most_units < n + new = leb-false (n + new) most_units none in lt-leb (capped n + new) most_units (omega (arith, more)) ∙ sym none)
+  | inl room ↦ (let less : n + new ≤ most_units = leb-true (n + new) most_units room in le-leb (cap n + new) most_units (omega (arith, less)) ∙ sym room)
+  | inr none ↦ (let more : most_units < n + new = leb-false (n + new) most_units none in lt-leb (cap n + new) most_units (omega (arith, more)) ∙ sym none)
 ]
 
 -- the next number where there is room, or none, by the numbers as they are told
-pub next_if : (new : ℕ) (c : Catalogue) (units next : ℕ) → units ≡ capped (size c.forest) → next ≡ c.next → (room : Bool) → (nat_le (units + new) most_units && nat_le (next + new) (most_unit_numbers + 1)) ≡ room
+pub next_if : (new : ℕ) (c : Catalogue) (units next : ℕ) → units ≡ cap (size c.forest) → next ≡ c.next → (room : Bool) → (nat_le (units + new) most_units && nat_le (next + new) (most_unit_numbers + 1)) ≡ room
     → cond room (Some next) None ≡ next_with_room new c
 next_if new c units next many is room e =
     let here : has_room new c ≡ room =
@@ -53,8 +53,8 @@ no_room_there new c e = at (has_room new c) e
     at false h = refl
 
 -- how many units there are, by the rows that are counted
-pub units_counted : {E : Type 0} {db : Trees} {f : Forest Unit} {units : ℕ} (at : RepresentsUnits db f) → ◌≡◌ {A = Result ℕ E} (Ok units) (Ok (capped (length at.units))) → units ≡ capped (size f)
-units_counted {f = f} at is = same_number is ∙ ap capped (length_permutation (nodes f) at.units at.are ∙ length-nodes f)
+pub units_counted : {E : Type 0} {db : Trees} {f : Forest Unit} {units : ℕ} (at : RepresentsUnits db f) → ◌≡◌ {A = Result ℕ E} (Ok units) (Ok (cap (length at.units))) → units ≡ cap (size f)
+units_counted {f = f} at is = same_number is ∙ ap cap (length_permutation (nodes f) at.units at.are ∙ length-nodes f)
 
 -- the next number is within the limit, where there is room
 pub number_within : (units next new : ℕ) → (nat_le (units + new) most_units && nat_le (next + new) (most_unit_numbers + 1)) ≡ true → next ≤ most_unit_numbers + 1

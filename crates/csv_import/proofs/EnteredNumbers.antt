@@ -15,7 +15,7 @@ use Rattle.catalogue_core.specs.Units.{Unit, is_from}
 use Rattle.catalogue_core.proofs.EachOf.{none_found}
 use Rattle.catalogue_core.proofs.EnteredUnits.{placed_added}
 use Rattle.catalogue_core.proofs.ImportedAgain.{other_way, same_text}
-use Rattle.csv_import.specs.RowEntry.{entered, or_as_before}
+use Rattle.csv_import.specs.RowEntry.{catalogue_after, or_as_before}
 use Rattle.csv_import.specs.KnownUnits.{TellsUnits, units_from}
 use Rattle.csv_import.specs.Turns.{AreToCome, IsTurn}
 use Rattle.csv_import.proofs.KnownUnits.{is_known_by, known_still, number_still, valued_still}
@@ -33,10 +33,10 @@ number_or (Some m) n h k = h
 number_or None n h k = k
 
 -- the row's unit has the number that it had, or else the next
-its_number : (source : Bytes) (row : Row) (next : ℕ) (c : Catalogue) → IsTurn source row next c → number_there (entered source (row ∷ []) c) source row.legacy ≡ Some (unwrap_or (number_there c source row.legacy) next)
+its_number : (source : Bytes) (row : Row) (next : ℕ) (c : Catalogue) → IsTurn source row next c → number_there (catalogue_after source (row ∷ []) c) source row.legacy ≡ Some (unwrap_or (number_there c source row.legacy) next)
 its_number source row next c turn = at (number_there c source row.legacy) refl
   where
-    at : (r : Option ℕ) → number_there c source row.legacy ≡ r → number_there (entered source (row ∷ []) c) source row.legacy ≡ Some (unwrap_or (number_there c source row.legacy) next)
+    at : (r : Option ℕ) → number_there c source row.legacy ≡ r → number_there (catalogue_after source (row ∷ []) c) source row.legacy ≡ Some (unwrap_or (number_there c source row.legacy) next)
     at (Some id) e =
         ap (λ d. number_there d source row.legacy) (entered_known source row next c turn id e)
         ∙ (valued_still id row.values c source row.legacy ∙ (e ∙ sym (ap (λ o. Some (unwrap_or o next)) e)))
@@ -49,26 +49,26 @@ its_number source row next c turn = at (number_there c source row.legacy) refl
         ∙ (ap (option_map (λ (u : Unit). u.id)) placed.found ∙ (ap Some (sym turn.number) ∙ sym (ap (λ o. Some (unwrap_or o next)) e)))
 
 -- the first row is entered, and then the others
-entered_first : (source : Bytes) (row : Row) (rows : List Row) (next : ℕ) (c : Catalogue) → (come : AreToCome source (row ∷ rows) next c) → entered source (row ∷ rows) c ≡ entered source rows (entered source (row ∷ []) c)
+entered_first : (source : Bytes) (row : Row) (rows : List Row) (next : ℕ) (c : Catalogue) → (come : AreToCome source (row ∷ rows) next c) → catalogue_after source (row ∷ rows) c ≡ catalogue_after source rows (catalogue_after source (row ∷ []) c)
 entered_first source row rows next c come =
     let it = one_entered source row rows next c come in
-    let one : entered source (row ∷ []) c ≡ it.after = ap (λ r. or_as_before c (and_then (with_rows source []) r)) it.placed in
+    let one : catalogue_after source (row ∷ []) c ≡ it.after = ap (λ r. or_as_before c (and_then (with_rows source []) r)) it.placed in
     ap (λ r. or_as_before c (and_then (with_rows source rows) r)) it.placed
-    ∙ (ap (or_as_before c) it.rest.room.placed ∙ (sym (ap (or_as_before it.after) it.rest.room.placed) ∙ ap (entered source rows) (sym one)))
+    ∙ (ap (or_as_before c) it.rest.room.placed ∙ (sym (ap (or_as_before it.after) it.rest.room.placed) ∙ ap (catalogue_after source rows) (sym one)))
 
 -- what is to come after the first row
-rest_comes : (source : Bytes) (row : Row) (rows : List Row) (next : ℕ) (c : Catalogue) → AreToCome source (row ∷ rows) next c → AreToCome source rows (next + cond (is_new c.forest source row) 1 0) (entered source (row ∷ []) c)
+rest_comes : (source : Bytes) (row : Row) (rows : List Row) (next : ℕ) (c : Catalogue) → AreToCome source (row ∷ rows) next c → AreToCome source rows (next + cond (is_new c.forest source row) 1 0) (catalogue_after source (row ∷ []) c)
 rest_comes source row rows next c come =
     let it = one_entered source row rows next c come in
-    let one : entered source (row ∷ []) c ≡ it.after = ap (λ r. or_as_before c (and_then (with_rows source []) r)) it.placed in
+    let one : catalogue_after source (row ∷ []) c ≡ it.after = ap (λ r. or_as_before c (and_then (with_rows source []) r)) it.placed in
     subst (AreToCome source rows (next + cond (is_new c.forest source row) 1 0)) (sym one) it.rest
 
 -- rows with other numbers leave it
-rest_still : (source : Bytes) (rows : List Row) (next : ℕ) (c : Catalogue) (legacy : Bytes) → AreToCome source rows next c → AllByRecursion (λ (r : Row). bytes_eq r.legacy legacy ≡ false) rows → number_there (entered source rows c) source legacy ≡ number_there c source legacy
+rest_still : (source : Bytes) (rows : List Row) (next : ℕ) (c : Catalogue) (legacy : Bytes) → AreToCome source rows next c → AllByRecursion (λ (r : Row). bytes_eq r.legacy legacy ≡ false) rows → number_there (catalogue_after source rows c) source legacy ≡ number_there c source legacy
 rest_still source [] next c legacy come others = refl
 rest_still source (row ∷ rows) next c legacy come others =
     ap (λ d. number_there d source legacy) (entered_first source row rows next c come)
-    ∙ (rest_still source rows (next + cond (is_new c.forest source row) 1 0) (entered source (row ∷ []) c) legacy (rest_comes source row rows next c come) others.1
+    ∙ (rest_still source rows (next + cond (is_new c.forest source row) 1 0) (catalogue_after source (row ∷ []) c) legacy (rest_comes source row rows next c come) others.1
     ∙ number_still source row next c (one_entered source row rows next c come).turn legacy others.0)
 
 turned : (legacy : Bytes) (rows : List Row) → AllByRecursion (λ (r : Row). bytes_eq legacy r.legacy ≡ false) rows → AllByRecursion (λ (r : Row). bytes_eq r.legacy legacy ≡ false) rows
@@ -77,12 +77,12 @@ turned legacy (r ∷ rows) h = (other_way legacy r.legacy h.0, turned legacy row
 
 -- the units of the rows, in their order
 pub units_told : (source : Bytes) (rows : List Row) (next : ℕ) (c : Catalogue) (numbers : Bytes → Option ℕ) → AreToCome source rows next c → TellsUnits c source rows numbers
-    → map Some (units_from numbers next rows) ≡ map (λ (row : Row). number_there (entered source rows c) source row.legacy) rows
+    → map Some (units_from numbers next rows) ≡ map (λ (row : Row). number_there (catalogue_after source rows c) source row.legacy) rows
 units_told source [] next c numbers come told = refl
 units_told source (row ∷ rows) next c numbers come told =
     let it = one_entered source row rows next c come in
     let first = entered_first source row rows next c come in
-    let after = entered source (row ∷ []) c in
+    let after = catalogue_after source (row ∷ []) c in
     let on = next + cond (is_new c.forest source row) 1 0 in
     let new : ◌≡◌ {A = ℕ} (cond (is_new c.forest source row) 1 0) (cond (is_some (numbers row.legacy)) 0 1) = ap {B = ℕ} (λ (b : Bool). cond (not b) 1 0) (sym (is_known_by c source row) ∙ ap is_some (sym told.0)) ∙ flipped (is_some (numbers row.legacy)) in
     ap₂ (λ o os. o ∷ os)

@@ -19,7 +19,7 @@ use Rattle.atom_csv.specs.Values.{boxes_of, is_named_box, triple, triples}
 use Rattle.atom_csv.specs.declared.column.Column.TheVariants as column
 use Rattle.atom_csv.specs.declared.file.File.{File}
 use Rattle.atom_csv.specs.declared.file.Row.{Row}
-use Rattle.catalogue_core.proofs.FileRows.{line_at, no_fault_cons, read_from, tells}
+use Rattle.catalogue_core.proofs.FileRows.{line_at, no_fault_cons, read_from, answers}
 use Rattle.catalogue_core.proofs.GoodRows.{any_at}
 use Rattle.csv_import.specs.RowEntry.{boxes_named}
 
@@ -104,7 +104,7 @@ bounded_below header above (fields ∷ rest) none =
     at : (told : Option Row) → row_told header (line_at above fields) ≡ told → AreBoundedBelow (above ++ fields ∷ []) later → AreBoundedBelow above (cons_option told later)
     at None e below = record { few = fewer below.few; boxes = below.boxes }
     at (Some row) e below =
-        let it = tells header (line_at above fields) row (no_fault_cons header above fields rest none).0 e in
+        let it = answers header (line_at above fields) row (no_fault_cons header above fields rest none).0 e in
         record {
           few = one_more row (ltb-false (most_rows + 1) (row_number (line_at above fields)) it.late) below.few;
           boxes = (subst HasFewBoxes (sym it.is) (few_boxes header fields (row_number (line_at above fields)) it.long), below.boxes);

@@ -7,7 +7,7 @@ use Rattle.sqlite_trees.specs.declared.store.Store as store
 use Rattle.isad_core.specs.Texts.{Bytes}
 use Rattle.isad_core.specs.declared.values.Values.{Values}
 use Rattle.atom_csv.specs.declared.file.Row.{Row}
-use Rattle.tree_core.specs.Versions.{Version}
+use Rattle.office_tables.specs.Versions.{Version}
 use Rattle.catalogue_core.specs.Bounds.{IsKept}
 use Rattle.catalogue_core.specs.Descriptions.{AreWhole, HasPlaceFor, IsNew, KnowsItsContainers, MayDescribe, with_unit, with_values}
 use Rattle.catalogue_core.specs.EntryByRow.{new_at, with_new}
@@ -81,7 +81,7 @@ makes_entering g version kept may kept_then may_then made made_then touched befo
           subst (λ (d : Catalogue). OnOk r (RepresentsCatalogue version new.now o d)) (same o.next_unit c allowed) (it.represents_updated clean o (at_next o.next_unit c) shown (serves o.next_unit c allowed).1);
       only = it.only;
       goes = it.goes;
-      cut = it.cut;
+      aborts = it.aborts;
       faults = λ o c shown allowed within. (let so = serves o.next_unit c allowed in it.faults o (at_next o.next_unit c) shown so.1 so.0);
     }
 
@@ -112,7 +112,7 @@ makes_new g version source row next before after r it =
           ((it parent).represents_updated clean o (at_next o.next_unit c) shown (record { knows = knows_at o.next_unit c may.place.knows; place = may.place.place }));
       only = any.only;
       goes = any.goes;
-      cut = any.cut;
+      aborts = any.aborts;
       faults = λ o c shown may within.
           let parent = (new_at c source row).parent in
           let is = unit_comes source row next c may.number in

@@ -17,7 +17,7 @@ use Rattle.atom_csv.specs.declared.file.Row.{Row}
 use Rattle.atom_csv.proofs.LegibleFiles.{file_legible}
 use Rattle.atom_csv.proofs.ToldLemmas.{file_sound}
 use Rattle.tree_core.specs.Forest.{nodes, size}
-use Rattle.tree_core.specs.Versions.{Version}
+use Rattle.office_tables.specs.Versions.{Version}
 use Rattle.desk_core.specs.DeskRows.{HoldingRow}
 use Rattle.desk_core.specs.LegibleDesks.{IsLegible}
 use Rattle.desk_core.specs.Refusals.{first_that_holds, unless, when}
@@ -44,7 +44,7 @@ use Rattle.catalogue_core.proofs.RowsMerged.{row_by_row, taken_row_by_row}
 use Rattle.catalogue_core.proofs.UnitsAfter.{length-numbered}
 use Rattle.office_core.specs.ImportReply.{bad_file, too_much}
 use Rattle.office_core.specs.ImportReply as reply
-use Rattle.office_core.specs.Rules.{after, gate, imported, refusal, taken, told}
+use Rattle.office_core.specs.Rules.{after, gate, imported, refusal, intake_of, result_of}
 use Rattle.office_core.specs.SoundOffice.{AreTexts, IsSoundOffice}
 use Rattle.office_core.specs.State.{State, is_container}
 use Rattle.office_core.specs.Words.{numbers_to}
@@ -56,7 +56,7 @@ use Rattle.state_encoding.specs.OfficeRows.{tables}
 use Rattle.state_encoding.proofs.LegibleRows.{desk_legible}
 use Rattle.refinement.specs.AccessConditions.{CanBeJudged}
 use Rattle.refinement.proofs.Judged.{distinct_ids, orders_there}
-use Rattle.csv_import.specs.RowEntry.{CanEnter, counts_of, entered, or_as_before}
+use Rattle.csv_import.specs.RowEntry.{CanEnter, counts_of, catalogue_after, or_as_before}
 use Rattle.csv_import.specs.CatalogueImport.{FitsIn, HasImported, told_of}
 use Rattle.csv_import.specs.RowPlan.{new_of}
 use Rattle.csv_import.specs.Remarks.{HasEntered, HasItsUnit}
@@ -129,10 +129,10 @@ module _ (s : State) (source bytes : Bytes) (file : File) (read : file_of bytes 
   placed : with_rows source file.rows s.catalogue ≡ Ok made
   placed = row_by_row s.catalogue source file.rows g.sound.units g.sound.desk.boxes (file_sound bytes file read).once ∙ merge_is
 
-  pub entered_is : entered source file.rows s.catalogue ≡ made
+  pub entered_is : catalogue_after source file.rows s.catalogue ≡ made
   entered_is = ap (or_as_before s.catalogue) placed
 
-  taken_as : taken s source bytes ≡ Ok (record { file = file; catalogue = made })
+  taken_as : intake_of s source bytes ≡ Ok (record { file = file; catalogue = made })
   taken_as = taken_row_by_row s.catalogue source bytes file read g.sound.units g.sound.desk.boxes ∙ ap (with_file file) placed
 
   pub after_is : after s (command.Import source bytes) ≡ now
@@ -231,5 +231,5 @@ module _ (s : State) (source bytes : Bytes) (file : File) (read : file_of bytes 
       ∙ (ap (λ (b : Bool). first_that_holds (unless b BadName ∷ None ∷ when (is_full made) Full ∷ gate now ∷ [])) named
       ∙ ap (λ (b : Bool). first_that_holds (when b Full ∷ gate now ∷ [])) full_is)
 
-  pub told_is : told s (command.Import source bytes) ≡ told_of source file (counts_of s.catalogue.forest source file.rows) now
+  pub told_is : result_of s (command.Import source bytes) ≡ told_of source file (counts_of s.catalogue.forest source file.rows) now
   told_is = ap (reply.told_of s.catalogue.forest source) taken_as

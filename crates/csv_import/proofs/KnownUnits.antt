@@ -18,7 +18,7 @@ use Rattle.catalogue_core.proofs.DistinctLists.{all_so}
 use Rattle.catalogue_core.proofs.EachOf.{none_found, some_found}
 use Rattle.catalogue_core.proofs.EnteredUnits.{alike_each, same_added}
 use Rattle.catalogue_core.proofs.ImportedAgain.{one_text}
-use Rattle.csv_import.specs.RowEntry.{entered}
+use Rattle.csv_import.specs.RowEntry.{catalogue_after}
 use Rattle.csv_import.specs.KnownUnits.{IsAsked, KnowsAsked, KnowsUnits, TellsParentOfNew, TellsUnits}
 use Rattle.csv_import.specs.Turns.{AreToCome, IsTurn}
 use Rattle.csv_import.proofs.OneRow.{entered_known, entered_new}
@@ -159,18 +159,18 @@ others_still source row c legacy other =
     (same_added (is_from source legacy) (new_unit source (new_at c source row)) (and_no (bytes_eq source source) (bytes_eq row.legacy legacy) other) (new_at c source row).parent c.forest).found
 
 pub number_still : (source : Bytes) (row : Row) (next : ℕ) (c : Catalogue) → IsTurn source row next c → (legacy : Bytes) → bytes_eq row.legacy legacy ≡ false
-    → number_there (entered source (row ∷ []) c) source legacy ≡ number_there c source legacy
+    → number_there (catalogue_after source (row ∷ []) c) source legacy ≡ number_there c source legacy
 number_still source row next c turn legacy other = at (number_there c source row.legacy) refl
   where
-    at : (r : Option ℕ) → number_there c source row.legacy ≡ r → number_there (entered source (row ∷ []) c) source legacy ≡ number_there c source legacy
+    at : (r : Option ℕ) → number_there c source row.legacy ≡ r → number_there (catalogue_after source (row ∷ []) c) source legacy ≡ number_there c source legacy
     at (Some id) e = ap (λ d. number_there d source legacy) (entered_known source row next c turn id e) ∙ valued_still id row.values c source legacy
     at None e = ap (λ d. number_there d source legacy) (entered_new source row next c turn e) ∙ others_still source row c legacy other
 
 -- the units of the rows that are still to come
 pub known_still : (source : Bytes) (row : Row) (rows : List Row) (next : ℕ) (c : Catalogue) (numbers : Bytes → Option ℕ) → AreToCome source (row ∷ rows) next c
-    → TellsUnits c source rows numbers → TellsUnits (entered source (row ∷ []) c) source rows numbers
+    → TellsUnits c source rows numbers → TellsUnits (catalogue_after source (row ∷ []) c) source rows numbers
 known_still source row rows next c numbers come it = each rows come.told.once.0 it
   where
-    each : (rest : List Row) → AllByRecursion (λ (r : Row). bytes_eq row.legacy r.legacy ≡ false) rest → TellsUnits c source rest numbers → TellsUnits (entered source (row ∷ []) c) source rest numbers
+    each : (rest : List Row) → AllByRecursion (λ (r : Row). bytes_eq row.legacy r.legacy ≡ false) rest → TellsUnits c source rest numbers → TellsUnits (catalogue_after source (row ∷ []) c) source rest numbers
     each [] h k = tt
     each (r ∷ rest) h k = (k.0 ∙ sym (number_still source row next c (one_entered source row rows next c come).turn r.legacy h.0), each rest h.1 k.1)

@@ -19,7 +19,7 @@ use Rattle.catalogue_core.proofs.EnteredUnits.{find_none}
 use Rattle.catalogue_core.proofs.UnitsAfter.{each_there}
 use Rattle.catalogue_store.specs.UnitValues.{values_of}
 use Rattle.catalogue_store.specs.declared.unit_values.UnitValues.{UnitValues}
-use Rattle.csv_import.specs.RowEntry.{entered, or_as_before}
+use Rattle.csv_import.specs.RowEntry.{catalogue_after, or_as_before}
 use Rattle.csv_import.specs.Turns.{IsTurn, MayChange, MayCome}
 
 -- ---- the unit with a number in a source
@@ -100,7 +100,7 @@ whole_row : (row : Row) → IsGoodRow row → AreWhole row.values
 whole_row row good = record { places = good.texts_count; once = good.apart }
 
 module _ (source : Bytes) (row : Row) (next : ℕ) (c : Catalogue) (turn : IsTurn source row next c) where
-  pub entered_known : (id : ℕ) → number_there c source row.legacy ≡ Some id → entered source (row ∷ []) c ≡ with_values id row.values c
+  pub entered_known : (id : ℕ) → number_there c source row.legacy ≡ Some id → catalogue_after source (row ∷ []) c ≡ with_values id row.values c
   entered_known id e = ap (λ n. or_as_before c (and_then (with_rows source []) (with_row_at n source row c))) e
 
   pub may_change : (id : ℕ) → number_there c source row.legacy ≡ Some id → MayChange id row.values c
@@ -126,7 +126,7 @@ module _ (source : Bytes) (row : Row) (next : ℕ) (c : Catalogue) (turn : IsTur
     pub none_against : cause_at (depth_there c source row.parent) ≡ None
     none_against = no_cause (cause_at (depth_there c source row.parent)) unless_is
 
-    pub entered_new : entered source (row ∷ []) c ≡ with_new source row c
+    pub entered_new : catalogue_after source (row ∷ []) c ≡ with_new source row c
     entered_new =
         ap (λ n. or_as_before c (and_then (with_rows source []) (with_row_at n source row c))) e
         ∙ ap (λ r. or_as_before c (and_then (with_rows source []) (unless_cause row r (with_new source row c)))) none_against

@@ -14,7 +14,7 @@ use Rattle.catalogue_core.specs.CatalogueMerge.{Catalogue, faults_below, merged,
 use Rattle.catalogue_core.specs.Sources.{is_source}
 use Rattle.catalogue_core.proofs.UnitsAfter.{length-numbered}
 use Rattle.office_core.specs.ImportReply.{bad_file, too_much}
-use Rattle.office_core.specs.Rules.{gate, imported, refusal, taken}
+use Rattle.office_core.specs.Rules.{gate, imported, refusal, intake_of}
 use Rattle.office_core.specs.SoundOffice.{IsSoundOffice}
 use Rattle.office_core.specs.State.{State}
 use Rattle.office_core.specs.declared.command.Command.TheVariants as command
@@ -24,11 +24,11 @@ use Rattle.csv_import.specs.declared.row_plan.Planned.TheVariants as planned
 use Rattle.csv_import.proofs.Imports.{merged_size}
 
 -- the file itself is at fault
-taken_bad : (s : State) (source bytes : Bytes) (row cause : ℕ) → file_of bytes ≡ Err (row, cause) → taken s source bytes ≡ Err (row, cause)
+taken_bad : (s : State) (source bytes : Bytes) (row cause : ℕ) → file_of bytes ≡ Err (row, cause) → intake_of s source bytes ≡ Err (row, cause)
 unfolding Rattle.catalogue_core.specs.Intake.take
 taken_bad s source bytes row cause e = ap (take_rows s.catalogue source) e
 
-refused_bad : (s : State) (source bytes : Bytes) (row cause : ℕ) → is_source source ≡ true → taken s source bytes ≡ Err (row, cause) → refusal s (command.Import source bytes) ≡ Some (BadFile row cause)
+refused_bad : (s : State) (source bytes : Bytes) (row cause : ℕ) → is_source source ≡ true → intake_of s source bytes ≡ Err (row, cause) → refusal s (command.Import source bytes) ≡ Some (BadFile row cause)
 refused_bad s source bytes row cause named e =
     ap (λ (t : Taken). first_that_holds (unless (is_source source) BadName ∷ bad_file t ∷ too_much t ∷ gate (imported s t) ∷ [])) e
     ∙ ap (λ (b : Bool). first_that_holds (unless b BadName ∷ Some (BadFile row cause) ∷ None ∷ gate s ∷ [])) named
@@ -43,7 +43,7 @@ module _ (s : State) (source bytes : Bytes) (file : File) (read : file_of bytes 
   abbrev made : Catalogue
   made = merged s.catalogue source file.rows (numbered_from s.catalogue.forest source s.catalogue.next [] (new_of s.catalogue.forest source file.rows))
 
-  taken_as : taken s source bytes ≡ with_file file (or_first (faults_below s.catalogue.forest source [] (new_of s.catalogue.forest source file.rows)) made)
+  taken_as : intake_of s source bytes ≡ with_file file (or_first (faults_below s.catalogue.forest source [] (new_of s.catalogue.forest source file.rows)) made)
   unfolding Rattle.catalogue_core.specs.Intake.take
   taken_as = ap (take_rows s.catalogue source) read
 

@@ -23,8 +23,8 @@ use Rattle.catalogue_core.proofs.RowsMerged.{row_by_row}
 use Rattle.catalogue_statements.proofs.Untold.{boxes_within}
 use Rattle.tree_core.specs.declared.arrivals.Arrival.{Arrival}
 use Rattle.csv_import.specs.Arrivals.{BringUnits, IsReady, arrivals_of}
-use Rattle.csv_import.specs.RowEntry.{CanEnter, counts_of, entered, or_as_before}
-use Rattle.csv_import.specs.Turns.{AreToCome, IsTurn, counted, entry_of}
+use Rattle.csv_import.specs.RowEntry.{CanEnter, counts_of, catalogue_after, or_as_before}
+use Rattle.csv_import.specs.Turns.{AreToCome, IsTurn, count_entry, entry_of}
 use Rattle.csv_import.specs.declared.row_entry.Counts.{Counts}
 use Rattle.csv_import.specs.declared.row_entry.Entry.{Entry}
 use Rattle.csv_import.specs.declared.row_entry.Entry.TheVariants as entry
@@ -227,9 +227,9 @@ none_come source rows next c it = record {
 }
 
 record CountsOne (became : Entry) (counts : Counts) : Type 0 where
-  changed : (counted became counts).changed ≡ counts.changed + cond (changed_by became) 1 0
-  new : (counted became counts).new ≡ counts.new + cond (new_by became) 1 0
-  same : (counted became counts).same ≡ counts.same + cond (same_by became) 1 0
+  changed : (count_entry became counts).changed ≡ counts.changed + cond (changed_by became) 1 0
+  new : (count_entry became counts).new ≡ counts.new + cond (new_by became) 1 0
+  same : (count_entry became counts).same ≡ counts.same + cond (same_by became) 1 0
 
 counts_one : (became : Entry) (counts : Counts) → CountsOne became counts
 counts_one entry.Changed counts = record { changed = refl; new = omega arith; same = omega arith }
@@ -237,22 +237,22 @@ counts_one entry.New counts = record { changed = omega arith; new = refl; same =
 counts_one entry.Same counts = record { changed = omega arith; new = omega arith; same = refl }
 
 pub next_comes : (source : Bytes) (rows : List Row) (row : Row) (rest : List Row) (next : ℕ) (counts : Counts) (c d : Catalogue) (became : Entry) → (h : HaveCome source rows (row ∷ rest) next counts c d)
-    → became ≡ entry_of (unit_of d.forest source row) row.values → HaveCome source rows rest next (counted became counts) c (entered source (row ∷ []) d)
+    → became ≡ entry_of (unit_of d.forest source row) row.values → HaveCome source rows rest next (count_entry became counts) c (catalogue_after source (row ∷ []) d)
 next_comes source rows row rest next counts c d became h is =
     let it = one_entered source row rest (next + counts.new) d h.come in
-    let made : entered source (row ∷ []) d ≡ it.after = ap (λ r. or_as_before d (and_then (with_rows source []) r)) it.placed in
+    let made : catalogue_after source (row ∷ []) d ≡ it.after = ap (λ r. or_as_before d (and_then (with_rows source []) r)) it.placed in
     let counts_so : CountsAs d.forest source row became = subst (CountsAs d.forest source row) (sym is) (counts_as d.forest source row) in
     let number = ap {B = ℕ} (λ (b : Bool). cond b 1 0) counts_so.new in
     let by = counts_one became counts in
     let by_new = by.new in
-    let sums : next + counts.new + cond (is_new d.forest source row) 1 0 ≡ next + (counted became counts).new = omega (arith, number, by_new) in
-    subst (HaveCome source rows rest next (counted became counts) c) (sym made)
+    let sums : next + counts.new + cond (is_new d.forest source row) 1 0 ≡ next + (count_entry became counts).new = omega (arith, number, by_new) in
+    subst (HaveCome source rows rest next (count_entry became counts) c) (sym made)
     (record {
       come = subst (λ n. AreToCome source rest n it.after) sums it.rest;
       ends = sym (ap (and_then (with_rows source rest)) it.placed) ∙ h.ends;
-      changed = one is_changed counts.changed (counted became counts).changed (changed_by became) it.after by.changed it.placed counts_so.changed h.changed;
-      new = one is_new counts.new (counted became counts).new (new_by became) it.after by.new it.placed counts_so.new h.new;
-      same = one is_same counts.same (counted became counts).same (same_by became) it.after by.same it.placed counts_so.same h.same;
+      changed = one is_changed counts.changed (count_entry became counts).changed (changed_by became) it.after by.changed it.placed counts_so.changed h.changed;
+      new = one is_new counts.new (count_entry became counts).new (new_by became) it.after by.new it.placed counts_so.new h.new;
+      same = one is_same counts.same (count_entry became counts).same (same_by became) it.after by.same it.placed counts_so.same h.same;
     })
   where
     one : (test : Forest Unit → Bytes → Row → Bool) (n m : ℕ) (by : Bool) (x : Catalogue) → m ≡ n + cond by 1 0 → with_row source row d ≡ Ok x → test d.forest source row ≡ by → n + count_rows test source (row ∷ rest) d ≡ count_rows test source rows c
@@ -264,9 +264,9 @@ next_comes source rows row rest next counts c d became h is =
 
 -- all rows are entered
 pub record AllCome (source : Bytes) (rows : List Row) (next : ℕ) (counts : Counts) (c d : Catalogue) : Type 0 where
-  pub is : entered source rows c ≡ d
+  pub is : catalogue_after source rows c ≡ d
   pub counts_are : counts ≡ counts_of c.forest source rows
-  pub number : next + counts.new ≡ (entered source rows c).next
+  pub number : next + counts.new ≡ (catalogue_after source rows c).next
 
 pub all_come : (source : Bytes) (rows : List Row) (next : ℕ) (counts : Counts) (c d : Catalogue) → AreToCome source rows next c → HaveCome source rows [] next counts c d → AllCome source rows next counts c d
 all_come source rows next counts c d it h =
@@ -313,7 +313,7 @@ are_brought it are = record { come = to_come it; known = it.known.each; units = 
 
 -- ---- going through a list
 
-pub counted_few : (became : Entry) (counts : Counts) (n : ℕ) → counts.changed + counts.new + counts.same ≤ n → (counted became counts).changed + (counted became counts).new + (counted became counts).same ≤ n + 1
+pub counted_few : (became : Entry) (counts : Counts) (n : ℕ) → counts.changed + counts.new + counts.same ≤ n → (count_entry became counts).changed + (count_entry became counts).new + (count_entry became counts).same ≤ n + 1
 counted_few entry.Changed counts n few = omega (arith, few)
 counted_few entry.New counts n few = omega (arith, few)
 counted_few entry.Same counts n few = omega (arith, few)

@@ -16,7 +16,7 @@ use Rattle.refinement.proofs.Passing.{if_ok_then}
 -- it tells what was read
 pub tells_so : {S X A B : Type 0} {g : store.Ghosts S} {represents : Database → A → B → Type 0} {kept may : B → Type 0} {before after : Held S} {x : X} {answer : A → B → X → Type 0}
     → LeavesUnchanged (state g before) (state g after) → (HasCleanDisk (state g after) → (s : A) (m : B) → represents (state g before).now s m → answer s m x) → Answers g represents kept before after (Ok x) may answer
-tells_so looked told = record { answers = told; looks = looked; cut = tt; faults = λ s m shown allowed within clean free. tt }
+tells_so looked told = record { answers = told; looks = looked; aborts = tt; faults = λ s m shown allowed within clean free. tt }
 
 -- it looked first, and passes the fault of a later step on
 pub tells_cut_later : {S X A B : Type 0} {g : store.Ghosts S} {represents : Database → A → B → Type 0} {kept may : B → Type 0} {before : Held S} (mid : Held S) {after : Held S} (e : StoreFault) {r : Result X StoreFault} {answer : A → B → X → Type 0} → IsErr r × IsErrAnd r (λ f. f ≡ e)
@@ -42,13 +42,13 @@ module _ {S Y A B C D : Type 0} {g : store.Ghosts S} {represents : Database → 
       let a = state g before in
       let b = state g mid in
       let c = state g after in
-      let still = λ (clean : HasCleanDisk c). early b c _ (looked_crash r b c last.looks last.cut) clean in
+      let still = λ (clean : HasCleanDisk c). early b c _ (looked_crash r b c last.looks last.aborts) clean in
       record {
         answers = λ clean s m shown.
             if_ok_then r (told (beside s m) (model s m)) (answer s m) (means (still clean) s m shown) (last.answers clean (beside s m) (model s m) (also.shown (still clean) s m shown));
         looks = on_ok_then r (LeavesUnchanged b c) (LeavesUnchanged a c) (λ on. looks_then a b c looked on) last.looks;
-        cut = on_err_then r (IsAborted b c) (IsAborted a c) (λ cut. cut_then a b c looked.goes.on cut) last.cut;
+        aborts = on_err_then r (IsAborted b c) (IsAborted a c) (λ cut. cut_then a b c looked.goes.on cut) last.aborts;
         faults = λ s m shown so sound.
-            excused_then a b c looked.goes.on r last.cut
+            excused_then a b c looked.goes.on r last.aborts
             (λ at_b. (let fit = also.allowed at_b s m shown so sound in last.faults (beside s m) (model s m) (also.shown at_b s m shown) fit.0 fit.1));
       }

@@ -13,7 +13,7 @@ use Rattle.office_core.specs.SoundOffice.{HasLegibleSettings}
 use Rattle.office_core.specs.State.{State}
 use Rattle.office_core.specs.declared.done.Done.{Done}
 use Rattle.office_core.specs.declared.done.Done.TheVariants as done
-use Rattle.refinement.specs.Gate.{gated}
+use Rattle.refinement.specs.Gate.{gate_reply}
 use Rattle.refinement.specs.AccessConditions.{CanBeJudged}
 use Rattle.csv_import.specs.RowPlan.{new_of}
 use Rattle.csv_import.specs.Remarks.{HasEntered}
@@ -42,8 +42,8 @@ abbrev pub told_of : Bytes → File → Counts → State → Done
 told_of source file counts s = done.Import counts.changed counts.new (remarks s.catalogue.forest source file.rows) counts.same file.translations
 
 -- `Full` if there are more containers than an office may have; otherwise the outcome, unless the gate refuses it
-abbrev pub judged : State → Done → Reply
-judged s done = if nat_lt most_containers (length s.catalogue.containers) then Err Full else gated s done
+abbrev pub reply_after : State → Done → Reply
+reply_after s done = if nat_lt most_containers (length s.catalogue.containers) then Err Full else gate_reply s done
 
 -- A state after a file was entered. Its settings can be read. If it has no more containers than an office may have, it
 -- can also be judged, and it has the rows of the file.

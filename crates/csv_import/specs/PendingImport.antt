@@ -11,14 +11,14 @@ use Rattle.catalogue_statements.specs.declared.office.OfficeRow.{OfficeRow}
 use Rattle.office_tables.specs.declared.fault.StoreFault.{StoreFault}
 use Rattle.csv_import.specs.Arrivals.{BringUnits, IsReady}
 use Rattle.csv_import.specs.KnownUnits.{TellsUnits}
-use Rattle.csv_import.specs.RowEntry.{counts_of, entered}
+use Rattle.csv_import.specs.RowEntry.{counts_of, catalogue_after}
 use Rattle.csv_import.specs.Turns.{AreToCome}
 use Rattle.csv_import.specs.declared.pending_import.Import.{Import}
 use Rattle.csv_import.specs.declared.row_entry.Counts.{Counts}
 
 -- the catalogue with the rows, or as it was if one of them cannot be placed
 abbrev pub imported : Import → Catalogue → Catalogue
-imported i c = entered i.source.now i.rows.now c
+imported i c = catalogue_after i.source.now i.rows.now c
 
 -- how many of the rows change a unit, add one, and leave one as it was
 abbrev pub counted_in : Catalogue → Import → Counts

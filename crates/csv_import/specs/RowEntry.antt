@@ -10,7 +10,7 @@ use Rattle.isad_core.specs.Texts.{Bytes}
 use Rattle.atom_csv.specs.FileProperties.{AllDiffer, IsLegibleRow}
 use Rattle.atom_csv.specs.declared.file.Row.{Row}
 use Rattle.tree_core.specs.Forest.{Forest, nodes, size}
-use Rattle.tree_core.specs.Versions.{Version}
+use Rattle.office_tables.specs.Versions.{Version}
 use Rattle.catalogue_core.specs.GoodCatalogues.{AreGoodContainers, AreGoodUnits, IsSomeDay}
 use Rattle.catalogue_core.specs.GoodRows.{IsGoodRow}
 use Rattle.catalogue_core.specs.Intake.{is_changed, is_new, is_same}
@@ -30,8 +30,8 @@ or_as_before c (Ok after) = after
 or_as_before c (Err fault) = c
 
 -- the catalogue with these rows of a source, or as it was if one of them cannot be placed
-abbrev pub entered : Bytes → List Row → Catalogue → Catalogue
-entered source rows c = or_as_before c (with_rows source rows c)
+abbrev pub catalogue_after : Bytes → List Row → Catalogue → Catalogue
+catalogue_after source rows c = or_as_before c (with_rows source rows c)
 
 -- how many of these rows change a unit, add one, and leave one as it was
 abbrev pub counts_of : Forest Unit → Bytes → List Row → Counts

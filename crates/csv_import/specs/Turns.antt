@@ -27,10 +27,10 @@ entry_of None values = entry.New
 entry_of (Some unit) values = cond (same_values unit.values values) entry.Same entry.Changed
 
 -- the counts with one more row, which had this effect
-abbrev pub counted : Entry → Counts → Counts
-counted entry.Changed counts = record counts { changed = counts.changed + 1 }
-counted entry.New counts = record counts { new = counts.new + 1 }
-counted entry.Same counts = record counts { same = counts.same + 1 }
+abbrev pub count_entry : Entry → Counts → Counts
+count_entry entry.Changed counts = record counts { changed = counts.changed + 1 }
+count_entry entry.New counts = record counts { new = counts.new + 1 }
+count_entry entry.Same counts = record counts { same = counts.same + 1 }
 
 -- The row can be placed, and this is the next number, in a catalogue whose tables can be read.
 pub record IsTurn (source : Bytes) (row : Row) (next : ℕ) (c : Catalogue) : Type 0 where

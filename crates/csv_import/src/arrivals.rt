@@ -23,7 +23,7 @@ use tree_core::Arrival;
 fn parent_of(catalogued: &ByLegacy, numbers: &ByLegacy, row: &Row) -> Option<u64>
     requires there { (legacy : Bytes) → IfSome (get_by_text catalogued.now legacy) IsNumber }
     requires low { (legacy : Bytes) → IfSome (get_by_text numbers.now legacy) IsNumber }
-    ensures tells { (c : Catalogue) (source : Bytes) → TellsParent c source (get_by_text catalogued.now) row.now
+    ensures answers { (c : Catalogue) (source : Bytes) → TellsParent c source (get_by_text catalogued.now) row.now
         → (next : ℕ) (above : List RowTold) → KnowsNumbers c.forest source next above (get_by_text numbers.now)
         → result ≡ option_and_then (number_among c.forest source next above) row.now.parent }
     ensures small { IfSome result IsNumber }
@@ -42,7 +42,7 @@ fn arrival_of(catalogued: &ByLegacy, numbers: &ByLegacy, next: u64, row: &Row) -
     requires there { (legacy : Bytes) → IfSome (get_by_text catalogued.now legacy) IsNumber }
     requires low { (legacy : Bytes) → IfSome (get_by_text numbers.now legacy) IsNumber }
     requires small { IsNumber next }
-    ensures tells { (c : Catalogue) (source : Bytes)
+    ensures answers { (c : Catalogue) (source : Bytes)
         → get_by_text catalogued.now row.now.legacy ≡ number_there c source row.now.legacy
         → TellsParentOfNew c source (get_by_text catalogued.now) row.now → (above : List RowTold)
         → KnowsNumbers c.forest source next above (get_by_text numbers.now)
@@ -58,7 +58,7 @@ fn arrival_of(catalogued: &ByLegacy, numbers: &ByLegacy, next: u64, row: &Row) -
 
 /// The units that the rows of a file add, numbered in file order.
 pub(crate) fn arrivals(alloc: Global, import: &Import<'_>) -> Result<Vec<Arrival>, AllocError>
-    ensures tells { IfOk result (λ arrivals. (c : Catalogue)
+    ensures answers { IfOk result (λ arrivals. (c : Catalogue)
         → KnowsUnits c import.now.source.now import.now.rows.now (get_by_text import.now.catalogued.now)
         → arrivals.items ≡ arrivals_of c.forest import.now.source.now import.now.next import.now.rows.now) }
     ensures numbered { IfOk result (λ arrivals. AllByRecursion IsNumbered arrivals.items) }

@@ -12,7 +12,7 @@ ghost use Rattle.catalogue_statements.specs.Settings.{AreLegibleSettings};
 ghost use Rattle.catalogue_statements.specs.Representation.{RepresentsSettings};
 ghost use Rattle.refinement.specs.CommandSteps.{Performs};
 ghost use Rattle.refinement.specs.AccessConditions.{RepresentsWhole};
-ghost use Rattle.csv_import.specs.CatalogueImport.{HasNumbered, judged, told_of};
+ghost use Rattle.csv_import.specs.CatalogueImport.{HasNumbered, reply_after, told_of};
 ghost use Rattle.csv_import.specs.CatalogueImport as spec;
 
 use crate::numbers::known_units;
@@ -47,8 +47,8 @@ fn next_with_room<P: Places, S: Alter>(
     tables: &mut Tables<P, S>,
     new: u64,
 ) -> Result<Option<u64>, StoreFault>
-    ensures tells { Answers S.Store (RepresentsSettings P.represents P.version) AreLegibleSettings tables.old tables.new
-        result (λ _. ⊤) (λ c _ next. next ≡ spec.next_with_room new c) }
+    ensures answers { Answers S.Store (RepresentsSettings P.represents P.version) AreLegibleSettings tables.old
+        tables.new result (λ _. ⊤) (λ c _ next. next ≡ spec.next_with_room new c) }
     ensures low { IfOk result (λ next. IfSome next (λ number. number ≤ most_unit_numbers + 1)) }
 {
     let office = settings(alloc, tables)?;
@@ -65,8 +65,8 @@ fn has_many_containers<P: Places, S: Alter>(
     alloc: Global,
     tables: &mut Tables<P, S>,
 ) -> Result<bool, StoreFault>
-    ensures tells { Answers S.Store (RepresentsSettings P.represents P.version) AreLegibleSettings tables.old tables.new
-        result (λ _. ⊤) (λ c _ many. many ≡ nat_lt most_containers (length c.containers)) }
+    ensures answers { Answers S.Store (RepresentsSettings P.represents P.version) AreLegibleSettings tables.old
+        tables.new result (λ _. ⊤) (λ c _ many. many ≡ nat_lt most_containers (length c.containers)) }
 {
     let counted = count_containers(alloc, tables)?;
     let containers = only_number(&counted)?;
@@ -83,10 +83,10 @@ fn judge<P: Places, S: Alter>(
     outcome: &Outcome,
 ) -> Result<Result<Done, Refusal>, StoreFault>
     requires small { AllByRecursion IsNumber outcome.now.units.items }
-    ensures tells { (source : Bytes) → Answers S.Store (RepresentsWhole P.represents P.version)
+    ensures answers { (source : Bytes) → Answers S.Store (RepresentsWhole P.represents P.version)
         (HasNumbered source file.now outcome.now.units.items) tables.old tables.new result (λ _. ⊤)
         (λ _ s reply. HasNumbered source file.now outcome.now.units.items s → today ≡ s.day
-        → reply ≡ judged s (told_of source file.now outcome.now.counts s)) }
+        → reply ≡ reply_after s (told_of source file.now outcome.now.counts s)) }
 {
     if has_many_containers(alloc, tables)? {
         return Ok(Err(Refusal::Full));

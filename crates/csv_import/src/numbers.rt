@@ -28,7 +28,7 @@ fn number_of<P: Places, S: Alter>(
     source: &Text,
     legacy: &Text,
 ) -> Result<Option<u64>, StoreFault>
-    ensures tells { Answers S.Store (RepresentsEntering P.version) (λ _. ⊤) tables.old tables.new result AreGoodUnits
+    ensures answers { Answers S.Store (RepresentsEntering P.version) (λ _. ⊤) tables.old tables.new result AreGoodUnits
         (λ _ c found. AreGoodUnits c → found ≡ number_there c source.now legacy.now) }
     ensures small { IfOk result (λ found. IfSome found IsNumber) }
 {
@@ -52,7 +52,7 @@ fn look_up<P: Places, S: Alter>(
     legacy: &Text,
 ) -> Result<(), StoreFault>
     requires low { (q : Bytes) → IfSome (get_by_text numbers.old q) IsNumber }
-    ensures tells { Answers S.Store (RepresentsEntering P.version) (λ _. ⊤) tables.old tables.new result AreGoodUnits
+    ensures answers { Answers S.Store (RepresentsEntering P.version) (λ _. ⊤) tables.old tables.new result AreGoodUnits
         (λ _ c _. AreGoodUnits c → KnowsAsked c source.now (contains_text asked.old) (get_by_text numbers.old)
         → KnowsAsked c source.now (contains_text asked.new) (get_by_text numbers.new)) }
     ensures asked { OnOk result ((q : Bytes) → contains_text asked.new q
@@ -80,7 +80,7 @@ fn look_up_row<P: Places, S: Alter>(
     row: &Row,
 ) -> Result<(), StoreFault>
     requires low { (q : Bytes) → IfSome (get_by_text numbers.old q) IsNumber }
-    ensures tells { Answers S.Store (RepresentsEntering P.version) (λ _. ⊤) tables.old tables.new result AreGoodUnits
+    ensures answers { Answers S.Store (RepresentsEntering P.version) (λ _. ⊤) tables.old tables.new result AreGoodUnits
         (λ _ c _. AreGoodUnits c → KnowsAsked c source.now (contains_text asked.old) (get_by_text numbers.old)
         → KnowsAsked c source.now (contains_text asked.new) (get_by_text numbers.new)
         × IsAsked c source.now (contains_text asked.new) row.now) }
@@ -106,7 +106,7 @@ pub(crate) fn known_units<P: Places, S: Alter>(
     source: &Text,
     rows: &[Row],
 ) -> Result<ByLegacy, StoreFault>
-    ensures tells { Answers S.Store (RepresentsEntering P.version) (λ _. ⊤) tables.old tables.new result AreGoodUnits
+    ensures answers { Answers S.Store (RepresentsEntering P.version) (λ _. ⊤) tables.old tables.new result AreGoodUnits
         (λ _ c numbers. AreGoodUnits c → KnowsUnits c source.now rows.now (get_by_text numbers)) }
     ensures small { IfOk result (λ numbers. (legacy : Bytes) → IfSome (get_by_text numbers legacy) IsNumber) }
 {

@@ -23,7 +23,7 @@ pub(crate) fn path_of<P: Places, S: Alter>(
     unit: Option<u64>,
 ) -> Result<Vec<u64>, StoreFault>
     requires small { IfSome unit IsNumber }
-    ensures tells { Answers S.Store (Represents P.represents P.version) IsKept tables.old tables.new result (λ _. ⊤)
+    ensures answers { Answers S.Store (Represents P.represents P.version) IsKept tables.old tables.new result (λ _. ⊤)
         (λ _ c ids. AreGoodUnits c → (source legacy : Bytes) → unit ≡ number_there c source legacy
         → ids.items ≡ map (λ unit. unit.id) (path (is_from source legacy) c.forest)) }
 {

@@ -88,7 +88,7 @@ fn rank_there<P: Places, S: Alter>(
     unit: u64,
 ) -> Result<Option<u8>, StoreFault>
     requires small { IsNumber unit }
-    ensures tells { Answers S.Store (Represents P.represents P.version) IsKept tables.old tables.new result (λ _. ⊤)
+    ensures answers { Answers S.Store (Represents P.represents P.version) IsKept tables.old tables.new result (λ _. ⊤)
         (λ _ c rank. IsRankOf c unit rank) }
 {
     let mut levels = levels_of(alloc, tables, unit)?;
@@ -106,7 +106,7 @@ fn kept_rank<P: Places, S: Alter>(
     unit: u64,
 ) -> Result<Option<u8>, StoreFault>
     requires small { IsNumber unit }
-    ensures tells { Answers S.Store (Represents P.represents P.version) IsKept tables.old tables.new result (λ _. ⊤)
+    ensures answers { Answers S.Store (Represents P.represents P.version) IsKept tables.old tables.new result (λ _. ⊤)
         (λ _ c rank. IsRanked c last.old → IsRankOf c unit rank × IsRanked c last.new) }
 {
     if let Some(ranked) = kept_of(*last, unit) {
@@ -125,7 +125,7 @@ fn remark_below<P: Places, S: Alter>(
     parent: u64,
     row: &Row,
 ) -> Result<Option<Remark>, StoreFault>
-    ensures tells { Answers S.Store (Represents P.represents P.version) IsKept tables.old tables.new result
+    ensures answers { Answers S.Store (Represents P.represents P.version) IsKept tables.old tables.new result
         (λ c. (unit : Described) × (find (has_id parent) (nodes c.forest) ≡ Some unit))
         (λ _ c told. IsRanked c last.old → IsRanked c last.new
         × ((unit : Described) → find (has_id parent) (nodes c.forest) ≡ Some unit
@@ -160,9 +160,9 @@ fn remark_on<P: Places, S: Alter>(
     parent: Option<u64>,
     row: &Row,
 ) -> Result<Option<Remark>, StoreFault>
-    ensures tells { (source : Bytes) → Answers S.Store (Represents P.represents P.version) IsKept tables.old tables.new
-        result (HasParent source row.now parent) (λ _ c told. IsRanked c last.old → HasParent source row.now parent c
-        → IsRanked c last.new
+    ensures answers { (source : Bytes) → Answers S.Store (Represents P.represents P.version) IsKept tables.old
+        tables.new result (HasParent source row.now parent) (λ _ c told. IsRanked c last.old
+        → HasParent source row.now parent c → IsRanked c last.new
         × (option_to_list told ≡ reply.remark_on row.now.row (path (is_from source row.now.legacy) c.forest))) }
 {
     match parent {
@@ -178,9 +178,9 @@ fn remarks_below<P: Places, S: Alter>(
     parents: &[Option<u64>],
     rows: &[Row],
 ) -> Result<List<Remark>, StoreFault>
-    ensures tells { (source : Bytes) → Answers S.Store (Represents P.represents P.version) IsKept tables.old tables.new
-        result (HaveParents source rows.now parents.now) (λ _ c told. HaveParents source rows.now parents.now c
-        → told ≡ reply.remarks c.forest source rows.now) }
+    ensures answers { (source : Bytes) → Answers S.Store (Represents P.represents P.version) IsKept tables.old
+        tables.new result (HaveParents source rows.now parents.now) (λ _ c told. HaveParents source rows.now parents.now
+        c → told ≡ reply.remarks c.forest source rows.now) }
 {
     let mut told = List::new(alloc);
     let mut last = None;
@@ -201,8 +201,8 @@ pub(crate) fn remarks<P: Places, S: Alter>(
     rows: &[Row],
 ) -> Result<List<Remark>, StoreFault>
     requires small { AllByRecursion IsNumber units.now }
-    ensures tells { (source : Bytes) → Answers S.Store (Represents P.represents P.version) IsKept tables.old tables.new
-        result (HaveUnits source rows.now units.now)
+    ensures answers { (source : Bytes) → Answers S.Store (Represents P.represents P.version) IsKept tables.old
+        tables.new result (HaveUnits source rows.now units.now)
         (λ _ c told. HaveUnits source rows.now units.now c → told ≡ reply.remarks c.forest source rows.now) }
 {
     let parents = P::parents(alloc, tables, units)?;

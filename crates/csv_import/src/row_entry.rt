@@ -18,9 +18,9 @@ ghost use Rattle.catalogue_statements.specs.declared.office.OfficeRow.{OfficeRow
 ghost use Rattle.catalogue_store.specs.Arrivals.{IsNumbered};
 ghost use Rattle.office_tables.specs.Calls.{Updates};
 ghost use Rattle.csv_import.specs.PendingImport.{AreNext, Brings, ReadsCatalogue, IsPending, counted_in, imported};
-ghost use Rattle.csv_import.specs.RowEntry.{RepresentsEntering, RepresentsLegible, entered};
+ghost use Rattle.csv_import.specs.RowEntry.{RepresentsEntering, RepresentsLegible, catalogue_after};
 ghost use Rattle.csv_import.specs.KnownUnits.{units_from};
-ghost use Rattle.csv_import.specs.Turns.{IsTurnOf, MayChange, MayCome, counted, entry_of};
+ghost use Rattle.csv_import.specs.Turns.{IsTurnOf, MayChange, MayCome, count_entry, entry_of};
 
 use crate::arrivals::arrivals;
 use crate::legacy::kept_number;
@@ -75,7 +75,7 @@ fn enter_known<P: Places, S: Alter>(
     values: &Values,
 ) -> Result<Entry, StoreFault>
     requires small { IsNumber unit }
-    ensures makes { Updates S.Store (RepresentsEntering P.version) (λ _. ⊤) tables.old tables.new result
+    ensures updates { Updates S.Store (RepresentsEntering P.version) (λ _. ⊤) tables.old tables.new result
         (MayChange unit values.now) (with_values unit values.now) described_trees }
     ensures told { HasCleanDisk (state S.Store tables.new) → (o : OfficeRow) (c : Catalogue)
         → RepresentsEntering P.version (state S.Store tables.old).now o c → MayChange unit values.now c
@@ -101,7 +101,7 @@ fn enter_new<P: Places, S: Alter>(
     row: &Row,
 ) -> Result<Entry, StoreFault>
     requires small { IsNumber next }
-    ensures makes { Updates S.Store (RepresentsEntering P.version) (λ _. ⊤) tables.old tables.new result
+    ensures updates { Updates S.Store (RepresentsEntering P.version) (λ _. ⊤) tables.old tables.new result
         (MayCome source.now row.now next) (with_new source.now row.now) described_trees }
     ensures told { IfOk result (λ entry. entry ≡ entry_of None row.now.values) }
 {
@@ -128,8 +128,8 @@ fn enter_row<P: Places, S: Alter>(
 ) -> Result<Entry, StoreFault>
     requires low { IfSome number IsNumber }
     requires small { IsNumber next }
-    ensures makes { Updates S.Store (RepresentsEntering P.version) (λ _. ⊤) tables.old tables.new result
-        (IsTurnOf source.now row.now number next) (entered source.now (row.now ∷ [])) described_trees }
+    ensures updates { Updates S.Store (RepresentsEntering P.version) (λ _. ⊤) tables.old tables.new result
+        (IsTurnOf source.now row.now number next) (catalogue_after source.now (row.now ∷ [])) described_trees }
     ensures told { ReadsCatalogue S.Store (RepresentsEntering P.version) (IsTurnOf source.now row.now number next)
         tables.old
         tables.new result (λ c entry. entry ≡ entry_of (unit_of c.forest source.now row.now) row.now.values) }
@@ -143,7 +143,7 @@ fn enter_row<P: Places, S: Alter>(
 /// The counts with one more row.
 fn count(counts: Counts, became: Entry) -> Counts
     requires { counts.changed + counts.new + counts.same + 1 < 2 ^ 64 }
-    ensures { result ≡ counted became counts }
+    ensures { result ≡ count_entry became counts }
 {
     match became {
         Entry::Changed => Counts {
@@ -167,7 +167,7 @@ fn enter_each<P: Places, S: Alter>(
     tables: &mut Tables<P, S>,
     import: &Import<'_>,
 ) -> Result<Counts, StoreFault>
-    ensures makes { Updates S.Store (RepresentsEntering P.version) (λ _. ⊤) tables.old tables.new result
+    ensures updates { Updates S.Store (RepresentsEntering P.version) (λ _. ⊤) tables.old tables.new result
         (AreNext import.now) (imported import.now) described_trees }
     ensures counts { ReadsCatalogue S.Store (RepresentsEntering P.version) (AreNext import.now) tables.old tables.new
         result
@@ -225,7 +225,7 @@ fn enter_with_places<P: Places, S: Alter>(
     arrivals: &[Arrival],
 ) -> Result<Counts, StoreFault>
     requires numbered { AllByRecursion IsNumbered arrivals.now }
-    ensures makes { Updates S.Store (RepresentsNumbered P.represents P.version) (λ _. ⊤) tables.old tables.new result
+    ensures updates { Updates S.Store (RepresentsNumbered P.represents P.version) (λ _. ⊤) tables.old tables.new result
         (Brings import.now arrivals.now) (imported import.now) catalogue_trees }
     ensures counts { ReadsCatalogue S.Store (RepresentsNumbered P.represents P.version) (Brings import.now arrivals.now)
         tables.old tables.new result (λ c counts. counts ≡ counted_in c import.now) }
@@ -242,7 +242,7 @@ pub(crate) fn enter_rows<P: Places, S: Alter>(
     tables: &mut Tables<P, S>,
     import: &Import<'_>,
 ) -> Result<Outcome, StoreFault>
-    ensures makes { Updates S.Store (RepresentsLegible P.represents P.version) (λ _. ⊤) tables.old tables.new result
+    ensures updates { Updates S.Store (RepresentsLegible P.represents P.version) (λ _. ⊤) tables.old tables.new result
         (IsPending import.now) (imported import.now) catalogue_trees }
     ensures finds { ReadsCatalogue S.Store (RepresentsLegible P.represents P.version) (IsPending import.now)
         tables.old tables.new

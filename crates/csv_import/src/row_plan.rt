@@ -61,7 +61,7 @@ fn depth_of<P: Places, S: Alter>(
     row: &Row,
 ) -> Result<Option<u64>, StoreFault>
     requires low { (legacy : Bytes) → IfSome (get_by_text catalogued.now legacy) IsNumber }
-    ensures tells { Answers S.Store (Represents P.represents P.version) IsKept tables.old tables.new result (λ _. ⊤)
+    ensures answers { Answers S.Store (Represents P.represents P.version) IsKept tables.old tables.new result (λ _. ⊤)
         (λ _ c depth. AreGoodUnits c → (source : Bytes) → TellsParent c source (get_by_text catalogued.now) row.now
         → (above : List RowTold) → KnowsDepths c.forest source above (get_by_text depths.old)
         → (depth ≡ depth_under c.forest source row.now.parent above)
@@ -83,7 +83,7 @@ fn depth_of<P: Places, S: Alter>(
 }
 
 /// How a new row at this depth is placed.
-fn placed(depth: Option<u64>) -> Placing
+fn placing_at(depth: Option<u64>) -> Placing
     ensures { result ≡ at_depth depth }
 {
     match depth {
@@ -103,7 +103,7 @@ fn place<P: Places, S: Alter>(
     row: &Row,
 ) -> Result<Placing, StoreFault>
     requires low { (legacy : Bytes) → IfSome (get_by_text catalogued.now legacy) IsNumber }
-    ensures tells { Answers S.Store (Represents P.represents P.version) IsKept tables.old tables.new result (λ _. ⊤)
+    ensures answers { Answers S.Store (Represents P.represents P.version) IsKept tables.old tables.new result (λ _. ⊤)
         (λ _ c placing. AreGoodUnits c → (source : Bytes)
         → get_by_text catalogued.now row.now.legacy ≡ number_there c source row.now.legacy
         → TellsParentOfNew c source (get_by_text catalogued.now) row.now
@@ -115,7 +115,7 @@ fn place<P: Places, S: Alter>(
         return Ok(Placing::Known);
     }
     let depth = depth_of(alloc, tables, catalogued, depths, row)?;
-    Ok(placed(depth))
+    Ok(placing_at(depth))
 }
 
 /// The first row of a file that cannot be placed, or how many rows are new. `catalogued` has the numbers of the
@@ -127,7 +127,7 @@ pub(crate) fn plan<P: Places, S: Alter>(
     rows: &[Row],
 ) -> Result<Planned, StoreFault>
     requires low { (legacy : Bytes) → IfSome (get_by_text catalogued.now legacy) IsNumber }
-    ensures tells { Answers S.Store (Represents P.represents P.version) IsKept tables.old tables.new result (λ _. ⊤)
+    ensures answers { Answers S.Store (Represents P.represents P.version) IsKept tables.old tables.new result (λ _. ⊤)
         (λ _ c told. AreGoodUnits c → (source : Bytes) → KnowsUnits c source rows.now (get_by_text catalogued.now)
         → told ≡ plan_of c.forest source rows.now) }
 {

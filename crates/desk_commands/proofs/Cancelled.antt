@@ -5,7 +5,7 @@ use Rattle.std.proofs.lemmas.Bool.{false≢true}
 use Rattle.sqlite.specs.Effect.{Database}
 use Rattle.sqlite.specs.Tree.{Trees}
 use Rattle.tree_core.specs.Forest.{Forest}
-use Rattle.tree_core.specs.Versions.{Version}
+use Rattle.office_tables.specs.Versions.{Version}
 use Rattle.desk_core.specs.DeskRows.{OrderRow, with_state}
 use Rattle.desk_core.specs.declared.refusal.Refusal.TheVariants.{OrderNotWaiting, UnknownOrder}
 use Rattle.desk_store.specs.Orders.{with_order_state}

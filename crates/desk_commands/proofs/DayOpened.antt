@@ -5,7 +5,7 @@ use Rattle.std.specs.List.{list_any}
 use Rattle.sqlite.specs.Effect.{Database}
 use Rattle.sqlite.specs.Tree.{Trees}
 use Rattle.tree_core.specs.Forest.{Forest}
-use Rattle.tree_core.specs.Versions.{Version, version_number}
+use Rattle.office_tables.specs.Versions.{Version, version_number}
 use Rattle.desk_core.specs.DeskRows.{SeatRow}
 use Rattle.desk_core.specs.declared.refusal.Refusal.TheVariants.{StillIssued}
 use Rattle.desk_store.specs.OfficeDay.{House, RepresentsBoth, opened}

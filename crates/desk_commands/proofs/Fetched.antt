@@ -17,9 +17,9 @@ use Rattle.desk_store.specs.Runs.{IsNumbered, TakesEachOnce, line_of, next_run}
 use Rattle.desk_store.specs.declared.holdings.FirstOrder.{FirstOrder}
 use Rattle.office_core.specs.SoundDesk.{IsAscending}
 use Rattle.office_core.specs.SoundOffice.{IsSoundOffice}
-use Rattle.office_core.specs.State.{Line, Order, Run, State, brings, is_due, is_line_before, is_shelf, line_for, opens, picked}
+use Rattle.office_core.specs.State.{Line, Order, Run, State, brings, is_due, is_line_before, is_shelf, line_for, opens, orders_of_run}
 use Rattle.office_core.specs.State as state
-use Rattle.office_core.specs.Words.{first, is_empty, numbered, numbers_to, some_and, stands}
+use Rattle.office_core.specs.Words.{first, is_empty, nth, numbers_to, some_and, stands}
 use Rattle.office_core.proofs.Counts.{numbered_from_one}
 use Rattle.office_core.proofs.Filed.{picked_due}
 use Rattle.office_core.proofs.LineOrder.{any-in_order}
@@ -29,7 +29,7 @@ use Rattle.state_encoding.specs.OfficeRows.{tables}
 use Rattle.state_encoding.proofs.DeskLookups.{flipped}
 use Rattle.state_encoding.proofs.Members.{all_of_in, in_filter, in_map}
 use Rattle.state_encoding.proofs.NumberedRows.{in_rows, length-rows}
-use Rattle.tree_core.specs.Versions.{Version}
+use Rattle.office_tables.specs.Versions.{Version}
 use Rattle.desk_commands.specs.RunCreation.{has_numbers, taken_by}
 use Rattle.desk_commands.proofs.MovedAll.{AreWithin, all_taken}
 use Rattle.desk_commands.proofs.Picked.{due_shown, is_open_for}
@@ -89,7 +89,7 @@ any_line c (o ∷ os) = ap (λ b. b || list_any (λ (line : Line). nat_eq line.c
 -- what is told of the order is so
 pub record IsPlaced (s : State) (o : FirstOrder) : Type 0 where
   pub order : Order
-  pub there : numbered s.orders o.order ≡ Some order
+  pub there : nth s.orders o.order ≡ Some order
   pub container : order.container ≡ o.container
   pub ticket : order.ticket ≡ o.ticket
 
@@ -159,15 +159,15 @@ module _ (version : Version) (s : State) where
         (all_left (IsPlaced s) (is_open_for version s sound) (candidates_of (tables version s).desk)
         (all_of_in (IsPlaced s) (candidates_of (tables version s).desk) candidate_placed))
 
-    pub picked_are : picked s ≡ map (λ (o : FirstOrder). o.order) (taken_by version s)
+    pub picked_are : orders_of_run s ≡ map (λ (o : FirstOrder). o.order) (taken_by version s)
     picked_are =
         ap (take s.settings.run_size) (due_shown version s sound)
         ∙ take-map (λ (o : FirstOrder). o.order) s.settings.run_size (filter (is_open_for version s sound) (candidates_of (tables version s).desk))
 
-    pub as_many : length (picked s) ≡ length (taken_by version s)
+    pub as_many : length (orders_of_run s) ≡ length (taken_by version s)
     as_many = ap length picked_are ∙ length-map (taken_by version s) (λ (o : FirstOrder). o.order)
 
-    pub none_taken : is_empty (picked s) ≡ is_empty (taken_by version s)
+    pub none_taken : is_empty (orders_of_run s) ≡ is_empty (taken_by version s)
     none_taken = ap is_empty picked_are ∙ none_mapped (λ (o : FirstOrder). o.order) (taken_by version s)
 
     lines_are : (state.next_run s).lines ≡ in_order is_line_before (map as_line (taken_by version s))

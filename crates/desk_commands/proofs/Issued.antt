@@ -6,7 +6,7 @@ use Rattle.sqlite.specs.Effect.{Database}
 use Rattle.sqlite.specs.Tree.{Trees}
 use Rattle.isad_core.specs.Limits.{IsNumber}
 use Rattle.tree_core.specs.Forest.{Forest}
-use Rattle.tree_core.specs.Versions.{Version}
+use Rattle.office_tables.specs.Versions.{Version}
 use Rattle.desk_core.specs.Checks.{IssueFacts, issue_checks}
 use Rattle.desk_core.specs.Decisions.{issue_facts}
 use Rattle.desk_core.specs.Decisions as decided
@@ -26,8 +26,8 @@ use Rattle.office_core.specs.Laws.{Standing}
 use Rattle.office_core.specs.Rules.{checks, issued, refusal}
 use Rattle.office_core.specs.SoundDesk.{is_out_for}
 use Rattle.office_core.specs.SoundOffice.{IsSoundOffice}
-use Rattle.office_core.specs.State.{Order, Reader, State, container_of, held, is_by, is_container, is_desk, is_expired, is_seat_of, is_seated, is_ticket, opens, seat_of}
-use Rattle.office_core.specs.Words.{first, numbered, some_and, stands}
+use Rattle.office_core.specs.State.{Order, Reader, State, container_of, held_count, is_by, is_container, is_desk, is_expired, is_seat_of, is_seated, is_ticket, opens, seat_of}
+use Rattle.office_core.specs.Words.{first, nth, some_and, stands}
 use Rattle.office_core.specs.declared.command.Command.{Command}
 use Rattle.office_core.specs.declared.command.Command.TheVariants as command
 use Rattle.office_core.specs.declared.done.Done.TheVariants as done
@@ -54,14 +54,14 @@ use Rattle.desk_commands.proofs.HeadTold.{waiter}
 
 -- ---- who may have it
 
-abbrev facts_with : (expired seated : Bool) (held hands : ℕ) (known at_desk first available : Bool) → IssueFacts
-facts_with expired seated held hands known at_desk first available =
-    record { known = known; at_desk = at_desk; first = first; expired = expired; seated = seated; held = held; hands = hands; available = available }
+abbrev facts_with : (expired seated : Bool) (held_count hands : ℕ) (known at_desk first available : Bool) → IssueFacts
+facts_with expired seated held_count hands known at_desk first available =
+    record { known = known; at_desk = at_desk; first = first; expired = expired; seated = seated; held = held_count; hands = hands; available = available }
 
-not_first : (expired seated : Bool) (held hands : ℕ) (at_desk available : Bool)
-    → first_that_holds (issue_checks (facts_with expired seated held hands true at_desk false available)) ≡ cond at_desk (Some NotFirst) (Some NotAtDesk)
-not_first expired seated held hands true available = refl
-not_first expired seated held hands false available = refl
+not_first : (expired seated : Bool) (held_count hands : ℕ) (at_desk available : Bool)
+    → first_that_holds (issue_checks (facts_with expired seated held_count hands true at_desk false available)) ≡ cond at_desk (Some NotFirst) (Some NotAtDesk)
+not_first expired seated held_count hands true available = refl
+not_first expired seated held_count hands false available = refl
 
 desk_alike : (p : Place) → decided.is_desk p ≡ is_desk p
 desk_alike Shelf = refl
@@ -70,9 +70,9 @@ desk_alike (Out o) = refl
 
 module _ (s : State) (c t : ℕ) where
   -- the first order is the ticket's
-  heads : (k : Option ℕ) → decided.is_ticket t (option_map (λ (w : WaitingOrder). w.ticket) (option_and_then (λ o. option_map (λ (order : Order). (let w : WaitingOrder = record { order = o; ticket = order.ticket } in w)) (numbered s.orders o)) k)) ≡ some_and (is_by s t) k
+  heads : (k : Option ℕ) → decided.is_ticket t (option_map (λ (w : WaitingOrder). w.ticket) (option_and_then (λ o. option_map (λ (order : Order). (let w : WaitingOrder = record { order = o; ticket = order.ticket } in w)) (nth s.orders o)) k)) ≡ some_and (is_by s t) k
   heads None = refl
-  heads (Some o) = at (numbered s.orders o)
+  heads (Some o) = at (nth s.orders o)
     where
       at : (order : Option Order) → decided.is_ticket t (option_map (λ (w : WaitingOrder). w.ticket) (option_map (λ (order : Order). (let w : WaitingOrder = record { order = o; ticket = order.ticket } in w)) order)) ≡ some_and (λ (order : Order). nat_eq order.ticket t) order
       at None = refl
@@ -80,9 +80,9 @@ module _ (s : State) (c t : ℕ) where
 
   stranger : IsSoundOffice s → is_ticket s t ≡ false → (k : Option ℕ) → some_and (is_by s t) k ≡ false
   stranger sound unknown None = refl
-  stranger sound unknown (Some o) = at (numbered s.orders o) refl
+  stranger sound unknown (Some o) = at (nth s.orders o) refl
     where
-      at : (order : Option Order) → numbered s.orders o ≡ order → some_and (λ (order : Order). nat_eq order.ticket t) order ≡ false
+      at : (order : Option Order) → nth s.orders o ≡ order → some_and (λ (order : Order). nat_eq order.ticket t) order ≡ false
       at None is = refl
       at (Some order) is = elim (cases_Bool (nat_eq order.ticket t)) [
         | inl same ↦ absurd (false≢true (sym unknown ∙ subst (λ n. is_ticket s n ≡ true) (eqb-true order.ticket t same) (sound.sound.desk.orders.each o order is).ticket))
@@ -93,12 +93,12 @@ module _ (s : State) (c t : ℕ) where
   decides place head opened who = first_that_holds (issue_checks (issue_facts (Some (asked_for place head opened)) t (option_map (sitter_of s t) who) s.day (limits_of s)))
 
   abbrev ruled : Bool → Bool → Bool → Bool → Bool → Option Refusal
-  ruled known at_desk first expired seated = first_that_holds (issue_checks (facts_with expired seated (held s t) s.settings.hands known at_desk first (opens s t c)))
+  ruled known at_desk first expired seated = first_that_holds (issue_checks (facts_with expired seated (held_count s t) s.settings.hands known at_desk first (opens s t c)))
 
   -- what the desk decides by is what the rules look at
   pub agrees : IsSoundOffice s → (place : Place) (head : Option WaitingOrder) (opened : Bool) → place ≡ s.place c → head ≡ first_waiting s c → opened ≡ opens s t c → is_container s c ≡ true
       → first_that_holds (issue_checks (issue_facts (Some (asked_for place head opened)) t (sitter s t) s.day (limits_of s))) ≡ refusal s (command.Issue c t)
-  agrees sound place head opened is_at is_first is_open known = at (numbered s.readers t) refl
+  agrees sound place head opened is_at is_first is_open known = at (nth s.readers t) refl
     where
       at_desk : decided.is_desk place ≡ is_desk (s.place c)
       at_desk = desk_alike place ∙ ap is_desk is_at
@@ -106,19 +106,19 @@ module _ (s : State) (c t : ℕ) where
       head_is : decided.is_ticket t (option_map (λ (w : WaitingOrder). w.ticket) head) ≡ some_and (is_by s t) (first (s.queue c))
       head_is = ap (λ (h : Option WaitingOrder). decided.is_ticket t (option_map (λ (w : WaitingOrder). w.ticket) h)) is_first ∙ heads (first (s.queue c))
 
-      at : (who : Option Reader) → numbered s.readers t ≡ who → decides place head opened (numbered s.readers t) ≡ refusal s (command.Issue c t)
+      at : (who : Option Reader) → nth s.readers t ≡ who → decides place head opened (nth s.readers t) ≡ refusal s (command.Issue c t)
       at None is =
           let unknown : is_ticket s t ≡ false = ap is_some is in
           ap (decides place head opened) is
           ∙ not_first false false 0 s.settings.hands (decided.is_desk place) opened
           ∙ ap (λ b. cond b (Some NotFirst) (Some NotAtDesk)) at_desk
-          ∙ sym (not_first (is_expired s t) (is_seated s t) (held s t) s.settings.hands (is_desk (s.place c)) (opens s t c))
+          ∙ sym (not_first (is_expired s t) (is_seated s t) (held_count s t) s.settings.hands (is_desk (s.place c)) (opens s t c))
           ∙ ap (λ b. ruled b (is_desk (s.place c)) false (is_expired s t) (is_seated s t)) (sym known)
           ∙ ap (λ b. ruled (is_container s c) (is_desk (s.place c)) b (is_expired s t) (is_seated s t)) (sym (stranger sound unknown (first (s.queue c))))
       at (Some reader) is =
           let expired : int_lt reader.until s.day ≡ is_expired s t = ap (some_and (λ (reader : Reader). int_lt reader.until s.day)) (sym is) in
           ap (decides place head opened) is
-          ∙ ap (λ a. first_that_holds (issue_checks (facts_with (int_lt reader.until s.day) (is_some (seat_of s t)) (held s t) s.settings.hands true (decided.is_desk place) (decided.is_ticket t (option_map (λ (w : WaitingOrder). w.ticket) head)) a))) is_open
+          ∙ ap (λ a. first_that_holds (issue_checks (facts_with (int_lt reader.until s.day) (is_some (seat_of s t)) (held_count s t) s.settings.hands true (decided.is_desk place) (decided.is_ticket t (option_map (λ (w : WaitingOrder). w.ticket) head)) a))) is_open
           ∙ ap (λ b. ruled b (decided.is_desk place) (decided.is_ticket t (option_map (λ (w : WaitingOrder). w.ticket) head)) (int_lt reader.until s.day) (is_some (seat_of s t))) (sym known)
           ∙ ap (λ b. ruled (is_container s c) b (decided.is_ticket t (option_map (λ (w : WaitingOrder). w.ticket) head)) (int_lt reader.until s.day) (is_some (seat_of s t))) at_desk
           ∙ ap (λ b. ruled (is_container s c) (is_desk (s.place c)) b (int_lt reader.until s.day) (is_some (seat_of s t))) head_is
@@ -135,9 +135,9 @@ module _ (s : State) (c : ℕ) where
       of k None e = absurd (cc)
       of k (Some order) e = e
 
-      at : (k : Option ℕ) → option_map (λ (w : WaitingOrder). w.order) (option_and_then (λ o. option_map (waiter o) (numbered s.orders o)) k) ≡ Some o → k ≡ Some o
+      at : (k : Option ℕ) → option_map (λ (w : WaitingOrder). w.order) (option_and_then (λ o. option_map (waiter o) (nth s.orders o)) k) ≡ Some o → k ≡ Some o
       at None e = absurd (cc)
-      at (Some k) e = of k (numbered s.orders k) e
+      at (Some k) e = of k (nth s.orders k) e
 
 -- ---- what it does
 

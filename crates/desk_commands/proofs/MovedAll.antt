@@ -9,7 +9,7 @@ use Rattle.desk_core.specs.declared.reader.Place.{Place}
 use Rattle.desk_store.specs.Holdings.{placed_at, with_place}
 use Rattle.office_core.specs.State.{Order, State}
 use Rattle.office_core.specs.Laws.{standing}
-use Rattle.office_core.specs.Words.{numbers_to, put, stands}
+use Rattle.office_core.specs.Words.{numbers_to, update_at, stands}
 use Rattle.state_encoding.specs.DeskEncoding.{order_row, order_rows, rows_from, state_number}
 use Rattle.state_encoding.proofs.DeskLookups.{flipped}
 use Rattle.refinement.proofs.HoldingRows.{placed_to, rows_of}
@@ -40,7 +40,7 @@ each_of P (c ∷ cs) (suc k) d h less = each_of P cs k d h.1 (omega (arith, less
 
 put_all : (ℕ → Place) → List ℕ → Place → ℕ → Place
 put_all place [] p = place
-put_all place (c ∷ cs) p = put_all (put place c p) cs p
+put_all place (c ∷ cs) p = put_all (update_at place c p) cs p
 
 either_way : (here there : Bool) (p q : Place) → cond here p (cond there p q) ≡ cond (there || here) p q
 either_way true true p q = refl
@@ -52,7 +52,7 @@ put_each : (place : ℕ → Place) (cs : List ℕ) (p : Place) (c : ℕ) → put
 unfolding put_all
 put_each place [] p c = refl
 put_each place (k ∷ cs) p c =
-    put_each (put place k p) cs p c
+    put_each (update_at place k p) cs p c
     ∙ either_way (stands c cs) (nat_eq k c) p (place c)
     ∙ ap (λ b. cond (b || stands c cs) p (place c)) (flipped k c)
 
@@ -63,7 +63,7 @@ AreWithin n cs = AllByRecursion (λ c. (1 ≤ c) × (c ≤ n)) cs
 put_all_rows : (place : ℕ → Place) (p : Place) (n : ℕ) (cs : List ℕ) → AreWithin n cs → rows_of (put_all place cs p) (numbers_to n) ≡ all_placed p cs (rows_of place (numbers_to n))
 unfolding put_all
 put_all_rows place p n [] h = refl
-put_all_rows place p n (c ∷ cs) h = put_all_rows (put place c p) p n cs h.1 ∙ ap (all_placed p cs) (placed_to place p c n h.0.0 h.0.1)
+put_all_rows place p n (c ∷ cs) h = put_all_rows (update_at place c p) p n cs h.1 ∙ ap (all_placed p cs) (placed_to place p c n h.0.0 h.0.1)
 
 pub all_moved : (place : ℕ → Place) (p : Place) (n : ℕ) (cs : List ℕ) → AreWithin n cs
     → rows_of (λ c. cond (stands c cs) p (place c)) (numbers_to n) ≡ all_placed p cs (rows_of place (numbers_to n))

@@ -6,7 +6,7 @@ use Rattle.sqlite.specs.Effect.{Database}
 use Rattle.sqlite.specs.Tree.{Trees}
 use Rattle.isad_core.specs.Limits.{most_orders}
 use Rattle.tree_core.specs.Forest.{Forest}
-use Rattle.tree_core.specs.Versions.{Version}
+use Rattle.office_tables.specs.Versions.{Version}
 use Rattle.desk_core.specs.Checks.{order_checks}
 use Rattle.desk_core.specs.Decisions.{order_facts}
 use Rattle.desk_core.specs.DeskRows.{OrderRow}
@@ -22,8 +22,8 @@ use Rattle.office_core.specs.Laws.{Waiting, standing}
 use Rattle.office_core.specs.Rules.{after, checks, ordered, refusal}
 use Rattle.office_core.specs.SoundDesk.{is_out_for}
 use Rattle.office_core.specs.SoundOffice.{IsSoundOffice}
-use Rattle.office_core.specs.State.{Order, Reader, State, container_of, has_ordered, is_ticket, opens, placed}
-use Rattle.office_core.specs.Words.{numbered, some_and, stands}
+use Rattle.office_core.specs.State.{Order, Reader, State, container_of, has_ordered, is_ticket, opens, orders_placed}
+use Rattle.office_core.specs.Words.{nth, some_and, stands}
 use Rattle.office_core.specs.declared.command.Command.TheVariants as command
 use Rattle.office_core.specs.declared.done.Done.TheVariants as done
 use Rattle.office_core.proofs.Filed.{is_ordered, only_orders}
@@ -71,15 +71,15 @@ module _ (version : Version) (s : State) (sound : IsSoundOffice s) (t c : ℕ) w
 
   order_at : (mine : ReaderCard) (o : Option Reader) → option_map (card version s sound t s.day) o ≡ Some mine
       → first_that_holds (order_checks (order_facts (Some mine.reader) s.day (ask_of mine c (opens s t c)) (limits_of s)))
-      ≡ first_that_holds (order_checks (record { known = is_some o; expired = some_and (λ reader. int_lt reader.until s.day) o; available = opens s t c; ordered = has_ordered s t c; placed = placed s t s.day; daily = s.settings.daily; orders = length s.orders }))
+      ≡ first_that_holds (order_checks (record { known = is_some o; expired = some_and (λ reader. int_lt reader.until s.day) o; available = opens s t c; ordered = has_ordered s t c; placed = orders_placed s t s.day; daily = s.settings.daily; orders = length s.orders }))
   order_at mine None e = absurd (cc)
   order_at mine (Some reader) e =
       let same : card version s sound t s.day reader ≡ mine = cc in
       subst (λ (k : ReaderCard). first_that_holds (order_checks (order_facts (Some k.reader) s.day (ask_of k c (opens s t c)) (limits_of s)))
-      ≡ first_that_holds (order_checks (record { known = true; expired = int_lt reader.until s.day; available = opens s t c; ordered = has_ordered s t c; placed = placed s t s.day; daily = s.settings.daily; orders = length s.orders }))) same
-      (ap (λ has. first_that_holds (order_checks (record { known = true; expired = int_lt reader.until s.day; available = opens s t c; ordered = has; placed = placed s t s.day; daily = s.settings.daily; orders = length s.orders }))) (ordered_shown version s sound t c))
+      ≡ first_that_holds (order_checks (record { known = true; expired = int_lt reader.until s.day; available = opens s t c; ordered = has_ordered s t c; placed = orders_placed s t s.day; daily = s.settings.daily; orders = length s.orders }))) same
+      (ap (λ has. first_that_holds (order_checks (record { known = true; expired = int_lt reader.until s.day; available = opens s t c; ordered = has; placed = orders_placed s t s.day; daily = s.settings.daily; orders = length s.orders }))) (ordered_shown version s sound t c))
 
-  known_card : (mine : ReaderCard) → IsCardOf version s t mine → option_map (card version s sound t s.day) (numbered s.readers t) ≡ Some mine
+  known_card : (mine : ReaderCard) → IsCardOf version s t mine → option_map (card version s sound t s.day) (nth s.readers t) ≡ Some mine
   known_card mine is = sym (card_shown version s sound t s.day) ∙ is
 
   pub order_checked : (mine : ReaderCard) (today : ℤ) (limits : Limits) (is_open : Bool) → IsCardOf version s t mine → today ≡ s.day → limits ≡ limits_of s → is_open ≡ opens s t c
@@ -88,7 +88,7 @@ module _ (version : Version) (s : State) (sound : IsSoundOffice s) (t c : ℕ) w
       ap (λ d. first_that_holds (order_checks (order_facts (Some mine.reader) d (ask_of mine c is_open) limits))) day
       ∙ ap (λ l. first_that_holds (order_checks (order_facts (Some mine.reader) s.day (ask_of mine c is_open) l))) allowed
       ∙ ap (λ b. first_that_holds (order_checks (order_facts (Some mine.reader) s.day (ask_of mine c b) (limits_of s)))) seen
-      ∙ order_at mine (numbered s.readers t) (known_card mine is)
+      ∙ order_at mine (nth s.readers t) (known_card mine is)
 
   -- the card has the number of all orders
   orders_at : (mine : ReaderCard) (o : Option Reader) → option_map (card version s sound t s.day) o ≡ Some mine → mine.orders ≡ length s.orders
@@ -96,7 +96,7 @@ module _ (version : Version) (s : State) (sound : IsSoundOffice s) (t c : ℕ) w
   orders_at mine (Some reader) e = let same : card version s sound t s.day reader ≡ mine = cc in sym (ap (λ (k : ReaderCard). k.orders) same)
 
   pub card_orders : (mine : ReaderCard) → IsCardOf version s t mine → mine.orders ≡ length s.orders
-  card_orders mine is = orders_at mine (numbered s.readers t) (known_card mine is)
+  card_orders mine is = orders_at mine (nth s.readers t) (known_card mine is)
 
   module _ (mine : ReaderCard) (today : ℤ) (limits : Limits) (is_open : Bool) (is : IsCardOf version s t mine) (day : today ≡ s.day) (allowed : limits ≡ limits_of s) (seen : is_open ≡ opens s t c)
       (asked : Ask) (asks : asked ≡ ask_of mine c is_open) where

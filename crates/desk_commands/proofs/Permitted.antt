@@ -13,7 +13,7 @@ use Rattle.sqlite.specs.Tree.{Trees, rowid}
 use Rattle.sqlite.specs.declared.types.Value.TheVariants.{Int}
 use Rattle.isad_core.specs.Limits.{most_permits}
 use Rattle.tree_core.specs.Forest.{Forest, nodes}
-use Rattle.tree_core.specs.Versions.{Version}
+use Rattle.office_tables.specs.Versions.{Version}
 use Rattle.catalogue_core.specs.UnitLookup.{has_unit}
 use Rattle.catalogue_core.specs.Units.{Unit, has_id}
 use Rattle.catalogue_core.specs.Members.{StandsIn}

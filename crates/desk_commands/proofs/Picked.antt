@@ -23,7 +23,7 @@ use Rattle.state_encoding.proofs.Members.{any_same, to_from}
 use Rattle.state_encoding.proofs.NumberedRows.{in_rows}
 use Rattle.state_encoding.proofs.TableLaws.{reads_back}
 use Rattle.refinement.proofs.OrderRows.{waits_by_row}
-use Rattle.tree_core.specs.Versions.{Version}
+use Rattle.office_tables.specs.Versions.{Version}
 use Rattle.std.proofs.Math.Bool.{and_comm}
 
 -- ---- a container without a row is on the shelf

@@ -9,12 +9,12 @@ use Rattle.sqlite.specs.Effect.{Database}
 use Rattle.isad_core.specs.Limits.{most_tickets}
 use Rattle.isad_core.specs.Texts.{Bytes}
 use Rattle.tree_core.specs.Forest.{Forest}
-use Rattle.tree_core.specs.Versions.{Version}
+use Rattle.office_tables.specs.Versions.{Version}
 use Rattle.desk_core.specs.DeskRows.{Desk, PermitRow, ReaderRow}
 use Rattle.desk_core.specs.declared.refusal.Refusal.TheVariants.{Full}
 use Rattle.desk_store.specs.Readers.{next_ticket, with_reader}
 use Rattle.desk_store.specs.Representation.{RepresentsDesk}
-use Rattle.office_core.specs.Words.{numbered, numbers_to}
+use Rattle.office_core.specs.Words.{nth, numbers_to}
 use Rattle.office_core.specs.State.{State, Reader}
 use Rattle.office_core.specs.Rules.{is_name, after, refusal, Reply}
 use Rattle.office_core.specs.SoundOffice.{IsSoundOffice}
@@ -40,7 +40,7 @@ rows_more row n (y ∷ xs) x = ap (λ rows. row n y ∷ rows) (rows_more row (su
 pub rows_end : {X Y : Type 0} (row : ℕ → X → Y) (xs : List X) (x : X) → rows_from row 1 (xs ++ x ∷ []) ≡ rows_from row 1 xs ++ row (suc (length xs)) x ∷ []
 rows_end row xs x = rows_more row 1 xs x ∙ ap (λ k. rows_from row 1 xs ++ row k x ∷ []) (let e : 1 + length xs ≡ suc (length xs) = omega arith in e)
 
-past_end : {X : Type 0} (xs : List X) → is_some (numbered xs (suc (length xs))) ≡ false
+past_end : {X : Type 0} (xs : List X) → is_some (nth xs (suc (length xs))) ≡ false
 past_end [] = refl
 past_end (x ∷ xs) = past_end xs
 

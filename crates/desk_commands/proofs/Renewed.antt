@@ -6,7 +6,7 @@ use Rattle.std.proofs.lemmas.Bool.Decides.{nat_tests}
 use Rattle.sqlite.specs.Effect.{Database}
 use Rattle.sqlite.specs.Tree.{Trees}
 use Rattle.tree_core.specs.Forest.{Forest}
-use Rattle.tree_core.specs.Versions.{Version}
+use Rattle.office_tables.specs.Versions.{Version}
 use Rattle.desk_core.specs.DeskRows.{PermitRow, ReaderRow}
 use Rattle.desk_core.specs.declared.refusal.Refusal.TheVariants.{UnknownTicket}
 use Rattle.desk_store.specs.Readers.{with_last_day}
@@ -15,7 +15,7 @@ use Rattle.desk_store.specs.Representation.{RepresentsDesk}
 use Rattle.office_core.specs.Rules.{Reply, after, refusal, renewed}
 use Rattle.office_core.specs.SoundOffice.{AreTexts}
 use Rattle.office_core.specs.State.{Reader, State, is_ticket}
-use Rattle.office_core.specs.Words.{numbered, numbers_to}
+use Rattle.office_core.specs.Words.{nth, numbers_to}
 use Rattle.office_core.specs.declared.command.Command.{Command}
 use Rattle.office_core.specs.declared.command.Command.TheVariants as command
 use Rattle.office_core.specs.declared.done.Done.TheVariants as done
@@ -49,7 +49,7 @@ renewed_from until n (suc j) (x ∷ xs) =
     let e : suc n + j ≡ n + suc j = omega arith in
     rw (other n j) (ap (λ rows. reader_row n x ∷ rows) (subst (λ k. rows_from reader_row (suc n) (renewed until xs (suc j)) ≡ store.renewed k until (rows_from reader_row (suc n) xs)) e (renewed_from until (suc n) j xs)))
 
-renewed_rows : (until : ℤ) (t : ℕ) (xs : List Reader) → is_some (numbered xs t) ≡ true → rows_from reader_row 1 (renewed until xs t) ≡ store.renewed t until (rows_from reader_row 1 xs)
+renewed_rows : (until : ℤ) (t : ℕ) (xs : List Reader) → is_some (nth xs t) ≡ true → rows_from reader_row 1 (renewed until xs t) ≡ store.renewed t until (rows_from reader_row 1 xs)
 renewed_rows until zero xs h = absurd (cc)
 renewed_rows until (suc j) xs h = let e : 1 + j ≡ suc j = omega arith in subst (λ k. rows_from reader_row 1 (renewed until xs (suc j)) ≡ store.renewed k until (rows_from reader_row 1 xs)) e (renewed_from until 1 j xs)
 

@@ -10,7 +10,7 @@ use Rattle.catalogue_core.specs.Units.{Unit, has_id}
 use Rattle.catalogue_core.proofs.DistinctLists.{all_so}
 use Rattle.tree_core.specs.Forest.{Forest, cut, nodes}
 use Rattle.tree_core.proofs.Lists.{eqb_comm}
-use Rattle.tree_core.specs.Versions.{Version}
+use Rattle.office_tables.specs.Versions.{Version}
 use Rattle.desk_core.specs.DeskRows.{PermitRow}
 use Rattle.desk_core.specs.LegibleDesks.{IsLegible}
 use Rattle.desk_core.specs.Refusals.{first_that_holds}
@@ -20,7 +20,7 @@ use Rattle.desk_store.specs.Representation.{RepresentsDesk}
 use Rattle.office_core.specs.Rules.{after, gate, refusal}
 use Rattle.office_core.specs.SoundOffice.{AreTexts, IsSoundOffice}
 use Rattle.office_core.specs.State.{Permit, State, has_permit, is_permitted, is_ticket, revoked}
-use Rattle.office_core.specs.Words.{put}
+use Rattle.office_core.specs.Words.{update_at}
 use Rattle.office_core.specs.declared.command.Command.TheVariants as command
 use Rattle.office_core.proofs.Words.{put_here, put_there}
 use Rattle.state_encoding.specs.DeskEncoding.{permit_rows}
@@ -79,11 +79,11 @@ module _ (s : State) (sound : IsSoundOffice s) (t u : ℕ) where
             (all_kept (λ (p : PermitRow). is_day_number p.until ≡ true) (λ row. not (is_permit t u row)) (permit_rows s) were.permits);
       }
 
-  only_readers : (n : ℕ) → is_ticket s n ≡ false → put s.permits t (revoked u (s.permits t)) n ≡ []
+  only_readers : (n : ℕ) → is_ticket s n ≡ false → update_at s.permits t (revoked u (s.permits t)) n ≡ []
   only_readers n unknown = elim (cases_eq n t) [
     | inl same ↦
         let none : s.permits t ≡ [] = ap s.permits (sym same) ∙ sound.sound.desk.permits.known n unknown in
-        ap (put s.permits t (revoked u (s.permits t))) same ∙ put_here s.permits t (revoked u (s.permits t)) ∙ ap (revoked u) none
+        ap (update_at s.permits t (revoked u (s.permits t))) same ∙ put_here s.permits t (revoked u (s.permits t)) ∙ ap (revoked u) none
     | inr other ↦ put_there s.permits t (revoked u (s.permits t)) n other ∙ sound.sound.desk.permits.known n unknown
   ]
 
@@ -112,7 +112,7 @@ module _ (s : State) (sound : IsSoundOffice s) (t u : ℕ) where
   -- ---- the gate
 
   abbrev left : ℕ → List Permit
-  left = put s.permits t (revoked u (s.permits t))
+  left = update_at s.permits t (revoked u (s.permits t))
 
   -- for other units the permits are those that there were
   for_others : (n v : ℕ) → nat_eq u v ≡ false → is_permitted s.day (s.permits n) v ≡ is_permitted s.day (left n) v

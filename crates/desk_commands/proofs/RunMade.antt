@@ -12,7 +12,7 @@ use Rattle.isad_core.specs.Days.{IsDayNumber, is_day_number}
 use Rattle.isad_core.specs.Limits.{IsNumber, most_runs}
 use Rattle.isad_core.proofs.DayLemmas.{is_day_number-true}
 use Rattle.tree_core.specs.Forest.{Forest}
-use Rattle.tree_core.specs.Versions.{Version}
+use Rattle.office_tables.specs.Versions.{Version}
 use Rattle.desk_core.specs.DeskRows.{Desk as Rows, HoldingRow, OrderRow, RunLineRow, RunRow}
 use Rattle.desk_core.specs.declared.reader.Place.{Place}
 use Rattle.desk_core.specs.declared.reader.Place.TheVariants.{Desk}
@@ -24,7 +24,7 @@ use Rattle.desk_store.specs.Representation.{IsNumberOf, RepresentsDesk}
 use Rattle.desk_store.specs.declared.holdings.FirstOrder.{FirstOrder}
 use Rattle.office_core.specs.Rules.{fetched, refusal}
 use Rattle.office_core.specs.SoundOffice.{IsSoundOffice}
-use Rattle.office_core.specs.State.{State, next_run, picked}
+use Rattle.office_core.specs.State.{State, next_run, orders_of_run}
 use Rattle.office_core.specs.Words.{is_empty, numbers_to, some_and}
 use Rattle.office_core.specs.declared.command.Command.TheVariants as command
 use Rattle.office_core.specs.declared.done.Done.TheVariants as done
@@ -128,13 +128,13 @@ module _ (version : Version) (s : State) (sound : IsSoundOffice s) where
   module _ (places : Trees → Forest ℕ → Type 0) where
     pub nothing_due : (db : Database) → is_empty taken ≡ true → CarriesOutStep places version s command.Run (Err NothingToMove) db
     nothing_due db none =
-        let nobody : is_empty (picked s) ≡ true = none_taken version s sound ∙ none in
+        let nobody : is_empty (orders_of_run s) ≡ true = none_taken version s sound ∙ none in
         let why : refusal s command.Run ≡ Some NothingToMove = rw nobody refl in
         refuses places version s command.Run db NothingToMove why
 
     no_number_left : (db : Database) → is_empty taken ≡ false → nat_le most_runs (length s.runs) ≡ true → CarriesOutStep places version s command.Run (Err Full) db
     no_number_left db some full =
-        let due : is_empty (picked s) ≡ false = none_taken version s sound ∙ some in
+        let due : is_empty (orders_of_run s) ≡ false = none_taken version s sound ∙ some in
         let why : refusal s command.Run ≡ Some Full = rw (due, full) refl in
         refuses places version s command.Run db Full why
 
@@ -143,7 +143,7 @@ module _ (version : Version) (s : State) (sound : IsSoundOffice s) where
         → OnlyTouches (schema.run.tree ∷ schema.run_line.tree ∷ schema.holding.tree ∷ []) before now → RepresentsDesk now.trees run_made
         → CarriesOutStep places version s command.Run (Ok (done.Run (suc (length s.runs)) (length taken))) now
     runs same before now some room it schema_is only shown =
-        let due : is_empty (picked s) ≡ false = none_taken version s sound ∙ some in
+        let due : is_empty (orders_of_run s) ≡ false = none_taken version s sound ∙ some in
         let why : refusal s command.Run ≡ None = rw (due, room) refl in
         accepts places version s command.Run same before now (schema.run.tree ∷ schema.run_line.tree ∷ schema.holding.tree ∷ []) refl why tt it schema_is only
         (fetched s) refl refl refl (record run_made { run_lines = run_line_rows (fetched s) })

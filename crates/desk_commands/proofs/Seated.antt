@@ -8,7 +8,7 @@ use Rattle.sqlite.specs.Effect.{Database}
 use Rattle.sqlite.specs.Tree.{Trees}
 use Rattle.tree_core.proofs.Lists.{list_any-map}
 use Rattle.tree_core.specs.Forest.{Forest}
-use Rattle.tree_core.specs.Versions.{Version}
+use Rattle.office_tables.specs.Versions.{Version}
 use Rattle.desk_core.specs.Checks.{leave_seat_checks, take_seat_checks}
 use Rattle.desk_core.specs.Decisions.{leave_seat_facts, take_seat_facts}
 use Rattle.desk_core.specs.Decisions as decision
@@ -22,8 +22,8 @@ use Rattle.desk_store.specs.Representation.{RepresentsDesk}
 use Rattle.desk_store.specs.declared.taken_seats.TakenSeat.{TakenSeat}
 use Rattle.office_core.specs.Rules.{after, checks, refusal}
 use Rattle.office_core.specs.SoundOffice.{IsSoundOffice}
-use Rattle.office_core.specs.State.{Reader, State, free_seat, held, is_seat_of, is_seated, seat_of}
-use Rattle.office_core.specs.Words.{numbered, some_and}
+use Rattle.office_core.specs.State.{Reader, State, free_seat, held_count, is_seat_of, is_seated, seat_of}
+use Rattle.office_core.specs.Words.{nth, some_and}
 use Rattle.office_core.specs.declared.command.Command.TheVariants as command
 use Rattle.office_core.specs.declared.done.Done.TheVariants as done
 use Rattle.office_core.proofs.Steps.{held_not, passes}
@@ -43,12 +43,12 @@ module _ (s : State) (sound : IsSoundOffice s) (t : ℕ) where
   -- ---- the checks, of the reader as the desk sees him
 
   leave_at : (o : Option Reader) → first_that_holds (leave_seat_checks (leave_seat_facts (option_map (sitter_of s t) o)))
-      ≡ first_that_holds (leave_seat_checks (record { known = is_some o; seated = is_seated s t; held = held s t }))
+      ≡ first_that_holds (leave_seat_checks (record { known = is_some o; seated = is_seated s t; held = held_count s t }))
   leave_at None = refl
   leave_at (Some reader) = rw (some_placed (is_seat_of t) s.seats) refl
 
   pub leave_checked : first_that_holds (leave_seat_checks (leave_seat_facts (sitter s t))) ≡ refusal s (command.LeaveSeat t)
-  leave_checked = leave_at (numbered s.readers t)
+  leave_checked = leave_at (nth s.readers t)
 
   take_at : (taken : List ℕ) → decision.free_seat taken s.settings.seats ≡ free_seat s → (o : Option Reader)
       → first_that_holds (take_seat_checks (take_seat_facts (option_map (sitter_of s t) o) s.day taken (limits_of s)))
@@ -65,7 +65,7 @@ module _ (s : State) (sound : IsSoundOffice s) (t : ℕ) where
   take_checked today limits taken day is free =
       ap (λ d. first_that_holds (take_seat_checks (take_seat_facts (sitter s t) d taken limits))) day
       ∙ ap (λ l. first_that_holds (take_seat_checks (take_seat_facts (sitter s t) s.day taken l))) is
-      ∙ take_at taken free (numbered s.readers t)
+      ∙ take_at taken free (nth s.readers t)
 
   seat_at : (k : ℕ) (o : Option Reader) → decision.seat_of (option_map (sitter_of s t) o) ≡ Some k → seat_of s t ≡ Some k
   seat_at k None e = absurd (cc)
@@ -74,7 +74,7 @@ module _ (s : State) (sound : IsSoundOffice s) (t : ℕ) where
   pub may_leave : (who : Option Sitter) (k : ℕ) → who ≡ sitter s t → None ≡ first_that_holds (leave_seat_checks (leave_seat_facts who)) → decision.seat_of who ≡ Some k → MayLeave s t k
   may_leave who k is passes seat = record {
     allowed = sym leave_checked ∙ ap (λ w. first_that_holds (leave_seat_checks (leave_seat_facts w))) (sym is) ∙ sym passes;
-    seat = seat_at k (numbered s.readers t) (ap decision.seat_of (sym is) ∙ seat);
+    seat = seat_at k (nth s.readers t) (ap decision.seat_of (sym is) ∙ seat);
   }
 
   pub must_stay : (who : Option Sitter) (why : Refusal) → who ≡ sitter s t → Some why ≡ first_that_holds (leave_seat_checks (leave_seat_facts who)) → refusal s (command.LeaveSeat t) ≡ Some why

@@ -10,25 +10,25 @@ use Rattle.desk_store.specs.Holdings.{issued_by, issued_of}
 use Rattle.office_core.specs.SoundDesk.{IsFiled, is_out_for}
 use Rattle.office_core.specs.SoundOffice.{IsSoundOffice}
 use Rattle.office_core.specs.State.{Order, State, containers, is_out}
-use Rattle.office_core.specs.Words.{is_empty, numbered}
+use Rattle.office_core.specs.Words.{is_empty, nth}
 use Rattle.office_core.proofs.Words.{same_number}
 use Rattle.state_encoding.specs.DeskEncoding.{holding_row, order_row, order_rows}
 use Rattle.state_encoding.specs.OfficeRows.{tables}
 use Rattle.refinement.proofs.RowsOfLists.{found_row}
-use Rattle.tree_core.specs.Versions.{Version}
+use Rattle.office_tables.specs.Versions.{Version}
 
 some_mapped : {X Y : Type 0} (f : X → Y) (o : Option X) → is_some o ≡ true → is_some (option_map f o) ≡ true
 some_mapped f None h = absurd (cc)
 some_mapped f (Some x) h = refl
 
 module _ (s : State) where
-  order_found : (o : ℕ) → is_some (numbered s.orders o) ≡ true → is_some (find (λ (row : OrderRow). nat_eq o row.id) (order_rows s)) ≡ true
-  order_found o h = ap is_some (found_row (order_row s) (λ (row : OrderRow). row.id) (λ n x. refl) o s.orders) ∙ some_mapped (order_row s o) (numbered s.orders o) h
+  order_found : (o : ℕ) → is_some (nth s.orders o) ≡ true → is_some (find (λ (row : OrderRow). nat_eq o row.id) (order_rows s)) ≡ true
+  order_found o h = ap is_some (found_row (order_row s) (λ (row : OrderRow). row.id) (λ n x. refl) o s.orders) ∙ some_mapped (order_row s o) (nth s.orders o) h
 
   module _ (sound : IsSoundOffice s) where
     -- what a container is out with is an order
-    has_order : (c o : ℕ) → s.place c ≡ Out o → is_some (numbered s.orders o) ≡ true
-    has_order c o out = at (numbered s.orders o) (sound.sound.desk.filed.each o)
+    has_order : (c o : ℕ) → s.place c ≡ Out o → is_some (nth s.orders o) ≡ true
+    has_order c o out = at (nth s.orders o) (sound.sound.desk.filed.each o)
       where
         at : (it : Option Order) → IsFiled (option_map (λ (order : Order). order.container) it) (λ k. Rattle.office_core.specs.Words.stands o (s.queue k)) (λ k. is_out_for o (s.place k)) (s.past o) → is_some it ≡ true
         at None filed = absurd (false≢true (sym (filed.1 c) ∙ ap (is_out_for o) out ∙ same_number o))

@@ -9,7 +9,7 @@ use Rattle.office_core.specs.Rules.{refusal}
 use Rattle.office_core.specs.State.{State}
 use Rattle.office_core.specs.declared.command.Command.TheVariants as command
 use Rattle.state_encoding.specs.OfficeRows.{tables}
-use Rattle.tree_core.specs.Versions.{Version}
+use Rattle.office_tables.specs.Versions.{Version}
 
 -- the ticket's card today
 abbrev pub IsCardOf : Version → State → ℕ → ReaderCard → Type 0

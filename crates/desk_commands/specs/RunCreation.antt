@@ -4,7 +4,7 @@ use Rattle.desk_store.specs.Holdings.{candidates_of}
 use Rattle.desk_store.specs.declared.holdings.FirstOrder.{FirstOrder}
 use Rattle.office_core.specs.State.{State, opens}
 use Rattle.state_encoding.specs.OfficeRows.{tables}
-use Rattle.tree_core.specs.Versions.{Version}
+use Rattle.office_tables.specs.Versions.{Version}
 
 -- the first `most` of these orders whose containers are open to their readers
 abbrev pub due_of : State → ℕ → List FirstOrder → List FirstOrder

@@ -26,7 +26,7 @@ pub(crate) fn hand_over<P: Versioned, S: Alter>(
     requires number { IsNumber container }
     requires known { IfSome (by_order place) IsNumber }
     requires small { IsNumber order }
-    ensures makes { Updates S.Store RepresentsDeskAlone IsLegible tables.old tables.new result (λ _. ⊤)
+    ensures updates { Updates S.Store RepresentsDeskAlone IsLegible tables.old tables.new result (λ _. ⊤)
         (handed_over container place order next) (schema.orders.tree ∷ schema.holding.tree ∷ []) }
 {
     end_order(tables, order, next)?;
@@ -40,7 +40,7 @@ pub(crate) fn move_all<P: Versioned, S: Alter>(
     place: Place,
 ) -> Result<(), StoreFault>
     requires known { IfSome (by_order place) IsNumber }
-    ensures makes { Updates S.Store RepresentsDeskAlone IsLegible tables.old tables.new result
+    ensures updates { Updates S.Store RepresentsDeskAlone IsLegible tables.old tables.new result
         (λ _. AllByRecursion IsNumber containers.now) (with_all_placed place containers.now)
         (schema.holding.tree ∷ []) }
 {

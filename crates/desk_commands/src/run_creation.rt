@@ -26,14 +26,14 @@ use sqlite::Alter;
 use std::alloc::{AllocError, Global};
 
 /// The first `most` of these orders whose containers are open to their readers.
-fn due<P: Places, S: Alter>(
+fn first_open<P: Places, S: Alter>(
     alloc: Global,
     tables: &mut Tables<P, S>,
     today: Day,
     most: u32,
     waiting: &[FirstOrder],
 ) -> Result<Vec<FirstOrder>, StoreFault>
-    ensures tells { Answers S.Store (RepresentsWhole P.represents P.version) CanBeJudged tables.old tables.new result
+    ensures answers { Answers S.Store (RepresentsWhole P.represents P.version) CanBeJudged tables.old tables.new result
         (λ _. ⊤) (λ _ s due. CanBeJudged s → today ≡ s.day → due.items ≡ due_of s most waiting.now) }
 {
     let mut due = Vec::new(alloc);
@@ -117,7 +117,7 @@ pub fn fetch<P: Places, S: Alter>(
         tables.old tables.new result }
 {
     let waiting = candidates(alloc, tables)?;
-    let due = due(alloc, tables, today, limits.run, &waiting)?;
+    let due = first_open(alloc, tables, today, limits.run, &waiting)?;
     if are_none(&due) {
         return Ok(Err(Refusal::NothingToMove));
     }

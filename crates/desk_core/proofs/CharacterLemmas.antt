@@ -6,7 +6,7 @@ use Rattle.std.proofs.lemmas.Str.{encodes-chars}
 use Rattle.std.proofs.lemmas.List.{length-append, length-map}
 use Rattle.std.proofs.lemmas.List.Elements.{filter-append}
 use lib.Utf8.{encode, encodes}
-use Rattle.isad_core.specs.Texts.{is_line_break, one_line, single_breaks, spaced}
+use Rattle.isad_core.specs.Texts.{is_line_break, one_line, single_breaks, byte_or_space}
 use Rattle.desk_core.specs.Slips.{begins_character, characters}
 
 characters-append : (xs ys : List ℕ) → characters (xs ++ ys) ≡ characters xs + characters ys
@@ -129,16 +129,16 @@ counts (c ∷ d ∷ ds) =
     (λ other. counts-char c (d ∷ ds) other (counts (d ∷ ds)))
     (cases_Bool (eqb c 13))
 
-begins-spaced : (b : ℕ) → begins_character (spaced b) ≡ begins_character b
+begins-spaced : (b : ℕ) → begins_character (byte_or_space b) ≡ begins_character b
 begins-spaced b =
     ⊎_elim
     (λ breaks. rw breaks (sym (begins-ascii b (⊎_elim (λ cr. let e : b ≡ 13 = eqb-true b 13 cr in omega arith) (λ not_cr. let e : b ≡ 10 = eqb-true b 10 (rw not_cr at breaks) in omega arith) (cases_Bool (eqb b 13))))))
     (λ other. rw other refl) (cases_Bool (is_line_break b))
 
-characters-spaced : (text : List ℕ) → characters (map spaced text) ≡ characters text
+characters-spaced : (text : List ℕ) → characters (map byte_or_space text) ≡ characters text
 characters-spaced [] = refl
 characters-spaced (b ∷ text) =
-    rw (begins-spaced b) (elim (begins_character b) as (λ begins. length (cond begins (spaced b ∷ filter begins_character (map spaced text)) (filter begins_character (map spaced text))) ≡ length (cond begins (b ∷ filter begins_character text) (filter begins_character text))) [
+    rw (begins-spaced b) (elim (begins_character b) as (λ begins. length (cond begins (byte_or_space b ∷ filter begins_character (map byte_or_space text)) (filter begins_character (map byte_or_space text))) ≡ length (cond begins (b ∷ filter begins_character text) (filter begins_character text))) [
       | true ↦ ap suc (characters-spaced text)
       | false ↦ characters-spaced text
     ])
@@ -146,4 +146,4 @@ characters-spaced (b ∷ text) =
 pub characters-one_line : (text : List ℕ) → IsUtf8 text → characters (one_line text) ≡ length (one_line (chars text))
 characters-one_line text utf8 =
     characters-spaced (single_breaks text) ∙ ap (λ bytes. characters (single_breaks bytes)) (sym (encodes-chars text utf8))
-    ∙ counts (chars text) ∙ sym (length-map (single_breaks (chars text)) spaced)
+    ∙ counts (chars text) ∙ sym (length-map (single_breaks (chars text)) byte_or_space)

@@ -59,11 +59,11 @@ module _ (d : desk.Desk) (orders : List OrderRow) (e : d.orders ≡ map order_ro
   -- ---- each order that is out
 
   -- a holding that lies well tells its order where it is that order's
-  tells : (order : OrderRow) → 1 ≤ order.id → nth_order orders order.id ≡ Some order → (c place : ℕ) (o : Option ℕ) → option_map_or (λ o. nat_eq place 2 && is_out_for orders c o) o (nat_eq place 1) ≡ true
+  answers : (order : OrderRow) → 1 ≤ order.id → nth_order orders order.id ≡ Some order → (c place : ℕ) (o : Option ℕ) → option_map_or (λ o. nat_eq place 2 && is_out_for orders c o) o (nat_eq place 1) ≡ true
       → nat_eq order.id (unwrap_or o 0) ≡ (nat_eq c order.container && (nat_eq place 2 && some_and (nat_eq order.id) o))
-  tells order above at c place None well =
+  answers order above at c place None well =
       ne_eqb order.id 0 (λ z. absurd (omega (arith, above, z))) ∙ sym (and_right (nat_eq c order.container) _ (and_right (nat_eq place 2) false refl))
-  tells order above at c place (Some o) well = elim (cases_eq order.id o) [
+  answers order above at c place (Some o) well = elim (cases_eq order.id o) [
     | inr ne ↦ ne_eqb order.id o ne ∙ sym (and_right (nat_eq c order.container) _ (and_right (nat_eq place 2) (nat_eq order.id o) (ne_eqb order.id o ne)))
     | inl same ↦
         let parts = and_parts (nat_eq place 2) (is_out_for orders c o) well in
@@ -90,7 +90,7 @@ module _ (d : desk.Desk) (orders : List OrderRow) (e : d.orders ≡ map order_ro
           ∙ from_one (count_by (λ row. nat_eq order.id (holder row)) holdings)
           ∙ sym (any_count (λ row. nat_eq order.id (holder row)) holdings)
           ∙ any_agree_in (λ row. nat_eq order.id (holder row)) (λ row. causes.is_holding_of (order_row order) (holding_row row)) holdings
-          (λ row j. tells order own.0 own.2 row.container row.place row.held_by (and_parts (list_any (nat_eq row.container) s.containers) (lies_well orders row) (all_at (is_fit_holding s orders) holdings row good j)).1)
+          (λ row j. answers order own.0 own.2 row.container row.place row.held_by (and_parts (list_any (nat_eq row.container) s.containers) (lies_well orders row) (all_at (is_fit_holding s orders) holdings row good j)).1)
           ∙ sym (list_any-map (causes.is_holding_of (order_row order)) holding_row holdings)
           ∙ ap (list_any (causes.is_holding_of (order_row order))) (sym f)
 

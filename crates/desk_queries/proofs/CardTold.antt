@@ -6,7 +6,7 @@ use Rattle.std.proofs.lemmas.Simd.{map-map}
 use Rattle.serde_json.specs.Data.{Data, string}
 use Rattle.serde_json.specs.Written.{has_float}
 use Rattle.isad_core.specs.Texts.{Bytes}
-use Rattle.tree_core.specs.Versions.{Version}
+use Rattle.office_tables.specs.Versions.{Version}
 use Rattle.catalogue_core.specs.Members.{StandsIn}
 use Rattle.desk_core.specs.DeskRows.{OrderRow}
 use Rattle.desk_core.specs.declared.refusal.Refusal.TheVariants.{UnknownTicket}
@@ -20,7 +20,7 @@ use Rattle.office_core.specs.Queries.{answer, is_out_now, known_json, live_order
 use Rattle.office_core.specs.SoundDesk.{ExactlyOne, IsFiled, is_out_for}
 use Rattle.office_core.specs.SoundOffice.{IsSoundOffice}
 use Rattle.office_core.specs.State.{Cancelled, Done, End, Order, Reader, State, container_of, is_by, order_out, seat_of, waits}
-use Rattle.office_core.specs.Words.{numbered, some_and, stands}
+use Rattle.office_core.specs.Words.{nth, some_and, stands}
 use Rattle.office_core.specs.declared.query.Query.TheVariants as query
 use Rattle.state_encoding.specs.DeskEncoding.{order_from, order_row, order_rows, rows_from, state_number}
 use Rattle.state_encoding.specs.OfficeRows.{tables}
@@ -77,13 +77,13 @@ filtered p (r ∷ rows) = at (p r.id) (filtered p rows)
 
 kept_same : {R Y : Type 0} (p q : R → Bool) (f g : R → Y) (rows : List R) → ((r : R) → StandsIn r rows → p r ≡ q r) → ((r : R) → StandsIn r rows → q r ≡ true → f r ≡ g r)
     → map f (filter p rows) ≡ map g (filter q rows)
-kept_same p q f g [] tests tells = refl
-kept_same {R} p q f g (r ∷ rows) tests tells =
+kept_same p q f g [] tests answers = refl
+kept_same {R} p q f g (r ∷ rows) tests answers =
     ap (λ b. map f (cond b (r ∷ filter p rows) (filter p rows))) (tests r (inl refl))
-    ∙ at (q r) refl (kept_same p q f g rows (λ x k. tests x (inr k)) (λ x k. tells x (inr k)))
+    ∙ at (q r) refl (kept_same p q f g rows (λ x k. tests x (inr k)) (λ x k. answers x (inr k)))
   where
     at : (b : Bool) → q r ≡ b → map f (filter p rows) ≡ map g (filter q rows) → map f (cond b (r ∷ filter p rows) (filter p rows)) ≡ map g (cond b (r ∷ filter q rows) (filter q rows))
-    at true e rest = ap (λ y. y ∷ map f (filter p rows)) (tells r (inl refl) e) ∙ ap (λ l. g r ∷ l) rest
+    at true e rest = ap (λ y. y ∷ map f (filter p rows)) (answers r (inl refl) e) ∙ ap (λ l. g r ∷ l) rest
     at false e rest = rest
 
 -- ---- the orders of a ticket that wait or are out
@@ -107,7 +107,7 @@ module _ (version : Version) (s : State) (sound : IsSoundOffice s) (t : ℕ) whe
   abbrev is_kept : OrderRow → Bool
   is_kept row = nat_eq t row.ticket && is_live row
 
-  module _ (m : ℕ) (x : Order) (is : numbered s.orders m ≡ Some x) where
+  module _ (m : ℕ) (x : Order) (is : nth s.orders m ≡ Some x) where
     for_it : container_of s m ≡ Some x.container
     for_it = ap (option_map (λ (order : Order). order.container)) is
 
@@ -141,8 +141,8 @@ module _ (version : Version) (s : State) (sound : IsSoundOffice s) (t : ℕ) whe
       let i = in_rows (order_row s) s.orders row k in
       subst (λ (r : OrderRow). is_theirs r.id ≡ is_kept r) (sym i.3) (test_at i.0 i.1 i.2)
 
-  tells : (row : OrderRow) → StandsIn row (order_rows s) → is_kept row ≡ true → told row.id (order_from row) ≡ live_data (live_of row)
-  tells row k =
+  answers : (row : OrderRow) → StandsIn row (order_rows s) → is_kept row ≡ true → told row.id (order_from row) ≡ live_data (live_of row)
+  answers row k =
       let i = in_rows (order_row s) s.orders row k in
       subst (λ (r : OrderRow). is_kept r ≡ true → told r.id (order_from r) ≡ live_data (live_of r)) (sym i.3) (tell_at i.0 i.1 i.2)
 
@@ -151,13 +151,13 @@ module _ (version : Version) (s : State) (sound : IsSoundOffice s) (t : ℕ) whe
       (ap (λ ns. filter_map (order_json s) (filter is_theirs ns)) (to_from (length s.orders) ∙ sym (ids (order_row s) (λ n x. refl) 1 s.orders))
       ∙ ap (filter_map (order_json s)) (filtered is_theirs (order_rows s))
       ∙ told_rows s told (filter (λ (r : OrderRow). is_theirs r.id) (order_rows s)) (λ row k. (in_filter (λ (r : OrderRow). is_theirs r.id) (order_rows s) row k).0)
-      ∙ kept_same (λ (r : OrderRow). is_theirs r.id) is_kept (λ (r : OrderRow). told r.id (order_from r)) (λ (r : OrderRow). live_data (live_of r)) (order_rows s) tests tells
+      ∙ kept_same (λ (r : OrderRow). is_theirs r.id) is_kept (λ (r : OrderRow). told r.id (order_from r)) (λ (r : OrderRow). live_data (live_of r)) (order_rows s) tests answers
       ∙ sym (map-map live_data live_of (filter is_kept (order_rows s))))
 
   -- ---- the reader
 
-  card_told : (day : ℤ) → option_map card_data (card_of t day (tables version s).desk) ≡ option_map (reader_json s t) (numbered s.readers t)
-  card_told day = ap (option_map card_data) (card_shown version s sound t day) ∙ at (numbered s.readers t)
+  card_told : (day : ℤ) → option_map card_data (card_of t day (tables version s).desk) ≡ option_map (reader_json s t) (nth s.readers t)
+  card_told day = ap (option_map card_data) (card_shown version s sound t day) ∙ at (nth s.readers t)
     where
       at : (reader : Option Reader) → option_map card_data (option_map (card version s sound t day) reader) ≡ option_map (reader_json s t) reader
       at None = refl

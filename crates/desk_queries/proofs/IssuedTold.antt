@@ -3,7 +3,7 @@ use Rattle.std.proofs.Common.{◌≡◌, ℕ, List, [], ◌∷◌, map, Option, 
 use Rattle.std.specs.Prelude.{codes, filter_map, option_map}
 use Rattle.std.specs.List.{cons_option}
 use Rattle.serde_json.specs.Data.{Data}
-use Rattle.tree_core.specs.Versions.{Version}
+use Rattle.office_tables.specs.Versions.{Version}
 use Rattle.desk_core.specs.DeskRows.{OrderRow}
 use Rattle.desk_core.specs.declared.reader.Place.{Place}
 use Rattle.desk_core.specs.declared.reader.Place.TheVariants.{Shelf, Desk, Out}
@@ -12,7 +12,7 @@ use Rattle.desk_store.specs.declared.holdings.Loan.{Loan}
 use Rattle.office_core.specs.Json.{count, fields}
 use Rattle.office_core.specs.Queries.{issued_json}
 use Rattle.office_core.specs.State.{Order, State, containers}
-use Rattle.office_core.specs.Words.{numbered}
+use Rattle.office_core.specs.Words.{nth}
 use Rattle.state_encoding.specs.DeskEncoding.{holding_row, order_row, order_rows}
 use Rattle.state_encoding.specs.OfficeRows.{tables}
 use Rattle.refinement.proofs.RowsOfLists.{found_row}
@@ -39,7 +39,7 @@ module _ (s : State) where
           (ap (λ (row : Option OrderRow). map loan_data (cons_option (option_map (λ t. (let l : Loan = record { container = c; order = o; ticket = t } in l)) (option_map (λ (row : OrderRow). row.ticket) row))
           (filter_map (issued_by (order_rows s)) (filter_map (λ c. holding_row c (s.place c)) cs))))
           (found_row (order_row s) (λ (row : OrderRow). row.id) (λ n x. refl) o s.orders)
-          ∙ with_order c o (numbered s.orders o) (filter_map (issued_by (order_rows s)) (filter_map (λ c. holding_row c (s.place c)) cs)) (filter_map (issued_json s) cs) same)
+          ∙ with_order c o (nth s.orders o) (filter_map (issued_by (order_rows s)) (filter_map (λ c. holding_row c (s.place c)) cs)) (filter_map (issued_json s) cs) same)
 
   pub issued_told : (version : Version) → map loan_data (issued_of (tables version s).desk) ≡ filter_map (issued_json s) (containers s)
   issued_told version = issued_each (containers s)

@@ -4,7 +4,7 @@ use Rattle.std.specs.Prelude.{is_some, option_map}
 use Rattle.std.specs.List.{AllByRecursion}
 use Rattle.std.specs.Ordering.{int_cmp}
 use Rattle.std.proofs.lemmas.Simd.{map-map}
-use Rattle.tree_core.specs.Versions.{Version}
+use Rattle.office_tables.specs.Versions.{Version}
 use Rattle.desk_core.specs.declared.refusal.Refusal.TheVariants.{UnknownTicket}
 use Rattle.desk_store.specs.Permits.{by_unit, permits_of}
 use Rattle.desk_store.specs.declared.reader_permits.Permit.{Permit as Told}
@@ -13,7 +13,7 @@ use Rattle.office_core.specs.Queries.{answer, known_json, permit_json}
 use Rattle.office_core.specs.SoundDesk.{ByUnit}
 use Rattle.office_core.specs.SoundOffice.{IsSoundOffice}
 use Rattle.office_core.specs.State.{Permit, Reader, State, is_ticket}
-use Rattle.office_core.specs.Words.{numbered}
+use Rattle.office_core.specs.Words.{nth}
 use Rattle.office_core.specs.declared.query.Answer.TheVariants.{Json, Unknown}
 use Rattle.office_core.specs.declared.query.Query.TheVariants as query
 use Rattle.state_encoding.specs.OfficeRows.{tables}
@@ -42,14 +42,14 @@ module _ (version : Version) (s : State) (sound : IsSoundOffice s) (t : ℕ) whe
       ∙ map-map permit_data told_of (s.permits t)
 
   pub no_ticket : is_ticket s t ≡ false → Unknown UnknownTicket ≡ answer s (query.ReaderPermits t)
-  no_ticket none = at (numbered s.readers t) none
+  no_ticket none = at (nth s.readers t) none
     where
       at : (reader : Option Reader) → is_some reader ≡ false → Unknown UnknownTicket ≡ known_json UnknownTicket (option_map (λ (reader : Reader). list (map permit_json (s.permits t))) reader)
       at None e = refl
       at (Some reader) e = absurd (cc)
 
   pub has_ticket : is_ticket s t ≡ true → Json (compact_text (list (map permit_json (s.permits t)))) ≡ answer s (query.ReaderPermits t)
-  has_ticket some = at (numbered s.readers t) some
+  has_ticket some = at (nth s.readers t) some
     where
       at : (reader : Option Reader) → is_some reader ≡ true → Json (compact_text (list (map permit_json (s.permits t)))) ≡ known_json UnknownTicket (option_map (λ (reader : Reader). list (map permit_json (s.permits t))) reader)
       at None e = absurd (cc)

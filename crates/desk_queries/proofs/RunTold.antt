@@ -7,20 +7,20 @@ use Rattle.std.proofs.lemmas.List.Sorted.{IsPermutation-map}
 use Rattle.std.proofs.lemmas.Simd.{map-map}
 use Rattle.sqlite_trees.proofs.ListLemmas.{IsPermutation-flat_map}
 use Rattle.isad_core.specs.declared.values.BoxKey.{BoxKey}
-use Rattle.tree_core.specs.Versions.{Version}
+use Rattle.office_tables.specs.Versions.{Version}
 use Rattle.catalogue_core.specs.Members.{StandsIn}
 use Rattle.desk_core.specs.DeskRows.{RunLineRow, RunRow}
 use Rattle.desk_core.specs.Slips.{slip}
 use Rattle.desk_core.specs.declared.run.Candidate.{Candidate}
 use Rattle.desk_core.specs.declared.refusal.Refusal.TheVariants.{UnknownRun}
 use Rattle.desk_store.specs.Runs.{IsCandidate, lines_of, run_with}
-use Rattle.desk_store.specs.Stacks.{AreKnown, IsBrought, IsKnownLine, IsToldLine, IsToldRun, box_with}
+use Rattle.desk_store.specs.Storage.{AreKnown, IsBrought, IsKnownLine, IsToldLine, IsToldRun, container_with}
 use Rattle.desk_store.specs.declared.runs.Brought.{Brought}
 use Rattle.office_core.specs.Queries.{answer, candidate_of, run_answer}
 use Rattle.office_core.specs.SoundDesk.{ByContainer, IsGoodLine}
 use Rattle.office_core.specs.SoundOffice.{IsSoundOffice}
 use Rattle.office_core.specs.State.{Line, Order, Run, State, is_container}
-use Rattle.office_core.specs.Words.{numbered}
+use Rattle.office_core.specs.Words.{nth}
 use Rattle.office_core.specs.declared.query.Answer.{Answer}
 use Rattle.office_core.specs.declared.query.Answer.TheVariants.{Text, Unknown}
 use Rattle.office_core.specs.declared.query.Query.TheVariants as query
@@ -32,7 +32,7 @@ use Rattle.state_encoding.proofs.NumberedRows.{numbered-map, numbered-rows, stan
 use Rattle.state_encoding.proofs.ReadBack.{runs_back}
 use Rattle.office_tables.proofs.Rows.{same_test}
 use Rattle.refinement.proofs.RowsOfLists.{found_row}
-use Rattle.refinement.proofs.StacksShown.{box_row, has_box, stacks_of}
+use Rattle.refinement.proofs.StorageShown.{box_row, has_container, storage_of}
 use Rattle.desk_queries.proofs.SlipTold.{Rise, same_slip}
 
 -- what the slip says where no line is told
@@ -52,8 +52,8 @@ each_some {X} {Y} f (x ∷ xs) = at (f x) (each_some f xs)
 module _ (version : Version) (s : State) (sound : IsSoundOffice s) where
   -- ---- the lines
 
-  told_line : (l : RunLineRow) (c : Candidate) → IsCandidate (stacks_of version s).boxes l c → candidate_of s (line_from l) ≡ Some c
-  told_line l c it = at (numbered s.catalogue.containers l.container) (sym (box_row version s l.container) ∙ it.known)
+  told_line : (l : RunLineRow) (c : Candidate) → IsCandidate (storage_of version s).containers l c → candidate_of s (line_from l) ≡ Some c
+  told_line l c it = at (nth s.catalogue.containers l.container) (sym (box_row version s l.container) ∙ it.known)
     where
       at : (box : Option BoxKey) → option_map (λ (b : BoxKey). (let x : ℕ × BoxKey = (l.container, b) in x)) box ≡ Some (let x : ℕ × BoxKey = (l.container, it.box) in x)
           → option_map (λ (b : BoxKey). (let c : Candidate = record { container = l.container; order = l.order_no; ticket = l.ticket; location = b.location; name = b.name; kind = b.kind } in c)) box ≡ Some c
@@ -63,13 +63,13 @@ module _ (version : Version) (s : State) (sound : IsSoundOffice s) where
           let same : box ≡ it.box = cc in
           ap (λ (b : BoxKey). Some (let c : Candidate = record { container = l.container; order = l.order_no; ticket = l.ticket; location = b.location; name = b.name; kind = b.kind } in c)) same ∙ ap Some (sym it.is)
 
-  module _ {T : Type 0} (Answers : T → Candidate → Type 0) (line : T → Line) (tells : (l : T) (c : Candidate) → Answers l c → candidate_of s (line l) ≡ Some c) where
+  module _ {T : Type 0} (Answers : T → Candidate → Type 0) (line : T → Line) (answers : (l : T) (c : Candidate) → Answers l c → candidate_of s (line l) ≡ Some c) where
     told_lines : (ls : List T) (cs : List Candidate) → AllZip Answers ls cs → filter_map (candidate_of s) (map line ls) ≡ cs
     told_lines [] [] all = refl
     told_lines [] (c ∷ cs) all = absurd all
     told_lines (l ∷ ls) [] all = absurd all
     told_lines (l ∷ ls) (c ∷ cs) all =
-        ap (λ o. cons_option o (filter_map (candidate_of s) (map line ls))) (tells l c all.0) ∙ ap (λ k. c ∷ k) (told_lines ls cs all.1)
+        ap (λ o. cons_option o (filter_map (candidate_of s) (map line ls))) (answers l c all.0) ∙ ap (λ k. c ∷ k) (told_lines ls cs all.1)
 
     -- the lines in whatever order, each with what is written on its container
     mixed_lines : (ls : List T) (cs : List Candidate) (rows : List RunLineRow) (taken : RunLineRow → T) → IsPermutation (map taken rows) ls → AllZip Answers ls cs
@@ -82,13 +82,13 @@ module _ (version : Version) (s : State) (sound : IsSoundOffice s) where
         (subst (IsPermutation (flat_map (λ (x : Line). cons_option (candidate_of s x) []) lines)) (sym (each_some (candidate_of s) (map line ls)) ∙ told_lines ls cs all) mixed)
 
   -- the rows of a run are its lines
-  rows_told : (n : ℕ) (run : Run) → numbered s.runs n ≡ Some run → map line_from (lines_of n (tables version s).desk) ≡ run.lines
+  rows_told : (n : ℕ) (run : Run) → nth s.runs n ≡ Some run → map line_from (lines_of n (tables version s).desk) ≡ run.lines
   rows_told n run is =
       let all = lines_from 1 s.runs in
       let again : Some (run_from all (run_row n run)) ≡ Some run =
       sym (ap (option_map (run_from all)) (numbered-rows run_row s.runs n ∙ ap (option_map (run_row n)) is))
       ∙ sym (numbered-map (run_from all) (rows_from run_row 1 s.runs) n)
-      ∙ ap (λ (runs : List Run). numbered runs n) (runs_back s.runs) ∙ is in
+      ∙ ap (λ (runs : List Run). nth runs n) (runs_back s.runs) ∙ is in
       let same : run_from all (run_row n run) ≡ run = cc in
       ap (map line_from) (same_test (λ (l : RunLineRow). nat_eq n l.run) (λ (l : RunLineRow). nat_eq l.run n) (λ l. flipped n l.run) all)
       ∙ ap (λ (r : Run). r.lines) same
@@ -97,7 +97,7 @@ module _ (version : Version) (s : State) (sound : IsSoundOffice s) where
 
   later : (k : ℕ) (ls : List Line) → AllByRecursion (λ (l : Line). k < l.container) ls → AllByRecursion (λ (c : Candidate). k < c.container) (filter_map (candidate_of s) ls)
   later k [] all = tt
-  later k (l ∷ ls) all = at (numbered s.catalogue.containers l.container) (later k ls all.1)
+  later k (l ∷ ls) all = at (nth s.catalogue.containers l.container) (later k ls all.1)
     where
       at : (box : Option BoxKey) → AllByRecursion (λ (c : Candidate). k < c.container) (filter_map (candidate_of s) ls)
           → AllByRecursion (λ (c : Candidate). k < c.container)
@@ -107,7 +107,7 @@ module _ (version : Version) (s : State) (sound : IsSoundOffice s) where
 
   rise : (ls : List Line) → ByContainer ls → Rise (filter_map (candidate_of s) ls)
   rise [] by = tt
-  rise (l ∷ ls) by = at (numbered s.catalogue.containers l.container) (later l.container ls by.0) (rise ls by.1)
+  rise (l ∷ ls) by = at (nth s.catalogue.containers l.container) (later l.container ls by.0) (rise ls by.1)
     where
       at : (box : Option BoxKey) → AllByRecursion (λ (c : Candidate). l.container < c.container) (filter_map (candidate_of s) ls) → Rise (filter_map (candidate_of s) ls)
           → Rise (cons_option (option_map (λ (b : BoxKey). (let c : Candidate = record { container = l.container; order = l.order; ticket = l.ticket; location = b.location; name = b.name; kind = b.kind } in c)) box) (filter_map (candidate_of s) ls))
@@ -116,21 +116,21 @@ module _ (version : Version) (s : State) (sound : IsSoundOffice s) where
 
   -- ---- the slip
 
-  brought : (n : ℕ) (run : Run) (told : Brought) → numbered s.runs n ≡ Some run → IsBrought (stacks_of version s) (run_row n run) told
+  brought : (n : ℕ) (run : Run) (told : Brought) → nth s.runs n ≡ Some run → IsBrought (storage_of version s) (run_row n run) told
       → Text (slip n told.day told.lines) ≡ Text (slip n run.day (filter_map (candidate_of s) run.lines))
   brought n run told is it =
       let good = sound.sound.desk.runs.each n run is in
-      let mixed = mixed_lines (IsToldLine (stacks_of version s)) (λ l. record { container = l.container; order = l.order; ticket = l.ticket })
-      (λ l c tells. told_line (record { run = 0; container = l.container; order_no = l.order; ticket = l.ticket }) c tells) it.lines told.lines (lines_of n (tables version s).desk)
+      let mixed = mixed_lines (IsToldLine (storage_of version s)) (λ l. record { container = l.container; order = l.order; ticket = l.ticket })
+      (λ l c answers. told_line (record { run = 0; container = l.container; order_no = l.order; ticket = l.ticket }) c answers) it.lines told.lines (lines_of n (tables version s).desk)
       (λ (l : RunLineRow). record { container = l.container; order = l.order_no; ticket = l.ticket }) it.are it.tell run.lines (rows_told n run is) in
       ap (λ (day : ℤ). Text (slip n day told.lines)) it.day
       ∙ ap Text (same_slip n run.day (filter_map (candidate_of s) run.lines) told.lines (rise run.lines good.by_container) mixed)
 
-  pub run_told : (n : ℕ) (found : Option Brought) → IsToldRun (stacks_of version s) (run_with n (stacks_of version s).desk) found → told_slip n found ≡ answer s (query.RunSlip n)
+  pub run_told : (n : ℕ) (found : Option Brought) → IsToldRun (storage_of version s) (run_with n (storage_of version s).desk) found → told_slip n found ≡ answer s (query.RunSlip n)
   run_told n found it =
-      at (numbered s.runs n) refl found (subst (λ (row : Option RunRow). IsToldRun (stacks_of version s) row found) (found_row run_row (λ (r : RunRow). r.id) (λ n x. refl) n s.runs) it)
+      at (nth s.runs n) refl found (subst (λ (row : Option RunRow). IsToldRun (storage_of version s) row found) (found_row run_row (λ (r : RunRow). r.id) (λ n x. refl) n s.runs) it)
     where
-      at : (run : Option Run) → numbered s.runs n ≡ run → (found : Option Brought) → IsToldRun (stacks_of version s) (option_map (run_row n) run) found → told_slip n found ≡ run_answer s n run
+      at : (run : Option Run) → nth s.runs n ≡ run → (found : Option Brought) → IsToldRun (storage_of version s) (option_map (run_row n) run) found → told_slip n found ≡ run_answer s n run
       at None is found it = ap (told_slip n) it
       at (Some run) is None it = absurd it
       at (Some run) is (Some told) it = brought n run told is it
@@ -138,9 +138,9 @@ module _ (version : Version) (s : State) (sound : IsSoundOffice s) where
   -- ---- the containers of a run's lines are known
 
   known_line : (l : Line) → IsGoodLine s l → is_container s l.container ≡ true
-  known_line l good = at (numbered s.orders l.order) refl good.order
+  known_line l good = at (nth s.orders l.order) refl good.order
     where
-      at : (order : Option Order) → numbered s.orders l.order ≡ order → option_map (λ (order : Order). order.container) order ≡ Some l.container → is_container s l.container ≡ true
+      at : (order : Option Order) → nth s.orders l.order ≡ order → option_map (λ (order : Order). order.container) order ≡ Some l.container → is_container s l.container ≡ true
       at None is e = absurd (cc)
       at (Some order) is e =
           let same : order.container ≡ l.container = cc in
@@ -156,9 +156,9 @@ module _ (version : Version) (s : State) (sound : IsSoundOffice s) where
           subst (λ (r : RunLineRow). is_container s r.container ≡ true) (sym i.2) (known_line i.0 (all_in (IsGoodLine s) run.lines i.0 (good run (inl refl)) i.1))
       at (inr there) rest = rest there
 
-  pub lines_known : (n : ℕ) → AreKnown n (stacks_of version s)
+  pub lines_known : (n : ℕ) → AreKnown n (storage_of version s)
   lines_known n =
-      all_of_in (λ (l : RunLineRow). IsKnownLine (record { container = l.container; order = l.order_no; ticket = l.ticket }) (stacks_of version s)) (lines_of n (tables version s).desk) (λ l k.
+      all_of_in (λ (l : RunLineRow). IsKnownLine (record { container = l.container; order = l.order_no; ticket = l.ticket }) (storage_of version s)) (lines_of n (tables version s).desk) (λ l k.
       let there = (in_filter (λ (l : RunLineRow). nat_eq n l.run) (lines_from 1 s.runs) l k).0 in
       let known = in_lines 1 s.runs (λ run i. let at = stands_at s.runs run i in (sound.sound.desk.runs.each at.0 run at.1).lines) l there in
-      some_is (box_with l.container (stacks_of version s)) (has_box version s l.container ∙ known))
+      some_is (container_with l.container (storage_of version s)) (has_container version s l.container ∙ known))

@@ -18,7 +18,7 @@ use Rattle.sqlite_tied.specs.Compute.{everything}
 use Rattle.std.specs.Cmp.{IsTotalOrder, on_total, int_cmp_total}
 use Rattle.std.specs.Ordering.{int_cmp}
 use Rattle.std.specs.declared.cmp.Ordering.{Ordering}
-use Rattle.tree_core.specs.Versions.{Version}
+use Rattle.office_tables.specs.Versions.{Version}
 use Rattle.isad_core.specs.Days.{is_day_number}
 use Rattle.isad_core.specs.declared.values.BoxKey.{BoxKey}
 use Rattle.desk_core.specs.DeskRows.{RunRow}
@@ -33,7 +33,7 @@ use Rattle.office_tables.proofs.Queries.{asking}
 use Rattle.office_tables.proofs.statements.SelectOf.{select_finds, select_faults}
 use Rattle.office_tables.proofs.Tests.{only, same_number, by_one_int}
 use Rattle.desk_store.specs.Rows.{run_cells}
-use Rattle.desk_store.specs.Stacks.{Stacks, box_with, IsToldLine}
+use Rattle.desk_store.specs.Storage.{Storage, container_with, IsToldLine}
 use Rattle.desk_store.specs.declared.run_lines.RunDay.{RunDay}
 use Rattle.desk_store.specs.declared.runs.TakenLine.{TakenLine}
 use Rattle.desk_store.proofs.BoxRows.{Numbered}
@@ -95,12 +95,12 @@ same_run n xs x e = eqb-true n x.id (found_by (λ (x : RunRow). nat_eq n x.id) x
 
 -- ---- a line that is told
 
-pub line_told : (l : TakenLine) (s : Stacks) (w : BoxKey) (box : Option Numbered) → box_with l.container s ≡ box → option_map (λ (b : Numbered). b.1) box ≡ Some w
+pub line_told : (l : TakenLine) (s : Storage) (w : BoxKey) (box : Option Numbered) → container_with l.container s ≡ box → option_map (λ (b : Numbered). b.1) box ≡ Some w
     → IsToldLine s l (record { container = l.container; order = l.order; ticket = l.ticket; location = w.location; name = w.name; kind = w.kind })
 line_told l s w None e is = absurd (cc)
 line_told l s w (Some b) e is =
     let same : b.1 ≡ w = cc in
-    let number : l.container ≡ b.0 = eqb-true l.container b.0 (found_by (λ (b : Numbered). nat_eq l.container b.0) s.boxes b e) in
+    let number : l.container ≡ b.0 = eqb-true l.container b.0 (found_by (λ (b : Numbered). nat_eq l.container b.0) s.containers b e) in
     record { box = w; known = e ∙ ap₂ (λ (n : ℕ) (k : BoxKey). let it : Option Numbered = Some (n, k) in it) (sym number) same; is = refl }
 
 pub zip_more : {A B : Type 0} (P : A → B → Type 0) (xs : List A) (ys : List B) (x : A) (y : B) → AllZip P xs ys → P x y → AllZip P (xs ++ x ∷ []) (ys ++ y ∷ [])

@@ -29,7 +29,7 @@ use Rattle.sqlite_trees.specs.declared.store.Store as store
 use Rattle.sqlite_typing.specs.Types.{accepts_terms}
 use Rattle.sqlite_rules.specs.Steps.{is_typed}
 use Rattle.sqlite_value.specs.Keys.{joined}
-use Rattle.tree_core.specs.Versions.{Version}
+use Rattle.office_tables.specs.Versions.{Version}
 use Rattle.desk_core.specs.DeskRows.{Desk, HoldingRow}
 use Rattle.desk_core.specs.declared.reader.Place.TheVariants.{Shelf}
 use Rattle.office_tables.specs.Calls.{StoreUpdates}
@@ -169,7 +169,7 @@ module _ {S : Type 0} (g : store.Ghosts S) (before mid : Held S) (n : ℕ) where
           with_holdings a.now b.now d shown _ has.only has.are (ascending-filter _ (λ (x : HoldingRow). not (nat_eq n x.container)) d.holdings shown.holdings_rise);
       only = only;
       goes = goes;
-      cut = tt;
+      aborts = tt;
       spares = λ clean. tt;
       faults = λ beside d shown may kept clean free. tt;
     }
@@ -199,8 +199,8 @@ module _ {S : Type 0} (g : store.Ghosts S) (before mid : Held S) (n : ℕ) where
           represents_updated = λ clean beside d shown may. on_ok_then r _ _ (λ put. moved clean put d shown) (puts clean);
           only = λ clean. on_ok_then r _ _ (λ put. touched_again (tables.holding.tree ∷ []) a.now b.now z.now (only (back clean)) put.only) (puts clean);
           goes = on_ok_then r _ _ (goes_then a b z goes) leaves.goes;
-          cut = on_err_then r _ _ (cut_then a b z goes.on) leaves.cut;
-          spares = λ clean. last_touched (tables.holding.tree ∷ []) a b z goes.on only r leaves.cut clean (untouched_last (tables.holding.tree ∷ []) b z r (leaves.spares clean));
-          faults = λ beside d shown may kept clean free. last_cause a b z goes.on r leaves.cut clean (λ cleaner.
+          aborts = on_err_then r _ _ (cut_then a b z goes.on) leaves.aborts;
+          spares = λ clean. last_touched (tables.holding.tree ∷ []) a b z goes.on only r leaves.aborts clean (untouched_last (tables.holding.tree ∷ []) b z r (leaves.spares clean));
+          faults = λ beside d shown may kept clean free. last_cause a b z goes.on r leaves.aborts clean (λ cleaner.
               faults (without n d.holdings) (rows cleaner d.holdings shown.holdings shown.holdings_rise).are (none_without n d.holdings) clean (still_unlimited a b goes.on free));
         }

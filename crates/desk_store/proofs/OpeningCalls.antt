@@ -62,7 +62,7 @@ module _ {S : Type 0} (g : store.Ghosts S) (before mid : Held S) (day : ℤ) whe
     represents_updated = λ clean beside house shown may. tt;
     only = λ clean. tt;
     goes = tt;
-    cut = leaves.cut;
+    aborts = leaves.aborts;
     spares = λ clean. untouched (tables.seat.tree ∷ tables.office.tree ∷ []) a b e (leaves.spares clean);
     faults = λ beside house shown may kept. faults;
   }
@@ -84,10 +84,10 @@ module _ {S : Type 0} (g : store.Ghosts S) (before mid : Held S) (day : ℤ) whe
           }) (dated clean house.office (only (back clean) tables.office.tree refl refl ∙ shown.office));
           only = λ clean. on_ok_then r _ _ (λ touched. touched_again (tables.seat.tree ∷ tables.office.tree ∷ []) a.now b.now c.now (touched_wider (tables.seat.tree ∷ []) (tables.seat.tree ∷ tables.office.tree ∷ []) a.now b.now refl (only (back clean))) (touched_wider (tables.office.tree ∷ []) (tables.seat.tree ∷ tables.office.tree ∷ []) b.now c.now refl touched)) (dates clean);
           goes = on_ok_then r _ _ (goes_then a b c goes) leaves.goes;
-          cut = on_err_then r _ _ (cut_then a b c goes.on) leaves.cut;
+          aborts = on_err_then r _ _ (cut_then a b c goes.on) leaves.aborts;
           spares = λ clean.
               let both = tables.seat.tree ∷ tables.office.tree ∷ [] in
-              last_touched both a b c goes.on (λ cleaner. touched_wider (tables.seat.tree ∷ []) both a.now b.now refl (only cleaner)) r leaves.cut clean (untouched_last both b c r (leaves.spares clean));
-          faults = λ beside house shown may kept clean free. last_cause a b c goes.on r leaves.cut clean (λ cleaner.
+              last_touched both a b c goes.on (λ cleaner. touched_wider (tables.seat.tree ∷ []) both a.now b.now refl (only cleaner)) r leaves.aborts clean (untouched_last both b c r (leaves.spares clean));
+          faults = λ beside house shown may kept clean free. last_cause a b c goes.on r leaves.aborts clean (λ cleaner.
               faults house.office (only cleaner tables.office.tree refl refl ∙ shown.office) clean (still_unlimited a b goes.on free));
         }

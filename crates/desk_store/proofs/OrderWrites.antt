@@ -27,7 +27,7 @@ use Rattle.sqlite_tied.specs.Compute.{everything}
 use Rattle.sqlite_trees.specs.declared.store.Store as store
 use Rattle.sqlite_value.specs.Keys.{joined}
 use Rattle.tree_core.proofs.Lists.{eqb_comm}
-use Rattle.tree_core.specs.Versions.{Version, Links, Spans}
+use Rattle.office_tables.specs.Versions.{Version, First, Second}
 use Rattle.isad_core.specs.Limits.{most_orders}
 use Rattle.desk_core.specs.DeskRows.{OrderRow, with_state}
 use Rattle.office_tables.specs.Calls.{StoreUpdates}
@@ -119,8 +119,8 @@ kept_of_orders p = ltb p 2
 
 orders_kept : (v : Version) → KeepsTable kept_of_orders (schema v) 2 orders
 unfolding joined same_name
-orders_kept Links = record { listed = refl; apart = refl; spared = refl; fits = refl }
-orders_kept Spans = record { listed = refl; apart = refl; spared = refl; fits = refl }
+orders_kept First = record { listed = refl; apart = refl; spared = refl; fits = refl }
+orders_kept Second = record { listed = refl; apart = refl; spared = refl; fits = refl }
 
 abbrev brought_to : ℕ → OrderRow → OrderRow
 brought_to n o = record o { state = n }
@@ -183,7 +183,7 @@ module _ {S : Type 0} (g : store.Ghosts S) (before after : Held S) (r : Result U
         (let size = length-append d.orders (row ∷ []) in omega (arith, size, few))) (puts clean);
     only = λ clean. on_ok_then r _ _ (λ put. put.only) (puts clean);
     goes = leaves.goes;
-    cut = leaves.cut;
+    aborts = leaves.aborts;
     spares = λ clean. untouched_last (tables.orders.tree ∷ []) old new r (leaves.spares clean);
     faults = λ beside d shown may kept.
         let n = may.1 in
@@ -202,7 +202,7 @@ module _ {S : Type 0} (g : store.Ghosts S) (before after : Held S) (r : Result U
         (subst (λ n. n ≤ most_orders) (sym (length-map d.orders _)) shown.few_orders)) (rows clean d.orders shown.orders shown.order_numbers);
     only = only;
     goes = leaves.goes;
-    cut = leaves.cut;
+    aborts = leaves.aborts;
     spares = λ clean. untouched_last (tables.orders.tree ∷ []) old new r (leaves.spares clean);
     faults = λ beside d shown may kept. faults d.orders shown.orders shown.order_numbers;
   }

@@ -104,7 +104,7 @@ module _ {S : Type 0} (g : store.Ghosts S) (before after : Held S) (r : Result U
     represents_updated = λ clean beside d shown may. on_ok_both r _ _ _ (λ touches has. with_permits old.now new.now d shown _ touches has (tickets_left t u d old.now.trees shown)) (thins.only clean) (thins.rows clean d.permits shown.permits);
     only = thins.only;
     goes = thins.leaves.goes;
-    cut = thins.leaves.cut;
+    aborts = thins.leaves.aborts;
     spares = λ clean. untouched_last (tables.permit.tree ∷ []) old new r (thins.leaves.spares clean);
     faults = λ beside d shown may kept. thins.faults;
   }
@@ -130,7 +130,7 @@ module _ {S : Type 0} (g : store.Ghosts S) (before mid after : Held S) (t u : �
     represents_updated = λ clean beside d shown may. tt;
     only = λ clean. tt;
     goes = tt;
-    cut = thins.leaves.cut;
+    aborts = thins.leaves.aborts;
     spares = λ clean. untouched (tables.permit.tree ∷ []) a b e (thins.leaves.spares clean);
     faults = λ beside d shown may kept. thins.faults;
   }
@@ -160,8 +160,8 @@ module _ {S : Type 0} (g : store.Ghosts S) (before mid after : Held S) (t u : �
           represents_updated = λ clean beside d shown may. on_ok_then r _ _ (λ at. put (back clean) at d shown may.0) (puts.puts clean);
           only = λ clean. on_ok_then r _ _ (λ (at : PutsRow tables.permit.tree (permit_cells (next_rowid (b.now.trees tables.permit.tree), row)) b.now c.now) tree known other. at.only tree known other ∙ only (back clean) tree known other) (puts.puts clean);
           goes = on_ok_then r _ _ (goes_then a b c goes) leaves.goes;
-          cut = on_err_then r _ _ (cut_then a b c goes.on) leaves.cut;
-          spares = λ clean. last_touched (tables.permit.tree ∷ []) a b c goes.on only r leaves.cut clean (untouched_last (tables.permit.tree ∷ []) b c r (leaves.spares clean));
-          faults = λ beside d shown may kept clean free. last_cause a b c goes.on r leaves.cut clean (λ cleaner.
+          aborts = on_err_then r _ _ (cut_then a b c goes.on) leaves.aborts;
+          spares = λ clean. last_touched (tables.permit.tree ∷ []) a b c goes.on only r leaves.aborts clean (untouched_last (tables.permit.tree ∷ []) b c r (leaves.spares clean));
+          faults = λ beside d shown may kept clean free. last_cause a b c goes.on r leaves.aborts clean (λ cleaner.
               puts.faults (without_permit t u d.permits) (left cleaner d.permits shown.permits) (none_left t u d.permits, still_there cleaner may.1) clean (still_unlimited a b goes.on free));
         }

@@ -26,7 +26,7 @@ use Rattle.sqlite_sql.specs.declared.ops.CompareOp.TheVariants.{Eq}
 use Rattle.sqlite_tied.specs.Compute.{everything}
 use Rattle.sqlite_value.specs.declared.keys.Key.{Key}
 use Rattle.sqlite_value.specs.Keys.{ascending, joined, first_key, plain}
-use Rattle.tree_core.specs.Versions.{Version}
+use Rattle.office_tables.specs.Versions.{Version}
 use Rattle.isad_core.specs.Days.{is_day_number}
 use Rattle.desk_core.specs.DeskRows.{PermitRow}
 use Rattle.office_tables.specs.Query.{Finds, Misses}

@@ -73,7 +73,7 @@ module _ {S : Type 0} (g : store.Ghosts S) (before mid after : Held S) (name : B
           represents_updated = λ clean beside d shown may. put (back clean) (puts clean) d shown;
           only = λ clean. subst (λ (db : Database). OnlyTouches (tables.reader.tree ∷ []) db c.now) (looked.same (back clean)) (puts clean).only;
           goes = goes_then a b c looked.goes goes;
-          cut = tt;
+          aborts = tt;
           spares = λ clean. tt;
           faults = λ beside d shown may kept clean free. tt;
         }
@@ -85,7 +85,7 @@ module _ {S : Type 0} (g : store.Ghosts S) (before mid after : Held S) (name : B
       represents_updated = λ clean beside d shown may. tt;
       only = λ clean. tt;
       goes = tt;
-      cut = cut_then a b c looked.goes.on cut;
+      aborts = cut_then a b c looked.goes.on cut;
       spares = λ clean. untouched (tables.reader.tree ∷ []) a c e (looked_spares a b c looked (early b c _ cut.crash clean) e (spares clean));
       faults = λ beside d shown may kept clean free. next_cause a b c looked.goes.on cut clean e (λ cleaner.
           why d.readers (still_shown cleaner d shown).readers (counted_free (λ (r : ReaderRow). r.ticket) 1 d.readers ticket shown.tickets (next_is d ticket (is cleaner d shown)).0) clean (still_unlimited a b looked.goes.on free));

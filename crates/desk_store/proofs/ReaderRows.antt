@@ -30,7 +30,7 @@ use Rattle.sqlite_tied.specs.Compute.{everything}
 use Rattle.sqlite_trees.proofs.ListLemmas.{all_weaker}
 use Rattle.sqlite_value.specs.declared.keys.Key.{Key}
 use Rattle.sqlite_value.specs.Keys.{ascending, joined}
-use Rattle.tree_core.specs.Versions.{Version, Links, Spans}
+use Rattle.office_tables.specs.Versions.{Version, First, Second}
 use Rattle.isad_core.specs.Limits.{most_tickets}
 use Rattle.desk_core.specs.DeskRows.{ReaderRow}
 use Rattle.office_tables.specs.Query.{Finds, FindsFirst, Misses}
@@ -118,8 +118,8 @@ kept_of_reader p = ltb p 2
 
 reader_kept : (v : Version) → KeepsTable kept_of_reader (schema v) 0 reader
 unfolding joined same_name
-reader_kept Links = record { listed = refl; apart = refl; spared = refl; fits = refl }
-reader_kept Spans = record { listed = refl; apart = refl; spared = refl; fits = refl }
+reader_kept First = record { listed = refl; apart = refl; spared = refl; fits = refl }
+reader_kept Second = record { listed = refl; apart = refl; spared = refl; fits = refl }
 
 abbrev renewed_to : ℤ → ReaderRow → ReaderRow
 renewed_to until r = record r { until = until }

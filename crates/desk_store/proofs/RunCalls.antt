@@ -150,7 +150,7 @@ module _ {S : Type 0} (g : store.Ghosts S) (before mid after : Held S) (on : ℤ
               subst (λ o. RepresentsDesk c.now.trees (with_run o on taken d)) at (represents clean d (still_shown (back clean) d shown) at);
           only = λ clean. subst (λ (db : Database). OnlyTouches (tables.run.tree ∷ tables.run_line.tree ∷ []) db c.now) (looked.same (back clean)) (only clean);
           goes = goes_then a b c looked.goes goes;
-          cut = tt;
+          aborts = tt;
           spares = λ clean. tt;
           faults = λ beside d shown may kept clean free. tt;
         }
@@ -161,7 +161,7 @@ module _ {S : Type 0} (g : store.Ghosts S) (before mid after : Held S) (on : ℤ
       represents_updated = λ clean beside d shown may. tt;
       only = λ clean. tt;
       goes = tt;
-      cut = cut_then a b c looked.goes.on cut;
+      aborts = cut_then a b c looked.goes.on cut;
       spares = λ clean. looked_spares a b c looked (early b c _ cut.crash clean) e (spares clean);
       faults = λ beside d shown may kept clean free. next_cause a b c looked.goes.on cut clean e (λ cleaner. why d (still_shown cleaner d shown) (is cleaner d shown) kept.1 clean (still_unlimited a b looked.goes.on free));
     }

@@ -27,7 +27,7 @@ use Rattle.sqlite_schema.specs.Rules.{agree}
 use Rattle.sqlite_tied.specs.Compute.{everything}
 use Rattle.sqlite_value.specs.Keys.{ascending, first_key, plain}
 use Rattle.sqlite_trees.proofs.ListLemmas.{all_of}
-use Rattle.tree_core.specs.Versions.{Version}
+use Rattle.office_tables.specs.Versions.{Version}
 use Rattle.isad_core.specs.Limits.{most_runs}
 use Rattle.desk_core.specs.DeskRows.{RunRow, RunLineRow}
 use Rattle.office_tables.specs.Query.{Finds, FindsFirst, Misses}

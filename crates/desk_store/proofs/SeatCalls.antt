@@ -43,7 +43,7 @@ module _ {S : Type 0} (g : store.Ghosts S) (before after : Held S) (r : Result U
         (put_rises seat_cells seat_key (λ _. refl) (record { seat = n; ticket = t }) d.seats shown.seats_rise)) (it.puts clean);
     only = λ clean. on_ok_then r _ _ (λ put. put.only) (it.puts clean);
     goes = it.leaves.goes;
-    cut = it.leaves.cut;
+    aborts = it.leaves.aborts;
     spares = λ clean. untouched_last (tables.seat.tree ∷ []) old new r (it.leaves.spares clean);
     faults = λ beside d shown may kept. it.faults d.seats shown.seats may;
   }
@@ -55,7 +55,7 @@ module _ {S : Type 0} (g : store.Ghosts S) (before after : Held S) (r : Result U
         with_seats old.now new.now d shown _ has.only has.are (ascending-filter _ (λ (s : SeatRow). not (nat_eq n s.seat)) d.seats shown.seats_rise)) (rows clean d.seats shown.seats shown.seats_rise);
     only = only;
     goes = leaves.goes;
-    cut = leaves.cut;
+    aborts = leaves.aborts;
     spares = λ clean. untouched_last (tables.seat.tree ∷ []) old new r (leaves.spares clean);
     faults = λ beside d shown may kept. faults;
   }

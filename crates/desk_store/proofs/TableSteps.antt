@@ -17,7 +17,7 @@ use Rattle.desk_store.specs.TableCreation.{Makes}
 -- a step fails
 pub makes_not : {S : Type 0} {g : store.Ghosts S} {here next last : Schema} {before after : Held S} {r : Result Unit StoreFault} {e : StoreFault} → r ≡ Err e → Makes g here next before after (Err e) → Makes g here last before after r
 makes_not {S} {g} {here} {next} {last} {before} {after} is step =
-    subst (Makes g here last before after) (sym is) (record { made = λ start making. tt; faults = step.faults; cut = step.cut })
+    subst (Makes g here last before after) (sym is) (record { made = λ start making. tt; faults = step.faults; aborts = step.aborts })
 
 -- the next step is made of what the steps before it left
 pub makes_next : {S : Type 0} {g : store.Ghosts S} {here next last : Schema} {before mid after : Held S} {x : Unit} {r : Result Unit StoreFault} → Makes g here next before mid (Ok x) → Makes g next last mid after r → Makes g here last before after r
@@ -31,10 +31,10 @@ makes_next {S} {g} {here} {next} {last} {before} {mid} {after} {x} {r} first the
           on_ok_then r (Continues b c × IsMaking [] last start c) (Continues a c × IsMaking [] last start c) (λ it. (continues_then a b c step.0 it.0, it.1)) (then.made start step.1);
       faults = λ start making clean.
           let step = first.made start making in
-          last_cause a b c step.0 r (then.cut start step.1) clean (λ _. then.faults start step.1 clean);
-      cut = λ start making.
+          last_cause a b c step.0 r (then.aborts start step.1) clean (λ _. then.faults start step.1 clean);
+      aborts = λ start making.
           let step = first.made start making in
-          on_err_then r (IsAborted b c) (IsAborted a c) (cut_then a b c step.0) (then.cut start step.1);
+          on_err_then r (IsAborted b c) (IsAborted a c) (cut_then a b c step.0) (then.aborts start step.1);
     }
 
 -- one table is made
@@ -46,5 +46,5 @@ pub makes_one : {S : Type 0} (g : store.Ghosts S) {text : List ℕ} {here next :
 makes_one g {text} {here} {next} before after r defined made faults cut = record {
   made = λ start making. made [] start here next making defined;
   faults = λ start making clean. faults [] start here next making defined clean;
-  cut = λ start making. cut [] start here next making defined;
+  aborts = λ start making. cut [] start here next making defined;
 }

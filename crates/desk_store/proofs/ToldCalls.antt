@@ -40,7 +40,7 @@ module _ {Model : Type 0} (represents : Database → ⊤ → Model → Type 0) w
 
     -- it ends with what was read
     pub ends_well : LeavesUnchanged a c → (y : Y) → (HasCleanDisk c → (m : Model) → represents a.now tt m → answer tt m y) → Answers g represents kept before after (Ok y) may answer
-    ends_well looked y is = record { answers = λ clean beside m shown. is clean m shown; looks = looked; cut = tt; faults = λ beside m shown allowed legible clean free. tt }
+    ends_well looked y is = record { answers = λ clean beside m shown. is clean m shown; looks = looked; aborts = tt; faults = λ beside m shown allowed legible clean free. tt }
 
     -- there was no memory for what was read
     pub ends_full : LeavesUnchanged a c → (r : Result Y StoreFault) → r ≡ Err Memory → Answers g represents kept before after r may answer

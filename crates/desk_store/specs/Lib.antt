@@ -8,5 +8,5 @@ pub mod Holdings
 pub mod Runs
 pub mod Permits
 pub mod OfficeDay
-pub mod Stacks
+pub mod Storage
 pub mod RunCandidates

@@ -43,4 +43,4 @@ module _ {S : Type 0} (g : store.Ghosts S) (here next : Schema) (before after : 
   pub record Makes : Type 0 where
     pub made : (start : Database) → IsMaking [] here start old → OnOk r (Continues old new × IsMaking [] next start new)
     pub faults : (start : Database) → IsMaking [] here start old → HasCleanDisk new → IfErr r (HasCause old new)
-    pub cut : (start : Database) → IsMaking [] here start old → OnErr r (IsAborted old new)
+    pub aborts : (start : Database) → IsMaking [] here start old → OnErr r (IsAborted old new)

@@ -11,7 +11,7 @@ ghost use Rattle.office_tables.specs.SharedRows.{container_row};
 ghost use Rattle.office_tables.specs.Step.{Holds};
 ghost use Rattle.office_tables.specs.RowNumbers.{AreCounted};
 ghost use Rattle.office_tables.specs.TableStatements.{LooksUp};
-ghost use Rattle.desk_store.specs.Stacks.{RepresentsQueues, IsLegibleStacks, box_with};
+ghost use Rattle.desk_store.specs.Storage.{RepresentsQueues, IsLegibleStorage, container_with};
 
 use isad_core::BoxKey;
 use isad_core::limits::MOST_CONTAINERS;
@@ -46,8 +46,8 @@ pub(crate) fn box_of<P: Versioned, S: Alter>(
     tables: &mut Tables<P, S>,
     container: u64,
 ) -> Result<Option<BoxKey>, StoreFault>
-    ensures tells { StoreAnswers S.Store RepresentsQueues IsLegibleStacks tables.old tables.new result (λ _. ⊤)
-        (λ _ stacks found. found ≡ option_map (λ (b : ℕ × BoxKey). b.1) (box_with container stacks)) }
+    ensures answers { StoreAnswers S.Store RepresentsQueues IsLegibleStorage tables.old tables.new result (λ _. ⊤)
+        (λ _ storage found. found ≡ option_map (λ (b : ℕ × BoxKey). b.1) (container_with container storage)) }
     ensures small { IfOk result (λ found. IfSome found (λ _. IsNumber container)) }
 {
     if container > MOST_CONTAINERS {
@@ -82,8 +82,8 @@ pub(crate) fn is_known<P: Versioned, S: Alter>(
     tables: &mut Tables<P, S>,
     container: u64,
 ) -> Result<bool, StoreFault>
-    ensures tells { StoreAnswers S.Store RepresentsQueues IsLegibleStacks tables.old tables.new result (λ _. ⊤)
-        (λ _ stacks known. known ≡ is_some (box_with container stacks)) }
+    ensures answers { StoreAnswers S.Store RepresentsQueues IsLegibleStorage tables.old tables.new result (λ _. ⊤)
+        (λ _ storage known. known ≡ is_some (container_with container storage)) }
     ensures small { IfOk result (λ known. known ≡ true → IsNumber container) }
 {
     if container > MOST_CONTAINERS {

@@ -77,7 +77,7 @@ pub fn set_place<P: Versioned, S: Alter>(
 ) -> Result<(), StoreFault>
     requires number { IsNumber container }
     requires known { IfSome (by_order place) IsNumber }
-    ensures makes { StoreUpdates S.Store RepresentsDeskAlone IsLegible tables.old tables.new result (λ _. ⊤)
+    ensures updates { StoreUpdates S.Store RepresentsDeskAlone IsLegible tables.old tables.new result (λ _. ⊤)
         (with_place container place) (schema.holding.tree ∷ []) }
 {
     clear_holding(tables, container)?;

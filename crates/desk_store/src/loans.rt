@@ -87,7 +87,7 @@ fn holder_of<P: Versioned, S: Alter>(
     tables: &mut Tables<P, S>,
     order: u64,
 ) -> Result<Option<u64>, StoreFault>
-    ensures tells { StoreAnswers S.Store RepresentsDeskAlone IsLegible tables.old tables.new result (λ _. ⊤)
+    ensures answers { StoreAnswers S.Store RepresentsDeskAlone IsLegible tables.old tables.new result (λ _. ⊤)
         (λ _ d ticket. ticket ≡ ticket_of d.orders order) }
 {
     if order >= NO_NUMBER {
@@ -102,7 +102,7 @@ fn loan_of<P: Versioned, S: Alter>(
     tables: &mut Tables<P, S>,
     line: HoldingLine,
 ) -> Result<Option<Loan>, StoreFault>
-    ensures tells { StoreAnswers S.Store RepresentsDeskAlone IsLegible tables.old tables.new result (λ _. ⊤)
+    ensures answers { StoreAnswers S.Store RepresentsDeskAlone IsLegible tables.old tables.new result (λ _. ⊤)
         (λ _ d loan. loan ≡ loan_by d.orders line.container line.held_by) }
 {
     let Some(order) = line.held_by else {
@@ -123,7 +123,7 @@ pub fn issued<P: Versioned, S: Alter>(
     alloc: Global,
     tables: &mut Tables<P, S>,
 ) -> Result<Vec<Loan>, StoreFault>
-    ensures tells { StoreAnswers S.Store RepresentsDeskAlone IsLegible tables.old tables.new result (λ _. ⊤)
+    ensures answers { StoreAnswers S.Store RepresentsDeskAlone IsLegible tables.old tables.new result (λ _. ⊤)
         (λ _ d all. all.items ≡ issued_of d) }
 {
     let lines = holding_lines(alloc, tables)?;

@@ -51,8 +51,8 @@ pub fn open_day<P: Versioned, S: Alter>(
     tables: &mut Tables<P, S>,
     on: Day,
 ) -> Result<(), StoreFault>
-    ensures makes { StoreUpdates S.Store RepresentsBoth IsLegibleHouse tables.old tables.new result (λ _. ⊤) (opened on)
-        (schema.seat.tree ∷ schema.office.tree ∷ []) }
+    ensures updates { StoreUpdates S.Store RepresentsBoth IsLegibleHouse tables.old tables.new result (λ _. ⊤)
+        (opened on) (schema.seat.tree ∷ schema.office.tree ∷ []) }
 {
     free_seats(tables)?;
     set_day(tables, on)

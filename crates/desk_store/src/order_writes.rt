@@ -55,8 +55,8 @@ pub fn append_order<P: Versioned, S: Alter>(
     requires number { IsNumber order }
     requires small { IsNumber ticket }
     requires known { IsNumber container }
-    ensures makes { StoreUpdates S.Store RepresentsDeskAlone IsLegible tables.old tables.new result (IsNextOrder order)
-        (with_order ticket container on) (schema.orders.tree ∷ []) }
+    ensures updates { StoreUpdates S.Store RepresentsDeskAlone IsLegible tables.old tables.new result
+        (IsNextOrder order) (with_order ticket container on) (schema.orders.tree ∷ []) }
     ensures puts { HasCleanDisk (state S.Store tables.new)
         → OnOk result (PutsRow schema.orders.tree
         (order_cells (record { id = order; ticket = ticket; container = container; day = on; state = 1 }))
@@ -103,7 +103,7 @@ pub fn end_order<P: Versioned, S: Alter>(
     next: OrderState,
 ) -> Result<(), StoreFault>
     requires number { IsNumber order }
-    ensures makes { StoreUpdates S.Store RepresentsDeskAlone IsLegible tables.old tables.new result (λ _. ⊤)
+    ensures updates { StoreUpdates S.Store RepresentsDeskAlone IsLegible tables.old tables.new result (λ _. ⊤)
         (with_order_state order next) (schema.orders.tree ∷ []) }
 {
     set_state(tables, order, number_of(next))

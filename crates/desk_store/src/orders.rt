@@ -105,7 +105,7 @@ fn find_order<P: Versioned, S: Alter>(
 
 impl OrderEntry {
     /// The order with its state decoded. Fails with `StoreFault::Schema` if there is no such state.
-    fn placed(&self) -> Result<PlacedOrder, StoreFault>
+    fn decode(&self) -> Result<PlacedOrder, StoreFault>
         ensures ticket { IfOk result (λ o. o.ticket ≡ self.now.ticket) }
         ensures container { IfOk result (λ o. o.container ≡ self.now.container) }
         ensures day { IfOk result (λ o. o.day ≡ self.now.day) }
@@ -135,7 +135,7 @@ pub fn order<P: Versioned, S: Alter>(
     tables: &mut Tables<P, S>,
     order: u64,
 ) -> Result<Option<PlacedOrder>, StoreFault>
-    ensures tells { StoreAnswers S.Store RepresentsDeskAlone IsLegible tables.old tables.new result (λ _. ⊤)
+    ensures answers { StoreAnswers S.Store RepresentsDeskAlone IsLegible tables.old tables.new result (λ _. ⊤)
         (λ _ d found. IsThere (order_with order d) found) }
     ensures small { IfOk result (λ found. IfSome found (λ _. IsNumber order)) }
 {
@@ -145,6 +145,6 @@ pub fn order<P: Versioned, S: Alter>(
     let Some(entry) = find_order(alloc, tables, order)? else {
         return Ok(None);
     };
-    let placed = entry.placed()?;
+    let placed = entry.decode()?;
     Ok(Some(placed))
 }

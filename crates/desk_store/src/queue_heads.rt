@@ -3,7 +3,7 @@
 ghost use Rattle.std.specs.Prelude.{IfOk, IfSome, ⊤};
 ghost use Rattle.isad_core.specs.Limits.{IsNumber};
 ghost use Rattle.office_tables.specs.Calls.{StoreAnswers};
-ghost use Rattle.desk_store.specs.Stacks.{RepresentsQueues, IsLegibleStacks, box_with, IsHeaded};
+ghost use Rattle.desk_store.specs.Storage.{RepresentsQueues, IsLegibleStorage, container_with, IsHeaded};
 
 use crate::container_labels::is_known;
 use crate::orders::WaitingOrder;
@@ -29,8 +29,8 @@ pub fn queue_head<P: Versioned, S: Alter>(
     tables: &mut Tables<P, S>,
     container: u64,
 ) -> Result<Option<QueueHead>, StoreFault>
-    ensures tells { StoreAnswers S.Store RepresentsQueues IsLegibleStacks tables.old tables.new result (λ _. ⊤)
-        (λ _ stacks found. IsHeaded container stacks (box_with container stacks) found) }
+    ensures answers { StoreAnswers S.Store RepresentsQueues IsLegibleStorage tables.old tables.new result (λ _. ⊤)
+        (λ _ storage found. IsHeaded container storage (container_with container storage) found) }
     ensures small { IfOk result (λ found. IfSome found (λ _. IsNumber container)) }
 {
     let known = is_known(alloc, tables, container)?;

@@ -11,7 +11,7 @@ ghost use Rattle.desk_store.specs.Orders.{holding_of, IsAt};
 ghost use Rattle.desk_store.specs.Rows.{holding_cells};
 ghost use Rattle.desk_store.specs.Representation.{IsKnownPlace, RepresentsDeskAlone, IsLegible};
 ghost use Rattle.office_tables.specs.RowNumbers.{AreByNumber};
-ghost use Rattle.desk_store.specs.Stacks.{RepresentsQueues, IsLegibleStacks, box_with, IsQueued};
+ghost use Rattle.desk_store.specs.Storage.{RepresentsQueues, IsLegibleStorage, container_with, IsQueued};
 
 use crate::container_labels::box_of;
 use crate::orders::WaitingOrder;
@@ -104,7 +104,7 @@ pub(crate) fn place_of<P: Versioned, S: Alter>(
     container: u64,
 ) -> Result<Place, StoreFault>
     requires small { IsNumber container }
-    ensures tells { StoreAnswers S.Store RepresentsDeskAlone IsLegible tables.old tables.new result (λ _. ⊤)
+    ensures answers { StoreAnswers S.Store RepresentsDeskAlone IsLegible tables.old tables.new result (λ _. ⊤)
         (λ _ d place. IsAt (holding_of container d) place) }
 {
     match find_place(alloc, tables, container)? {
@@ -119,8 +119,8 @@ pub fn queue<P: Versioned, S: Alter>(
     tables: &mut Tables<P, S>,
     container: u64,
 ) -> Result<Option<ContainerQueue>, StoreFault>
-    ensures tells { StoreAnswers S.Store RepresentsQueues IsLegibleStacks tables.old tables.new result (λ _. ⊤)
-        (λ _ stacks found. IsQueued container stacks (box_with container stacks) found) }
+    ensures answers { StoreAnswers S.Store RepresentsQueues IsLegibleStorage tables.old tables.new result (λ _. ⊤)
+        (λ _ storage found. IsQueued container storage (container_with container storage) found) }
     ensures small { IfOk result (λ found. IfSome found (λ _. IsNumber container)) }
 {
     let Some(known) = box_of(alloc, tables, container)? else {

@@ -59,7 +59,7 @@ fn permits_with<P: Versioned, S: Alter>(
     ticket: u64,
 ) -> Result<Vec<Permit>, StoreFault>
     requires small { IsNumber ticket }
-    ensures tells { StoreAnswers S.Store RepresentsDeskAlone IsLegible tables.old tables.new result (λ _. ⊤)
+    ensures answers { StoreAnswers S.Store RepresentsDeskAlone IsLegible tables.old tables.new result (λ _. ⊤)
         (λ _ d all. IsOrdered by_unit (permits_of ticket d) all.items) }
 {
     find(
@@ -76,7 +76,7 @@ pub fn permits<P: Versioned, S: Alter>(
     tables: &mut Tables<P, S>,
     ticket: u64,
 ) -> Result<Vec<Permit>, StoreFault>
-    ensures tells { StoreAnswers S.Store RepresentsDeskAlone IsLegible tables.old tables.new result (λ _. ⊤)
+    ensures answers { StoreAnswers S.Store RepresentsDeskAlone IsLegible tables.old tables.new result (λ _. ⊤)
         (λ _ d all. IsOrdered by_unit (permits_of ticket d) all.items) }
 {
     if ticket > u64::from(MOST_TICKETS) {
@@ -133,7 +133,7 @@ pub fn grant<P: Versioned, S: Alter>(
 ) -> Result<(), StoreFault>
     requires small { IsNumber ticket }
     requires known { IsNumber unit }
-    ensures makes { StoreUpdates S.Store RepresentsDeskAlone IsLegible tables.old tables.new result
+    ensures updates { StoreUpdates S.Store RepresentsDeskAlone IsLegible tables.old tables.new result
         (MayHave ticket unit (state S.Store tables.old).now.trees) (with_permit ticket unit until)
         (schema.permit.tree ∷ []) }
     ensures rows { HasCleanDisk (state S.Store tables.new) → (ps : List PermitRow)
@@ -153,7 +153,7 @@ pub fn revoke<P: Versioned, S: Alter>(
 ) -> Result<(), StoreFault>
     requires small { IsNumber ticket }
     requires known { IsNumber unit }
-    ensures makes { StoreUpdates S.Store RepresentsDeskAlone IsLegible tables.old tables.new result (λ _. ⊤)
+    ensures updates { StoreUpdates S.Store RepresentsDeskAlone IsLegible tables.old tables.new result (λ _. ⊤)
         (revoked ticket unit) (schema.permit.tree ∷ []) }
 {
     clear_permit(tables, ticket, unit)

@@ -180,7 +180,7 @@ fn orders_of<P: Versioned, S: Alter>(
     today: Day,
 ) -> Result<TicketOrders, StoreFault>
     requires small { IsNumber ticket }
-    ensures tells { StoreAnswers S.Store RepresentsDeskAlone IsLegible tables.old tables.new result (λ _. ⊤)
+    ensures answers { StoreAnswers S.Store RepresentsDeskAlone IsLegible tables.old tables.new result (λ _. ⊤)
         (λ _ d told.
         told ≡ record { live = live_orders ticket d; placed = placed_on ticket today d; orders = length d.orders }) }
 {
@@ -202,7 +202,7 @@ pub fn reader<P: Versioned, S: Alter>(
     ticket: u64,
     today: Day,
 ) -> Result<Option<ReaderCard>, StoreFault>
-    ensures tells { StoreAnswers S.Store RepresentsDeskAlone IsLegible tables.old tables.new result (λ _. ⊤)
+    ensures answers { StoreAnswers S.Store RepresentsDeskAlone IsLegible tables.old tables.new result (λ _. ⊤)
         (λ _ d card. card ≡ card_of ticket today d) }
     ensures small { IfOk result (λ card. IfSome card (λ _. IsNumber ticket)) }
 {

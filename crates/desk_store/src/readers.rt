@@ -133,7 +133,7 @@ pub fn renew<P: Versioned, S: Alter>(
     until: Day,
 ) -> Result<(), StoreFault>
     requires small { IsNumber ticket }
-    ensures makes { StoreUpdates S.Store RepresentsDeskAlone IsLegible tables.old tables.new result (λ _. ⊤)
+    ensures updates { StoreUpdates S.Store RepresentsDeskAlone IsLegible tables.old tables.new result (λ _. ⊤)
         (with_last_day ticket until) (schema.reader.tree ∷ []) }
 {
     set_last_day(tables, ticket, until)
@@ -164,7 +164,7 @@ pub fn add_reader<P: Versioned, S: Alter>(
 ) -> Result<Option<u64>, StoreFault>
     ensures number { HasCleanDisk (state S.Store tables.new) → (d : Desk)
         → RepresentsDesk (state S.Store tables.old).now.trees d → IfOk result (λ ticket. ticket ≡ next_ticket d) }
-    ensures makes { StoreUpdates S.Store RepresentsDeskAlone IsLegible tables.old tables.new result (λ _. ⊤)
+    ensures updates { StoreUpdates S.Store RepresentsDeskAlone IsLegible tables.old tables.new result (λ _. ⊤)
         (λ d. with_reader (next_ticket d) name.now until d) (schema.reader.tree ∷ []) }
 {
     let Some(ticket) = next_number(tables)? else {
@@ -180,7 +180,7 @@ pub fn is_registered<P: Versioned, S: Alter>(
     tables: &mut Tables<P, S>,
     ticket: u64,
 ) -> Result<bool, StoreFault>
-    ensures tells { StoreAnswers S.Store RepresentsDeskAlone IsLegible tables.old tables.new result (λ _. ⊤)
+    ensures answers { StoreAnswers S.Store RepresentsDeskAlone IsLegible tables.old tables.new result (λ _. ⊤)
         (λ _ d known. known ≡ is_some (reader_with ticket d)) }
     ensures small { IfOk result (λ known. known ≡ true → IsNumber ticket) }
 {

@@ -109,7 +109,7 @@ pub fn candidates<P: Versioned, S: Alter>(
     alloc: Global,
     tables: &mut Tables<P, S>,
 ) -> Result<Vec<FirstOrder>, StoreFault>
-    ensures tells { StoreAnswers S.Store RepresentsDeskAlone IsLegible tables.old tables.new result (λ _. ⊤)
+    ensures answers { StoreAnswers S.Store RepresentsDeskAlone IsLegible tables.old tables.new result (λ _. ⊤)
         (λ _ d all. all.items ≡ candidates_of d) }
 {
     let orders = waiting_orders(alloc, tables)?;

@@ -12,8 +12,8 @@ ghost use Rattle.office_tables.specs.TableStatements.{LooksUp};
 ghost use Rattle.desk_store.specs.Rows.{run_cells};
 ghost use Rattle.desk_store.specs.Runs.{run_with};
 ghost use Rattle.office_tables.specs.RowNumbers.{AreCounted};
-ghost use Rattle.desk_store.specs.Stacks.{RepresentsQueues, IsLegibleStacks, AreKnown};
-ghost use Rattle.desk_store.specs.Stacks.{IsToldRun, IsToldLine, IsKnownLine};
+ghost use Rattle.desk_store.specs.Storage.{RepresentsQueues, IsLegibleStorage, AreKnown};
+ghost use Rattle.desk_store.specs.Storage.{IsToldRun, IsToldLine, IsKnownLine};
 
 use crate::container_labels::box_of;
 use crate::runs::{Brought, MOST_RUNS, TakenLine, lines_with};
@@ -74,8 +74,8 @@ fn candidate<P: Versioned, S: Alter>(
     tables: &mut Tables<P, S>,
     line: &TakenLine,
 ) -> Result<Candidate, StoreFault>
-    ensures tells { StoreAnswers S.Store RepresentsQueues IsLegibleStacks tables.old tables.new result (IsKnownLine
-        line.now) (λ _ stacks told. IsToldLine stacks line.now told) }
+    ensures answers { StoreAnswers S.Store RepresentsQueues IsLegibleStorage tables.old tables.new result (IsKnownLine
+        line.now) (λ _ storage told. IsToldLine storage line.now told) }
 {
     let Some(written) = box_of(alloc, tables, line.container)? else {
         return Err(StoreFault::Schema);
@@ -96,9 +96,9 @@ fn candidates_of<P: Versioned, S: Alter>(
     tables: &mut Tables<P, S>,
     lines: &[TakenLine],
 ) -> Result<Vec<Candidate>, StoreFault>
-    ensures tells { StoreAnswers S.Store RepresentsQueues IsLegibleStacks tables.old tables.new result
-        (λ stacks. AllByRecursion (λ l. IsKnownLine l stacks) lines.now)
-        (λ _ stacks told. AllZip (IsToldLine stacks) lines.now told.items) }
+    ensures answers { StoreAnswers S.Store RepresentsQueues IsLegibleStorage tables.old tables.new result
+        (λ storage. AllByRecursion (λ l. IsKnownLine l storage) lines.now)
+        (λ _ storage told. AllZip (IsToldLine storage) lines.now told.items) }
 {
     let mut told = Vec::new(alloc);
     for line in lines {
@@ -115,8 +115,8 @@ pub fn run<P: Versioned, S: Alter>(
     tables: &mut Tables<P, S>,
     run: u64,
 ) -> Result<Option<Brought>, StoreFault>
-    ensures tells { StoreAnswers S.Store RepresentsQueues IsLegibleStacks tables.old tables.new result (AreKnown run)
-        (λ _ stacks found. IsToldRun stacks (run_with run stacks.desk) found) }
+    ensures answers { StoreAnswers S.Store RepresentsQueues IsLegibleStorage tables.old tables.new result (AreKnown run)
+        (λ _ storage found. IsToldRun storage (run_with run storage.desk) found) }
 {
     if run > u64::from(MOST_RUNS) {
         return Ok(None);

@@ -87,7 +87,7 @@ pub fn create_desk<S: Alter>(conn: &mut Connection<S>) -> Result<(), StoreFault>
     ensures faults { (start : Database) → IsMaking [] no_schema start (state S.Store conn.old)
         → HasCleanDisk (state S.Store conn.new)
         → IfErr result (HasCause (state S.Store conn.old) (state S.Store conn.new)) }
-    ensures cut { (start : Database) → IsMaking [] no_schema start (state S.Store conn.old)
+    ensures aborts { (start : Database) → IsMaking [] no_schema start (state S.Store conn.old)
         → OnErr result (IsAborted (state S.Store conn.old) (state S.Store conn.new)) }
 {
     if !is_blank(conn) {

@@ -51,7 +51,7 @@ pub fn seats<P: Versioned, S: Alter>(
     alloc: Global,
     tables: &mut Tables<P, S>,
 ) -> Result<Vec<TakenSeat>, StoreFault>
-    ensures tells { StoreAnswers S.Store RepresentsDeskAlone IsLegible tables.old tables.new result (λ _. ⊤)
+    ensures answers { StoreAnswers S.Store RepresentsDeskAlone IsLegible tables.old tables.new result (λ _. ⊤)
         (λ _ d all. all.items ≡ taken_seats d) }
 {
     find(
@@ -121,7 +121,7 @@ pub fn set_seat<P: Versioned, S: Alter>(
     who: Option<u64>,
 ) -> Result<(), StoreFault>
     requires small { IfSome who IsNumber }
-    ensures makes { StoreUpdates S.Store RepresentsDeskAlone IsLegible tables.old tables.new result (MayTake seat who)
+    ensures updates { StoreUpdates S.Store RepresentsDeskAlone IsLegible tables.old tables.new result (MayTake seat who)
         (with_seat seat who) (schema.seat.tree ∷ []) }
     ensures puts { HasCleanDisk (state S.Store tables.new)
         → IfSome who (λ ticket. OnOk result (PutsRow schema.seat.tree

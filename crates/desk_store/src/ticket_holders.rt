@@ -31,7 +31,7 @@ pub fn ticket_holder<P: Versioned, S: Alter>(
     tables: &mut Tables<P, S>,
     ticket: u64,
 ) -> Result<Option<Reader>, StoreFault>
-    ensures tells { StoreAnswers S.Store RepresentsDeskAlone IsLegible tables.old tables.new result (λ _. ⊤)
+    ensures answers { StoreAnswers S.Store RepresentsDeskAlone IsLegible tables.old tables.new result (λ _. ⊤)
         (λ _ d holder. holder ≡ ticket_holder ticket d) }
     ensures small { IfOk result (λ holder. IfSome holder (λ _. IsNumber ticket)) }
 {

@@ -101,7 +101,7 @@ pub(crate) fn is_awaited<P: Versioned, S: Alter>(
     tables: &mut Tables<P, S>,
     container: u64,
 ) -> Result<bool, StoreFault>
-    ensures tells { StoreAnswers S.Store RepresentsDeskAlone IsLegible tables.old tables.new result (λ _. IsNumber
+    ensures answers { StoreAnswers S.Store RepresentsDeskAlone IsLegible tables.old tables.new result (λ _. IsNumber
         container) (λ _ d awaited. awaited ≡ list_any (waits_for container) d.orders) }
 {
     if container >= NO_NUMBER {

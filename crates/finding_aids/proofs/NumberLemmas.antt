@@ -15,7 +15,7 @@ use Rattle.atom_csv.proofs.BoxLemmas.{same_compared}
 use Rattle.catalogue_core.specs.CatalogueMerge.{number_in}
 use Rattle.catalogue_core.proofs.DistinctFront.{found_any, known_distinct}
 use Rattle.catalogue_core.proofs.Imported.{same_box}
-use Rattle.finding_aids.specs.Numbers.{AreNumbered, Texts, compared, number_at}
+use Rattle.finding_aids.specs.Numbers.{AreNumbered, Texts, compare_container, number_at}
 use Rattle.finding_aids.proofs.PlantLemmas.{length-push}
 
 -- ---- what the map finds
@@ -28,21 +28,21 @@ texts_of b = (lent b.name, lent b.location, lent b.kind)
 
 pub number_set : (old new : BTreeMap Texts ℕ) (b : BoxKey) (name location kind : Bytes) (number : ℕ)
     → name ≡ b.name → location ≡ b.location → kind ≡ b.kind
-    → ((q : Texts) → get_by (compared q.0.now q.1.now q.2.now) new ≡ cond (is_at (compared name location kind) q) (Some number) (get_by (compared q.0.now q.1.now q.2.now) old))
+    → ((q : Texts) → get_by (compare_container q.0.now q.1.now q.2.now) new ≡ cond (is_at (compare_container name location kind) q) (Some number) (get_by (compare_container q.0.now q.1.now q.2.now) old))
     → (q : BoxKey) → number_at new q ≡ (if is_same b q then Some number else number_at old q)
 number_set old new b name location kind number n l k updates q =
     updates (texts_of q)
-    ∙ (ap (λ (text : Bytes). cond (is_eq (compared text location kind (texts_of q))) (Some number) (number_at old q)) n
-    ∙ (ap (λ (text : Bytes). cond (is_eq (compared b.name text kind (texts_of q))) (Some number) (number_at old q)) l
-    ∙ (ap (λ (text : Bytes). cond (is_eq (compared b.name b.location text (texts_of q))) (Some number) (number_at old q)) k
+    ∙ (ap (λ (text : Bytes). cond (is_eq (compare_container text location kind (texts_of q))) (Some number) (number_at old q)) n
+    ∙ (ap (λ (text : Bytes). cond (is_eq (compare_container b.name text kind (texts_of q))) (Some number) (number_at old q)) l
+    ∙ (ap (λ (text : Bytes). cond (is_eq (compare_container b.name b.location text (texts_of q))) (Some number) (number_at old q)) k
     ∙ ap (λ (same : Bool). if same then Some number else number_at old q) (same_compared (texts_of b) (texts_of q)))))
 
 pub number_found : (numbers : BTreeMap Texts ℕ) (b : BoxKey) (name location kind : Bytes) → name ≡ b.name → location ≡ b.location → kind ≡ b.kind
-    → get_by (compared name location kind) numbers ≡ number_at numbers b
+    → get_by (compare_container name location kind) numbers ≡ number_at numbers b
 number_found numbers b name location kind n l k =
-    ap (λ (text : Bytes). get_by (compared text location kind) numbers) n
-    ∙ (ap (λ (text : Bytes). get_by (compared b.name text kind) numbers) l
-    ∙ ap (λ (text : Bytes). get_by (compared b.name b.location text) numbers) k)
+    ap (λ (text : Bytes). get_by (compare_container text location kind) numbers) n
+    ∙ (ap (λ (text : Bytes). get_by (compare_container b.name text kind) numbers) l
+    ∙ ap (λ (text : Bytes). get_by (compare_container b.name b.location text) numbers) k)
 
 -- ---- numbers among containers
 

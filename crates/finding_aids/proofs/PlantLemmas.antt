@@ -19,7 +19,7 @@ use Rattle.finding_aids.specs.declared.previews.trees.Tree.{Tree}
 use Rattle.finding_aids.specs.declared.previews.trees.Tree.TheViews.{out-Tree}
 use Rattle.finding_aids.specs.declared.previews.trees.Tree.TheFolds.{fold_out-Tree}
 use Rattle.finding_aids.specs.Places.{AllPlaced, ArePlaced, IsPlaced, depth_below, index_of}
-use Rattle.finding_aids.specs.RowTrees.{grove, height, height_of_all, height_step, highest, in_order, planted, side_by_side, rest_of, seen_below, tree_of, tree_step}
+use Rattle.finding_aids.specs.RowTrees.{grove, height, height_of_all, height_step, highest, in_order, forest_of_trees, side_by_side, rest_of, seen_below, tree_of, tree_step}
 use Rattle.finding_aids.specs.Slots.{HasGrown, IsBelow, depth_at, grown_at}
 use Rattle.finding_aids.proofs.PlaceLemmas.{as_many, depth_below-named, depth_by, from_last-reverse, index_of_within, reverse-push, rows_to}
 
@@ -55,18 +55,18 @@ map-reverse f (x ∷ xs) =
     ∙ (ap (λ ys. ys ++ f x ∷ []) (map-reverse f xs) ∙ sym (reverse-append (f x ∷ []) (map f xs))))
 
 -- trees that have the last one first, the other way round
-pub grove-reverse : (trees : List Tree) → grove (reverse trees) ≡ planted trees
+pub grove-reverse : (trees : List Tree) → grove (reverse trees) ≡ forest_of_trees trees
 grove-reverse trees = ap side_by_side (map-reverse tree_of trees) ∙ side_by_side-reverse (map tree_of trees)
 
 pub tree_of-parts : (t : Tree) → tree_of t ≡ Node (Told (out-Tree t).id (out-Tree t).row.now.values) (grove (out-Tree t).children.items) Empty
 tree_of-parts = fold_out-Tree (Forest PublicUnit) tree_step
 
 -- one more tree comes before the others
-pub planted-push : (trees : List Tree) (t : Tree) → planted (trees ++ t ∷ []) ≡ Node (Told (out-Tree t).id (out-Tree t).row.now.values) (grove (out-Tree t).children.items) (planted trees)
+pub planted-push : (trees : List Tree) (t : Tree) → forest_of_trees (trees ++ t ∷ []) ≡ Node (Told (out-Tree t).id (out-Tree t).row.now.values) (grove (out-Tree t).children.items) (forest_of_trees trees)
 planted-push trees t =
     ap in_order (map-append tree_of trees (t ∷ []))
     ∙ (in_order-push (map tree_of trees) (tree_of t)
-    ∙ ap (λ (f : Forest PublicUnit). join f (planted trees)) (tree_of-parts t))
+    ∙ ap (λ (f : Forest PublicUnit). join f (forest_of_trees trees)) (tree_of-parts t))
 
 -- ---- heights
 
@@ -226,8 +226,8 @@ pub record Last (rows : List Row) (slots : List Slot) (slot : Slot) (tops : List
   pub within : length slots < length rows
   pub placed : IsPlaced (reverse (take (length slots) rows)) x slot.place
   pub others : AllPlaced (reverse (take (length slots) rows)) (reverse (map (λ (s : Slot). s.place) slots))
-  pub children : planted slot.children.items ≡ seen_below (Some (suc (length slots))) (rest_of rows (suc (length slots)))
-  pub grown : (p : Option ℕ) → IsBelow (length slots) p → planted (grown_at slots tops p) ≡ seen_below (option_map suc p) (rest_of rows (suc (length slots)))
+  pub children : forest_of_trees slot.children.items ≡ seen_below (Some (suc (length slots))) (rest_of rows (suc (length slots)))
+  pub grown : (p : Option ℕ) → IsBelow (length slots) p → forest_of_trees (grown_at slots tops p) ≡ seen_below (option_map suc p) (rest_of rows (suc (length slots)))
   pub deep : slot.place.depth ≡ suc (depth_at slots slot.place.parent)
   pub low_children : height_of_all slot.children.items + slot.place.depth ≤ most_deep
   pub low : (p : Option ℕ) → IsBelow (length slots) p → height_of_all (grown_at slots tops p) + depth_at slots p ≤ most_deep
@@ -250,9 +250,9 @@ last_slot rows slots slot tops x h is =
       within = within;
       placed = parts.0;
       others = parts.1;
-      children = ap planted (sym (grown_at-last slots slot tops))
+      children = ap forest_of_trees (sym (grown_at-last slots slot tops))
           ∙ (h.grown (Some k) (subst (λ (n : ℕ). k < n) (sym count) (omega arith)) ∙ ap (seen_below (Some (suc k))) behind);
-      grown = λ p below. ap planted (sym (grown_at-front slots slot tops p below))
+      grown = λ p below. ap forest_of_trees (sym (grown_at-front slots slot tops p below))
           ∙ (h.grown p (subst (λ (n : ℕ). IsBelow n p) (sym count) (below_more k p below)) ∙ ap (seen_below (option_map suc p)) behind);
       deep = deeper (reverse (take k rows)) (map (λ (s : Slot). s.place) slots) x slot.place parts.0 parts.1
           ∙ ap suc (sym (depth_at-places slots slot.place.parent));
@@ -316,7 +316,7 @@ grown_published rows slots more slot tops later x t h is published id row childr
       few = omega (arith, h.within);
       placed = subst (λ (n : ℕ). AllPlaced (reverse (take n rows)) (reverse (map (λ (s : Slot). s.place) more))) (sym count)
           (subst (λ (p : List RowPosition). AllPlaced (reverse (take k rows)) (reverse p)) (sym places) h.others);
-      grown = λ p below. ap planted (puts p)
+      grown = λ p below. ap forest_of_trees (puts p)
           ∙ (by_place p (option_eq nat_eq slot.place.parent p) (subst (λ (n : ℕ). IsBelow n p) count below)
           ∙ (sym (seen_below-published k slot.place.parent p x rest published) ∙ ap (seen_below (option_map suc p)) (sym behind)));
       low = λ p below. subst (λ (trees : List Tree). height_of_all trees + depth_at more p ≤ most_deep) (sym (puts p))
@@ -336,14 +336,14 @@ grown_published rows slots more slot tops later x t h is published id row childr
     low_at p false e below = h.low p below
 
     by_place : (p : Option ℕ) (b : Bool) → IsBelow (length slots) p
-        → planted (if b then grown_at slots tops p ++ t ∷ [] else grown_at slots tops p)
+        → forest_of_trees (if b then grown_at slots tops p ++ t ∷ [] else grown_at slots tops p)
         ≡ (if b then Node (Told (suc (length slots)) x.values) (seen_below (Some (suc (length slots))) (rest_of rows (suc (length slots)))) (seen_below (option_map suc p) (rest_of rows (suc (length slots))))
         else seen_below (option_map suc p) (rest_of rows (suc (length slots))))
     by_place p true below =
         planted-push (grown_at slots tops p) t
-        ∙ (ap (λ (n : ℕ). Node (Told n (out-Tree t).row.now.values) (grove (out-Tree t).children.items) (planted (grown_at slots tops p))) id
-        ∙ (ap (λ (r : Row). Node (Told (suc (length slots)) r.values) (grove (out-Tree t).children.items) (planted (grown_at slots tops p))) row
-        ∙ (ap (λ (c : Forest PublicUnit). Node (Told (suc (length slots)) x.values) c (planted (grown_at slots tops p))) (ap grove children ∙ (grove-reverse slot.children.items ∙ h.children))
+        ∙ (ap (λ (n : ℕ). Node (Told n (out-Tree t).row.now.values) (grove (out-Tree t).children.items) (forest_of_trees (grown_at slots tops p))) id
+        ∙ (ap (λ (r : Row). Node (Told (suc (length slots)) r.values) (grove (out-Tree t).children.items) (forest_of_trees (grown_at slots tops p))) row
+        ∙ (ap (λ (c : Forest PublicUnit). Node (Told (suc (length slots)) x.values) c (forest_of_trees (grown_at slots tops p))) (ap grove children ∙ (grove-reverse slot.children.items ∙ h.children))
         ∙ ap (λ (o : Forest PublicUnit). Node (Told (suc (length slots)) x.values) (seen_below (Some (suc (length slots))) (rest_of rows (suc (length slots)))) o) (h.grown p below))))
     by_place p false below = h.grown p below
 
@@ -356,7 +356,7 @@ grown_none rows slots places placed shallow are bare = record {
   few = omega (arith, count);
   placed = subst (λ (r : List Row). AllPlaced (reverse r) (reverse (map (λ (s : Slot). s.place) slots))) (sym (take_all (length slots) rows (omega (arith, count))))
       (subst (λ (p : List RowPosition). AllPlaced (reverse rows) (reverse p)) (sym are) placed);
-  grown = λ p below. ap planted (empty p) ∙ ap (seen_below (option_map suc p)) (sym nothing);
+  grown = λ p below. ap forest_of_trees (empty p) ∙ ap (seen_below (option_map suc p)) (sym nothing);
   low = λ p below. subst (λ (trees : List Tree). height_of_all trees + depth_at slots p ≤ most_deep) (sym (empty p))
       (subst (λ (n : ℕ). 0 + n ≤ most_deep) (sym (depth_at-places slots p ∙ ap (λ (ps : List RowPosition). depth_in ps p) are)) (shallow_in p));
 }
@@ -385,5 +385,5 @@ grown_none rows slots places placed shallow are bare = record {
     empty None = refl
     empty (Some j) = children_none j (slice_get slots j) refl
 
-pub grown_all : (rows : List Row) (tops : List Tree) → HasGrown rows [] tops → planted tops ≡ seen_below None (numbered_from Empty [] 1 [] rows)
+pub grown_all : (rows : List Row) (tops : List Tree) → HasGrown rows [] tops → forest_of_trees tops ≡ seen_below None (numbered_from Empty [] 1 [] rows)
 grown_all rows tops h = h.grown None tt

@@ -15,12 +15,12 @@ abbrev pub Texts : Type 0
 Texts = Bor Bytes × Bor Bytes × Bor Bytes
 
 -- how the map compares a container, by its three texts, with one that it contains
-abbrev pub compared : Bytes → Bytes → Bytes → Texts → Ordering
-compared name location kind other = ordering_then (ordering_then (slice_cmp nat_cmp name other.0.now) (slice_cmp nat_cmp location other.1.now)) (slice_cmp nat_cmp kind other.2.now)
+abbrev pub compare_container : Bytes → Bytes → Bytes → Texts → Ordering
+compare_container name location kind other = ordering_then (ordering_then (slice_cmp nat_cmp name other.0.now) (slice_cmp nat_cmp location other.1.now)) (slice_cmp nat_cmp kind other.2.now)
 
 -- the number of a container in the map
 abbrev pub number_at : BTreeMap Texts ℕ → BoxKey → Option ℕ
-number_at numbers b = get_by (compared b.name b.location b.kind) numbers
+number_at numbers b = get_by (compare_container b.name b.location b.kind) numbers
 
 -- the map has the numbers of these containers, in the order in which they first appear
 pub record AreNumbered (seen : List BoxKey) (numbers : BTreeMap Texts ℕ) : Type 0 where

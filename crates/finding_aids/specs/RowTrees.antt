@@ -30,8 +30,8 @@ abbrev pub in_order : List (Forest PublicUnit) → Forest PublicUnit
 in_order [] = Empty
 in_order (f ∷ fs) = join (in_order fs) f
 
-abbrev pub planted : List Tree → Forest PublicUnit
-planted trees = in_order (map tree_of trees)
+abbrev pub forest_of_trees : List Tree → Forest PublicUnit
+forest_of_trees trees = in_order (map tree_of trees)
 
 -- the height of a tree: the most units below one another
 abbrev pub highest : List ℕ → ℕ

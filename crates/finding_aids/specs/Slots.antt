@@ -6,7 +6,7 @@ use Rattle.atom_csv.specs.declared.file.Row.{Row}
 use Rattle.finding_aids.specs.declared.previews.trees.Slot.{Slot}
 use Rattle.finding_aids.specs.declared.previews.trees.Tree.{Tree}
 use Rattle.finding_aids.specs.Places.{AllPlaced}
-use Rattle.finding_aids.specs.RowTrees.{height_of_all, planted, rest_of, seen_below}
+use Rattle.finding_aids.specs.RowTrees.{height_of_all, forest_of_trees, rest_of, seen_below}
 
 abbrev pub children_at : List Slot → ℕ → List Tree
 children_at slots index = option_map_or (λ (slot : Slot). slot.children.items) (slice_get slots index) []
@@ -31,6 +31,6 @@ pub record HasGrown (rows : List Row) (slots : List Slot) (tops : List Tree) : T
   pub few : length slots ≤ length rows
   pub placed : AllPlaced (reverse (take (length slots) rows)) (reverse (map (λ (slot : Slot). slot.place) slots))
   pub grown : (parent : Option ℕ) → IsBelow (length slots) parent
-      → planted (grown_at slots tops parent) ≡ seen_below (option_map suc parent) (rest_of rows (length slots))
+      → forest_of_trees (grown_at slots tops parent) ≡ seen_below (option_map suc parent) (rest_of rows (length slots))
   pub low : (parent : Option ℕ) → IsBelow (length slots) parent
       → height_of_all (grown_at slots tops parent) + depth_at slots parent ≤ most_deep

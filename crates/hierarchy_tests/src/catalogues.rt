@@ -1,9 +1,6 @@
 //! Rows of the catalogue's tables that no call writes, in either version. What is wrong is found, with its cause.
 
-ghost use Rattle.sqlite.specs.Held.{state};
-ghost use Rattle.office_tables.specs.Step.{InTransaction};
-
-use crate::offices::{new_office, still_open};
+use crate::offices::new_office;
 use crate::{links, offices, spans};
 use catalogue_store::{LinkPlaces, StoreFault};
 use integrity_checks::{CheckedPlaces, load_check};
@@ -138,42 +135,46 @@ const SPANS: [offices::Row; 4] = [
 ];
 
 /// The cause that the check finds if `next` is the number of the next unit, or 0.
-fn told<P: CheckedPlaces, S: Alter>(
+fn defect<P: CheckedPlaces, S: Alter>(
     alloc: Global,
-    conn: &mut Connection<S>,
+    tables: &mut Tables<P, S>,
     next: u64,
-) -> Result<u8, StoreFault>
-    requires inside { InTransaction P.version (state S.Store conn.old) }
-{
-    let defect = load_check::<P, S>(alloc, conn, next)?;
+) -> Result<u8, StoreFault> {
+    let defect = load_check(alloc, tables, next)?;
     Ok(match defect {
         Some(defect) => defect.cause(),
         None => 0,
     })
 }
 
-/// Writes the catalogue over links, with these places and then these rows added.
-fn put_over_links<S: Alter>(
+/// The same for the catalogue over links, with these places and then these rows added.
+fn told_with_links<S: Alter>(
+    alloc: Global,
     tables: &mut Tables<LinkPlaces, S>,
     places: &[offices::Row],
     writes: &[Write],
-) -> Result<(), StoreFault> {
+    next: u64,
+) -> Result<u8, StoreFault> {
     links::put_all(tables, &LINKS)?;
     links::put_all(tables, places)?;
     put_all(tables, &CATALOGUE)?;
-    put_all(tables, writes)
+    put_all(tables, writes)?;
+    defect(alloc, tables, next)
 }
 
 /// The same over spans.
-fn put_over_spans<S: Alter>(
+fn told_with_spans<S: Alter>(
+    alloc: Global,
     tables: &mut Tables<SpanPlaces, S>,
     places: &[offices::Row],
     writes: &[Write],
-) -> Result<(), StoreFault> {
+    next: u64,
+) -> Result<u8, StoreFault> {
     spans::put_all(tables, &SPANS)?;
     spans::put_all(tables, places)?;
     put_all(tables, &CATALOGUE)?;
-    put_all(tables, writes)
+    put_all(tables, writes)?;
+    defect(alloc, tables, next)
 }
 
 /// The cause that the check finds in a new office, or 0.
@@ -184,11 +185,9 @@ fn told_over_links(
     next: u64,
 ) -> Result<u8, Fail> {
     let mut tables = new_office::<LinkPlaces, _>(alloc, Connection::open_in_memory(alloc)?)?;
-    let outcome = put_over_links(&mut tables, places, writes);
-    let conn = still_open(tables);
-    outcome?;
-    let cause = told::<LinkPlaces, _>(alloc, &mut conn?, next)?;
-    Ok(cause)
+    let cause = told_with_links(alloc, &mut tables, places, writes, next);
+    let _ = tables.into_connection();
+    Ok(cause?)
 }
 
 /// The same over spans.
@@ -199,11 +198,9 @@ fn told_over_spans(
     next: u64,
 ) -> Result<u8, Fail> {
     let mut tables = new_office::<SpanPlaces, _>(alloc, Connection::open_in_memory(alloc)?)?;
-    let outcome = put_over_spans(&mut tables, places, writes);
-    let conn = still_open(tables);
-    outcome?;
-    let cause = told::<SpanPlaces, _>(alloc, &mut conn?, next)?;
-    Ok(cause)
+    let cause = told_with_spans(alloc, &mut tables, places, writes, next);
+    let _ = tables.into_connection();
+    Ok(cause?)
 }
 
 /// The next number, what is written into the catalogue, and the cause that is found in either version, or 0.

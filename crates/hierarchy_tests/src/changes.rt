@@ -1,6 +1,6 @@
 //! A forest that changes, in either version, and the answers about its places afterwards.
 
-use crate::offices::{new_office, still_open, told};
+use crate::offices::{check_result, new_office};
 use crate::parents::{FOREST, Place, put_all};
 use catalogue_store::{LinkPlaces, Places, StoreFault};
 use integrity_checks::CheckedPlaces;
@@ -62,7 +62,7 @@ fn change_all<P: Places, S: Alter>(
 }
 
 /// The units by their numbers, with a blank after each.
-fn shown(alloc: Global, units: &[u64]) -> Result<String, AllocError> {
+fn listing(alloc: Global, units: &[u64]) -> Result<String, AllocError> {
     let mut text = String::new(alloc);
     for unit in units {
         write!(text, "{unit} ")?;
@@ -70,12 +70,12 @@ fn shown(alloc: Global, units: &[u64]) -> Result<String, AllocError> {
     Ok(text)
 }
 
-/// The answer of the places to a question, or none if it is for the check of the places.
-fn answer<P: Places, S: Alter>(
+/// The answer of the places to a question, or of the check of the places.
+fn answer<P: CheckedPlaces, S: Alter>(
     alloc: Global,
     tables: &mut Tables<P, S>,
     question: Question,
-) -> Result<Option<String>, Fail> {
+) -> Result<String, Fail> {
     let units = match question {
         Question::All => P::all(alloc, tables)?,
         Question::Path(unit) => P::path(alloc, tables, u64::from(unit))?,
@@ -84,21 +84,21 @@ fn answer<P: Places, S: Alter>(
         Question::Below(Some(above)) => P::below(alloc, tables, Some(u64::from(above)))?,
         Question::IsBelow(unit, other) => {
             let is_below = P::is_below(alloc, tables, u64::from(unit), u64::from(other))?;
-            return Ok(Some(format!(in alloc; "{is_below}")?));
+            return Ok(format!(in alloc; "{is_below}")?);
         }
-        Question::Judged => return Ok(None),
+        Question::Judged => return check_result(alloc, tables),
     };
-    Ok(Some(shown(alloc, &units)?))
+    Ok(listing(alloc, &units)?)
 }
 
 /// The same, with a forest and after these changes.
-fn answer_after<P: Places, S: Alter>(
+fn answer_after<P: CheckedPlaces, S: Alter>(
     alloc: Global,
     tables: &mut Tables<P, S>,
     forest: &[Place],
     changes: &[Change],
     question: Question,
-) -> Result<Option<String>, Fail> {
+) -> Result<String, Fail> {
     put_all(alloc, tables, forest)?;
     change_all(alloc, tables, changes)?;
     answer(alloc, tables, question)
@@ -112,12 +112,9 @@ fn told_of<P: CheckedPlaces>(
     question: Question,
 ) -> Result<String, Fail> {
     let mut tables = new_office::<P, _>(alloc, Connection::open_in_memory(alloc)?)?;
-    let outcome = answer_after(alloc, &mut tables, forest, changes, question);
-    let conn = still_open(tables);
-    match outcome? {
-        Some(text) => Ok(text),
-        None => told::<P, _>(alloc, &mut conn?),
-    }
+    let text = answer_after(alloc, &mut tables, forest, changes, question);
+    let _ = tables.into_connection();
+    text
 }
 
 /// Changes, a question, and its answer in either version.

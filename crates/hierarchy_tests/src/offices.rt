@@ -10,7 +10,7 @@ use catalogue_store::{OfficeRow, Places, StoreFault, begin, create};
 use desk_store::{create_desk, is_blank};
 use integrity_checks::{CheckedPlaces, Placed};
 use isad_core::{Day, Text};
-use office_tables::{Tables, Versioned};
+use office_tables::Tables;
 use sqlite::types::ValueRef;
 use sqlite::{Alter, Connection};
 use std::alloc::Global;
@@ -74,21 +74,8 @@ pub(crate) fn new_office<P: Places, S: Alter + Drop>(
     Ok(Tables::inside(conn))
 }
 
-/// The connection of tables whose transaction is still open.
-pub(crate) fn still_open<P: Versioned, S: Alter + Drop>(
-    tables: Tables<P, S>,
-) -> Result<Connection<S>, StoreFault>
-    ensures inside { IfOk result (λ conn. InTransaction P.version (state S.Store conn)) }
-{
-    let conn = tables.into_connection();
-    if conn.is_autocommit() {
-        return Err(StoreFault::Schema);
-    }
-    Ok(conn)
-}
-
 /// The units and the height, or a dash if they are defective.
-fn shown(alloc: Global, placed: Option<Placed>) -> Result<String, Fail> {
+fn listing(alloc: Global, placed: Option<Placed>) -> Result<String, Fail> {
     let mut text = String::new(alloc);
     let Some(placed) = placed else {
         write!(text, "-")?;
@@ -102,12 +89,10 @@ fn shown(alloc: Global, placed: Option<Placed>) -> Result<String, Fail> {
 }
 
 /// What the check of the places of an office finds.
-pub(crate) fn told<P: CheckedPlaces, S: Alter>(
+pub(crate) fn check_result<P: CheckedPlaces, S: Alter>(
     alloc: Global,
-    conn: &mut Connection<S>,
-) -> Result<String, Fail>
-    requires inside { InTransaction P.version (state S.Store conn.old) }
-{
-    let placed = P::check(alloc, conn)?;
-    shown(alloc, placed)
+    tables: &mut Tables<P, S>,
+) -> Result<String, Fail> {
+    let placed = P::check(alloc, tables)?;
+    listing(alloc, placed)
 }

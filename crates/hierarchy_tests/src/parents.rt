@@ -65,7 +65,7 @@ fn are_numbers(units: &[u64]) -> bool
 }
 
 /// The numbers of the units right above these in the forest, with a dash for none.
-fn told<P: Places, S: Alter>(
+fn listing<P: Places, S: Alter>(
     alloc: Global,
     tables: &mut Tables<P, S>,
     units: &[u64],
@@ -87,7 +87,7 @@ fn told<P: Places, S: Alter>(
 /// The same, in a new office.
 fn told_of<P: Places>(alloc: Global, units: &[u64]) -> Result<String, Fail> {
     let mut tables = new_office::<P, _>(alloc, Connection::open_in_memory(alloc)?)?;
-    let text = told(alloc, &mut tables, units);
+    let text = listing(alloc, &mut tables, units);
     let _ = tables.into_connection();
     text
 }

@@ -1,6 +1,6 @@
-//! Spans that no call writes.
+//! Second that no call writes.
 
-use crate::offices::{Row, new_office, still_open, told};
+use crate::offices::{Row, check_result, new_office};
 use catalogue_store::StoreFault;
 use nested_sets::SpanPlaces;
 use office_tables::{Tables, change};
@@ -25,13 +25,22 @@ pub(crate) fn put_all<S: Alter>(
     Ok(())
 }
 
-/// The units and the height in a new office with these rows, or a dash if they are defective.
+/// The units and the height once these rows are written, or a dash if they are defective.
+fn told_with<S: Alter>(
+    alloc: Global,
+    tables: &mut Tables<SpanPlaces, S>,
+    rows: &[Row],
+) -> Result<String, Fail> {
+    put_all(tables, rows)?;
+    check_result(alloc, tables)
+}
+
+/// The same in a new office.
 fn told_of(alloc: Global, rows: &[Row]) -> Result<String, Fail> {
     let mut tables = new_office::<SpanPlaces, _>(alloc, Connection::open_in_memory(alloc)?)?;
-    let outcome = put_all(&mut tables, rows);
-    let conn = still_open(tables);
-    outcome?;
-    told::<SpanPlaces, _>(alloc, &mut conn?)
+    let text = told_with(alloc, &mut tables, rows);
+    let _ = tables.into_connection();
+    text
 }
 
 fn told_of_all(alloc: Global, cases: &[&'static [Row]]) -> Result<String, Fail> {

@@ -14,7 +14,7 @@ use Rattle.http_desk.specs.declared.output.Sent.TheVariants.{All, Failed, Bound 
 use Rattle.http_messages.specs.declared.status.Status.{Status}
 use Rattle.http_messages.specs.declared.status.Status.TheVariants.{Busy}
 use Rattle.http_messages.specs.Heads.{Request, Accepted, is_head, body_length}
-use Rattle.http_messages.specs.Answers.{Answer, error, answer_text, answered, continue_text}
+use Rattle.http_messages.specs.Answers.{Answer, error, answer_text, response, continue_text}
 use Rattle.http_desk.specs.Messages.{HasHead, Message, Last, Answers, Fails, Stands}
 use Rattle.http_desk.specs.Session.{most_answers, IsFront, closes, continue_if, message_answer, refusal, state_after, state_after_all, last_text, state_after_last}
 use Rattle.http_desk.specs.AnswerOutput.{Sends}
@@ -88,7 +88,7 @@ module _ {M : Type 0} (represents : M → State → Type 0) (is_intact is_open :
       → bare ≡ is_head request.method → (request.closes || nat_eq number most_answers) ≡ closing
       → MatchResult made (λ x. Replies a b closing (answer_text bare closing (answer x)) next) (λ e. Refused a b false Busy next)
       → MatchResult made (λ x. TellsWriteBound (answer_text bare closing (answer x)) writer next) (λ e. TellsWriteBound (refusal false (error Busy)) writer next)
-      → IfOk made (λ x. is_intact new → (s : State) → represents old s → represents new (answered s request (take n (drop size items))).1 × (answer x ≡ (answered s request (take n (drop size items))).0))
+      → IfOk made (λ x. is_intact new → (s : State) → represents old s → represents new (response s request (take n (drop size items))).1 × (answer x ≡ (response s request (take n (drop size items))).0))
       → OnErr made (is_intact new → (s : State) → represents old s → represents new s) → next ≡ Ends Bound
       → (written : Bytes) × Appends a b written × Through represents is_intact old new (λ s t. StopsBounded number s items (continue_if request.waits ++ written) t writer)
   answered_to_bound answer number old new items size n request (Ok x) bare a b closing next writer h within e is_bare is_closing (sent, sends, ends) told answers busy bound =

@@ -9,7 +9,7 @@ use Rattle.http_desk.specs.declared.session_end.Ended.TheVariants as ends
 use Rattle.http_desk.specs.declared.output.Sent.{Sent}
 use Rattle.http_desk.specs.declared.output.Sent.TheVariants.{All, Failed, Bound}
 use Rattle.http_desk.specs.StreamFaults.{is_write_fault, send_failed, IsFlushed, IsUsedUp, TakesTurns, TellsSomeWriteBound, TellsWriteBound, TextIsUsedUp}
-use Rattle.http_desk.specs.Streams.{Stream, counted}
+use Rattle.http_desk.specs.Streams.{Stream, one_more_call}
 use Rattle.http_desk.specs.Exchanges.{IsNoEnd, after_answer, after_sending}
 
 a_write : (sent : Sent) (next : Next) → is_write_fault next ≡ false → is_write_fault (after_sending sent next) ≡ send_failed sent
@@ -32,11 +32,11 @@ ends_by_writing Bound closing = tt
 pub no_end_after : (sent : Sent) (closing : Bool) (result : Next) → result ≡ after_sending sent (after_answer closing) → IsNoEnd result
 no_end_after sent closing result e = subst IsNoEnd (sym e) (ends_by_writing sent closing)
 
-counted_at_most : (n : ℕ) → counted n ≤ n + 1
+counted_at_most : (n : ℕ) → one_more_call n ≤ n + 1
 counted_at_most n = min-le_left (n + 1) 18446744073709551615
 
 -- one call more
-pub one_more : (a b c : Stream) → TakesTurns a b → c.name ≡ b.name → c.calls ≡ counted b.calls → c.turns + 1 ≡ b.turns → c.given ≡ b.given → TakesTurns a c
+pub one_more : (a b c : Stream) → TakesTurns a b → c.name ≡ b.name → c.calls ≡ one_more_call b.calls → c.turns + 1 ≡ b.turns → c.given ≡ b.given → TakesTurns a c
 one_more a b c (same, few, none) again more one given =
     let most : c.calls ≤ b.calls + 1 = subst (λ n. n ≤ b.calls + 1) (sym more) (counted_at_most b.calls) in
     (again ∙ same, omega (arith, few, most, one), given ∙ none)

@@ -55,7 +55,7 @@ request_meant request body (Some route) h =
     if_meant (not (bytes_eq request.method (method_of route))) _ _ (fixed (not_allowed (method_of route)))
     (if_meant (is_post route && is_none request.length) _ _ (fixed (error LengthRequired)) (route_meant body route h))
 
-message_meant : (m : Message) → IsMeant (λ s. answers.answered s m.request m.body)
+message_meant : (m : Message) → IsMeant (λ s. answers.response s m.request m.body)
 message_meant m = request_meant m.request m.body (route_of (path_of m.request.target)) (routes_named (path_of m.request.target))
 
 -- ---- all messages

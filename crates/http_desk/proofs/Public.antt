@@ -16,7 +16,7 @@ use Rattle.http_messages.specs.declared.table.Leads.TheVariants as leads
 use Rattle.http_messages.specs.declared.table.Numbered.{Numbered}
 use Rattle.http_messages.specs.declared.table.Numbered.TheVariants as numbered
 use Rattle.http_messages.specs.Routes.{Route, Asks, Does, TakesFile, TakesForm, table, question, leads_to, or_else, parameter_in, number_in, first_route, route_of}
-use Rattle.http_messages.specs.Answers.{Answer, answer_text, of_told, by_route, answered}
+use Rattle.http_messages.specs.Answers.{Answer, answer_text, of_told, by_route, response}
 use Rattle.http_messages.proofs.Bodies.{never_true}
 use Rattle.http_desk.specs.Messages.{Message}
 use Rattle.http_desk.specs.Session.{continue_if, message_text, text_after_all, state_after_all}
@@ -37,9 +37,9 @@ either_open : (a b : Option Route) → IsOpen a → IsOpen b → IsOpen (or_else
 either_open None b x y = y
 either_open (Some route) b x y = x
 
-then_open : (makes : Bytes → Option Route) (o : Option Bytes) → ((y : Bytes) → IsOpen (makes y)) → IsOpen (option_and_then makes o)
-then_open makes None h = tt
-then_open makes (Some y) h = h y
+then_open : (updates : Bytes → Option Route) (o : Option Bytes) → ((y : Bytes) → IsOpen (updates y)) → IsOpen (option_and_then updates o)
+then_open updates None h = tt
+then_open updates (Some y) h = h y
 
 map_open : (asks : ℕ → Query) (o : Option ℕ) → ((n : ℕ) → IsOpen (Some (Asks (asks n)))) → IsOpen (option_map (λ n. Asks (asks n)) o)
 map_open asks None h = tt
@@ -111,7 +111,7 @@ get_alike s t request body (Some (Does asked)) same e o = absurd o
 get_alike s t request body (Some (TakesFile source)) same e o = absurd o
 get_alike s t request body (Some (TakesForm asked)) same e o = rw e (record { answers = refl; kept = refl; kept_too = refl })
 
-pub message_alike : (s t : State) (m : Message) → AnswersAlike s t → IsPublicGet m → IsAlike s t (answered s m.request m.body) (answered t m.request m.body)
+pub message_alike : (s t : State) (m : Message) → AnswersAlike s t → IsPublicGet m → IsAlike s t (response s m.request m.body) (response t m.request m.body)
 message_alike s t m same p =
     get_alike s t m.request m.body (route_of (path_of m.request.target)) same p.method
     (subst (λ path. IsOpen (route_of path)) (sym p.path) (public_routes p.below))

@@ -18,7 +18,7 @@ use Rattle.http_messages.specs.declared.status.Status.{Status}
 use Rattle.http_messages.specs.declared.status.Status.TheVariants.{Busy, Fine}
 use Rattle.http_messages.specs.HeadScan.{scan}
 use Rattle.http_messages.specs.Heads.{Request, Verdict, Accepted, Judges, is_head, body_length}
-use Rattle.http_messages.specs.Answers.{Answer, error, answer_text, answered}
+use Rattle.http_messages.specs.Answers.{Answer, error, answer_text, response}
 use Rattle.http_desk.specs.Messages.{longest_head, HasHead, Message, Begins, Last, Nothing, HeadCut, BodyCut, Answers, Fails, Stands, MayFail, IsBlank, IsHeadCut}
 use Rattle.http_desk.specs.AcceptedMessages.{IsAccepted, LastLeavesOpen}
 use Rattle.http_desk.specs.BusyMessages.{AnswersTo, IsBusyWith, StaysFound, StaysFoundOrBusy}
@@ -154,9 +154,9 @@ module _ {M : Type 0} (represents : M → State → Type 0) (is_intact is_open :
       → HasHead items (take size items) (Accepted request) (drop size items) → size + n ≤ length items → n ≡ body_length request → rest ≡ drop (size + n) items
       → bare ≡ is_head request.method → (request.closes || nat_eq number most_answers) ≡ true → next ≡ after_sending sent (Ends Closed)
       → Sends a b (answer_text bare true told) sent
-      → (is_intact new → (s : State) → represents old s → represents new (answered s request (body_at items size n)).1 × (told ≡ (answered s request (body_at items size n)).0))
+      → (is_intact new → (s : State) → represents old s → represents new (response s request (body_at items size n)).1 × (told ≡ (response s request (body_at items size n)).0))
       → (request.method ≡ codes "POST" → is_intact new → told.status ≡ Fine → is_open new)
-      → (is_intact new → (s : State) → represents old s → StaysFound (recovers old) (recovers new) s (answered s request (body_at items size n)).1)
+      → (is_intact new → (s : State) → represents old s → StaysFound (recovers old) (recovers new) s (response s request (body_at items size n)).1)
       → (written : Bytes) × Appends a b written × Through represents is_intact old new (λ s t. Turn (is_open old) (is_open new) (recovers old) (recovers new) number s items next (continue_if request.waits ++ written) t rest)
   acted_closing number old new items size n request told bare rest a b sent next h within e r is_bare closing ends sends answers kept found =
       let (written, appended, is) = written_of a b (answer_text bare true told) sent sends in
@@ -180,9 +180,9 @@ module _ {M : Type 0} (represents : M → State → Type 0) (is_intact is_open :
       → HasHead items (take size items) (Accepted request) (drop size items) → size + n ≤ length items → n ≡ body_length request → rest ≡ drop (size + n) items
       → bare ≡ is_head request.method → (request.closes || nat_eq number most_answers) ≡ false → next ≡ after_sending sent Goes
       → Sends a b (answer_text bare false told) sent
-      → (is_intact new → (s : State) → represents old s → represents new (answered s request (body_at items size n)).1 × (told ≡ (answered s request (body_at items size n)).0))
+      → (is_intact new → (s : State) → represents old s → represents new (response s request (body_at items size n)).1 × (told ≡ (response s request (body_at items size n)).0))
       → (request.method ≡ codes "POST" → is_intact new → told.status ≡ Fine → is_open new)
-      → (is_intact new → (s : State) → represents old s → StaysFound (recovers old) (recovers new) s (answered s request (body_at items size n)).1)
+      → (is_intact new → (s : State) → represents old s → StaysFound (recovers old) (recovers new) s (response s request (body_at items size n)).1)
       → (written : Bytes) × Appends a b written × Through represents is_intact old new (λ s t. Turn (is_open old) (is_open new) (recovers old) (recovers new) number s items next (continue_if request.waits ++ written) t rest)
   acted_open number old new items size n request told bare rest a b sent next h within e r is_bare closing ends sends answers kept found =
       let (written, appended, is) = written_of a b (answer_text bare false told) sent sends in
@@ -206,9 +206,9 @@ module _ {M : Type 0} (represents : M → State → Type 0) (is_intact is_open :
   pub acted : (number : ℕ) (old new : M) (items : Bytes) (size n : ℕ) (request : Request) (told : Answer) (bare : Bool) (rest : Bytes) (a b : Option Bytes) (closing : Bool) (next : Next)
       → HasHead items (take size items) (Accepted request) (drop size items) → size + n ≤ length items → n ≡ body_length request → rest ≡ drop (size + n) items
       → bare ≡ is_head request.method → (request.closes || nat_eq number most_answers) ≡ closing → Replies a b closing (answer_text bare closing told) next
-      → (is_intact new → (s : State) → represents old s → represents new (answered s request (body_at items size n)).1 × (told ≡ (answered s request (body_at items size n)).0))
+      → (is_intact new → (s : State) → represents old s → represents new (response s request (body_at items size n)).1 × (told ≡ (response s request (body_at items size n)).0))
       → (request.method ≡ codes "POST" → is_intact new → told.status ≡ Fine → is_open new)
-      → (is_intact new → (s : State) → represents old s → StaysFound (recovers old) (recovers new) s (answered s request (body_at items size n)).1)
+      → (is_intact new → (s : State) → represents old s → StaysFound (recovers old) (recovers new) s (response s request (body_at items size n)).1)
       → (written : Bytes) × Appends a b written × Through represents is_intact old new (λ s t. Turn (is_open old) (is_open new) (recovers old) (recovers new) number s items next (continue_if request.waits ++ written) t rest)
   acted number old new items size n request told bare rest a b true next h within e r is_bare closes (sent, sends, ends) answers kept found =
       acted_closing number old new items size n request told bare rest a b sent next h within e r is_bare closes ends sends answers kept found
@@ -220,11 +220,11 @@ module _ {M : Type 0} (represents : M → State → Type 0) (is_intact is_open :
       → HasHead items (take size items) (Accepted request) (drop size items) → size + n ≤ length items → n ≡ body_length request → OnOk made (rest ≡ drop (size + n) items)
       → bare ≡ is_head request.method → (request.closes || nat_eq number most_answers) ≡ closing
       → MatchResult made (λ x. Replies a b closing (answer_text bare closing (answer x)) next) (λ e. Refused a b false Busy next)
-      → IfOk made (λ x. is_intact new → (s : State) → represents old s → represents new (answered s request (body_at items size n)).1 × (answer x ≡ (answered s request (body_at items size n)).0))
+      → IfOk made (λ x. is_intact new → (s : State) → represents old s → represents new (response s request (body_at items size n)).1 × (answer x ≡ (response s request (body_at items size n)).0))
       → OnErr made (is_intact new → (s : State) → represents old s → represents new s)
       → (request.method ≡ codes "POST" → IfOk made (λ x. is_intact new → (answer x).status ≡ Fine → is_open new))
-      → IfOk made (λ x. is_intact new → (s : State) → represents old s → StaysFound (recovers old) (recovers new) s (answered s request (body_at items size n)).1)
-      → OnErr made (is_intact new → (s : State) → represents old s → StaysFoundOrBusy (recovers old) (recovers new) (AnswersTo (λ x. answered x request (body_at items size n))) s s)
+      → IfOk made (λ x. is_intact new → (s : State) → represents old s → StaysFound (recovers old) (recovers new) s (response s request (body_at items size n)).1)
+      → OnErr made (is_intact new → (s : State) → represents old s → StaysFoundOrBusy (recovers old) (recovers new) (AnswersTo (λ x. response x request (body_at items size n))) s s)
       → (written : Bytes) × Appends a b written × Through represents is_intact old new (λ s t. Turn (is_open old) (is_open new) (recovers old) (recovers new) number s items next (continue_if request.waits ++ written) t rest)
   answered_at answer number old new items size n request (Ok x) bare rest a b closing next h within e r is_bare closes sent answers busy kept found doubt =
       acted number old new items size n request (answer x) bare rest a b closing next h within e r is_bare closes sent answers kept found

@@ -15,7 +15,7 @@ use Rattle.catalogue_core.specs.Intake.{take}
 use Rattle.office_core.specs.State.{State}
 use Rattle.http_desk.specs.Messages.{Message}
 use Rattle.http_desk.specs.Session.{message_text, state_after}
-use Rattle.http_desk.specs.WorkedExamples.{filled, with_draft, fonds_list, not_found}
+use Rattle.http_desk.specs.WorkedExamples.{filled_office, with_draft, fonds_list, not_found}
 use Rattle.http_desk.specs.WorkedSessions.{one_unit}
 use Rattle.http_desk.proofs.WorkedHeads.{asks_for, orders_at}
 
@@ -28,7 +28,7 @@ page_message = record { request = asks_for (codes "/public/units/2"); body = [] 
 abbrev pub draft_message : Message
 draft_message = record { request = orders_at (codes "/desk/status") 27; body = codes "{\"unit\":2,\"status\":\"draft\"}" }
 
-pub list_told : message_text false filled list_message ≡ fonds_list
+pub list_told : message_text false filled_office list_message ≡ fonds_list
 unfolding head_text continue_text is_open take is_utf8 chars encode records_from strip_bom next_record columns described digits day_text serde_json_on_literals
 list_told = refl
 
@@ -41,11 +41,11 @@ pub page_keeps : (s : State) → state_after s page_message ≡ s
 unfolding digits is_utf8 chars encode
 page_keeps s = refl
 
-pub draft_told : message_text false filled draft_message ≡ one_unit
+pub draft_told : message_text false filled_office draft_message ≡ one_unit
 unfolding head_text continue_text is_open take is_utf8 chars encode records_from strip_bom next_record columns described digits day_text serde_json_on_literals
 draft_told = refl
 
-pub draft_leaves : state_after filled draft_message ≡ with_draft
+pub draft_leaves : state_after filled_office draft_message ≡ with_draft
 unfolding is_utf8 chars encode digits day_text serde_json_on_literals
 draft_leaves = refl
 

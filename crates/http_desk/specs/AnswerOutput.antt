@@ -3,7 +3,7 @@ use Rattle.std.specs.Prelude.{◌≡◌, ◌≢◌, ℕ, ◌+◌, ◌||◌, List
 use Rattle.std.specs.Io.KnownBytes.{Appends}
 use Rattle.http_messages.specs.declared.answers.Answered.{Answered}
 use Rattle.http_messages.specs.declared.answers.AnswerView.{AnswerView}
-use Rattle.http_messages.specs.Replies.{answer_in, viewed}
+use Rattle.http_messages.specs.Replies.{answer_in, answer_of_view}
 use Rattle.http_desk.specs.Session.{IsFront}
 use Rattle.http_desk.specs.StreamFaults.{TakesCalls, TextIsUsedUp, send_failed}
 use Rattle.http_desk.specs.Streams.{Stream, more_writes}
@@ -28,7 +28,7 @@ pub record SendsAsCalled (text : List ℕ) (old new : Stream) (sent : Sent) : Ty
 
 -- the view of an answer, or the same reason why there is none
 abbrev pub IsViewOf : {E : Type 0} → Result AnswerView E → Result Answered E → Type 0
-IsViewOf (Ok view) (Ok answer) = viewed view ≡ answer_in answer
+IsViewOf (Ok view) (Ok answer) = answer_of_view view ≡ answer_in answer
 IsViewOf (Ok view) (Err why) = ⊥
 IsViewOf (Err why) (Ok answer) = ⊥
 IsViewOf (Err why) (Err same) = why ≡ same

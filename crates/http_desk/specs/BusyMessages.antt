@@ -3,18 +3,18 @@ use Rattle.std.specs.Prelude.{◌≡◌, ◌⊎◌, List, ◌∷◌}
 use Rattle.isad_core.specs.Texts.{Bytes}
 use Rattle.office_core.specs.State.{State}
 use Rattle.office_core.specs.declared.command.Command.{Command}
-use Rattle.http_messages.specs.Answers.{Answer, answered, done}
+use Rattle.http_messages.specs.Answers.{Answer, response, command_answer}
 use Rattle.http_desk.specs.declared.session_end.Ended.{Ended}
 use Rattle.http_desk.specs.Messages.{Message, Begins, Last, Nothing, HeadCut, BodyCut, NoHead, Refuses, Answers, Fails}
 use Rattle.http_desk.specs.Session.{Session}
 
 -- in every state, this is the answer to the command, and the state after it
 abbrev pub AnswersTo : (State → Answer × State) → Command → Type 0
-AnswersTo told command = (s : State) → told s ≡ done s command
+AnswersTo told command = (s : State) → told s ≡ command_answer s command
 
 -- the message asks this command
 abbrev pub Asks : Message → Command → Type 0
-Asks message command = AnswersTo (λ s. answered s message.request message.body) command
+Asks message command = AnswersTo (λ s. response s message.request message.body) command
 
 -- In the last place there is a message that asks this command, and 503 is answered.
 abbrev pub IsBusyWith : Bytes → Last → Command → Type 0

@@ -11,7 +11,7 @@ use Rattle.office_core.specs.Rules as machine
 use Rattle.office_core.specs.SoundOffice.{NamesTexts}
 use Rattle.office_core.specs.Soundness.{NamesDays}
 use Rattle.office_core.specs.State.{State}
-use Rattle.http_messages.specs.Answers.{Answer, of_reply, of_told, answered}
+use Rattle.http_messages.specs.Answers.{Answer, of_reply, of_told, response}
 use Rattle.http_desk.specs.declared.session_end.Ended.{Ended}
 use Rattle.http_desk.specs.AcceptedMessages.{LeavesOpen}
 use Rattle.http_desk.specs.Messages.{Message, Last, Nothing, HeadCut, BodyCut, NoHead, Refuses, Answers, Fails}
@@ -33,7 +33,7 @@ carried_out s (Fixed told) = (told, s)
 
 -- in every state, the answer to the message is this meaning carried out
 abbrev pub Means : Message → Meaning → Type 0
-Means message meaning = (s : State) → answered s message.request message.body ≡ carried_out s meaning
+Means message meaning = (s : State) → response s message.request message.body ≡ carried_out s meaning
 
 -- the messages have these meanings, one by one
 abbrev pub AllMean : List Message → List Meaning → Type 0

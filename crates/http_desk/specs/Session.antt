@@ -7,7 +7,7 @@ use Rattle.http_desk.specs.declared.session_end.Ended.{Ended}
 use Rattle.http_desk.specs.declared.session_end.Ended.TheVariants.{End, Closed, Cut, ReadFault, WriteFault, Bound}
 use Rattle.http_messages.specs.declared.status.Status.TheVariants.{BadRequest, Busy}
 use Rattle.http_messages.specs.Heads.{is_head}
-use Rattle.http_messages.specs.Answers.{Answer, error, answer_text, continue_text, answered}
+use Rattle.http_messages.specs.Answers.{Answer, error, answer_text, continue_text, response}
 use Rattle.http_desk.specs.declared.session.TheConstants.{ANSWERS}
 use Rattle.http_desk.specs.Messages.{Message, Cuts, Last, Nothing, HeadCut, BodyCut, NoHead, Refuses, Answers, Fails, Stands}
 
@@ -28,10 +28,10 @@ abbrev pub refusal : Bool → Answer → Bytes
 refusal bare a = answer_text bare true a
 
 abbrev pub message_answer : State → Message → Answer
-message_answer s message = (answered s message.request message.body).0
+message_answer s message = (response s message.request message.body).0
 
 abbrev pub state_after : State → Message → State
-state_after s message = (answered s message.request message.body).1
+state_after s message = (response s message.request message.body).1
 
 -- 100 Continue if it is due, and the answer
 abbrev pub message_text : Bool → State → Message → Bytes

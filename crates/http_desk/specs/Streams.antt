@@ -25,8 +25,8 @@ pub record IsNew (stream : Stream) : Type 0 where
   pub none_waits : stream.flushed ≡ true
 
 -- the number of calls after one more; the count stops at 2^64 - 1
-abbrev pub counted : ℕ → ℕ
-counted calls = min (calls + 1) 18446744073709551615
+abbrev pub one_more_call : ℕ → ℕ
+one_more_call calls = min (calls + 1) 18446744073709551615
 
 -- the reads of one message: one for each byte of the longest head and of the longest body, and one more
 abbrev pub most_reads : ℕ

@@ -18,12 +18,12 @@ abbrev pub get : Bytes → Message
 get target = of (codes "GET") target None false
 
 -- an office with a fonds and a series
-abbrev pub filled : State
-filled = state_after office (import docks ∷ [])
+abbrev pub filled_office : State
+filled_office = state_after office (import docks ∷ [])
 
 -- the same, with the series a draft
 abbrev pub with_draft : State
-with_draft = state_after filled (draft 2 ∷ [])
+with_draft = state_after filled_office (draft 2 ∷ [])
 
 -- the message is answered with these bytes; the connection is closed after them if its head asks for that
 abbrev pub Writes : State → Message → Bytes → Type 0
@@ -48,15 +48,15 @@ abbrev pub not_found : Bytes
 not_found = json_text (codes "404 Not Found") (codes "21") [] (codes "{\"error\":\"not found\"}")
 
 pub record Answered : Type 0 where
-  pub fonds : Writes filled (get (codes "/public/fonds")) fonds_list
+  pub fonds : Writes filled_office (get (codes "/public/fonds")) fonds_list
   pub nothing : Writes office (of (codes "GET") (codes "/public/fonds") None true)
       (fine_text (codes "0\r\nConnection: close") [])
-  pub head : Writes filled (of (codes "HEAD") (codes "/public/fonds") None false)
+  pub head : Writes filled_office (of (codes "HEAD") (codes "/public/fonds") None false)
       (json_text (codes "405 Method Not Allowed") (codes "30") (codes "Allow: GET\r\n") [])
   pub draft : Writes with_draft (get (codes "/public/units/2")) not_found
-  pub unknown : Writes filled (get (codes "/public/units/99999")) not_found
-  pub no_route : Writes filled (get (codes "/public/units/02")) not_found
-  pub no_length : Writes filled (of (codes "POST") (codes "/desk/run") None false)
+  pub unknown : Writes filled_office (get (codes "/public/units/99999")) not_found
+  pub no_route : Writes filled_office (get (codes "/public/units/02")) not_found
+  pub no_length : Writes filled_office (of (codes "POST") (codes "/desk/run") None false)
       (json_text (codes "411 Length Required") (codes "27") [] (codes "{\"error\":\"length required\"}"))
-  pub refused : Writes filled (of (codes "POST") (codes "/desk/run?x") (Some 0) false)
+  pub refused : Writes filled_office (of (codes "POST") (codes "/desk/run?x") (Some 0) false)
       (json_text (codes "409 Conflict") (codes "37") [] (codes "{\"code\":24,\"refused\":\"NothingToMove\"}"))

@@ -11,7 +11,7 @@ use Rattle.http_desk.specs.declared.session_end.Ended.TheVariants.{End, Cut}
 use Rattle.http_desk.specs.Messages.{Message}
 use Rattle.http_desk.specs.Runs.{Puts, Fixed, Means, HasCarriedOut}
 use Rattle.http_desk.specs.Session.{Session}
-use Rattle.http_desk.specs.WorkedExamples.{of, get, filled, with_draft, fonds_list, not_found}
+use Rattle.http_desk.specs.WorkedExamples.{of, get, filled_office, with_draft, fonds_list, not_found}
 use Rattle.http_desk.specs.WorkedSessions.{list_request, half_a_request, draft_request, page_request, one_unit}
 
 abbrev pub post : (target : Bytes) → ℕ → (body : Bytes) → Message
@@ -27,8 +27,8 @@ pub record Carried : Type 0 where
   pub no_length : Means (of (codes "POST") (codes "/desk/run") None false) (Fixed (error LengthRequired))
   pub no_members : Means (post (codes "/desk/status") 2 (codes "{}")) (Fixed (error BadRequest))
   -- a list, and then a registration that stops inside its body
-  pub none_came : (session : Session filled (list_request ++ half_a_request) fonds_list Cut filled)
+  pub none_came : (session : Session filled_office (list_request ++ half_a_request) fonds_list Cut filled_office)
       × HasCarriedOut session []
   -- a draft, and then its page
-  pub one_came : (session : Session filled (draft_request ++ page_request) (one_unit ++ not_found) End with_draft)
+  pub one_came : (session : Session filled_office (draft_request ++ page_request) (one_unit ++ not_found) End with_draft)
       × HasCarriedOut session (draft 2 ∷ [])

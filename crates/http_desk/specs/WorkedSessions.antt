@@ -4,7 +4,7 @@ use Rattle.isad_core.specs.Texts.{Bytes}
 use Rattle.http_desk.specs.declared.session_end.Ended.TheVariants.{End, Cut}
 use Rattle.http_desk.specs.Messages.{longest_head}
 use Rattle.http_desk.specs.Session.{Session, most_answers}
-use Rattle.http_desk.specs.WorkedExamples.{filled, with_draft, fonds_list, not_found, json_text}
+use Rattle.http_desk.specs.WorkedExamples.{filled_office, with_draft, fonds_list, not_found, json_text}
 
 abbrev pub list_request : Bytes
 list_request = codes "GET /public/fonds HTTP/1.1\r\nHost: x\r\n\r\n"
@@ -29,10 +29,10 @@ abbrev pub one_unit : Bytes
 one_unit = json_text (codes "200 OK") (codes "11") [] (codes "{\"units\":1}")
 
 pub record Talked : Type 0 where
-  pub twice : Session filled (list_request ++ list_request) (fonds_list ++ fonds_list) End filled
-  pub cut : Session filled (list_request ++ half_a_request) fonds_list Cut filled
+  pub twice : Session filled_office (list_request ++ list_request) (fonds_list ++ fonds_list) End filled_office
+  pub cut : Session filled_office (list_request ++ half_a_request) fonds_list Cut filled_office
   -- the draft is unknown from the next message on
-  pub drafted : Session filled (draft_request ++ page_request) (one_unit ++ not_found) End with_draft
+  pub drafted : Session filled_office (draft_request ++ page_request) (one_unit ++ not_found) End with_draft
   -- the bytes of a head, and the answers of a session
   pub head : longest_head ≡ 16384
   pub answers : most_answers ≡ 10000

@@ -1,7 +1,7 @@
 //! Writes answers, whose texts are borrowed. Nothing here takes an allocator.
 ghost use Rattle.std.specs.Prelude.{◌+◌, ◌<◌, ◌^◌, length};
 ghost use Rattle.http_messages.specs.Answers.{answer_text, continue_text};
-ghost use Rattle.http_messages.specs.Replies.{viewed};
+ghost use Rattle.http_messages.specs.Replies.{answer_of_view};
 ghost use Rattle.http_desk.specs.AnswerOutput.{SendsAsCalled};
 ghost use Rattle.http_desk.specs.Parts.{parts_text};
 ghost use Rattle.http_desk.specs.Streams.{more_writes};
@@ -56,7 +56,7 @@ pub fn send_answer<W: Write>(
     closing: bool,
     answer: AnswerView<'_>,
 ) -> Sent
-    ensures { SendsAsCalled (answer_text bare closing (viewed answer.entry)) writer.old writer.new result }
+    ensures { SendsAsCalled (answer_text bare closing (answer_of_view answer.entry)) writer.old writer.new result }
 {
     let status = answer.status();
     let mut digits = Buffer::new();

@@ -73,9 +73,13 @@ fn of_told(told: Answer) -> Answered
 }
 
 /// Carries out a command, and takes no memory once the office has answered.
-fn done<M: Machine>(alloc: Global, office: &mut M, command: Command) -> Result<Answered, Busy>
+fn answer_command<M: Machine>(
+    alloc: Global,
+    office: &mut M,
+    command: Command,
+) -> Result<Answered, Busy>
     ensures { AnswersAs M.represents M.is_intact M.is_open M.recovers office.old office.new
-        (λ s. spec.done s command) ⊤ result }
+        (λ s. spec.command_answer s command) ⊤ result }
 {
     match office.apply(alloc, command) {
         Ok(reply) => Ok(of_reply(reply)),
@@ -84,7 +88,11 @@ fn done<M: Machine>(alloc: Global, office: &mut M, command: Command) -> Result<A
 }
 
 /// Answers a question, and takes no memory once the office has answered.
-fn asked<M: Machine>(alloc: Global, office: &mut M, query: Query) -> Result<Answered, Busy>
+fn answer_question<M: Machine>(
+    alloc: Global,
+    office: &mut M,
+    query: Query,
+) -> Result<Answered, Busy>
     ensures { AnswersAs M.represents M.is_intact M.is_open M.recovers office.old office.new
         (λ s. (spec.of_told (answer s query), s)) ⊥ result }
 {
@@ -95,7 +103,7 @@ fn asked<M: Machine>(alloc: Global, office: &mut M, query: Query) -> Result<Answ
 }
 
 /// Carries out the command that a body gives, or answers 400 if it gives none.
-fn done_if_read<M: Machine>(
+fn answer_command_if_read<M: Machine>(
     alloc: Global,
     office: &mut M,
     command: Option<Command>,
@@ -104,7 +112,7 @@ fn done_if_read<M: Machine>(
         (λ s. spec.done_if_read s command) ⊤ result }
 {
     match command {
-        Some(command) => done(alloc, office, command),
+        Some(command) => answer_command(alloc, office, command),
         None => Ok(Answered::Error(Status::BadRequest)),
     }
 }
@@ -143,15 +151,15 @@ fn carried_out<M: Machine>(
         (routes.is_post (route_in route.entry) ≡ true) result }
 {
     match route {
-        Route::Asks(query) => asked(alloc, office, query),
-        Route::Run => done(alloc, office, Command::Run),
-        Route::Reshelve => done(alloc, office, Command::Reshelve),
+        Route::Asks(query) => answer_question(alloc, office, query),
+        Route::Run => answer_command(alloc, office, Command::Run),
+        Route::Reshelve => answer_command(alloc, office, Command::Reshelve),
         Route::TakesFile(source) => match import_of(alloc, source, body) {
-            Ok(command) => done(alloc, office, command),
+            Ok(command) => answer_command(alloc, office, command),
             Err(_) => Err(Busy::Memory),
         },
         Route::TakesForm(form) => match command_in(alloc, form, &body) {
-            Ok(command) => done_if_read(alloc, office, command),
+            Ok(command) => answer_command_if_read(alloc, office, command),
             Err(_) => Err(Busy::Memory),
         },
     }
@@ -192,7 +200,7 @@ fn respond<M: Machine>(
     requires method { IsWithin (length block.now) head.method }
     requires target { IsWithin (length block.now) head.target }
     ensures { AnswersAs M.represents M.is_intact M.is_open M.recovers office.old office.new
-        (λ s. spec.answered s (request_in block.now head) body.items)
+        (λ s. spec.response s (request_in block.now head) body.items)
         ((request_in block.now head).method ≡ codes "POST") result }
 {
     match means.routes.route_of(path_of(head.target.of(block))) {
@@ -213,7 +221,7 @@ fn answer_first<M: Machine>(
     requires method { IsWithin (length (take size buffer.old.items)) head.method }
     requires target { IsWithin (length (take size buffer.old.items)) head.target }
     ensures machine { AnswersAs M.represents M.is_intact M.is_open M.recovers office.old office.new
-        (λ s. spec.answered s (request_in (take size buffer.old.items) head)
+        (λ s. spec.response s (request_in (take size buffer.old.items) head)
         (take (unwrap_or head.length 0) (drop size buffer.old.items)))
         ((request_in (take size buffer.old.items) head).method ≡ codes "POST") result }
     ensures left { OnOk result (buffer.new.items ≡ drop (size + unwrap_or head.length 0) buffer.old.items) }
@@ -264,7 +272,7 @@ pub fn prepare<'b, M: Machine>(
     requires method { IsWithin (length (take size buffer.old.items)) head.method }
     requires target { IsWithin (length (take size buffer.old.items)) head.target }
     ensures machine { AnswersAs M.represents M.is_intact M.is_open M.recovers office.old office.new
-        (λ s. spec.answered s (request_in (take size buffer.old.items) head)
+        (λ s. spec.response s (request_in (take size buffer.old.items) head)
         (take (unwrap_or head.length 0) (drop size buffer.old.items)))
         ((request_in (take size buffer.old.items) head).method ≡ codes "POST") result.answered }
     ensures left { OnOk result.answered

@@ -7,7 +7,7 @@ ghost use Rattle.isad_core.specs.Texts.{Bytes};
 ghost use Rattle.http_messages.specs.Answers.{answer_text, continue_text, error};
 ghost use Rattle.http_messages.specs.Heads.{Accepted, is_head};
 ghost use Rattle.http_messages.specs.HeadVerdict.{request_in};
-ghost use Rattle.http_messages.specs.Replies.{viewed};
+ghost use Rattle.http_messages.specs.Replies.{answer_of_view};
 ghost use Rattle.http_desk.specs.Laws.{HasEnded};
 ghost use Rattle.http_desk.specs.Messages.{HasHead};
 ghost use Rattle.http_desk.specs.AnswerOutput.{Sends};
@@ -52,7 +52,7 @@ fn refuse<W: Write>(writer: &mut Sink<'_, W>, bare: bool, status: Status) -> Nex
     ensures stream { WritesAsCalled writer.old writer.new result }
     ensures used_up { TellsWriteBound (refusal bare (error status)) writer.new result }
 {
-    let sent = send_answer(writer, bare, true, AnswerView::fixed(status));
+    let sent = send_answer(writer, bare, true, AnswerView::fixed_answer(status));
     after(sent, Next::Ends(Ended::Closed))
 }
 
@@ -64,9 +64,9 @@ fn reply<W: Write>(
     answer: AnswerView<'_>,
 ) -> Next
     ensures sent { Replies writer.old.bytes writer.new.bytes closing
-        (answer_text bare closing (viewed answer.entry)) result }
+        (answer_text bare closing (answer_of_view answer.entry)) result }
     ensures stream { WritesAsCalled writer.old writer.new result }
-    ensures used_up { TellsWriteBound (answer_text bare closing (viewed answer.entry)) writer.new result }
+    ensures used_up { TellsWriteBound (answer_text bare closing (answer_of_view answer.entry)) writer.new result }
 {
     let sent = send_answer(writer, bare, closing, answer);
     if closing {
@@ -85,11 +85,12 @@ fn reply_or_refuse<W: Write>(
     answered: Result<AnswerView<'_>, Busy>,
 ) -> Next
     ensures sent { MatchResult answered.entry
-        (λ view. Replies writer.old.bytes writer.new.bytes closing (answer_text bare closing (viewed view)) result)
+        (λ view. Replies writer.old.bytes writer.new.bytes closing
+        (answer_text bare closing (answer_of_view view)) result)
         (λ _. Refused writer.old.bytes writer.new.bytes false Status.Busy result) }
     ensures stream { WritesAsCalled writer.old writer.new result }
     ensures used_up { MatchResult answered.entry
-        (λ view. TellsWriteBound (answer_text bare closing (viewed view)) writer.new result)
+        (λ view. TellsWriteBound (answer_text bare closing (answer_of_view view)) writer.new result)
         (λ _. TellsWriteBound (refusal false (error Status.Busy)) writer.new result) }
 {
     match answered {
@@ -208,8 +209,8 @@ fn receive<R: Read, W: Write, M: Machine>(
     }
 }
 
-/// Reads one message, answers it, and returns what comes next. The buffer has what was read before and not yet answered.
-/// A message takes no more reads than the longest head and body have bytes, and one more.
+/// Reads one message, answers it, and returns what comes next. The buffer has what was read before and not yet
+/// answered. A message takes no more reads than the longest head and body have bytes, and one more.
 pub fn exchange<R: Read, W: Write, M: Machine>(
     means: &Means,
     reader: &mut Source<'_, R>,
@@ -283,9 +284,9 @@ pub fn talk<R: Read, W: Write, M: Machine>(
         writer.old.bytes writer.new.bytes office.old result office.new }
     ensures store { StaysFailed M.is_intact M.is_open office.old office.new }
     // All that was written was flushed, unless a fault of the writer or a bound ends the session. If no such call had
-    // failed before, a read or write fault is returned exactly if one failed now. A bound is returned only if a call was
-    // interrupted, and as many calls were made as the message, or the text that broke off, may have: one read for each
-    // byte of the longest message and one more, or one write or flush for each byte of the text and 16 more.
+    // failed before, a read or write fault is returned exactly if one failed now. A bound is returned only if a call
+    // was interrupted, and as many calls were made as the message, or the text that broke off, may have: one read for
+    // each byte of the longest message and one more, or one write or flush for each byte of the text and 16 more.
     ensures streams { EndsAsCalled (TakesCalls (most_answers * most_reads)) reader.old reader.new
         writer.old writer.new (Next.Ends result) }
     ensures breaks_off { result ≡ Ended.Bound → TalksBounded M.represents M.is_intact reader.old.bytes reader.new

@@ -3,7 +3,7 @@ ghost use Rattle.std.specs.Prelude.{◌≡◌, ◌≢◌, ◌+◌, ◌<◌, ◌�
 ghost use Rattle.std.specs.Io.KnownBytes.{Appends, ReadConsumes};
 ghost use Rattle.std.specs.Io.{ReadsAtMost};
 ghost use Rattle.http_desk.specs.Streams.{IsNew, after_flush, after_write, has_failed, most_calls, most_reads, more_writes};
-ghost use Rattle.http_desk.specs.Streams.{counted, was_interrupted};
+ghost use Rattle.http_desk.specs.Streams.{one_more_call, was_interrupted};
 
 use crate::message_input::HEAD_LIMIT;
 use http_messages::head_verdict::LONGEST;
@@ -136,7 +136,7 @@ impl<'a, R: Read> Source<'a, R> {
         ensures same { self.new.name ≡ self.old.name }
         ensures failed { self.new.failed ≡ (has_failed result || self.old.failed) }
         ensures interrupted { self.new.interrupted ≡ (was_interrupted result || self.old.interrupted) }
-        ensures calls { self.new.calls ≡ counted self.old.calls }
+        ensures calls { self.new.calls ≡ one_more_call self.old.calls }
         ensures given { self.new.given ≡ self.old.given }
         ensures turns { self.new.turns + 1 ≡ self.old.turns }
     {
@@ -276,7 +276,7 @@ impl<'a, W: Write> Sink<'a, W> {
         ensures flushed { self.new.flushed ≡ after_write self.old.flushed result }
         ensures failed { self.new.failed ≡ (has_failed result || self.old.failed) }
         ensures interrupted { self.new.interrupted ≡ (was_interrupted result || self.old.interrupted) }
-        ensures calls { self.new.calls ≡ counted self.old.calls }
+        ensures calls { self.new.calls ≡ one_more_call self.old.calls }
         ensures given { self.new.given ≡ self.old.given }
         ensures turns { self.new.turns + 1 ≡ self.old.turns }
     {
@@ -311,7 +311,7 @@ impl<'a, W: Write> Sink<'a, W> {
         ensures flushed { self.new.flushed ≡ after_flush self.old.flushed result }
         ensures failed { self.new.failed ≡ (has_failed result || self.old.failed) }
         ensures interrupted { self.new.interrupted ≡ (was_interrupted result || self.old.interrupted) }
-        ensures calls { self.new.calls ≡ counted self.old.calls }
+        ensures calls { self.new.calls ≡ one_more_call self.old.calls }
         ensures given { self.new.given ≡ self.old.given }
         ensures turns { self.new.turns + 1 ≡ self.old.turns }
     {

@@ -107,23 +107,23 @@ of_told (told.Json bytes) = record { status = Fine; is_text = false; allow = Non
 of_told (told.Unknown why) = error NotFound
 
 abbrev pub status_of_reply : Reply → Status
-status_of_reply (Ok done) = Fine
+status_of_reply (Ok command_answer) = Fine
 status_of_reply (Err why) = Conflict
 
 abbrev pub of_reply : Reply → Answer
 of_reply reply = record { status = status_of_reply reply; is_text = false; allow = None; body = reply_text reply }
 
-abbrev pub done : State → Command → Answer × State
-done s asked = (of_reply (step s asked).1, (step s asked).0)
+abbrev pub command_answer : State → Command → Answer × State
+command_answer s asked = (of_reply (step s asked).1, (step s asked).0)
 
 abbrev pub done_if_read : State → Option Command → Answer × State
 done_if_read s None = (error BadRequest, s)
-done_if_read s (Some asked) = done s asked
+done_if_read s (Some asked) = command_answer s asked
 
 abbrev pub carried_out : State → Bytes → Route → Answer × State
 carried_out s body (Asks asked) = (of_told (answer s asked), s)
-carried_out s body (Does asked) = done s asked
-carried_out s body (TakesFile source) = done s (Import source body)
+carried_out s body (Does asked) = command_answer s asked
+carried_out s body (TakesFile source) = command_answer s (Import source body)
 carried_out s body (TakesForm asked) = done_if_read s (command_in asked body)
 
 -- the checks in order: route, method, length, members of the body; and then the command or the question
@@ -134,5 +134,5 @@ by_route s request body (Some route) =
     else if is_post route && is_none request.length then (error LengthRequired, s)
     else carried_out s body route
 
-abbrev pub answered : State → Request → Bytes → Answer × State
-answered s request body = by_route s request body (route_of (path_of request.target))
+abbrev pub response : State → Request → Bytes → Answer × State
+response s request body = by_route s request body (route_of (path_of request.target))

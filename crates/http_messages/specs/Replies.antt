@@ -15,8 +15,8 @@ answer_in (held.NotAllowed post) = not_allowed (method_name post)
 answer_in (held.Error status) = error status
 
 -- the same of a view, which is what is written
-abbrev pub viewed : AnswerView → Answer
-viewed view = record {
+abbrev pub answer_of_view : AnswerView → Answer
+answer_of_view view = record {
   status = view.status;
   is_text = view.is_text;
   allow = option_map method_name view.allow;

@@ -2,7 +2,7 @@
 ghost use Rattle.std.specs.Prelude.{◌≡◌, ◌≤◌, length};
 ghost use Rattle.http_messages.specs.Answers.{body_text, error, number_of, phrase_of, error_text};
 ghost use Rattle.http_messages.specs.Answers.{type_name, allow_field, close_field};
-ghost use Rattle.http_messages.specs.Replies.{answer_in, viewed};
+ghost use Rattle.http_messages.specs.Replies.{answer_in, answer_of_view};
 
 use crate::status::Status;
 use http::StatusCode;
@@ -26,7 +26,7 @@ pub enum Answered {
 impl Answered {
     /// The answer as it is written.
     pub fn view(&self) -> AnswerView<'_>
-        ensures { viewed result ≡ answer_in self.now }
+        ensures { answer_of_view result ≡ answer_in self.now }
     {
         match self {
             Answered::Text(body) => AnswerView {
@@ -53,7 +53,7 @@ impl Answered {
                 allow: Some(*post),
                 body: error_body(Status::MethodNotAllowed),
             },
-            Answered::Error(status) => AnswerView::fixed(*status),
+            Answered::Error(status) => AnswerView::fixed_answer(*status),
         }
     }
 }
@@ -71,8 +71,8 @@ pub struct AnswerView<'a> {
 
 impl<'a> AnswerView<'a> {
     /// A fixed answer.
-    pub fn fixed(status: Status) -> AnswerView<'a>
-        ensures { viewed result ≡ error status }
+    pub fn fixed_answer(status: Status) -> AnswerView<'a>
+        ensures { answer_of_view result ≡ error status }
     {
         AnswerView {
             status,
@@ -83,20 +83,20 @@ impl<'a> AnswerView<'a> {
     }
 
     pub fn status(self) -> Status
-        ensures { result ≡ (viewed self.entry).status }
+        ensures { result ≡ (answer_of_view self.entry).status }
     {
         self.status
     }
 
     pub fn is_text(self) -> bool
-        ensures { result ≡ (viewed self.entry).is_text }
+        ensures { result ≡ (answer_of_view self.entry).is_text }
     {
         self.is_text
     }
 
     /// The line of the field that names the allowed method; empty if the answer has none.
     pub fn allow_line(self) -> &'static [u8]
-        ensures line { result.now ≡ allow_field (viewed self.entry).allow }
+        ensures line { result.now ≡ allow_field (answer_of_view self.entry).allow }
         ensures short { length result.now ≤ 40 }
     {
         match self.allow {
@@ -107,14 +107,14 @@ impl<'a> AnswerView<'a> {
     }
 
     pub fn body(self) -> &'a [u8]
-        ensures { result.now ≡ (viewed self.entry).body }
+        ensures { result.now ≡ (answer_of_view self.entry).body }
     {
         self.body
     }
 
     /// The body that is written; none if `bare` is true.
     pub fn written_body(self, bare: bool) -> &'a [u8]
-        ensures { result.now ≡ body_text bare (viewed self.entry) }
+        ensures { result.now ≡ body_text bare (answer_of_view self.entry) }
     {
         if bare { b"" } else { self.body }
     }

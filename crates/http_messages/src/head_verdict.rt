@@ -297,7 +297,7 @@ fn is_bare(block: &[u8], line: Line) -> bool
 }
 
 /// The verdict that refuses a head with this status.
-fn refused(block: &[u8], line: Line, status: Status) -> Judged
+fn refuse(block: &[u8], line: Line, status: Status) -> Judged
     requires { IsWithin (length block.now) line.method }
     ensures fit { IsFit block.now result }
     ensures is { verdict_in block.now result ≡ Refused status (is_head (span_bytes block.now line.method)) }
@@ -306,7 +306,7 @@ fn refused(block: &[u8], line: Line, status: Status) -> Judged
 }
 
 /// The verdict that accepts a head. Its length, if it gives one, must not be too long.
-fn accepted(block: &[u8], fields: &[HeaderSpan], line: Line, size: Option<u64>) -> Judged
+fn accept(block: &[u8], fields: &[HeaderSpan], line: Line, size: Option<u64>) -> Judged
     requires method { IsWithin (length block.now) line.method }
     requires target { IsWithin (length block.now) line.target }
     requires within { All (IsHeaderWithin (length block.now)) fields.now }
@@ -338,9 +338,9 @@ fn weigh_size(block: &[u8], fields: &[HeaderSpan], line: Line, size: u64) -> Jud
         (map (header_bytes block.now) fields.now) size }
 {
     if size > LONGEST {
-        refused(block, line, Status::TooLarge)
+        refuse(block, line, Status::TooLarge)
     } else {
-        accepted(block, fields, line, Some(size))
+        accept(block, fields, line, Some(size))
     }
 }
 
@@ -376,12 +376,12 @@ fn weigh_said(block: &[u8], fields: &[HeaderSpan], line: Line) -> Judged
         (find (λ h. is_named (codes "content-length") (header_bytes block.now h)) fields.now)) }
 {
     match first_named(block, fields, b"content-length") {
-        None => accepted(block, fields, line, None),
+        None => accept(block, fields, line, None),
         Some(said) => {
             if is_undisputed(block, fields, said) {
                 weigh_size(block, fields, line, capped_number(said))
             } else {
-                refused(block, line, Status::BadRequest)
+                refuse(block, line, Status::BadRequest)
             }
         }
     }
@@ -398,9 +398,9 @@ fn weigh_fields(block: &[u8], fields: &[HeaderSpan], line: Line) -> Judged
         (map (header_bytes block.now) fields.now) }
 {
     if !has_allowed_hosts(block, fields, line.minor) {
-        refused(block, line, Status::BadRequest)
+        refuse(block, line, Status::BadRequest)
     } else if has_named(block, fields, b"transfer-encoding") {
-        refused(block, line, Status::NotImplemented)
+        refuse(block, line, Status::NotImplemented)
     } else {
         weigh_said(block, fields, line)
     }

@@ -135,7 +135,7 @@ impl Routes {
     }
 
     /// What the path leads to in the router.
-    fn found<'p>(&self, text: &'p str) -> Option<Route<'p>>
+    fn lookup<'p>(&self, text: &'p str) -> Option<Route<'p>>
         ensures { option_map route_in result ≡ spec.route_of text.now }
     {
         match self.router.at(text) {
@@ -149,7 +149,7 @@ impl Routes {
         ensures { option_map route_in result ≡ spec.route_of path.now }
     {
         match str::from_utf8(path) {
-            Ok(text) => self.found(text),
+            Ok(text) => self.lookup(text),
             Err(_) => None,
         }
     }

@@ -3,7 +3,7 @@ use Rattle.std.proofs.Common.{◌≡◌, ℕ, Bool, true, false, cond, not, ◌&
 use Rattle.std.specs.List.{list_all}
 use Rattle.std.proofs.lemmas.Bool.{or_parts}
 use Rattle.sqlite.specs.Tree.{Trees}
-use Rattle.tree_core.specs.Versions.{Version}
+use Rattle.office_tables.specs.Versions.{Version, encoding}
 use Rattle.catalogue_core.specs.CatalogueCauses.{are_good_container_rows, is_good_housing, units_are_bad}
 use Rattle.office_tables.specs.Cells.{has_unread}
 use Rattle.office_tables.specs.CatalogueCells.{read_unit, read_container, read_housing}
@@ -75,13 +75,13 @@ module _ (v : Version) (db : Trees) where
     abbrev after_places : Option CatalogueDefect
     after_places = cond (units_are_defective v next db) (Some Units) (defect_of_contents v db)
 
-    pub bad_places : places_are_defective v db ≡ true → Some Places ≡ catalogue_defect v next db
+    pub bad_places : places_are_defective (encoding v) db ≡ true → Some Places ≡ catalogue_defect v next db
     bad_places h = sym (ap (λ b. cond b (Some Places) after_places) h)
 
-    pub bad_units : places_are_defective v db ≡ false → not (units_are_defective v next db) ≡ false → Some Units ≡ catalogue_defect v next db
+    pub bad_units : places_are_defective (encoding v) db ≡ false → not (units_are_defective v next db) ≡ false → Some Units ≡ catalogue_defect v next db
     bad_units h k = sym (ap (λ b. cond b (Some Places) after_places) h ∙ ap (λ b. cond b (Some Units) (defect_of_contents v db)) (was_bad (units_are_defective v next db) k))
 
-    pub good_units : places_are_defective v db ≡ false → not (units_are_defective v next db) ≡ true → defect_of_contents v db ≡ catalogue_defect v next db
+    pub good_units : places_are_defective (encoding v) db ≡ false → not (units_are_defective v next db) ≡ true → defect_of_contents v db ≡ catalogue_defect v next db
     good_units h k = sym (ap (λ b. cond b (Some Places) after_places) h ∙ ap (λ b. cond b (Some Units) (defect_of_contents v db)) (was_good (units_are_defective v next db) k))
 
     pub units_are_read : not (units_are_defective v next db) ≡ true → has_unread read_unit (db tables.unit.tree) ≡ false

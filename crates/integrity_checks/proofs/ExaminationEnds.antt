@@ -47,7 +47,7 @@ module _ {S X : Type 0} {g : store.Ghosts S} {before after : Held S} {answer : T
     pub passes_of : {Y : Type 0} → Reads {X = Y} (state g before) (state g after) (Err e) → FaultsHaveCause {X = Y} (state g before) (state g after) (Err e) → Examines g before after r answer
     passes_of read faults =
         subst (λ (r : Result X StoreFault). Examines g before after r answer) (sym (same_fault r e handed.0 handed.1))
-        (record { reads = read_not (state g before) (state g after) (Err e) e refl read.cut read.spares; answers = λ clean. tt; faults = faults })
+        (record { reads = read_not (state g before) (state g after) (Err e) e refl read.aborts read.spares; answers = λ clean. tt; faults = faults })
 
     -- of its first call
     pub passes : {Y : Type 0} {other : Trees → Y → Type 0} → Examines g before after (Err e) other → Examines g before after r answer
@@ -57,7 +57,7 @@ module _ {S X : Type 0} {g : store.Ghosts S} {before after : Held S} {answer : T
     pub passes_later : {mid : Held S} {Y : Type 0} {other : Trees → Y → Type 0} → LeavesUnchanged (state g before) (state g mid) → Examines g mid after (Err e) other → Examines g before after r answer
     passes_later {mid} {Y} looked it =
         passes_of (reads_then {X = Y} (state g before) (state g mid) (state g after) (Err e) looked it.reads)
-        (excused_then {X = Y} (state g before) (state g mid) (state g after) looked.goes.on (Err e) it.reads.cut (λ clean. it.faults))
+        (excused_then {X = Y} (state g before) (state g mid) (state g after) looked.goes.on (Err e) it.reads.aborts (λ clean. it.faults))
 
 module _ {S Y : Type 0} {g : store.Ghosts S} {mid after : Held S} {r : Result Y StoreFault} {other : Trees → Y → Type 0} where
   -- the disk was clean before it
@@ -74,7 +74,7 @@ module _ {S Y : Type 0} {g : store.Ghosts S} {mid after : Held S} {r : Result Y 
   examined_last {before} {answer} looked it is = record {
     reads = reads_then (state g before) (state g mid) (state g after) r looked it.reads;
     answers = λ clean. on_ok r (is (earlier it clean)) (still looked it clean);
-    faults = excused_then (state g before) (state g mid) (state g after) looked.goes.on r it.reads.cut (λ clean. it.faults);
+    faults = excused_then (state g before) (state g mid) (state g after) looked.goes.on r it.reads.aborts (λ clean. it.faults);
   }
     where
       on_ok : (r : Result Y StoreFault) → ((y : Y) → other (state g before).now.trees y → answer (state g before).now.trees y) → IfOk r (other (state g before).now.trees) → IfOk r (answer (state g before).now.trees)

@@ -20,7 +20,7 @@ use Rattle.sqlite_value.specs.Keys.{ascending}
 use Rattle.sqlite_value.specs.declared.keys.Key.{Key}
 use Rattle.isad_core.specs.Texts.{is_blank_text}
 use Rattle.isad_core.specs.Words.{are_numbered_from}
-use Rattle.tree_core.specs.Versions.{Version}
+use Rattle.office_tables.specs.Versions.{Version}
 use Rattle.catalogue_core.specs.CatalogueCauses.{are_good_container_rows}
 use Rattle.catalogue_core.specs.CatalogueRows.{ContainerRow}
 use Rattle.office_tables.specs.Cells.{has_unread, number_in, text_in}
@@ -35,7 +35,7 @@ use Rattle.row_decoding.specs.TableRows.{by, containers_in}
 use Rattle.integrity_checks.specs.ScanAnswers.{is_numbered, is_container_answer, are_container_answers}
 use Rattle.integrity_checks.specs.CatalogueJudgments.{good_containers_in, number_of_containers}
 use Rattle.row_decoding.proofs.Alike.{all_alike, alike_then, ordered_alike, read_alike}
-use Rattle.integrity_checks.proofs.Scans.{show}
+use Rattle.row_decoding.proofs.TableReads.{show}
 use Rattle.row_decoding.proofs.ToldCells.{is_number}
 
 -- ---- one row more
@@ -80,7 +80,7 @@ unfolding understood everything
 containers_mean v = record { is = refl; plain = (refl, refl); whole = (le_refl _, refl, refl); unlisted = refl }
 
 abbrev pub show_container : Row → Row
-show_container = show tables.container containers_terms by_id containers_names containers_text containers_mean
+show_container = show containers_terms
 
 -- ---- what the rows tell
 

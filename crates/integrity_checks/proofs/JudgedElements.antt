@@ -14,7 +14,7 @@ use Rattle.sqlite.specs.Tree.{Trees}
 use Rattle.sqlite_tied.specs.Compute.{everything}
 use Rattle.isad_core.specs.Texts.{is_blank_text}
 use Rattle.isad_core.specs.Words.{is_between}
-use Rattle.tree_core.specs.Versions.{Version}
+use Rattle.office_tables.specs.Versions.{Version}
 use Rattle.desk_core.specs.Orders.{in_order}
 use Rattle.catalogue_core.specs.CatalogueCauses.{unit_numbers, is_good_element}
 use Rattle.catalogue_core.specs.CatalogueRows.{ElementRow}
@@ -27,7 +27,7 @@ use Rattle.row_decoding.specs.TableRows.{then_by, catalogue_in}
 use Rattle.integrity_checks.specs.ScanAnswers.{is_good_value, is_element_answer}
 use Rattle.integrity_checks.specs.CatalogueChecks.{elements_are_defective}
 use Rattle.row_decoding.proofs.Alike.{permuted, all_alike, ordered_alike}
-use Rattle.integrity_checks.proofs.Scans.{show}
+use Rattle.row_decoding.proofs.TableReads.{show}
 use Rattle.integrity_checks.proofs.Tested.{all_same, passes, judged}
 use Rattle.integrity_checks.proofs.UnitsThere.{HasUnit, element_has_unit}
 
@@ -73,12 +73,12 @@ module _ (v : Version) (db : Trees) (units_read : has_unread read_unit (db table
   same_tests (row ∷ rows) h = (same_test row h.0, same_tests rows h.1)
 
   pub elements_judged : AllByRecursion (HasUnit v db) table → (ys rows : List Row) → IsPermutation table ys
-      → rows ≡ map (show tables.element elements_terms [] elements_names elements_text elements_mean) ys → list_all is_element_answer rows ≡ not (elements_are_defective v db)
+      → rows ≡ map (show elements_terms) ys → list_all is_element_answer rows ≡ not (elements_are_defective v db)
   elements_judged kept ys rows same shown =
       let fits = passes read_element is_good_value in
       let by_key = then_by (λ (row : ElementRow). row.unit) (λ (row : ElementRow). row.k) in
       ap (list_all is_element_answer) shown
-      ∙ list_all-map is_element_answer (show tables.element elements_terms [] elements_names elements_text elements_mean) ys
+      ∙ list_all-map is_element_answer (show elements_terms) ys
       ∙ sym (all_alike fits table ys (permuted table ys same)) ∙ sym (all_same (passes read_element good) fits table (same_tests table kept))
       ∙ sym (not-not (list_all (passes read_element good) table)) ∙ ap not (sym (judged read_element good table))
       ∙ ap (λ b. not (has_unread read_element table || not b)) (sym (all_alike good (in_order by_key (filter_map read_element table)) (filter_map read_element table) (ordered_alike by_key (filter_map read_element table))))

@@ -23,7 +23,7 @@ use Rattle.sqlite_value.specs.Order.{value_cmp}
 use Rattle.sqlite_value.specs.declared.keys.Key.{Key}
 use Rattle.sqlite_value.proofs.OrderLemmas.{then-Equal}
 use Rattle.isad_core.specs.Words.{is_between, stands}
-use Rattle.tree_core.specs.Versions.{Version}
+use Rattle.office_tables.specs.Versions.{Version}
 use Rattle.catalogue_core.specs.CatalogueCauses.{unit_numbers, is_good_housing}
 use Rattle.catalogue_core.specs.CatalogueRows.{HousingRow}
 use Rattle.office_tables.specs.Cells.{has_unread}
@@ -34,14 +34,13 @@ use Rattle.office_tables.proofs.ByNumber.{Up, up_read}
 use Rattle.office_tables.proofs.CellTexts.{from_first}
 use Rattle.office_tables.proofs.Queries.{asking}
 use Rattle.row_decoding.specs.Readings.{by_rowid}
-use Rattle.row_decoding.proofs.TableReads.{same_rows}
+use Rattle.row_decoding.proofs.TableReads.{same_rows, show}
 use Rattle.row_decoding.specs.TableRows.{then_by, catalogue_in, containers_in}
 use Rattle.integrity_checks.specs.ScanAnswers.{is_placed, read_placed, said_placed}
 use Rattle.integrity_checks.specs.HousingPlaces.{higher, are_filled, AreHoused}
 use Rattle.integrity_checks.specs.CatalogueJudgments.{good_housings_in}
 use Rattle.row_decoding.proofs.Alike.{Alike, permuted, alike_then, all_alike, filter_alike, ordered_alike, read_alike}
 use Rattle.integrity_checks.proofs.FilledUnits.{unit_of, rows_of, higher_is, filled_judged}
-use Rattle.integrity_checks.proofs.Scans.{show}
 use Rattle.integrity_checks.proofs.Tested.{all_same, said_shown, unread_shown, passes, judged, unread_tested, same_tested}
 use Rattle.integrity_checks.proofs.UnitsThere.{HasUnit, housing_unit, housing_has_unit}
 
@@ -145,7 +144,7 @@ unfolding understood everything
 housings_mean v = record { is = refl; plain = (refl, refl); whole = (le_refl _, refl, refl); unlisted = refl }
 
 abbrev pub show_housing : Row → Row
-show_housing = show tables.housing housings_terms by_unit_and_ord housings_names housings_text housings_mean
+show_housing = show housings_terms
 
 -- ---- by their units
 

@@ -1,44 +1,35 @@
 -- The readers are judged in the order of their tickets.
-use Rattle.std.proofs.Common.{length-append, inl, inr, ◌≡◌, ℕ, suc, pos, ◌+◌, List, [], ◌∷◌, ◌++◌, length, map, Bool, true, false, cond, not, ◌&&◌, ◌||◌, nat_eq, nat_le, Option, Some, None, is_none, filter_map, refl, sym, ap, ap₂, subst, ◌∙◌, arith, codes}
+use Rattle.std.proofs.Common.{length-append, inl, inr, ◌≡◌, ℕ, suc, pos, ◌+◌, List, [], ◌∷◌, ◌++◌, length, map, Bool, true, false, cond, not, ◌&&◌, ◌||◌, nat_eq, nat_le, Option, Some, None, is_none, filter_map, refl, sym, ap, ap₂, ◌∙◌, arith, codes}
 use Rattle.std.proofs.Math.Nat.{le_refl}
 use Rattle.std.specs.List.{list_all, cons_option}
 use Rattle.std.specs.Option.{option_map_or}
 use Rattle.std.specs.List.Sorted.{IsSorted, IsPermutation}
 use Rattle.std.proofs.lemmas.List.{length-map}
 use Rattle.std.proofs.lemmas.List.Sorted.{list_any-IsPermutation, length_permutation}
-use Rattle.std.proofs.lemmas.Bool.{cases_Bool, both_ways, or_parts}
+use Rattle.std.proofs.lemmas.Bool.{cases_Bool, or_parts}
 use Rattle.std.proofs.Math.Bool.{and-true, and-false}
 use Rattle.sqlite.specs.declared.types.Value.TheVariants.{Int}
-use Rattle.sqlite.specs.declared.error.Error.{Error}
 use Rattle.sqlite.specs.Order.{Row, column}
 use Rattle.sqlite.specs.Tree.{Trees}
 use Rattle.sqlite.specs.Term.{Term, col}
 use Rattle.sqlite.specs.Collation.TheVariants.{Binary}
 use Rattle.sqlite_value.specs.Keys.{ascending}
 use Rattle.sqlite_value.specs.declared.keys.Key.{Key}
-use Rattle.sqlite_value.proofs.OrderLemmas.{then-Equal}
-use Rattle.sqlite.specs.Command.{Command}
 use Rattle.sqlite.specs.Command.TheVariants.{Select}
 use Rattle.sqlite.specs.Listing.{understood}
-use Rattle.sqlite.specs.State.{State, Shown, FailsToQuery}
 use Rattle.sqlite_tied.specs.Compute.{everything}
-use Rattle.tree_core.specs.Versions.{Version}
+use Rattle.office_tables.specs.Versions.{Version}
 use Rattle.isad_core.specs.Words.{are_numbered_from}
 use Rattle.desk_core.specs.DeskCauses.{is_good_reader}
 use Rattle.desk_core.specs.DeskRows.{ReaderRow}
 use Rattle.desk_core.specs.Orders.{in_order}
 use Rattle.office_tables.specs.Cells.{has_unread, number_in, whole_in, text_in}
 use Rattle.office_tables.specs.DeskCells.{read_reader}
-use Rattle.office_tables.specs.Faults.{fault_of, IsUnlimited, HasCause}
 use Rattle.office_tables.specs.StatementMeaning.{Means}
-use Rattle.office_tables.specs.Schema.{schema, reader}
-use Rattle.office_tables.proofs.Causes.{read_cause, none_refuse, sums_nothing}
+use Rattle.office_tables.specs.Schema.{reader}
 use Rattle.office_tables.proofs.CellTexts.{from_first}
-use Rattle.office_tables.proofs.Rows.{kept_all}
 use Rattle.office_tables.proofs.Queries.{asking}
-use Rattle.office_tables.proofs.statements.SelectOf.{select_rows}
 use Rattle.row_decoding.proofs.Alike.{all_as_any}
-use Rattle.row_decoding.proofs.TableReads.{same_rows}
 use Rattle.row_decoding.proofs.ToldCells.{is_number}
 use Rattle.row_decoding.specs.TableRows.{readers_in}
 use Rattle.integrity_checks.specs.ReaderRows.{is_reader_with, is_reader_answer, are_reader_answers, are_registered_well, readers_are_defective, number_registered}
@@ -73,26 +64,18 @@ taken_good count good answer rows row passes counted so_far is = let all = taken
 abbrev pub all_readers_text : List ℕ
 all_readers_text = codes "SELECT ticket, until, name FROM reader ORDER BY ticket"
 
-abbrev all_readers_terms : List Term
+abbrev pub all_readers_terms : List Term
 all_readers_terms = col 1 0 ∷ col 1 3 ∷ col 1 2 ∷ []
 
-abbrev by_ticket : List (Term × Key)
+abbrev pub by_ticket : List (Term × Key)
 by_ticket = (col 1 0, ascending Binary) ∷ []
 
-abbrev all_readers_names : List (List ℕ)
+abbrev pub all_readers_names : List (List ℕ)
 all_readers_names = codes "ticket" ∷ codes "until" ∷ codes "name" ∷ []
 
-abbrev pub all_readers_command : Command
-all_readers_command = Select (asking reader [] all_readers_terms by_ticket) all_readers_names
-
-pub all_readers_means : (v : Version) → Means v all_readers_text 0 all_readers_command
+pub all_readers_means : (v : Version) → Means v all_readers_text 0 (Select (asking reader [] all_readers_terms by_ticket) all_readers_names)
 unfolding understood everything
 all_readers_means v = record { is = refl; plain = (refl, refl); whole = (le_refl _, refl, refl); unlisted = refl }
-
-pub all_readers_cause : (old new : State) (v : Version) → old.now.schema ≡ schema v → IsUnlimited old → (e : Error) → FailsToQuery all_readers_text [] old new e → HasCause old new (fault_of e)
-all_readers_cause old new v has free e h =
-    read_cause all_readers_text [] old new (schema v) has _ _ (all_readers_means v).is (all_readers_means v).plain (all_readers_means v).whole (all_readers_means v).unlisted
-    (λ db e r. none_refuse r (λ t. both_ways _ t refl) (sums_nothing _)) free e h
 
 abbrev pub shown_reader : Row → Row
 shown_reader row = column row 0 ∷ column row 3 ∷ column row 2 ∷ []
@@ -107,15 +90,6 @@ keyed row x h =
     let c = from_first (text_in (column row 2)) _ x b.2 in
     let made : a.0 ≡ x.ticket = ap (λ (o : Option ReaderRow). option_map_or ticket_of o 0) c.2 in
     is_number (column row 0) a.0 a.1 ∙ ap (λ n. Int (pos n)) made
-
--- the rows in the order of their keys
-pub scanned_readers : (old new : State) (rows : List Row) (v : Version) → old.now.schema ≡ schema v → Shown all_readers_text [] old new rows
-    → (ys : List Row) × IsPermutation (old.now.trees 0) ys × IsSorted (by_key read_reader ticket_of keyed) ys × (rows ≡ map shown_reader ys)
-scanned_readers old new rows v has shown =
-    let table = old.now.trees 0 in
-    let got = select_rows v reader all_readers_text [] all_readers_terms by_ticket all_readers_names [] (all_readers_means v) old new has (λ (r : Row). r) table (same_rows table) (λ _. true) (λ _. refl)
-    shown_reader (λ (r : Row). column r 0 ∷ []) (λ _. refl) (by_key read_reader ticket_of keyed) (λ _. refl) (λ a b. then-Equal _) rows shown in
-    (got.0, subst (λ l. IsPermutation l got.0) (kept_all table) got.1.0, got.1.1, got.2)
 
 -- ---- what the rows that are shown tell
 

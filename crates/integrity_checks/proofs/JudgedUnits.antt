@@ -14,7 +14,7 @@ use Rattle.sqlite.specs.Tree.{Trees}
 use Rattle.sqlite_tied.specs.Compute.{everything}
 use Rattle.isad_core.specs.Limits.{most_units, most_deep}
 use Rattle.isad_core.specs.Words.{stands}
-use Rattle.tree_core.specs.Versions.{Version}
+use Rattle.office_tables.specs.Versions.{Version, encoding}
 use Rattle.tree_core.proofs.Lists.{list_any-map}
 use Rattle.catalogue_core.specs.CatalogueCauses.{unit_numbers, place_numbers, all_stand_in}
 use Rattle.catalogue_core.specs.CatalogueRows.{UnitRow, places_said}
@@ -25,14 +25,13 @@ use Rattle.office_tables.specs.StatementMeaning.{Means}
 use Rattle.office_tables.specs.Schema as tables
 use Rattle.office_tables.proofs.Queries.{asking}
 use Rattle.row_decoding.specs.Readings.{AreGathered}
-use Rattle.row_decoding.proofs.TableReads.{same_rows}
+use Rattle.row_decoding.proofs.TableReads.{same_rows, show}
 use Rattle.row_decoding.specs.TableRows.{by, places_in, catalogue_in}
 use Rattle.integrity_checks.specs.PlaceChecks.{AreUnitsPlaced}
 use Rattle.integrity_checks.specs.ScanAnswers.{is_described, read_described, said_described}
 use Rattle.integrity_checks.specs.CatalogueChecks.{units_are_defective}
 use Rattle.integrity_checks.specs.CatalogueJudgments.{are_good_numbers}
 use Rattle.row_decoding.proofs.Alike.{Alike, permuted, alike_then, alike_back, any_alike, all_alike, length_alike, ordered_alike, read_alike}
-use Rattle.integrity_checks.proofs.Scans.{show}
 use Rattle.integrity_checks.proofs.Tested.{said_shown, unread_shown, unread_tested, same_tested}
 
 -- ---- the text
@@ -51,7 +50,7 @@ unfolding understood everything
 units_mean v = record { is = refl; plain = (refl, refl); whole = (le_refl _, refl, refl); unlisted = refl }
 
 abbrev pub show_unit : Row → Row
-show_unit = show tables.unit units_terms [] units_names units_text units_mean
+show_unit = show units_terms
 
 -- ---- what the rows tell
 
@@ -132,9 +131,9 @@ module _ (v : Version) (next : ℕ) (db : Trees) (ys rows : List Row) (numbers :
     as_many : length numbers ≡ length in_catalogue
     as_many = ap length are_numbers ∙ length-map units id_of ∙ length_alike units in_catalogue alike
 
-    module _ (places : List ℕ) (deep : ℕ) (placed : AreUnitsPlaced (places_in v db) places) (depth : deep ≡ height (places_said (places_in v db))) where
+    module _ (places : List ℕ) (deep : ℕ) (placed : AreUnitsPlaced (places_in (encoding v) db) places) (depth : deep ≡ height (places_said (places_in (encoding v) db))) where
       abbrev in_places : List ℕ
-      in_places = place_numbers (places_in v db)
+      in_places = place_numbers (places_in (encoding v) db)
 
       stand_placed : (n : ℕ) → stands n places ≡ stands n in_places
       stand_placed n = sym (list_any-IsPermutation (nat_eq n) in_places places placed.same)
@@ -150,14 +149,14 @@ module _ (v : Version) (next : ℕ) (db : Trees) (ys rows : List Row) (numbers :
 
       fits : are_good_numbers next places deep numbers
           ≡ (list_all (λ (row : UnitRow). nat_lt row.id next) in_catalogue && (all_stand_in in_places (unit_numbers (catalogue_in v db)) && (all_stand_in (unit_numbers (catalogue_in v db)) in_places
-          && (nat_le (length in_catalogue) most_units && nat_le (height (places_said (places_in v db))) most_deep))))
+          && (nat_le (length in_catalogue) most_units && nat_le (height (places_said (places_in (encoding v) db))) most_deep))))
       fits = ap₂ ◌&&◌ below (ap₂ ◌&&◌ all_placed (ap₂ ◌&&◌ all_there (ap₂ ◌&&◌ (ap (λ n. nat_le n most_units) as_many) (ap (λ n. nat_le n most_deep) depth))))
 
-  pub units_judged : (places : List ℕ) (deep : ℕ) → AreUnitsPlaced (places_in v db) places → deep ≡ height (places_said (places_in v db)) → (fine : Bool) → fine ≡ are_good_numbers next places deep numbers
+  pub units_judged : (places : List ℕ) (deep : ℕ) → AreUnitsPlaced (places_in (encoding v) db) places → deep ≡ height (places_said (places_in (encoding v) db)) → (fine : Bool) → fine ≡ are_good_numbers next places deep numbers
       → (good && fine) ≡ not (units_are_defective v next db)
   units_judged places deep placed depth fine is =
-      let rest = all_stand_in (place_numbers (places_in v db)) (unit_numbers (catalogue_in v db)) && (all_stand_in (unit_numbers (catalogue_in v db)) (place_numbers (places_in v db))
-      && (nat_le (length in_catalogue) most_units && nat_le (height (places_said (places_in v db))) most_deep)) in
+      let rest = all_stand_in (place_numbers (places_in (encoding v) db)) (unit_numbers (catalogue_in v db)) && (all_stand_in (unit_numbers (catalogue_in v db)) (place_numbers (places_in (encoding v) db))
+      && (nat_le (length in_catalogue) most_units && nat_le (height (places_said (places_in (encoding v) db))) most_deep)) in
       judged_both (has_unread read_unit table) (list_all is_described in_catalogue) (list_all (λ (row : UnitRow). nat_lt row.id next) in_catalogue) rest good fine
       (gathered.all ∙ ap not unread) (λ none all. is ∙ fits none all places deep placed depth)
       ∙ ap (λ b. not (has_unread read_unit table || not (b && rest))) (sym (all_both (λ (row : UnitRow). nat_lt row.id next) is_described in_catalogue))

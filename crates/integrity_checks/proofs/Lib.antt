@@ -11,7 +11,7 @@ pub mod PlacesChecked
 pub mod LinkTables
 pub mod SpanTables
 pub mod Tested
-pub mod Scans
+pub mod PlaceTexts
 pub mod UnitsThere
 pub mod JudgedElements
 pub mod JudgedContainers

@@ -12,7 +12,7 @@ use Rattle.sqlite_schema.specs.Names.{same_name}
 use Rattle.sqlite_schema.specs.Rules.{agree, has_null, has_parent}
 use Rattle.sqlite_schema.specs.declared.schema.Constraint.TheVariants.{ForeignKey}
 use Rattle.sqlite_value.specs.Keys.{joined, first_key, plain}
-use Rattle.tree_core.specs.Versions.{Version, Links, Spans}
+use Rattle.office_tables.specs.Versions.{Version, First, Second}
 use Rattle.isad_core.specs.Words.{stands}
 use Rattle.catalogue_core.specs.CatalogueCauses.{unit_numbers}
 use Rattle.catalogue_core.specs.CatalogueRows.{UnitRow, ElementRow, HousingRow}
@@ -88,8 +88,8 @@ HasUnit v db row = list_all (has_parent (schema v).tables db row) (to_unit 1 ∷
 of_unit : (v : Version) (db : Trees) (row : Row) → HasUnit v db row
     → (has_null (1 ∷ []) row || list_any (λ parent. agree plain (0 ∷ []) parent (1 ∷ []) row) (db tables.unit.tree)) ≡ true
 unfolding joined same_name
-of_unit Links db row h = (and_parts _ _ h).0
-of_unit Spans db row h = (and_parts _ _ h).0
+of_unit First db row h = (and_parts _ _ h).0
+of_unit Second db row h = (and_parts _ _ h).0
 
 not_null : (row : Row) (n : ℕ) → column row 1 ≡ Int (pos n) → has_null (1 ∷ []) row ≡ false
 not_null row n is = rw is refl
@@ -120,12 +120,12 @@ module _ (s : State) (v : Version) (has : s.now.schema ≡ schema v) (live : IsL
   elements_have_units = kept v sound
     where
       kept : (v : Version) → IsDatabase (record { schema = schema v; trees = s.now.trees }) → AllByRecursion (HasUnit v s.now.trees) (s.now.trees tables.element.tree)
-      kept Links it = (it.obeys.rules ForeignKey).1.1.1.1.1.1.1.1.1.0
-      kept Spans it = (it.obeys.rules ForeignKey).1.1.1.1.1.1.1.1.1.0
+      kept First it = (it.obeys.rules ForeignKey).1.1.1.1.1.1.1.1.1.0
+      kept Second it = (it.obeys.rules ForeignKey).1.1.1.1.1.1.1.1.1.0
 
   pub housings_have_units : AllByRecursion (HasUnit v s.now.trees) (s.now.trees tables.housing.tree)
   housings_have_units = kept v sound
     where
       kept : (v : Version) → IsDatabase (record { schema = schema v; trees = s.now.trees }) → AllByRecursion (HasUnit v s.now.trees) (s.now.trees tables.housing.tree)
-      kept Links it = (it.obeys.rules ForeignKey).1.1.1.1.1.1.1.1.1.1.1.0
-      kept Spans it = (it.obeys.rules ForeignKey).1.1.1.1.1.1.1.1.1.1.1.0
+      kept First it = (it.obeys.rules ForeignKey).1.1.1.1.1.1.1.1.1.1.1.0
+      kept Second it = (it.obeys.rules ForeignKey).1.1.1.1.1.1.1.1.1.1.1.0

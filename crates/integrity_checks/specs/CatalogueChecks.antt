@@ -2,7 +2,7 @@
 -- holds if some row of it cannot be read.
 use Rattle.std.specs.Prelude.{ℕ, Bool, ◌||◌, cond, Option, Some, None}
 use Rattle.sqlite.specs.Tree.{Trees}
-use Rattle.tree_core.specs.Versions.{Version}
+use Rattle.office_tables.specs.Versions.{Version, encoding}
 use Rattle.catalogue_core.specs.CatalogueCauses.{units_are_bad, elements_are_bad, containers_are_bad}
 use Rattle.office_tables.specs.Cells.{has_unread}
 use Rattle.office_tables.specs.CatalogueCells.{read_unit, read_element}
@@ -35,7 +35,7 @@ containers_are_defective version db = containers_are_unread db || containers_are
 -- why the tables cannot be a catalogue's, if `next` is the number of the next unit
 abbrev pub catalogue_defect : Version → ℕ → Trees → Option CatalogueDefect
 catalogue_defect version next db =
-    cond (places_are_defective version db) (Some Places)
+    cond (places_are_defective (encoding version) db) (Some Places)
     (cond (units_are_defective version next db) (Some Units)
     (cond (elements_are_defective version db) (Some Elements)
     (cond (containers_are_defective version db) (Some Containers) None)))

@@ -3,7 +3,7 @@ use Rattle.std.specs.Prelude.{◌≡◌, ℕ, Bool, false, not, cond, ◌&&◌, 
 use Rattle.std.specs.List.{list_all}
 use Rattle.sqlite.specs.Tree.{Trees}
 use Rattle.isad_core.specs.Limits.{most_units, most_deep}
-use Rattle.tree_core.specs.Versions.{Version}
+use Rattle.office_tables.specs.Versions.{Version, encoding}
 use Rattle.catalogue_core.specs.CatalogueCauses.{all_stand_in, are_good_container_rows, is_good_housing}
 use Rattle.office_tables.specs.Cells.{has_unread}
 use Rattle.catalogue_core.specs.CatalogueRows.{places_said}
@@ -61,7 +61,7 @@ defect_of_contents version db =
 -- whether the units can be a catalogue's, if those with these numbers have a place, and the deepest lies at `height`
 abbrev pub JudgesUnits : List ℕ → ℕ → ℕ → Trees → Bool → Type 0
 JudgesUnits placed height next db good =
-    (version : Version) → AreUnitsPlaced (places_in version db) placed → height ≡ height_of (places_said (places_in version db)) → good ≡ not (units_are_defective version next db)
+    (version : Version) → AreUnitsPlaced (places_in (encoding version) db) placed → height ≡ height_of (places_said (places_in (encoding version) db)) → good ≡ not (units_are_defective version next db)
 
 -- what the rule says, if each unit can be read
 abbrev pub FollowsCatalogueRule : {X : Type 0} → (Version → Trees → X) → Trees → X → Type 0

@@ -9,8 +9,8 @@ use Rattle.integrity_checks.specs.ScanAnswers.{said_placed}
 use Rattle.integrity_checks.specs.declared.housing.Housed.{Housed}
 
 -- the row as the definitions of the catalogue's causes have it
-abbrev pub housed : Housed → HousingRow
-housed row = record { unit = row.unit; ord = row.ord; container = row.container }
+abbrev pub housing_row : Housed → HousingRow
+housing_row row = record { unit = row.unit; ord = row.ord; container = row.container }
 
 -- the higher of two places
 abbrev pub higher : ℕ → ℕ → ℕ

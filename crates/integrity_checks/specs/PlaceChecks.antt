@@ -2,7 +2,7 @@
 use Rattle.std.specs.Prelude.{◌≡◌, ℕ, ◌<◌, List, [], ◌∷◌, Option, ⊤, IfSome, is_none}
 use Rattle.std.specs.List.Sorted.{IsPermutation}
 use Rattle.sqlite.specs.Tree.{Trees}
-use Rattle.tree_core.specs.Versions.{Version}
+use Rattle.office_tables.specs.Versions.{Version, encoding}
 use Rattle.catalogue_core.specs.CatalogueCauses.{place_numbers}
 use Rattle.catalogue_core.specs.CatalogueRows.{PlaceRows, places_said}
 use Rattle.catalogue_core.specs.Moves.{height}
@@ -23,6 +23,6 @@ pub record AreUnitsPlaced (rows : PlaceRows) (units : List ℕ) : Type 0 where
 
 -- what the check of the places finds: nothing if they are defective, otherwise the units that have one and their height
 pub record AreChecked (version : Version) (db : Trees) (found : Option Placed) : Type 0 where
-  pub defect : is_none found ≡ places_are_defective version db
-  pub units : IfSome found (λ placed. AreUnitsPlaced (places_in version db) placed.units.items)
-  pub height : IfSome found (λ placed. placed.height ≡ height (places_said (places_in version db)))
+  pub defect : is_none found ≡ places_are_defective (encoding version) db
+  pub units : IfSome found (λ placed. AreUnitsPlaced (places_in (encoding version) db) placed.units.items)
+  pub height : IfSome found (λ placed. placed.height ≡ height (places_said (places_in (encoding version) db)))

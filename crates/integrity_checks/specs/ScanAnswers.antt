@@ -14,8 +14,8 @@ use Rattle.office_tables.specs.Cells.{from, text_in, flag_in, whole_in, or_null_
 use Rattle.office_tables.specs.CatalogueCells.{read_unit, read_element, read_container, read_housing}
 
 -- the contents of a row, if it passes
-abbrev pub passed : {X : Type 0} → (X → Bool) → X → Option X
-passed good x = cond (good x) (Some x) None
+abbrev pub if_passes : {X : Type 0} → (X → Bool) → X → Option X
+if_passes good x = cond (good x) (Some x) None
 
 -- ---- units
 
@@ -78,7 +78,7 @@ abbrev pub is_placed : HousingRow → Bool
 is_placed row = nat_le 1 row.ord && nat_le 1 row.container
 
 abbrev pub read_placed : Row → Option HousingRow
-read_placed row = from (read_housing row) (passed is_placed)
+read_placed row = from (read_housing row) (if_passes is_placed)
 
 abbrev pub said_placed : Row → Option HousingRow
 said_placed cells = read_placed (Null ∷ column cells 0 ∷ column cells 1 ∷ column cells 2 ∷ [])

@@ -1,15 +1,14 @@
 //! The check of the places, for each way to store them.
 
-ghost use Rattle.sqlite.specs.Held.{state};
 ghost use Rattle.sqlite.specs.Tree.{Trees};
-ghost use Rattle.office_tables.specs.Step.{InTransaction};
+ghost use Rattle.office_tables.specs.Versions.{encoding};
 ghost use Rattle.row_completeness.specs.WholePlaces.{RepresentsWhatItDescribes};
 ghost use Rattle.row_decoding.specs.Examinations.{Examines};
 ghost use Rattle.integrity_checks.specs.PlaceChecks.{AreChecked};
 
 use catalogue_store::Places;
-use office_tables::StoreFault;
-use sqlite::{Alter, Connection};
+use office_tables::{StoreFault, Tables};
+use sqlite::Alter;
 use std::alloc::Global;
 
 /// Which units have a place, and how deep they lie.
@@ -26,11 +25,10 @@ pub trait CheckedPlaces: Places {
     /// Reads the rows of the places. Returns none if no office can have them. Holds all rows while it runs.
     fn check<S: Alter>(
         alloc: Global,
-        conn: &mut Connection<S>,
+        tables: &mut Tables<Self, S>,
     ) -> Result<Option<Placed>, StoreFault>
-        requires inside { InTransaction Self.version (state S.Store conn.old) }
-        ensures { Examines S.Store conn.old conn.new result (AreChecked Self.version) };
+        ensures { Examines S.Store tables.old tables.new result (AreChecked Self.version) };
 
     /// Rows that are complete, and that an office can have, represent the forest that they describe.
-    ghost shows_said: { (db : Trees) → RepresentsWhatItDescribes Self.represents Self.version db };
+    ghost shows_said: { (db : Trees) → RepresentsWhatItDescribes Self.represents (encoding Self.version) db };
 }

@@ -1,17 +1,15 @@
 //! Whether the containers can be a catalogue's, whatever their cells are.
 
 ghost use Rattle.std.specs.Prelude.{◌≡◌};
-ghost use Rattle.sqlite.specs.Held.{state};
-ghost use Rattle.office_tables.specs.Step.{InOffice};
 ghost use Rattle.row_decoding.specs.Examinations.{Examines};
 ghost use Rattle.integrity_checks.specs.ScanAnswers.{is_container_answer};
 ghost use Rattle.integrity_checks.specs.CatalogueJudgments.{number_of_containers};
 
 use crate::cells::{is_nonblank_text, is_text};
 use isad_core::limits::MOST_CONTAINERS;
-use office_tables::{Gathering, StoreFault, gather};
+use office_tables::{Gathering, StoreFault, Tables, Versioned, gather};
 use row_decoding::{cell, number_in};
-use sqlite::{Alter, Connection, Row};
+use sqlite::{Alter, Row};
 
 /// Whether the cells of a row are those of a container with this number.
 fn is_container(row: &Row, number: u64) -> bool
@@ -50,12 +48,13 @@ impl Gathering for Containers {
 }
 
 /// The number of containers, or none if no catalogue can have their rows. Reads the whole table, row by row.
-pub(crate) fn numbered<S: Alter>(conn: &mut Connection<S>) -> Result<Option<u64>, StoreFault>
-    requires inside { InOffice (state S.Store conn.old) }
-    ensures { Examines S.Store conn.old conn.new result (λ db count. count ≡ number_of_containers db) }
+pub(crate) fn count_if_numbered<P: Versioned, S: Alter>(
+    tables: &mut Tables<P, S>,
+) -> Result<Option<u64>, StoreFault>
+    ensures { Examines S.Store tables.old tables.new result (λ db count. count ≡ number_of_containers db) }
 {
     let all = gather(
-        conn,
+        tables,
         "SELECT id, name, location, kind FROM container ORDER BY id",
         Containers {
             count: 0,

@@ -1,8 +1,6 @@
 //! Whether all rows of a table of the desk can be read and can be a desk's.
 
 ghost use Rattle.std.specs.Prelude.{◌≡◌, Some, map};
-ghost use Rattle.sqlite.specs.Held.{state};
-ghost use Rattle.office_tables.specs.Step.{InOffice};
 ghost use Rattle.row_decoding.specs.Examinations.{Examines};
 ghost use Rattle.row_decoding.specs.TableRows.{desk_in};
 ghost use Rattle.integrity_checks.specs.DeskChecks.{around_in};
@@ -16,26 +14,25 @@ use desk_core::consistency::{
     Around, Numbers, OrderRow, are_good_holdings, are_good_permits, are_good_runs, are_good_seats,
 };
 use isad_core::Day;
-use office_tables::StoreFault;
+use office_tables::{StoreFault, Tables, Versioned};
 use row_decoding::{container_numbers, holdings, permits, run_lines, runs, seats, unit_numbers};
-use sqlite::{Alter, Connection};
+use sqlite::Alter;
 use std::alloc::Global;
 
 /// Reads what the desk is checked against. `readers` is the number of its readers.
-pub(crate) fn surroundings<S: Alter>(
+pub(crate) fn surroundings<P: Versioned, S: Alter>(
     alloc: Global,
-    conn: &mut Connection<S>,
+    tables: &mut Tables<P, S>,
     limits: &Limits,
     today: Day,
     readers: u64,
 ) -> Result<Around, StoreFault>
-    requires inside { InOffice (state S.Store conn.old) }
-    ensures { Examines S.Store conn.old conn.new result
+    ensures { Examines S.Store tables.old tables.new result
         (λ db around. number_registered db ≡ Some readers
         → Surrounds around (around_in limits.now today db) (desk_in db)) }
 {
-    let units = unit_numbers(alloc, conn)?;
-    let containers = container_numbers(alloc, conn)?;
+    let units = unit_numbers(alloc, tables)?;
+    let containers = container_numbers(alloc, tables)?;
     Ok(Around {
         seats: u64::from(limits.seats),
         daily: u64::from(limits.daily),
@@ -48,62 +45,58 @@ pub(crate) fn surroundings<S: Alter>(
 }
 
 /// Whether all seats can be read and can be a desk's.
-pub(crate) fn seats_are_good<S: Alter>(
+pub(crate) fn seats_are_good<P: Versioned, S: Alter>(
     alloc: Global,
-    conn: &mut Connection<S>,
+    tables: &mut Tables<P, S>,
     around: &Around,
 ) -> Result<bool, StoreFault>
-    requires inside { InOffice (state S.Store conn.old) }
-    ensures { Examines S.Store conn.old conn.new result (FollowsDeskRule around.now good_seats_in) }
+    ensures { Examines S.Store tables.old tables.new result (FollowsDeskRule around.now good_seats_in) }
 {
-    let all = seats(alloc, conn)?;
+    let all = seats(alloc, tables)?;
     let are_good = are_good_seats(around, &all.rows);
     Ok(all.are_read && are_good)
 }
 
 /// Whether all permits can be read and can be a desk's.
-pub(crate) fn permits_are_good<S: Alter>(
+pub(crate) fn permits_are_good<P: Versioned, S: Alter>(
     alloc: Global,
-    conn: &mut Connection<S>,
+    tables: &mut Tables<P, S>,
     around: &Around,
 ) -> Result<bool, StoreFault>
-    requires inside { InOffice (state S.Store conn.old) }
-    ensures { Examines S.Store conn.old conn.new result (FollowsDeskRule around.now good_permits_in) }
+    ensures { Examines S.Store tables.old tables.new result (FollowsDeskRule around.now good_permits_in) }
 {
-    let all = permits(alloc, conn)?;
+    let all = permits(alloc, tables)?;
     let are_good = are_good_permits(alloc, around, &all.rows)?;
     Ok(all.are_read && are_good)
 }
 
 /// Whether all holdings can be read and can be a desk's with these orders.
-pub(crate) fn holdings_are_good<S: Alter>(
+pub(crate) fn holdings_are_good<P: Versioned, S: Alter>(
     alloc: Global,
-    conn: &mut Connection<S>,
+    tables: &mut Tables<P, S>,
     around: &Around,
     orders: &[OrderRow],
 ) -> Result<bool, StoreFault>
-    requires inside { InOffice (state S.Store conn.old) }
-    ensures { Examines S.Store conn.old conn.new result
+    ensures { Examines S.Store tables.old tables.new result
         (FollowsDeskRuleWith around.now (map order_row orders.now) good_holdings_in) }
 {
-    let all = holdings(alloc, conn)?;
+    let all = holdings(alloc, tables)?;
     let are_good = are_good_holdings(alloc, around, orders, &all.rows)?;
     Ok(all.are_read && are_good)
 }
 
 /// Whether all runs and their lines can be read and can be a desk's with these orders.
-pub(crate) fn runs_are_good<S: Alter>(
+pub(crate) fn runs_are_good<P: Versioned, S: Alter>(
     alloc: Global,
-    conn: &mut Connection<S>,
+    tables: &mut Tables<P, S>,
     around: &Around,
     orders: &[OrderRow],
 ) -> Result<bool, StoreFault>
-    requires inside { InOffice (state S.Store conn.old) }
-    ensures { Examines S.Store conn.old conn.new result
+    ensures { Examines S.Store tables.old tables.new result
         (FollowsDeskRuleWith around.now (map order_row orders.now) good_runs_in) }
 {
-    let all = runs(alloc, conn)?;
-    let lines = run_lines(alloc, conn)?;
+    let all = runs(alloc, tables)?;
+    let lines = run_lines(alloc, tables)?;
     let are_good = are_good_runs(alloc, around, orders, &all.rows, &lines.rows)?;
     let are_read = all.are_read && lines.are_read;
     Ok(are_read && are_good)

@@ -1,16 +1,14 @@
 //! Whether the elements of the units can be a catalogue's, whatever their cells are.
 
 ghost use Rattle.std.specs.Prelude.{◌≡◌};
-ghost use Rattle.sqlite.specs.Held.{state};
-ghost use Rattle.office_tables.specs.Step.{InOffice};
 ghost use Rattle.row_decoding.specs.Examinations.{Examines};
 ghost use Rattle.integrity_checks.specs.ScanAnswers.{is_element_answer};
 ghost use Rattle.integrity_checks.specs.CatalogueJudgments.{FollowsCatalogueRule, good_elements_in};
 
 use crate::cells::is_nonblank_text;
-use office_tables::{Gathering, StoreFault, gather};
+use office_tables::{Gathering, StoreFault, Tables, Versioned, gather};
 use row_decoding::{cell, number_in};
-use sqlite::{Alter, Connection, Row};
+use sqlite::{Alter, Row};
 
 /// Whether the cells of a row are those of an element of a unit: one of the 26 except the level, with a text that is
 /// not blank.
@@ -48,14 +46,13 @@ impl Gathering for Elements {
 }
 
 /// Whether the elements can be a catalogue's. Assumes that each unit can be read. Reads the whole table, row by row.
-pub(crate) fn elements_are_good<S: Alter>(conn: &mut Connection<S>) -> Result<bool, StoreFault>
-    requires inside { InOffice (state S.Store conn.old) }
-    ensures { Examines S.Store conn.old conn.new result (FollowsCatalogueRule good_elements_in) }
+pub(crate) fn elements_are_good<P: Versioned, S: Alter>(
+    tables: &mut Tables<P, S>,
+) -> Result<bool, StoreFault>
+    ensures { Examines S.Store tables.old tables.new result (FollowsCatalogueRule good_elements_in) }
 {
-    // The rows of an open connection keep the foreign keys of its tables: each element has its unit.
-    let _ = conn.schema();
     let all = gather(
-        conn,
+        tables,
         "SELECT unit, k, value FROM element",
         Elements { are_good: true },
     )?;

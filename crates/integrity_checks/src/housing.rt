@@ -1,16 +1,14 @@
 //! Whether what is in the containers can be a catalogue's, whatever the cells are.
 
 ghost use Rattle.std.specs.Prelude.{◌≡◌, nat_le, option_map};
-ghost use Rattle.sqlite.specs.Held.{state};
-ghost use Rattle.office_tables.specs.Step.{InOffice};
 ghost use Rattle.row_decoding.specs.Examinations.{Examines};
 ghost use Rattle.integrity_checks.specs.ScanAnswers.{said_placed};
-ghost use Rattle.integrity_checks.specs.HousingPlaces.{higher as higher_of, housed};
+ghost use Rattle.integrity_checks.specs.HousingPlaces.{higher as higher_of, housing_row};
 ghost use Rattle.integrity_checks.specs.CatalogueJudgments.{JudgesHousings};
 
-use office_tables::{Gathering, StoreFault, gather};
+use office_tables::{Gathering, StoreFault, Tables, Versioned, gather};
 use row_decoding::{cell, number_in};
-use sqlite::{Alter, Connection, Row};
+use sqlite::{Alter, Row};
 
 /// A container of a unit, at its place in the unit's order.
 #[derive(Drop)]
@@ -22,7 +20,7 @@ struct Housed {
 
 /// The contents of a row, if its place and its container have numbers from 1 on.
 fn housed_in(row: &Row) -> Option<Housed>
-    ensures { option_map housed result ≡ said_placed row.now }
+    ensures { option_map housing_row result ≡ said_placed row.now }
 {
     let unit = number_in(cell(row, 0))?;
     let ord = number_in(cell(row, 1))?;
@@ -97,17 +95,14 @@ impl Gathering for Housings {
 
 /// Whether what is in the containers can be a catalogue's. `containers` is their number. Assumes that each unit can be
 /// read. Reads the whole table, row by row.
-pub(crate) fn housings_are_good<S: Alter>(
-    conn: &mut Connection<S>,
+pub(crate) fn housings_are_good<P: Versioned, S: Alter>(
+    tables: &mut Tables<P, S>,
     containers: u64,
 ) -> Result<bool, StoreFault>
-    requires inside { InOffice (state S.Store conn.old) }
-    ensures { Examines S.Store conn.old conn.new result (JudgesHousings containers) }
+    ensures { Examines S.Store tables.old tables.new result (JudgesHousings containers) }
 {
-    // The rows of an open connection keep the foreign keys of its tables: what is in a container belongs to a unit.
-    let _ = conn.schema();
     let all = gather(
-        conn,
+        tables,
         "SELECT unit, ord, container FROM housing ORDER BY unit, ord",
         Housings {
             are_good: true,

@@ -2,21 +2,19 @@
 
 ghost use Rattle.std.specs.Prelude.{◌≡◌, ◌&&◌, false};
 ghost use Rattle.std.specs.Option.{option_map_or};
-ghost use Rattle.sqlite.specs.Held.{state};
 ghost use Rattle.sqlite.specs.Value.{owned};
 ghost use Rattle.isad_core.specs.Days.{is_day_number};
 ghost use Rattle.desk_core.specs.Names.{is_name as is_name_of};
 ghost use Rattle.office_tables.specs.Cells.{whole_in, text_in};
-ghost use Rattle.office_tables.specs.Step.{InOffice};
 ghost use Rattle.row_decoding.specs.Examinations.{Examines};
 ghost use Rattle.integrity_checks.specs.ReaderRows.{is_reader_answer, number_registered};
 
 use desk_core::is_name;
 use isad_core::limits::MOST_TICKETS;
-use office_tables::{Gathering, StoreFault, gather};
+use office_tables::{Gathering, StoreFault, Tables, Versioned, gather};
 use row_decoding::{cell, number_in};
 use sqlite::types::ValueRef;
-use sqlite::{Alter, Connection, Row};
+use sqlite::{Alter, Row};
 
 /// Whether it is a day of the calendar.
 fn is_day(value: ValueRef<'_>) -> bool
@@ -78,12 +76,13 @@ impl Gathering for Readers {
 }
 
 /// The number of readers, or none if no desk can have their rows. Reads the whole table, row by row.
-pub(crate) fn registered<S: Alter>(conn: &mut Connection<S>) -> Result<Option<u64>, StoreFault>
-    requires inside { InOffice (state S.Store conn.old) }
-    ensures { Examines S.Store conn.old conn.new result (λ db count. count ≡ number_registered db) }
+pub(crate) fn count_if_registered<P: Versioned, S: Alter>(
+    tables: &mut Tables<P, S>,
+) -> Result<Option<u64>, StoreFault>
+    ensures { Examines S.Store tables.old tables.new result (λ db count. count ≡ number_registered db) }
 {
     let all = gather(
-        conn,
+        tables,
         "SELECT ticket, until, name FROM reader ORDER BY ticket",
         Readers {
             count: 0,

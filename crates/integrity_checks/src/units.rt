@@ -2,8 +2,6 @@
 
 ghost use Rattle.std.specs.Prelude.{◌≡◌, nat_lt};
 ghost use Rattle.std.specs.List.{list_all};
-ghost use Rattle.sqlite.specs.Held.{state};
-ghost use Rattle.office_tables.specs.Step.{InOffice};
 ghost use Rattle.row_decoding.specs.Examinations.{Examines};
 ghost use Rattle.integrity_checks.specs.ScanAnswers.{is_described_answer, said_described};
 ghost use Rattle.integrity_checks.specs.CatalogueJudgments.{JudgesUnits, are_good_numbers};
@@ -11,9 +9,9 @@ ghost use Rattle.integrity_checks.specs.CatalogueJudgments.{JudgesUnits, are_goo
 use crate::ascending_numbers::Ascending;
 use crate::cells::{is_day_or_null, is_flag, is_nonblank_text, is_short, is_source_text};
 use isad_core::limits::{self, MOST_DEEP};
-use office_tables::{Gathering, StoreFault, gather};
+use office_tables::{Gathering, StoreFault, Tables, Versioned, gather};
 use row_decoding::{cell, number_in};
-use sqlite::{Alter, Connection, Row};
+use sqlite::{Alter, Row};
 use std::alloc::Global;
 
 /// The maximum number of units of an office.
@@ -96,18 +94,17 @@ fn are_placed(numbers: Vec<u64>, placed: Vec<u64>, height: u64, next: u64) -> bo
 
 /// Whether the units can be a catalogue's, if the units `placed` have a place, the deepest lies at `height`, and `next`
 /// is the number of the next unit. Reads the whole table, row by row. Holds the numbers while it runs.
-pub(crate) fn units_are_good<S: Alter>(
+pub(crate) fn units_are_good<P: Versioned, S: Alter>(
     alloc: Global,
-    conn: &mut Connection<S>,
+    tables: &mut Tables<P, S>,
     placed: Vec<u64>,
     height: u64,
     next: u64,
 ) -> Result<bool, StoreFault>
-    requires inside { InOffice (state S.Store conn.old) }
-    ensures { Examines S.Store conn.old conn.new result (JudgesUnits placed.items height next) }
+    ensures { Examines S.Store tables.old tables.new result (JudgesUnits placed.items height next) }
 {
     let all = gather(
-        conn,
+        tables,
         "SELECT id, source, legacy, level, draft, until FROM unit",
         Units {
             numbers: Vec::new(alloc),

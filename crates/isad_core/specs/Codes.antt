@@ -6,10 +6,10 @@ abbrev pub is_nonblank : Bytes → Bool
 is_nonblank text = not (is_blank_text text)
 
 -- texts one after another, with a separator before the first and a slash before each other
-abbrev pub separated : ℕ → List Bytes → Bytes
-separated before [] = []
-separated before (id ∷ ids) = before ∷ id ++ separated 47 ids
+abbrev pub join_with : ℕ → List Bytes → Bytes
+join_with before [] = []
+join_with before (id ∷ ids) = before ∷ id ++ join_with 47 ids
 
 -- the code of a unit; the identifiers are those of the units from the top down to it, and blank ones are left out
 abbrev pub code_of : Bytes → Bytes → List Bytes → Bytes
-code_of country repo ids = country ++ 32 ∷ repo ++ separated 32 (filter is_nonblank ids)
+code_of country repo ids = country ++ 32 ∷ repo ++ join_with 32 (filter is_nonblank ids)

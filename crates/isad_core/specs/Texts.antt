@@ -26,9 +26,9 @@ single_breaks (a ∷ b ∷ rest) =
     if (a == 13) && (b == 10) then 10 ∷ single_breaks rest else a ∷ single_breaks (b ∷ rest)
 
 -- a line break is printed as a space
-abbrev pub spaced : ℕ → ℕ
-spaced b = if is_line_break b then 32 else b
+abbrev pub byte_or_space : ℕ → ℕ
+byte_or_space b = if is_line_break b then 32 else b
 
 -- a text as it is printed on one line
 abbrev pub one_line : Bytes → Bytes
-one_line text = map spaced (single_breaks text)
+one_line text = map byte_or_space (single_breaks text)

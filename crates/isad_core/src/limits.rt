@@ -1,7 +1,7 @@
 //! The limits of an office, of its files and of a server: a number stands here, and nowhere else in the code.
-//! `specs/Limits.antt` names them for contracts. Texts are not made of numbers, so the help of the command line has some
-//! of them again. Elsewhere stand what a message by HTTP may have (`http_messages`, `http_desk`), the form of the codes
-//! of a country and of an office (`office_core`), and the ports: those of their type, except 0.
+//! `specs/Limits.antt` names them for contracts. Texts are not made of numbers, so the help of the command line has
+//! some of them again. Elsewhere stand what a message by HTTP may have (`http_messages`, `http_desk`), the form of the
+//! codes of a country and of an office (`office_core`), and the ports: those of their type, except 0.
 
 /// The most units at a time.
 pub const MOST_UNITS: u64 = 200_000;

@@ -3,7 +3,7 @@ ghost use Rattle.std.specs.Prelude.{◌≡◌, ◌≤◌, ◌++◌, ◌∷◌, [
 ghost use Rattle.isad_core.specs.Days.{day_text};
 ghost use Rattle.isad_core.specs.PrintedDescriptions.{container_text, element_text, head_line, heading};
 ghost use Rattle.isad_core.specs.PrintedDescriptions.{indent, or_dash, origin};
-ghost use Rattle.isad_core.specs.Texts.{spaced};
+ghost use Rattle.isad_core.specs.Texts.{byte_or_space};
 ghost use Rattle.isad_core.specs.Texts as spec;
 
 use crate::day::Day;
@@ -30,7 +30,7 @@ pub fn push_number(out: &mut Vec<u8>, number: u64) -> Result<(), AllocError>
 
 /// A byte as it is printed on one line: a space for CR or LF.
 fn on_one_line(byte: u8) -> u8
-    ensures { result ≡ spaced byte }
+    ensures { result ≡ byte_or_space byte }
 {
     if byte == b'\r' || byte == b'\n' {
         b' '
@@ -41,7 +41,7 @@ fn on_one_line(byte: u8) -> u8
 
 /// The rest of a text after its first byte, or after the CRLF that it starts with.
 fn after(first: u8, others: &[u8]) -> &[u8]
-    ensures rest { spec.one_line (first ∷ others.now) ≡ spaced first ∷ spec.one_line result.now }
+    ensures rest { spec.one_line (first ∷ others.now) ≡ byte_or_space first ∷ spec.one_line result.now }
     ensures shorter { length result.now ≤ length others.now }
 {
     match others {

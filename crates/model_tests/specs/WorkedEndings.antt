@@ -7,7 +7,7 @@ use Rattle.http_messages.specs.Heads.{Request}
 use Rattle.http_desk.specs.declared.session_end.Ended.TheVariants.{Closed, Cut}
 use Rattle.http_desk.specs.Messages.{Message, HeadCut, BodyCut, NoHead, Refuses, Answers, IsBlank, IsTooLong}
 use Rattle.http_desk.specs.Session.{EndsSo, closes, continue_if, last_text, message_text, refusal, state_after_last}
-use Rattle.http_desk.specs.WorkedExamples.{filled, with_draft, of, get, json_text}
+use Rattle.http_desk.specs.WorkedExamples.{filled_office, with_draft, of, get, json_text}
 
 abbrev pub bad_request : (connection body : Bytes) → Bytes
 bad_request connection body = json_text (codes "400 Bad Request") (codes "23") connection body
@@ -28,8 +28,8 @@ continue_line = codes "HTTP/1.1 100 Continue\r\n\r\n"
 abbrev pub waiting : Request
 waiting = record { method = codes "POST"; target = codes "/desk/status"; length = Some 27; waits = true; closes = false }
 
-abbrev pub drafted : Message
-drafted = record { request = waiting; body = codes "{\"unit\":2,\"status\":\"draft\"}" }
+abbrev pub draft_message : Message
+draft_message = record { request = waiting; body = codes "{\"unit\":2,\"status\":\"draft\"}" }
 
 abbrev pub one_unit : (connection : Bytes) → Bytes
 one_unit connection = json_text (codes "200 OK") (codes "11") connection (codes "{\"units\":1}")
@@ -43,14 +43,14 @@ pub record Ended : Type 0 where
   pub goes_on : continue_if true ≡ continue_line
   pub refused : refusal false (error BadRequest) ≡ bad_request closing bad_text
   pub refused_head : refusal true (error BadRequest) ≡ bad_request closing []
-  pub no_text_to_head : message_text false filled (of (codes "HEAD") (codes "/public/fonds") None false)
+  pub no_text_to_head : message_text false filled_office (of (codes "HEAD") (codes "/public/fonds") None false)
       ≡ json_text (codes "405 Method Not Allowed") (codes "30") (codes "Allow: GET\r\n") []
-  pub after_waiting : message_text false filled drafted ≡ continue_line ++ one_unit []
-  pub half_a_body : last_text 1 filled (BodyCut waiting) ≡ continue_line
-  pub too_long : last_text 1 filled NoHead ≡ bad_request closing bad_text
-  pub chunked : last_text 1 filled (Refuses NotImplemented false) ≡ not_implemented
-  pub last_answer : last_text 10000 filled (Answers drafted) ≡ continue_line ++ one_unit closing
-  pub last_state : state_after_last filled (Answers drafted) ≡ with_draft
+  pub after_waiting : message_text false filled_office draft_message ≡ continue_line ++ one_unit []
+  pub half_a_body : last_text 1 filled_office (BodyCut waiting) ≡ continue_line
+  pub too_long : last_text 1 filled_office NoHead ≡ bad_request closing bad_text
+  pub chunked : last_text 1 filled_office (Refuses NotImplemented false) ≡ not_implemented
+  pub last_answer : last_text 10000 filled_office (Answers draft_message) ≡ continue_line ++ one_unit closing
+  pub last_state : state_after_last filled_office (Answers draft_message) ≡ with_draft
   pub cut : EndsSo 1 HeadCut Cut
   pub closed_too_long : EndsSo 1 NoHead Closed
   pub closed_refused : EndsSo 1 (Refuses NotImplemented false) Closed

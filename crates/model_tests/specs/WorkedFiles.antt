@@ -3,7 +3,7 @@ use Rattle.std.specs.Prelude.{◌≡◌, true, false, List, [], ◌∷◌, map, 
 use Rattle.isad_core.specs.Texts.{Bytes}
 use Rattle.isad_core.specs.declared.values.BoxKey.{BoxKey}
 use Rattle.atom_csv.specs.Columns.{columns, name_of, is_split}
-use Rattle.atom_csv.specs.Entries.{entries, filled, joined}
+use Rattle.atom_csv.specs.Entries.{entries, nonblank_entries, joined}
 use Rattle.atom_csv.specs.Fields.{Fields, trimmed}
 use Rattle.atom_csv.specs.FileContents.{differ, file_of, header_causes, lowest, records_of, row_causes, rows, translations}
 use Rattle.atom_csv.specs.Values.{boxes_of}
@@ -32,7 +32,7 @@ pub record Columned : Type 0 where
   pub named : map name_of columns ≡ names
   pub several : filter is_split columns ≡ split
   pub blank_entries : entries (codes " a | NULL |null||b;c") ≡ codes "a" ∷ [] ∷ codes "null" ∷ [] ∷ codes "b;c" ∷ []
-  pub joined_entries : joined (filled (codes "a" ∷ [] ∷ codes "b" ∷ codes "c" ∷ [])) ≡ codes "a; b; c"
+  pub joined_entries : joined (nonblank_entries (codes "a" ∷ [] ∷ codes "b" ∷ codes "c" ∷ [])) ≡ codes "a; b; c"
   pub ends : trimmed (codes " \t a b \r\n") ≡ codes "a b"
   pub another_case : header_causes (codes "LegacyId" ∷ []) ≡ NoLegacyId ∷ []
   pub title_twice : header_causes (codes "title" ∷ codes "legacyId" ∷ codes "title" ∷ []) ≡ HeaderTwice ∷ []

@@ -11,7 +11,7 @@ use Rattle.http_messages.specs.declared.status.Status.{Status}
 use Rattle.http_messages.specs.declared.status.Status.TheVariants.{Fine, BadRequest, NotFound, MethodNotAllowed, Conflict, LengthRequired, TooLarge, NotImplemented, Busy}
 use Rattle.http_messages.specs.HeadScan.{scan}
 use Rattle.http_messages.specs.Heads.{Request, Refused, verdict_on}
-use Rattle.http_messages.specs.Answers.{answered, carried_out, continue_text, done, done_if_read, error, error_text, head_text, not_allowed, number_of, of_told, phrase_of}
+use Rattle.http_messages.specs.Answers.{response, carried_out, continue_text, command_answer, done_if_read, error, error_text, head_text, not_allowed, number_of, of_told, phrase_of}
 use Rattle.http_messages.specs.Routes.{TakesFile}
 use Rattle.http_messages.specs.WorkedExamples.{Weighs, With, takes, says_length, expects, chunked_field, options}
 
@@ -77,5 +77,5 @@ pub record Stated : Type 0 where
   pub go_on : continue_text ≡ codes "HTTP/1.1 100 Continue\r\n\r\n"
   pub json : of_told (told.Json (codes "{}")) ≡ record { status = Fine; is_text = false; allow = None; body = codes "{}" }
   pub bad_body : (s : State) → done_if_read s None ≡ (error BadRequest, s)
-  pub file : (s : State) (body : Bytes) → carried_out s body (TakesFile (codes "a")) ≡ done s (Import (codes "a") body)
-  pub wrong_method : (s : State) → answered s (asks (codes "GET") (codes "/desk/run")) [] ≡ (not_allowed (codes "POST"), s)
+  pub file : (s : State) (body : Bytes) → carried_out s body (TakesFile (codes "a")) ≡ command_answer s (Import (codes "a") body)
+  pub wrong_method : (s : State) → response s (asks (codes "GET") (codes "/desk/run")) [] ≡ (not_allowed (codes "POST"), s)

@@ -14,14 +14,14 @@ saelar = 83 ∷ 195 ∷ 164 ∷ codes "lar"
 
 -- two boxes with the same name and kind, one of another kind, one of an earlier name, and two in other places: a roll
 -- with a name too long for its column, and a box in a place with a letter of two bytes
-abbrev pub taken : List Candidate
-taken = waiting 2 6 1 saelar (codes "A") (codes "a") ∷ waiting 4 5 1 (codes "Safe") (codes "Box 2") (codes "b")
+abbrev pub run_lines : List Candidate
+run_lines = waiting 2 6 1 saelar (codes "A") (codes "a") ∷ waiting 4 5 1 (codes "Safe") (codes "Box 2") (codes "b")
     ∷ waiting 5 4 1 (codes "Safe") (codes "Box 2") (codes "a") ∷ waiting 3 3 333 (codes "Safe") (codes "Box 2") (codes "a")
     ∷ waiting 6 2 22 (codes "Safe") (codes "Box 1") (codes "c")
     ∷ waiting 7 12345678 1 (codes "Reading room") (codes "Minutes of meetings") (codes "z") ∷ []
 
 pub record Slipped : Type 0 where
-  pub shelves : slip 12 (pos 19783) taken
+  pub shelves : slip 12 (pos 19783) run_lines
       ≡ codes "Run 12  2024-03-01\n"
       ++ codes "Reading room         Minutes of meetings      7 12345678       1\n"
       ++ codes "Safe                 Box 1                 6        2      22\n"

@@ -45,7 +45,7 @@ fn show_row(line: &mut String, row: &Row) -> Result<(), AllocError> {
 }
 
 // A file as text: a line for each row, and the number of translations.
-fn shown(alloc: Global, file: &File) -> Result<String, AllocError> {
+fn listing(alloc: Global, file: &File) -> Result<String, AllocError> {
     let mut text = String::new(alloc);
     for row in file.rows.as_slice() {
         show_row(&mut text, row)?;
@@ -55,9 +55,9 @@ fn shown(alloc: Global, file: &File) -> Result<String, AllocError> {
     Ok(text)
 }
 
-fn told(alloc: Global, bytes: &[u8]) -> Result<String, AllocError> {
+fn reading(alloc: Global, bytes: &[u8]) -> Result<String, AllocError> {
     match read_file(alloc, bytes) {
-        Ok(file) => shown(alloc, &file),
+        Ok(file) => listing(alloc, &file),
         Err(FileFault::Memory) => Err(AllocError),
         Err(FileFault::Bad { row, cause }) => format!(in alloc; "row {row} cause {cause}"),
     }
@@ -176,7 +176,7 @@ fn files_are_told(rt: HostRuntime) -> Result<(), Fail> {
         ),
     ];
     for (bytes, expected) in cases {
-        assert_eq!(rt; told(alloc, bytes)?.as_str(), expected);
+        assert_eq!(rt; reading(alloc, bytes)?.as_str(), expected);
     }
     Ok(())
 }
@@ -208,7 +208,7 @@ fn every_prefix_is_told(rt: HostRuntime) -> Result<(), Fail> {
     let bytes = FONDS.as_bytes();
     assert_eq!(rt; bytes.len(), 144);
     for n in 0..=144usize {
-        let text = told(alloc, bytes.get(..n).ok_or("too short")?)?;
+        let text = reading(alloc, bytes.get(..n).ok_or("too short")?)?;
         assert_eq!(rt; text.as_str(), prefix_says(n));
     }
     Ok(())

@@ -6,7 +6,7 @@ use std::alloc::{AllocError, Global};
 use std::test::Fail;
 
 // The finding aids of a file in the record office 0999 of GB, or its fault.
-fn told(alloc: Global, file: &[u8]) -> Result<Vec<u8>, AllocError> {
+fn preview_text(alloc: Global, file: &[u8]) -> Result<Vec<u8>, AllocError> {
     match preview(alloc, file, "GB", "0999") {
         Ok(text) => Ok(text),
         Err(FileFault::Memory) => Err(AllocError),
@@ -136,7 +136,7 @@ fn finding_aids_are_told(rt: HostRuntime) -> Result<(), Fail> {
     ];
     for (file, expected) in cases {
         assert_eq!(rt;
-            told(alloc, file.as_bytes())?.as_slice(),
+            preview_text(alloc, file.as_bytes())?.as_slice(),
             expected.as_bytes()
         );
     }
@@ -178,7 +178,7 @@ fn the_first_fault_is_told(rt: HostRuntime) -> Result<(), Fail> {
         ),
     ];
     for (file, expected) in cases {
-        assert_eq!(rt; told(alloc, file)?.as_slice(), expected.as_bytes());
+        assert_eq!(rt; preview_text(alloc, file)?.as_slice(), expected.as_bytes());
     }
     Ok(())
 }
@@ -208,7 +208,7 @@ fn ladder(alloc: Global, units: u32) -> Result<String, AllocError> {
 // The preview of such a chain.
 fn told_of_chain(alloc: Global, units: u32) -> Result<Vec<u8>, AllocError> {
     let file = chain(alloc, units)?;
-    told(alloc, file.as_bytes())
+    preview_text(alloc, file.as_bytes())
 }
 
 #[test]

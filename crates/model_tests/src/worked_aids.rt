@@ -42,7 +42,7 @@ fn body(alloc: Global, below: Below) -> Result<Body, Fail> {
     }
 }
 
-fn shown(alloc: Global, unit: Unit) -> Result<Shown, Fail> {
+fn show(alloc: Global, unit: Unit) -> Result<Shown, Fail> {
     let (depth, [code, level, title], below) = unit;
     Ok(Shown {
         depth,
@@ -57,7 +57,7 @@ fn shown(alloc: Global, unit: Unit) -> Result<Shown, Fail> {
 fn aid_of(alloc: Global, units: &[Unit]) -> Result<Vec<u8>, Fail> {
     let mut all = Vec::new(alloc);
     for unit in units {
-        all.push(shown(alloc, *unit)?)?;
+        all.push(show(alloc, *unit)?)?;
     }
     Ok(aid_text(alloc, &all)?)
 }
@@ -107,7 +107,7 @@ fn aids_are_printed(rt: HostRuntime) -> Result<(), Fail> {
 }
 
 /// The code of the unit above that has a value, if the unit itself has none.
-fn found(alloc: Global, above: bool) -> Result<Option<Text>, AllocError> {
+fn code_above(alloc: Global, above: bool) -> Result<Option<Text>, AllocError> {
     if above {
         Ok(Some(Text::new(alloc, "GB 0999 HUL")?))
     } else {
@@ -123,7 +123,7 @@ fn add_lines(
 ) -> Result<(), AllocError> {
     for &(element, text, above) in rows {
         let text = Text::new(alloc, text)?;
-        page.lines.push((element, text, found(alloc, above)?))?;
+        page.lines.push((element, text, code_above(alloc, above)?))?;
     }
     Ok(())
 }
@@ -132,7 +132,7 @@ fn add_lines(
 fn add_boxes(page: &mut Page, alloc: Global, rows: &[(u64, &str, bool)]) -> Result<(), AllocError> {
     for &(number, name, above) in rows {
         let name = Text::new(alloc, name)?;
-        page.boxes.push((number, name, found(alloc, above)?))?;
+        page.boxes.push((number, name, code_above(alloc, above)?))?;
     }
     Ok(())
 }
@@ -140,9 +140,9 @@ fn add_boxes(page: &mut Page, alloc: Global, rows: &[(u64, &str, bool)]) -> Resu
 /// The page of a series with a file below it.
 fn series(alloc: Global) -> Result<Page, Fail> {
     let mut below = List::new(alloc);
-    below.push((4, shown(alloc, FILE)?))?;
+    below.push((4, show(alloc, FILE)?))?;
     Ok(Page {
-        head: shown(alloc, SERIES)?,
+        head: show(alloc, SERIES)?,
         lines: List::new(alloc),
         boxes: List::new(alloc),
         below,

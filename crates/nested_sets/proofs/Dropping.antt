@@ -29,7 +29,7 @@ use Rattle.sqlite_rules.specs.Calls.{ids_of}
 use Rattle.sqlite_tied.specs.Compute.{everything}
 use Rattle.sqlite_trees.proofs.ListLemmas.{all_weaker}
 use Rattle.sqlite_value.specs.Keys.{joined}
-use Rattle.tree_core.specs.Versions.{Links}
+use Rattle.office_tables.specs.Versions.{First}
 use Rattle.office_tables.specs.Creation.{Says, HasMade, catalogue_schema}
 use Rattle.office_tables.specs.Faults.{fault_of, HasCause, BlamesDisk}
 use Rattle.office_tables.specs.Schema.{schema, link, permit, element, housing, to_unit}
@@ -49,15 +49,15 @@ drop_text = codes "DROP TABLE link"
 abbrev pub drop_command : Command
 drop_command = DropTable 12
 
-pub drop_says : Says (schema Links) drop_text drop_command
+pub drop_says : Says (schema First) drop_text drop_command
 unfolding understood everything naming
 drop_says = record { is = refl; plain = (refl, refl); whole = refl; alone = (refl, refl) }
 
-unacted : is_acted_on (schema Links) Enforced link ≡ false
+unacted : is_acted_on (schema First) Enforced link ≡ false
 unfolding joined same_name
 unacted = refl
 
-whole : IsWhole (length drop_text) 0 (understood (schema Links) drop_text)
+whole : IsWhole (length drop_text) 0 (understood (schema First) drop_text)
 unfolding understood everything naming
 whole = (le_refl _, refl, refl)
 
@@ -75,7 +75,7 @@ in_place s e (inr (code, name, inr rolls, none)) = let h : true ≡ false = ap i
 -- ---- what the others refer to
 
 abbrev old_tables : List Table
-old_tables = (schema Links).tables
+old_tables = (schema First).tables
 
 abbrev left : List Table
 left = catalogue_schema.tables
@@ -90,7 +90,7 @@ still_referred n db t =
     (λ row h. subst (λ key. ((has_null (n ∷ []) row || is_held db (n ∷ []) row key) && true) ≡ true) (same_parent n) h) (db t)
 
 -- what refers to a unit still does
-refers_still : (db : Trees) → Refers All (schema Links) db → Refers All catalogue_schema db
+refers_still : (db : Trees) → Refers All (schema First) db → Refers All catalogue_schema db
 refers_still db h =
     let of_run = h.1.1.1.1 in
     let of_office = of_run.1.1.1 in
@@ -103,14 +103,14 @@ refers_still db h =
 
 module _ (limit : Option ℕ) where
   abbrev task : Task
-  task = record { limit = limit; keys = Enforced; schema = schema Links; table = link; params = [] }
+  task = record { limit = limit; keys = Enforced; schema = schema First; table = link; params = [] }
 
   abbrev mode : Mode
   mode = record { keys = Enforced; in_doubt = false; may_wait = false }
 
   -- no row goes before the table goes
   none_goes : (db : Trees) (out : Outcome Trees) → Empties task db out → out ≡ Ok db
-  none_goes db out h = subst (λ b. MatchBool b (Edited (schema Links) Enforced db (edit_of db link (ids_of (db link.tree)) Given 0 []) out) (Gives db out)) unacted h
+  none_goes db out h = subst (λ b. MatchBool b (Edited (schema First) Enforced db (edit_of db link (ids_of (db link.tree)) Given 0 []) out) (Gives db out)) unacted h
 
   pub dropped : (db : Trees) (tally : Tally) (after : Database) → Drops task mode db (Ok (tally, after)) → (after.schema ≡ catalogue_schema) × KeepsRows left db after.trees
   dropped db tally after h =
@@ -127,7 +127,7 @@ module _ (limit : Option ℕ) where
   no_stop (Some e) db h = h
 
   -- it is not refused where each row that refers to a unit has one
-  pub never_refused : (db : Trees) → Refers All (schema Links) db → (e : Error) → Drops task mode db (Err (Some e)) → ⊥
+  pub never_refused : (db : Trees) → Refers All (schema First) db → (e : Error) → Drops task mode db (Err (Some e)) → ⊥
   never_refused db refers e (inl (stop, h, is)) = let k : ◌≡◌ {A = Outcome Trees} (Err stop) (Ok db) = none_goes db (Err stop) h in cc
   never_refused db refers e (inr (emptied, h, inl (stop, k, is))) = cc
   never_refused db refers e (inr (emptied, h, inr (now, k, inl (stop, tested, is)))) =
@@ -136,19 +136,19 @@ module _ (limit : Option ℕ) where
   never_refused db refers e (inr (emptied, h, inr (now, k, inr (defect, tested, inl (stop, leaves, is))))) = no_stop stop now leaves
   never_refused db refers e (inr (emptied, h, inr (now, k, inr (defect, tested, inr (after, leaves, is))))) = cc
 
-module _ (old new : State) (has : old.now.schema ≡ schema Links) where
+module _ (old new : State) (has : old.now.schema ≡ schema First) where
   meant : (out : Outcome (Tally × Database)) → Does old.step_limit (mode_of old) [] old.now drop_text None drop_command out → Drops (task old.step_limit) (mode old.step_limit) old.now.trees out
   meant out h = subst (λ s. Does old.step_limit (mode_of old) [] (record old.now { schema = s }) drop_text None drop_command out) has h
 
   pub drops : (count : ℕ) → Executes drop_text [] old new (Ok count) → HasMade left catalogue_schema old.now new.now × Shows old new new.now (if old.in_transaction then old.committed else new.now) old.in_transaction
   drops count h =
-      let w = subst (λ t. Writes old new None drop_command t [] count) drop_says.whole (runs_as drop_text [] old new (schema Links) has drop_command drop_says.is drop_says.plain count h) in
+      let w = subst (λ t. Writes old new None drop_command t [] count) drop_says.whole (runs_as drop_text [] old new (schema First) has drop_command drop_says.is drop_says.plain count h) in
       let it = dropped old.step_limit old.now.trees w.tally new.now (meant (Ok (w.tally, new.now)) w.changed) in
       (record { schema_is = it.0; kept = it.1; empty = tt }, w.shown)
 
   -- the store failed
   pub drop_cause : IsLive old → (e : Error) → Executes drop_text [] old new (Err e) → HasCause old new (fault_of e)
-  drop_cause live e h = elim (fails_as drop_text [] old new (schema Links) has drop_command drop_says.is drop_says.plain whole refl e h) [
+  drop_cause live e h = elim (fails_as drop_text [] old new (schema First) has drop_command drop_says.is drop_says.plain whole refl e h) [
     | inl refused ↦ elim refused.why [
       | inl wrong ↦ absurd (in_place old e wrong)
       | inr does ↦
@@ -190,7 +190,7 @@ module _ (old new : State) (known : HasCleanDisk old → Knows drop_text drop_co
       survives
 
   pub drop_cut : (e : Error) → (HasCleanDisk new → Executes drop_text [] old new (Err e)) → IsAborted old new
-  drop_cut e runs = record { crash = crash; cut = λ clean. stopped old new (known (early old new _ survives clean)).inside (stops drop_text [] old new e (runs clean)) }
+  drop_cut e runs = record { crash = crash; aborts = λ clean. stopped old new (known (early old new _ survives clean)).inside (stops drop_text [] old new e (runs clean)) }
 
   pub drop_continues : (HasCleanDisk new → Shows old new new.now (if old.in_transaction then old.committed else new.now) old.in_transaction) → Continues old new
   drop_continues done = record {

@@ -63,13 +63,13 @@ module _ {S X M : Type 0} {g : store.Ghosts S} {holds : State → M → Type 0} 
   -- it passes on the fault of a look-up, its first step
   pub looks_passed : {Y N : Type 0} {e : StoreFault} {r : Result X StoreFault} {shows : State → N → Type 0} {sorted low : N → Type 0} {found : N → Y → Type 0} → Hands r e → LooksUp g shows before after (Err e) sorted low found
       → ((m : M) → holds (state g before) m → kept m → HasCleanDisk (state g after) → IsUnlimited (state g before) → HasCause (state g before) (state g after) e) → LooksUp g holds before after r orderly kept answer
-  looks_passed {e = e} handed failed why = looks_not e handed failed.reads.cut failed.reads.spares why
+  looks_passed {e = e} handed failed why = looks_not e handed failed.reads.aborts failed.reads.spares why
 
   -- of a look-up after others
   pub looks_passed_later : {Y N : Type 0} {e : StoreFault} {r : Result X StoreFault} {mid : Held S} {shows : State → N → Type 0} {sorted low : N → Type 0} {found : N → Y → Type 0} → Hands r e → LeavesUnchanged (state g before) (state g mid)
       → LooksUp g shows mid after (Err e) sorted low found
       → (HasCleanDisk (state g mid) → (m : M) → holds (state g before) m → kept m → HasCleanDisk (state g after) → IsUnlimited (state g mid) → HasCause (state g mid) (state g after) e) → LooksUp g holds before after r orderly kept answer
-  looks_passed_later {e = e} handed looked failed why = looks_cut e handed looked failed.reads.cut failed.reads.spares why
+  looks_passed_later {e = e} handed looked failed why = looks_cut e handed looked failed.reads.aborts failed.reads.spares why
 
   -- the result of its last step is its own
   pub looks_last : {r : Result X StoreFault} {b : State} → LeavesUnchanged (state g before) b → Reads b (state g after) r
@@ -78,5 +78,5 @@ module _ {S X M : Type 0} {g : store.Ghosts S} {holds : State → M → Type 0} 
   looks_last {r} {b} looked last told why = record {
     reads = reads_last (state g before) b (state g after) r looked last;
     answers = λ clean m held up. if_ok_by r (LeavesUnchanged b (state g after)) (answer m) (λ went. told (early b (state g after) _ went.goes.on.crash clean) clean m held up) last.looks;
-    faults = λ m held k. excused_then (state g before) b (state g after) looked.goes.on r last.cut (λ clean. why clean m held k);
+    faults = λ m held k. excused_then (state g before) b (state g after) looked.goes.on r last.aborts (λ clean. why clean m held k);
   }

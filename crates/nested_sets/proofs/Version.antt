@@ -13,7 +13,7 @@ use Rattle.sqlite.specs.State.{State, IsLive}
 use Rattle.sqlite_sql.specs.declared.ops.BinaryOp.TheVariants.{Compare}
 use Rattle.sqlite_sql.specs.declared.ops.CompareOp.TheVariants.{Eq}
 use Rattle.sqlite_tied.specs.Compute.{everything}
-use Rattle.tree_core.specs.Versions.{Links, Spans}
+use Rattle.office_tables.specs.Versions.{First, Second}
 use Rattle.office_tables.specs.ChangeStatement.{Ran}
 use Rattle.office_tables.specs.Faults.{IsUnlimited, HasCause}
 use Rattle.office_tables.specs.StatementMeaning.{Means}
@@ -42,17 +42,17 @@ set_version_columns = col 1 0 ∷ col 1 0 ∷ lit Null ∷ col 0 0 ∷ col 1 3 �
 abbrev pub set_version_command : Command
 set_version_command = Update 7 (choosing office the_one set_version_columns)
 
-pub set_version_means : Means Spans set_version_text 1 set_version_command
+pub set_version_means : Means Second set_version_text 1 set_version_command
 unfolding understood everything
 set_version_means = record { is = refl; plain = (refl, refl); whole = (le_refl _, refl, refl); unlisted = refl }
 
-module _ (old new : State) (has : old.now.schema ≡ schema Spans) (r : Result Unit StoreFault) (ran : Ran set_version_text (Int (pos 2) ∷ []) old new r) where
+module _ (old new : State) (has : old.now.schema ≡ schema Second) (r : Result Unit StoreFault) (ran : Ran set_version_text (Int (pos 2) ∷ []) old new r) where
   pub set_version_only : OnOk r (OnlyTouches (office.tree ∷ []) old.now new.now)
-  set_version_only = update_only Spans 7 office refl set_version_text _ (Int (pos 2) ∷ []) old new has set_version_means r ran
+  set_version_only = update_only Second 7 office refl set_version_text _ (Int (pos 2) ∷ []) old new has set_version_means r ran
 
-  module _ (o : OfficeRow) (stored : old.now.trees office.tree ≡ office_row Links o ∷ []) where
+  module _ (o : OfficeRow) (stored : old.now.trees office.tree ≡ office_row First o ∷ []) where
     abbrev one : List VersionedRow
-    one = (Links, o) ∷ []
+    one = (First, o) ∷ []
 
     abbrev source : VersionedRow → Row
     source x = Int (pos 1) ∷ versioned_cells (in_version_2 x)
@@ -61,13 +61,13 @@ module _ (old new : State) (has : old.now.schema ≡ schema Spans) (r : Result U
     casts x =
         rw (cast_int (pos 1), cast_null, cast_int (pos 2), cast_int (pos x.1.seats), cast_int (pos x.1.daily), cast_int (pos x.1.hands), cast_int (pos x.1.run_size), cast_int x.1.day, cast_int (pos x.1.next_unit)) refl
 
-    pub set_version_leaves : OnOk r (HasRows office.tree (office_row Spans o ∷ []) old.now new.now)
+    pub set_version_leaves : OnOk r (HasRows office.tree (office_row Second o ∷ []) old.now new.now)
     set_version_leaves =
-        update_leaves Spans 7 office refl set_version_text the_one set_version_columns (Int (pos 2) ∷ []) set_version_means old new has versioned_cells (λ _. pos 1) (λ _. refl) one stored (tt, tt)
+        update_leaves Second 7 office refl set_version_text the_one set_version_columns (Int (pos 2) ∷ []) set_version_means old new has versioned_cells (λ _. pos 1) (λ _. refl) one stored (tt, tt)
         (λ _. true) (λ _. only (same_number 1 1)) source (λ _. refl) (λ _. refl) in_version_2 (λ _. refl) (λ x _ _. casts x) r ran
 
     pub set_version_faults : IsUnlimited old → IsLive old → IfErr r (HasCause old new)
     set_version_faults free live =
-        update_faults Spans 7 office refl set_version_text the_one set_version_columns (Int (pos 2) ∷ []) set_version_means old new has versioned_cells (λ _. pos 1) (λ _. refl) one stored (tt, tt)
+        update_faults Second 7 office refl set_version_text the_one set_version_columns (Int (pos 2) ∷ []) set_version_means old new has versioned_cells (λ _. pos 1) (λ _. refl) one stored (tt, tt)
         (λ _. true) (λ _. only (same_number 1 1)) source (λ _. refl) (λ _. refl) in_version_2 (λ _. refl) (λ x _ _. casts x)
-        (λ _. false) (office_kept Spans) (λ x p h. absurd (let k : false ≡ true = h in cc)) (λ _. refl) (λ _. refl) (λ _. refl) refl free live r ran
+        (λ _. false) (office_kept Second) (λ x p h. absurd (let k : false ≡ true = h in cc)) (λ _. refl) (λ _. refl) (λ _. refl) refl free live r ran

@@ -6,7 +6,7 @@ use Rattle.sqlite.specs.Held.{Held, state}
 use Rattle.sqlite.specs.Order.{Row}
 use Rattle.sqlite.specs.State.{State, HasCleanDisk}
 use Rattle.tree_core.specs.Forest.{Forest}
-use Rattle.tree_core.specs.Versions.{Version, Links, Spans}
+use Rattle.office_tables.specs.Versions.{Version, First, Second}
 use Rattle.office_tables.specs.Faults.{FaultsHaveCause, BlamesDisk}
 use Rattle.office_tables.specs.Schema as tables
 use Rattle.office_tables.specs.Step.{Continues, InTransaction, IsAborted, OnlyTouches}
@@ -25,19 +25,19 @@ versioned_cells row = office_row row.0 row.1
 
 -- there is one row, of version 1
 abbrev pub HasVersion1 : List VersionedRow → Type 0
-HasVersion1 rows = (o : OfficeRow) × (rows ≡ (Links, o) ∷ [])
+HasVersion1 rows = (o : OfficeRow) × (rows ≡ (First, o) ∷ [])
 
 -- the same row in version 2
 abbrev pub in_version_2 : VersionedRow → VersionedRow
-in_version_2 row = (Spans, row.1)
+in_version_2 row = (Second, row.1)
 
 -- the office's row has version 1, and there are no places yet
 abbrev pub AwaitsPlaces : State → OfficeRow × Forest ℕ → Type 0
-AwaitsPlaces s m = RepresentsOffice Links s.now.trees m.0 × (s.now.trees tables.span.tree ≡ [])
+AwaitsPlaces s m = RepresentsOffice First s.now.trees m.0 × (s.now.trees tables.span.tree ≡ [])
 
 -- the office's row has version 2, and the places are those of the forest
 abbrev pub HasPlaces : State → OfficeRow × Forest ℕ → Type 0
-HasPlaces s m = RepresentsOffice Spans s.now.trees m.0 × RepresentsSpanRows s.now.trees m.1
+HasPlaces s m = RepresentsOffice Second s.now.trees m.0 × RepresentsSpanRows s.now.trees m.1
 
 -- A call brings the tables from version 1 to version 2: what they represent by `links`, they then represent by `spans`.
 -- Only the office's row and the places change. The call blames the disk for its own failures only; if what is
@@ -45,8 +45,8 @@ HasPlaces s m = RepresentsOffice Spans s.now.trees m.0 × RepresentsSpanRows s.n
 pub record Migrates {S X M : Type 0} (g : store.Ghosts S) (links spans : Database → M → Type 0) (before after : Held S) (r : Result X StoreFault) (kept : M → Type 0) : Type 0 where
   pub represents : HasCleanDisk (state g after) → (m : M) → links (state g before).now m → OnOk r (spans (state g after).now m)
   pub only : HasCleanDisk (state g after) → OnOk r (OnlyTouches (tables.office.tree ∷ tables.link.tree ∷ []) (state g before).now (state g after).now)
-  pub inside : OnOk r (InTransaction Spans (state g after))
+  pub inside : OnOk r (InTransaction Second (state g after))
   pub goes : OnOk r (Continues (state g before) (state g after))
-  pub cut : OnErr r (IsAborted (state g before) (state g after))
+  pub aborts : OnErr r (IsAborted (state g before) (state g after))
   pub disk : HasCleanDisk (state g after) → IfErr r (BlamesDisk (state g before) (state g after))
   pub faults : (m : M) → links (state g before).now m → kept m → FaultsHaveCause (state g before) (state g after) r

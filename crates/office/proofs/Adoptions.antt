@@ -11,7 +11,7 @@ use Rattle.sqlite.specs.declared.error.Error.{Error}
 use Rattle.sqlite.specs.Tree.{Trees}
 use Rattle.sqlite.proofs.StateLemmas.{survives_then}
 use Rattle.tree_core.specs.Forest.{Forest}
-use Rattle.tree_core.specs.Versions.{Version}
+use Rattle.office_tables.specs.Versions.{Version, encoding}
 use Rattle.row_completeness.specs.WholePlaces.{RepresentsWhatItDescribes}
 use Rattle.adoption.specs.Verdicts.{IsVerdict}
 use Rattle.adoption.specs.declared.verdict.Verdict.{Verdict}
@@ -42,18 +42,18 @@ none_refused verdict.OtherTables none = absurd cc
 none_refused (verdict.Unsound n) none = absurd cc
 
 -- tables without a cause represent the state that their rows describe
-pub sound_shown : (places : Trees → Forest ℕ → Type 0) (version : Version) → ((db : Trees) → RepresentsWhatItDescribes places version db) → (db : Database) → SoundTablesRepresentTheirState places version db
+pub sound_shown : (places : Trees → Forest ℕ → Type 0) (version : Version) → ((db : Trees) → RepresentsWhatItDescribes places (encoding version) db) → (db : Database) → SoundTablesRepresentTheirState places version db
 sound_shown places version shows db sound = sound_state places version db sound (catalogue_shown version db (sound_are_good version db sound) places shows)
 
 -- they were looked over, and no fault is told of them
 module _ {S : Type 0} {g : trees.Ghosts S} {before after : Held S} {version : Version} {told : Verdict} (looked : Inspects g before after version (Ok told)) (none : refusal_of told ≡ None) where
   are_sound : HasCleanDisk (state g after) → IsVerdict version (state g before).now verdict.Sound
-  are_sound clean = subst (IsVerdict version (state g before).now) (none_refused told none) (looked.tells clean)
+  are_sound clean = subst (IsVerdict version (state g before).now) (none_refused told none) (looked.answers clean)
 
   pub adopted : HasCleanDisk (state g after) → IsAdopted version (state g before) (state g after)
   adopted clean = record { sound = are_sound clean; same = (looked.back clean).now }
 
-  module _ (places : Trees → Forest ℕ → Type 0) (shows : (db : Trees) → RepresentsWhatItDescribes places version db) (live : IsLive (state g before)) (clean : HasCleanDisk (state g after)) where
+  module _ (places : Trees → Forest ℕ → Type 0) (shows : (db : Trees) → RepresentsWhatItDescribes places (encoding version) db) (live : IsLive (state g before)) (clean : HasCleanDisk (state g after)) where
     its_state : IsTrue (state g after).is_open → StandInOrder (state g before).now → RepresentsItsState places version (state g before).now
     its_state opened ordered =
         sound_shown places version shows (state g before).now
@@ -136,7 +136,7 @@ module _ {S X : Type 0} {g : trees.Ghosts S} {before mid after : Held S} {versio
       let b = state g mid in
       let d = state g after in
       record {
-        tells = λ clean. judged.tells (early b d _ found.crash clean);
+        answers = λ clean. judged.answers (early b d _ found.crash clean);
         back = λ clean. still_before a b d (judged.back (early b d _ found.crash clean)) (found.still_open clean);
         disk = λ clean. tt;
         faults = λ clean ordered. tt;
@@ -153,7 +153,7 @@ module _ {S X : Type 0} {g : trees.Ghosts S} {before mid after : Held S} {versio
       let at_b = early b d _ found.crash clean in
       caused_later a b d judged.crash found.crash.counts at_b e (found.faults clean (judged.back at_b).ended) in
       record {
-        tells = λ clean. tt;
+        answers = λ clean. tt;
         back = λ clean. let at_b = early b d _ found.crash clean in stopped_before a b d (judged.back at_b) (settled at_b) (found.stopped clean);
         disk = λ clean. outer_blames a d e (why clean);
         faults = λ clean ordered. why clean;

@@ -9,11 +9,11 @@ use Rattle.sqlite.specs.State.{State, HasCleanDisk, Survives, Shows}
 use Rattle.sqlite.specs.Tree.{Trees}
 use Rattle.sqlite.proofs.StateLemmas.{survives_then}
 use Rattle.tree_core.specs.Forest.{Forest}
-use Rattle.tree_core.specs.Versions.{Version}
+use Rattle.office_tables.specs.Versions.{Version}
 use Rattle.desk_core.specs.declared.refusal.Refusal.{Refusal}
 use Rattle.office_core.specs.Json.{reply_text}
 use Rattle.office_core.specs.Rules as machine
-use Rattle.office_core.specs.Rules.{step, refusal, decided, after, told}
+use Rattle.office_core.specs.Rules.{step, refusal, decide, after, result_of}
 use Rattle.office_core.specs.SoundOffice.{IsSoundOffice}
 use Rattle.office_core.specs.State as office
 use Rattle.office_core.specs.declared.command.Command.{Command}
@@ -37,7 +37,7 @@ use Rattle.office.proofs.States.{found_committed, shown_begun}
 pub refused_same : (s : office.State) (asked : Command) → IsErr (step s asked).1 → (step s asked).0 ≡ s
 refused_same s asked h = at (refusal s asked) h
   where
-    at : (why : Option Refusal) → IsErr (decided why s (after s asked) (told s asked)).1 → (decided why s (after s asked) (told s asked)).0 ≡ s
+    at : (why : Option Refusal) → IsErr (decide why s (after s asked) (result_of s asked)).1 → (decide why s (after s asked) (result_of s asked)).0 ≡ s
     at (Some why) h = refl
     at None h = absurd (cc)
 
@@ -108,7 +108,7 @@ module _ {S : Type 0} (g : trees.Ghosts S) (before begun done after : Held S) wh
   module _ {places : Trees → Forest ℕ → Type 0} {version : Version} {asked : Command} {outcome r : Result Reply StoreFault} (rest : IsOffice version a) (first : Survives a b (λ _. ⊥)) (begins : HasCleanDisk b → Shows a b a.now a.committed true)
       (does : Replies places version g begun done asked outcome) (last : Settles g done after outcome r) where
     second : Survives b m (λ _. ⊥)
-    second = went outcome b m does.goes does.cut
+    second = went outcome b m does.goes does.aborts
 
     clean_m : HasCleanDisk z → HasCleanDisk m
     clean_m clean = early m z _ last.crash clean

@@ -5,7 +5,7 @@ use Rattle.sqlite.specs.State as store
 use Rattle.sqlite.specs.State.{HasCleanDisk}
 use Rattle.sqlite.specs.Tree.{Trees}
 use Rattle.tree_core.specs.Forest.{Forest}
-use Rattle.tree_core.specs.Versions.{Version}
+use Rattle.office_tables.specs.Versions.{Version}
 use Rattle.office_core.specs.SoundOffice.{IsSoundOffice}
 use Rattle.office_core.specs.State.{State}
 use Rattle.office_core.specs.declared.query.Query.{Query}
@@ -32,9 +32,9 @@ module _ {places : Trees → Forest ℕ → Type 0} {version : Version} where
       subst (λ (db : Database). RepresentsState places version db s) (sym (looked.same at_b)) it in
       record {
         answers = λ clean s sound it.
-            let at_b = early b c _ (looked_on b c r last.looks last.cut) clean in
+            let at_b = early b c _ (looked_on b c r last.looks last.aborts) clean in
             last.answers clean s sound (learns at_b s sound it) (still at_b s it);
         looks = on_ok_then r (LeavesUnchanged b c) (LeavesUnchanged a c) (λ on. looks_then a b c looked on) last.looks;
-        cut = on_err_then r (IsAborted b c) (IsAborted a c) (λ cut. cut_then a b c looked.goes.on cut) last.cut;
-        faults = λ s sound it. excused_then a b c looked.goes.on r last.cut (λ at_b. last.faults s sound (learns at_b s sound it) (still at_b s it));
+        aborts = on_err_then r (IsAborted b c) (IsAborted a c) (λ cut. cut_then a b c looked.goes.on cut) last.aborts;
+        faults = λ s sound it. excused_then a b c looked.goes.on r last.aborts (λ at_b. last.faults s sound (learns at_b s sound it) (still at_b s it));
       }

@@ -7,7 +7,7 @@ use Rattle.sqlite.specs.Held.{Held, state}
 use Rattle.sqlite.specs.State as sqlite
 use Rattle.sqlite.specs.Tree.{Trees}
 use Rattle.tree_core.specs.Forest.{Forest}
-use Rattle.tree_core.specs.Versions.{Version}
+use Rattle.office_tables.specs.Versions.{Version}
 use Rattle.office_core.specs.Json.{reply_text}
 use Rattle.office_core.specs.Queries.{answer}
 use Rattle.office_core.specs.Rules.{step}
@@ -20,7 +20,7 @@ use Rattle.office_core.specs.declared.query.Answer.{Answer}
 use Rattle.office_core.specs.declared.query.Query.{Query}
 use Rattle.office.specs.OfficeCall.{TakesStep}
 use Rattle.office.specs.IdleOffice.{IsAsBefore, IsIn, is_clean, is_shown, is_still_open}
-use Rattle.office.specs.Runs.{IsCall, Replied, Answered, answered, applied}
+use Rattle.office.specs.Runs.{IsCall, Replied, Answered, question_call, command_call}
 use Rattle.refinement.specs.Representation.{RepresentsState}
 
 -- while nothing is changed, it is in the state that it was in
@@ -39,7 +39,7 @@ module _ {S : Type 0} (g : store.Ghosts S) (places : Trees → Forest ℕ → Ty
       → (clean new → is_still_open g new → is_still_open g old) → (clean new → IfOk r (λ reply. IsOk reply.done → is_still_open g new))
       → (clean new → (s : State) → IsSoundOffice s → IsIn places version s (state g old) → IfOk r (λ reply. TakesStep places version s asked reply.done (state g new)))
       → ((s : State) → IsSoundOffice s → IsSoundOffice (step s asked).0) → (clean new → OnErr r (IsAsBefore (state g old) (state g new)))
-      → IfOk r (λ reply. reply.json ≡ reply_text reply.done) → IsCall shown clean (is_still_open g) old new (applied asked r)
+      → IfOk r (λ reply. reply.json ≡ reply_text reply.done) → IsCall shown clean (is_still_open g) old new (command_call asked r)
   applied_call asked (Ok reply) before was kept steps sound busy bytes = record {
     intact = before;
     was_open = was;
@@ -73,7 +73,7 @@ module _ {S : Type 0} (g : store.Ghosts S) (places : Trees → Forest ℕ → Ty
   -- a question
   pub answered_call : {E : Type 0} (asked : Query) (r : Result Answer E) → (clean new → clean old)
       → (clean new → (s : State) → IsSoundOffice s → IsIn places version s (state g old) → IfOk r (λ told. told ≡ answer s asked))
-      → (clean new → IsAsBefore (state g old) (state g new)) → IsCall shown clean (is_still_open g) old new (answered asked r)
+      → (clean new → IsAsBefore (state g old) (state g new)) → IsCall shown clean (is_still_open g) old new (question_call asked r)
   answered_call asked (Ok told) before answers same = record {
     intact = before;
     was_open = λ at. (same at).was_open;

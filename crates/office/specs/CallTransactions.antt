@@ -6,7 +6,7 @@ use Rattle.sqlite.specs.State as store
 use Rattle.sqlite.specs.State.{HasCleanDisk, Survives}
 use Rattle.sqlite.specs.Tree.{Trees}
 use Rattle.tree_core.specs.Forest.{Forest}
-use Rattle.tree_core.specs.Versions.{Version}
+use Rattle.office_tables.specs.Versions.{Version}
 use Rattle.office_core.specs.Json.{reply_text}
 use Rattle.office_core.specs.Queries.{answer}
 use Rattle.office_core.specs.SoundOffice.{IsSoundOffice}
@@ -30,14 +30,14 @@ module _ {S : Type 0} (places : Trees → Forest ℕ → Type 0) (version : Vers
   abbrev new : store.State
   new = state g after
 
-  -- Inside its transaction, the call carries out the command's step over the tables of a sound office, and makes the
-  -- bytes of the reply. It fails only for want of memory or because of the disk. The transaction goes on if the call
+  -- The call carries out the command's step over the tables of a sound office, and makes the bytes of the reply. It
+  -- fails only for want of memory, because of the disk, or outside a transaction. The transaction goes on if the call
   -- succeeds, and is aborted if it fails.
   pub record Replies (asked : Command) (r : Result Reply StoreFault) : Type 0 where
     pub steps : HasCleanDisk new → (s : State) → IsSoundOffice s → RepresentsState places version old.now s → IfOk r (λ reply. CarriesOutStep places version s asked reply.done new.now)
     pub bytes : IfOk r (λ reply. reply.json ≡ reply_text reply.done)
     pub goes : OnOk r (Goes old new)
-    pub cut : OnErr r (IsAborted old new)
+    pub aborts : OnErr r (IsAborted old new)
     pub faults : (s : State) → IsSoundOffice s → RepresentsState places version old.now s → FaultsHaveCause old new r
 
   -- The call carries out a command in a transaction of its own. An accepted command is committed, and the connection is

@@ -3,7 +3,7 @@ use Rattle.std.specs.Prelude.{◌≡◌, false, Result, IfErr, IfOk, OnErr, OnOk
 use Rattle.sqlite_trees.specs.declared.store.Store as trees
 use Rattle.sqlite.specs.Held.{Held, state}
 use Rattle.sqlite.specs.State.{State, HasCleanDisk, Shows, Survives}
-use Rattle.tree_core.specs.Versions.{Version}
+use Rattle.office_tables.specs.Versions.{Version}
 use Rattle.adoption.specs.OrderedTables.{StandInOrder}
 use Rattle.adoption.specs.Verdicts.{IsVerdict}
 use Rattle.adoption.specs.declared.verdict.Verdict.{Verdict}
@@ -22,7 +22,7 @@ module _ {S : Type 0} (g : trees.Ghosts S) (before after : Held S) where
   -- The call judges what the tables are, in a transaction that is rolled back, and leaves them as they were. It blames
   -- the disk for its own failures only; if the rows of the tables stand in order, every fault has a cause.
   pub record Inspects (version : Version) (r : Result Verdict StoreFault) : Type 0 where
-    pub tells : HasCleanDisk new → IfOk r (IsVerdict version old.now)
+    pub answers : HasCleanDisk new → IfOk r (IsVerdict version old.now)
     pub back : HasCleanDisk new → IsAsBefore old new
     pub disk : HasCleanDisk new → IfErr r (BlamesDisk old new)
     pub faults : HasCleanDisk new → StandInOrder old.now → IfErr r (HasOuterCause old new)

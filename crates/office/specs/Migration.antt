@@ -6,7 +6,7 @@ use Rattle.sqlite.specs.Held.{Held, state}
 use Rattle.sqlite.specs.State as store
 use Rattle.sqlite.specs.State.{HasCleanDisk, Survives}
 use Rattle.sqlite.specs.Tree.{Trees}
-use Rattle.tree_core.specs.Versions.{Links, Spans}
+use Rattle.office_tables.specs.Versions.{First, Second}
 use Rattle.catalogue_statements.specs.Representation.{RepresentsLinkRows}
 use Rattle.adoption.specs.Verdicts.{IsVerdict}
 use Rattle.adoption.specs.declared.verdict.Verdict.TheVariants as verdict
@@ -28,21 +28,21 @@ use Rattle.nested_sets.specs.Representation.{RepresentsSpanRows}
 
 -- in addition to what it might have found before: the same state in version 2, complete
 abbrev pub MayFindSpans : store.State → Trees → Type 0
-MayFindSpans old db = (s : State) → IsIn RepresentsLinkRows Links s old → RepresentsState RepresentsSpanRows Spans (record { schema = schema Spans; trees = db }) s
+MayFindSpans old db = (s : State) → IsIn RepresentsLinkRows First s old → RepresentsState RepresentsSpanRows Second (record { schema = schema Second; trees = db }) s
 
 -- ---- of tables of any origin
 
 -- The tables were a sound office's of version 1, and are now those of one of version 2, in the same state. The table of
 -- nested sets has replaced that of links, the office's row has the new version, and no other table has other rows.
 pub record IsMigrated (old new : Database) : Type 0 where
-  pub judged : IsVerdict Links old verdict.Sound
-  pub sound : StandInOrder old → IsSoundOffice (state_in Links old.trees)
-  pub represents : StandInOrder old → RepresentsState RepresentsSpanRows Spans new (state_in Links old.trees)
+  pub judged : IsVerdict First old verdict.Sound
+  pub sound : StandInOrder old → IsSoundOffice (state_in First old.trees)
+  pub represents : StandInOrder old → RepresentsState RepresentsSpanRows Second new (state_in First old.trees)
   pub only : OnlyTouches (tables.office.tree ∷ tables.link.tree ∷ []) old new
 
 -- in addition to what it might have found before: all of that
 abbrev pub MayFindMigrated : store.State → Trees → Type 0
-MayFindMigrated old db = IsMigrated old.now (record { schema = schema Spans; trees = db })
+MayFindMigrated old db = IsMigrated old.now (record { schema = schema Second; trees = db })
 
 -- ---- the calls
 
@@ -56,19 +56,19 @@ module _ {S : Type 0} (g : trees.Ghosts S) (before after : Held S) where
   -- The call brings an office from version 1 to version 2, in one transaction and the same state. If it succeeds, the
   -- connection is open. If it fails, nothing is changed.
   pub record MigratesOffice {X : Type 0} (r : Result X StoreFault) : Type 0 where
-    pub office : OnOk r (IsOffice Spans new)
-    pub old_office : OnErr r (IsOffice Links new)
-    pub same : HasCleanDisk new → (s : State) → IsIn RepresentsLinkRows Links s old → OnOk r (IsIn RepresentsSpanRows Spans s new)
+    pub office : OnOk r (IsOffice Second new)
+    pub old_office : OnErr r (IsOffice First new)
+    pub same : HasCleanDisk new → (s : State) → IsIn RepresentsLinkRows First s old → OnOk r (IsIn RepresentsSpanRows Second s new)
     pub kept : HasCleanDisk new → OnOk r (IsTrue new.is_open)
     pub back : HasCleanDisk new → OnErr r (IsAsBefore old new)
-    pub faults : HasCleanDisk new → (s : State) → IsSoundOffice s → IsIn RepresentsLinkRows Links s old → IfErr r (HasOuterCause old new)
+    pub faults : HasCleanDisk new → (s : State) → IsSoundOffice s → IsIn RepresentsLinkRows First s old → IfErr r (HasOuterCause old new)
     pub crash : Survives old new (MayFindSpans old)
 
   -- Inside a transaction, the call judges tables of any origin, and brings them to version 2 if they are a sound
   -- office's of version 1. Otherwise the fault says why no office of version 1 can be opened over them.
   pub record MigratesIfSound {X : Type 0} (r : Result X OpenFault) : Type 0 where
     pub same : HasCleanDisk new → IsTrue old.is_open → OnOk r (IsMigrated old.now new.now)
-    pub inside : OnOk r (InTransaction Spans new)
+    pub inside : OnOk r (InTransaction Second new)
     pub goes : OnOk r (Continues old new)
-    pub cut : OnErr r (IsAborted old new)
-    pub cause : HasCleanDisk new → IsTrue old.is_open → IfErr r (HasAdoptCause Links old new)
+    pub aborts : OnErr r (IsAborted old new)
+    pub cause : HasCleanDisk new → IsTrue old.is_open → IfErr r (HasAdoptCause First old new)

@@ -6,7 +6,7 @@ use Rattle.sqlite.specs.Held.{Held, state}
 use Rattle.sqlite.specs.State.{State, HasCleanDisk, Survives}
 use Rattle.sqlite.specs.Tree.{Trees}
 use Rattle.tree_core.specs.Forest.{Forest, Empty}
-use Rattle.tree_core.specs.Versions.{Version}
+use Rattle.office_tables.specs.Versions.{Version}
 use Rattle.catalogue_statements.specs.Representation.{Represents}
 use Rattle.catalogue_statements.specs.declared.office.OfficeRow.{OfficeRow}
 use Rattle.desk_core.specs.DeskRows.{Desk}
@@ -61,7 +61,7 @@ module _ {S X : Type 0} (places : Trees → Forest ℕ → Type 0) (version : Ve
   pub record MakesTables : Type 0 where
     pub represents : HasCleanDisk new → OnOk r (RepresentsNew places version new.now row)
     pub goes : OnOk r (Continues old new)
-    pub cut : OnErr r (IsAborted old new)
+    pub aborts : OnErr r (IsAborted old new)
     pub faults : FaultsHaveCause old new r
 
   -- The call makes the new office in one transaction. If it succeeds, the connection is open. If it fails, nothing is

@@ -3,7 +3,7 @@ use Rattle.std.specs.Prelude.{◌≡◌, ℕ}
 use Rattle.sqlite.specs.State as store
 use Rattle.sqlite.specs.Tree.{Trees}
 use Rattle.tree_core.specs.Forest.{Forest}
-use Rattle.tree_core.specs.Versions.{Version}
+use Rattle.office_tables.specs.Versions.{Version}
 use Rattle.office_core.specs.Rules.{Reply, step}
 use Rattle.office_core.specs.SoundOffice.{IsSoundOffice}
 use Rattle.office_core.specs.State.{State}

@@ -26,13 +26,13 @@ pub record Call : Type 0 where
   pub asked : Asked
   pub told : Option Returned
 
-abbrev pub applied : {E : Type 0} → Command → Result Reply E → Call
-applied asked (Ok reply) = record { asked = ToDo asked; told = Some (Replied reply.done reply.json) }
-applied asked (Err busy) = record { asked = ToDo asked; told = None }
+abbrev pub command_call : {E : Type 0} → Command → Result Reply E → Call
+command_call asked (Ok reply) = record { asked = ToDo asked; told = Some (Replied reply.done reply.json) }
+command_call asked (Err busy) = record { asked = ToDo asked; told = None }
 
-abbrev pub answered : {E : Type 0} → Query → Result Answer E → Call
-answered asked (Ok told) = record { asked = ToTell asked; told = Some (Answered told) }
-answered asked (Err busy) = record { asked = ToTell asked; told = None }
+abbrev pub question_call : {E : Type 0} → Query → Result Answer E → Call
+question_call asked (Ok told) = record { asked = ToTell asked; told = Some (Answered told) }
+question_call asked (Err busy) = record { asked = ToTell asked; told = None }
 
 -- what was asked while the office was not busy
 abbrev pub with_heard : Asked → Option Returned → List Asked → List Asked

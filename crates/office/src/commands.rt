@@ -99,7 +99,7 @@ fn carry_out<P: Places, S: Alter>(
 }
 
 /// The reply to a command, with its bytes.
-fn told(alloc: Global, done: Result<Done, Refusal>) -> Result<Reply, StoreFault>
+fn reply_of(alloc: Global, done: Result<Done, Refusal>) -> Result<Reply, StoreFault>
     ensures same { IfOk result (λ reply. reply.done ≡ done) }
     ensures bytes { IfOk result (λ reply. reply.json ≡ reply_text done) }
     ensures memory { IfErr result (λ e. e ≡ fault.Memory) }
@@ -119,7 +119,7 @@ fn reply_to<P: Places, S: Alter>(
     ensures { Replies P.represents P.version S.Store tables.old tables.new command.now result }
 {
     let done = carry_out(alloc, tables, command)?;
-    told(alloc, done)
+    reply_of(alloc, done)
 }
 
 /// Carries out a command in a transaction of its own. The reply's bytes are made before the commit. A malformed name is
@@ -134,7 +134,7 @@ pub(crate) fn apply_to<P: Places, S: Alter>(
     ensures { Applies P.represents P.version S.Store closed.old closed.new command.now result }
 {
     if let Some(why) = refused_by_name(command) {
-        return told(alloc, Err(why));
+        return reply_of(alloc, Err(why));
     }
     let tables = closed.begin()?;
     let outcome = reply_to(alloc, tables, command);

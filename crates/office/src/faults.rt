@@ -20,9 +20,9 @@ pub enum OpenFault {
     Schema,
     /// The table `office` cannot be read, or does not have exactly one row.
     NoOffice,
-    /// The tables are of version 1, but version 2 was expected.
+    /// The tables are of an older version than was expected.
     OldVersion,
-    /// The tables are of version 2, but version 1 was expected.
+    /// The tables are of a newer version than was expected.
     NewVersion,
     /// No sound office has such rows. The number is the least of the ten causes that holds.
     Unsound(u8),

@@ -19,8 +19,8 @@ pub(crate) fn own_row<P: Places, S: Alter>(
     alloc: Global,
     tables: &mut Tables<P, S>,
 ) -> Result<OfficeRow, StoreFault>
-    ensures tells { Answers S.Store (RepresentsWhole P.represents P.version) IsSoundOffice tables.old tables.new result
-        (λ _. ⊤) (λ _ s row. row ≡ office_of s) }
+    ensures answers { Answers S.Store (RepresentsWhole P.represents P.version) IsSoundOffice tables.old tables.new
+        result (λ _. ⊤) (λ _ s row. row ≡ office_of s) }
 {
     settings(alloc, tables)
 }

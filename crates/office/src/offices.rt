@@ -3,7 +3,7 @@
 ghost use Rattle.std.specs.Prelude.{◌≡◌, false, Err, IfErr, IfOk, IsErr, IsOk, IsTrue, OnErr};
 ghost use Rattle.sqlite.specs.Held.{state};
 ghost use Rattle.sqlite.specs.State.{HasCleanDisk, Survives};
-ghost use Rattle.tree_core.specs.Versions.{Links, Spans};
+ghost use Rattle.office_tables.specs.Versions.{First, Second};
 ghost use Rattle.catalogue_statements.specs.Representation.{RepresentsLinkRows};
 ghost use Rattle.office_core.specs.Json.{reply_text};
 ghost use Rattle.office_core.specs.Queries.{answer};
@@ -19,7 +19,7 @@ ghost use Rattle.office.specs.InitialSettings.{founded};
 ghost use Rattle.office.specs.Migration.{MayFindSpans};
 ghost use Rattle.office.specs.NewOffice.{HasOpenCause};
 ghost use Rattle.office.specs.IdleOffice.{IsAsBefore, IsAtRest, IsIn, is_clean, is_shown, is_still_open};
-ghost use Rattle.office.specs.Runs.{IsCall, answered, applied};
+ghost use Rattle.office.specs.Runs.{IsCall, question_call, command_call};
 ghost use Rattle.refinement.specs.Representation.{RepresentsState};
 ghost use Rattle.nested_sets.specs.Representation.{RepresentsSpanRows};
 
@@ -129,7 +129,7 @@ impl<P: Places, S: Alter> Office<P, S> {
         ensures crash { Survives (state S.Store self.old) (state S.Store self.new)
             (MayFind P.represents P.version command.now (state S.Store self.old)) }
         ensures call { IsCall (is_shown S.Store P.represents P.version) (is_clean S.Store) (is_still_open S.Store)
-            self.old self.new (applied command.now result) }
+            self.old self.new (command_call command.now result) }
     {
         names_days_and_texts(command);
         match apply_to(alloc, &mut self.closed, command) {
@@ -151,7 +151,7 @@ impl<P: Places, S: Alter> Office<P, S> {
         ensures rested { HasCleanDisk (state S.Store self.old) → IsAtRest P.version (state S.Store self.old) }
         ensures crash { Survives (state S.Store self.old) (state S.Store self.new) (λ _. ⊥) }
         ensures call { IsCall (is_shown S.Store P.represents P.version) (is_clean S.Store) (is_still_open S.Store)
-            self.old self.new (answered query result) }
+            self.old self.new (question_call query result) }
     {
         match ask_in(alloc, &mut self.closed, query) {
             Ok(answer) => Ok(answer),
@@ -179,14 +179,14 @@ impl<S: Alter> Office<LinkPlaces, S> {
         alloc: Global,
     ) -> Result<Office<SpanPlaces, S>, (OpenFault, Office<LinkPlaces, S>)>
         ensures same { IfOk result (λ office. HasCleanDisk (state S.Store office)
-            → (s : State) → IsIn RepresentsLinkRows Links s (state S.Store self)
-            → IsIn RepresentsSpanRows Spans s (state S.Store office)) }
+            → (s : State) → IsIn RepresentsLinkRows First s (state S.Store self)
+            → IsIn RepresentsSpanRows Second s (state S.Store office)) }
         ensures kept { IfOk result (λ office. HasCleanDisk (state S.Store office)
             → IsTrue (state S.Store office).is_open) }
         ensures back { IfErr result (λ e. HasCleanDisk (state S.Store e.1)
             → IsAsBefore (state S.Store self) (state S.Store e.1)) }
         ensures cause { IfErr result (λ e. HasCleanDisk (state S.Store e.1)
-            → (s : State) → IsSoundOffice s → IsIn RepresentsLinkRows Links s (state S.Store self)
+            → (s : State) → IsSoundOffice s → IsIn RepresentsLinkRows First s (state S.Store self)
             → HasOpenCause (state S.Store self) (state S.Store e.1) e.0) }
         ensures crash { IfOk result (λ office. Survives (state S.Store self) (state S.Store office)
             (MayFindSpans (state S.Store self))) }

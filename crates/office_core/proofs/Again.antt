@@ -15,7 +15,7 @@ use Rattle.office_core.specs.declared.done.Remark.{Remark}
 use Rattle.office_core.specs.State.{State}
 use Rattle.catalogue_core.specs.Intake.{Intake, Taken, take, take_rows, with_file, is_full, is_same, is_new}
 use Rattle.office_core.specs.ImportReply.{bad_file, too_much, remarks, told_of}
-use Rattle.office_core.specs.Rules.{Reply, taken, imported, gate, decided, step}
+use Rattle.office_core.specs.Rules.{Reply, intake_of, imported, gate, decide, step}
 use Rattle.catalogue_core.specs.Sources.{is_source}
 use Rattle.office_core.specs.Laws.{ImportsAgain}
 use Rattle.office_core.proofs.Steps.{step_at}
@@ -28,9 +28,9 @@ use Rattle.catalogue_core.proofs.ImportedAgain.{count_all, boxes_again, HasTaken
 -- what an import does, once its file was taken
 abbrev stepped : State → Bytes → Taken → State × Reply
 stepped t source r =
-    decided (first_that_holds (unless (is_source source) BadName ∷ bad_file r ∷ too_much r ∷ gate (imported t r) ∷ [])) t (imported t r) (told_of t.catalogue.forest source r)
+    decide (first_that_holds (unless (is_source source) BadName ∷ bad_file r ∷ too_much r ∷ gate (imported t r) ∷ [])) t (imported t r) (told_of t.catalogue.forest source r)
 
-none_holds : (t new : State) (d : Done) (a b c : Check) → a ≡ None → b ≡ None → c ≡ None → decided (first_that_holds (a ∷ None ∷ b ∷ c ∷ [])) t new d ≡ (new, Ok d)
+none_holds : (t new : State) (d : Done) (a b c : Check) → a ≡ None → b ≡ None → c ≡ None → decide (first_that_holds (a ∷ None ∷ b ∷ c ∷ [])) t new d ≡ (new, Ok d)
 none_holds t new d (Some why) b c ea eb ec = absurd (cc)
 none_holds t new d None (Some why) c ea eb ec = absurd (cc)
 none_holds t new d None None (Some why) ea eb ec = absurd (cc)
@@ -47,7 +47,7 @@ DoneAgain t source file marks translations =
     (read : File) × (file_of file ≡ Ok read)
     × (step t (command.Import source file) ≡ (t, Ok (done.Import 0 0 marks (length read.rows) translations)))
 
-module _ (s : State) (source file : Bytes) (intake : Intake) (e : taken s source file ≡ Ok intake) where
+module _ (s : State) (source file : Bytes) (intake : Intake) (e : intake_of s source file ≡ Ok intake) where
   it : IsTaken s.catalogue source file intake
   it = taken_is s.catalogue source file intake e
 
@@ -94,7 +94,7 @@ same_reply a b e = cc
 same_marks : (c n s t c' n' s' t' : ℕ) (m m' : List Remark) → done.Import c n m s t ≡ done.Import c' n' m' s' t' → (m ≡ m') × (t ≡ t')
 same_marks c n s t c' n' s' t' m m' e = (cc, cc)
 
-accepted : (s : State) (source file : Bytes) (r : Taken) → taken s source file ≡ r → unless (is_source source) BadName ≡ None → bad_file r ≡ None → too_much r ≡ None → gate (imported s r) ≡ None → (changed new : ℕ) (marks : List Remark) (same translations : ℕ) → done_reply (told_of s.catalogue.forest source r) ≡ done_reply (done.Import changed new marks same translations) → DoneAgain (imported s r) source file marks translations
+accepted : (s : State) (source file : Bytes) (r : Taken) → intake_of s source file ≡ r → unless (is_source source) BadName ≡ None → bad_file r ≡ None → too_much r ≡ None → gate (imported s r) ≡ None → (changed new : ℕ) (marks : List Remark) (same translations : ℕ) → done_reply (told_of s.catalogue.forest source r) ≡ done_reply (done.Import changed new marks same translations) → DoneAgain (imported s r) source file marks translations
 accepted s source file (Err fault) e a b c d changed new marks same translations t = absurd (cc)
 accepted s source file (Ok intake) e a b c d changed new marks same translations t =
     let x = same_marks _ _ _ _ changed new same translations _ marks (same_reply _ _ t) in
@@ -105,4 +105,4 @@ pub imports_again : (s : State) → ImportsAgain s
 imports_again s source file changed new marks same translations =
     step_at (λ t reply. reply ≡ Ok (done.Import changed new marks same translations) → DoneAgain t source file marks translations) s (command.Import source file)
     (λ why e. absurd (cc))
-    (λ ok e. accepted s source file (taken s source file) refl ok.0 ok.1.0 ok.1.1.0 ok.1.1.1.0 changed new marks same translations e)
+    (λ ok e. accepted s source file (intake_of s source file) refl ok.0 ok.1.0 ok.1.1.0 ok.1.1.1.0 changed new marks same translations e)

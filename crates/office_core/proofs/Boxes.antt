@@ -8,11 +8,11 @@ use Rattle.office_core.specs.declared.command.Command.{Command}
 use Rattle.office_core.specs.declared.command.Command.TheVariants as command
 use Rattle.office_core.specs.State.{State, container_of}
 use Rattle.catalogue_core.specs.Intake.{Taken}
-use Rattle.office_core.specs.Rules.{after, step, cancelled, issued, returned, imported, taken}
+use Rattle.office_core.specs.Rules.{after, step, cancelled, issued, returned, imported, intake_of}
 use Rattle.office_core.proofs.Steps.{step_at}
 use Rattle.catalogue_core.proofs.Imported.{taken_is, distinct_again}
 
-imported_boxes : (s : State) (source file : Bytes) (t : Taken) → taken s source file ≡ t → distinct s.catalogue.containers ≡ s.catalogue.containers → distinct (imported s t).catalogue.containers ≡ (imported s t).catalogue.containers
+imported_boxes : (s : State) (source file : Bytes) (t : Taken) → intake_of s source file ≡ t → distinct s.catalogue.containers ≡ s.catalogue.containers → distinct (imported s t).catalogue.containers ≡ (imported s t).catalogue.containers
 imported_boxes s source file (Err fault) e b = b
 imported_boxes s source file (Ok intake) e b =
     let x = ap (λ c. c.containers) (taken_is s.catalogue source file intake e).is in
@@ -32,7 +32,7 @@ returned_boxes s c Desk = refl
 returned_boxes s c (Out o) = refl
 
 pub apart_after : (s : State) (asked : Command) → distinct s.catalogue.containers ≡ s.catalogue.containers → distinct (after s asked).catalogue.containers ≡ (after s asked).catalogue.containers
-apart_after s (command.Import source file) b = imported_boxes s source file (taken s source file) refl b
+apart_after s (command.Import source file) b = imported_boxes s source file (intake_of s source file) refl b
 apart_after s (command.Cancel o) b = subst (λ bs. distinct bs ≡ bs) (sym (cancelled_boxes s o (container_of s o))) b
 apart_after s (command.Issue c t) b = subst (λ bs. distinct bs ≡ bs) (sym (issued_boxes s c (s.queue c))) b
 apart_after s (command.Return c) b = subst (λ bs. distinct bs ≡ bs) (sym (returned_boxes s c (s.place c))) b

@@ -12,13 +12,13 @@ use Rattle.office_core.specs.declared.command.Command.TheVariants as command
 use Rattle.office_core.specs.State.{State, container_of}
 use Rattle.catalogue_core.specs.UnitLookup.{has_unit}
 use Rattle.catalogue_core.specs.Intake.{Taken}
-use Rattle.office_core.specs.Rules.{taken, imported, after, step, cancelled, issued, returned}
+use Rattle.office_core.specs.Rules.{intake_of, imported, after, step, cancelled, issued, returned}
 use Rattle.office_core.specs.GivenNumbers.{ComesNew}
 use Rattle.office_core.proofs.Steps.{step_at}
 use Rattle.catalogue_core.proofs.Imported.{new_rows, taken_is}
 use Rattle.catalogue_core.proofs.UnitsAfter.{of_number, OldOrNew, merged_units, each_units, status_id, closure_id, has_cut, has_moved}
 
-imported_units : (s : State) (source file : Bytes) (t : Taken) → taken s source file ≡ t → ComesNew s (imported s t)
+imported_units : (s : State) (source file : Bytes) (t : Taken) → intake_of s source file ≡ t → ComesNew s (imported s t)
 imported_units s source file (Err fault) e u h = inl h
 imported_units s source file (Ok intake) e u h =
     let x = (taken_is s.catalogue source file intake e).is in
@@ -41,7 +41,7 @@ returned_units s c Desk u h = inl h
 returned_units s c (Out o) u h = inl h
 
 pub new_after : (s : State) (asked : Command) → ComesNew s (after s asked)
-new_after s (command.Import source file) = imported_units s source file (taken s source file) refl
+new_after s (command.Import source file) = imported_units s source file (intake_of s source file) refl
 new_after s (command.SetStatus u draft whole) = λ v h. inl (sym (each_units (λ (unit : Unit). cond (is_chosen (chosen whole u s.catalogue) unit) (record unit { draft = draft }) unit) s.catalogue.forest v (λ unit. status_id (is_chosen (chosen whole u s.catalogue) unit) draft unit)) ∙ h)
 new_after s (command.SetClosure u until) = λ v h. inl (sym (each_units (λ (unit : Unit). cond (has_id u unit) (record unit { until = until }) unit) s.catalogue.forest v (λ unit. closure_id (has_id u unit) until unit)) ∙ h)
 new_after s (command.Move u parent) = λ v h. inl (has_moved (has_id v) u parent s.catalogue.forest h)

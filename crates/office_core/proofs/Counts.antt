@@ -5,7 +5,7 @@ use Rattle.std.specs.List.{list_any}
 use Rattle.std.proofs.lemmas.List.Sums.{sum_by_push}
 use Rattle.std.proofs.lemmas.List.Folds.{list_any-append}
 use Rattle.std.proofs.lemmas.Bool.{cases_eq, cases_lt, cases_Bool, false≢true, or_parts}
-use Rattle.office_core.specs.Words.{numbered, numbers_to, first_that}
+use Rattle.office_core.specs.Words.{nth, numbers_to, first_that}
 
 abbrev pub count_to : (ℕ → Bool) → ℕ → ℕ
 count_to f n = count_by f (numbers_to n)
@@ -108,6 +108,6 @@ none_that p (n ∷ ns) h = at (p n) (none_that p ns) h
     at true r e = absurd (cc)
     at false r e = r e
 
-pub numbered_from_one : {X : Type 0} (xs : List X) (n : ℕ) → is_some (numbered xs n) ≡ true → 1 ≤ n
+pub numbered_from_one : {X : Type 0} (xs : List X) (n : ℕ) → is_some (nth xs n) ≡ true → 1 ≤ n
 numbered_from_one xs zero h = absurd (false≢true h)
 numbered_from_one xs (suc n) h = omega arith

@@ -5,14 +5,14 @@ use Rattle.std.proofs.lemmas.Int.{ints}
 use Rattle.isad_core.specs.Texts.{Bytes}
 use Rattle.isad_core.specs.Boxes.{distinct}
 use Rattle.std.proofs.lemmas.Bool.{false≢true}
-use Rattle.office_core.specs.Words.{numbered}
+use Rattle.office_core.specs.Words.{nth}
 use Rattle.desk_core.specs.declared.reader.Place.TheVariants.{Shelf, Desk, Out}
 use Rattle.desk_core.specs.declared.reader.Place.{Place}
 use Rattle.office_core.specs.State.{State, Reader, Order, is_ticket, is_container, container_of}
 use Rattle.office_core.specs.declared.command.Command.{Command}
 use Rattle.office_core.specs.declared.command.Command.TheVariants as command
 use Rattle.catalogue_core.specs.Intake.{Taken}
-use Rattle.office_core.specs.Rules.{checks, after, renewed, cancelled, issued, returned, imported, taken}
+use Rattle.office_core.specs.Rules.{checks, after, renewed, cancelled, issued, returned, imported, intake_of}
 use Rattle.office_core.proofs.Words.{numbered_within, numbered-push}
 use Rattle.office_core.proofs.Steps.{held_so, Passes}
 use Rattle.catalogue_core.proofs.Imported.{new_boxes, boxes_after}
@@ -21,19 +21,19 @@ pub some_is : {X : Type 0} (o : Option X) (x : X) → o ≡ Some x → is_some o
 some_is None x e = absurd (cc)
 some_is (Some y) x e = refl
 
-pub numbered_kept : {X : Type 0} (xs : List X) (y x : X) (n : ℕ) → numbered xs n ≡ Some x → numbered (xs ++ y ∷ []) n ≡ Some x
+pub numbered_kept : {X : Type 0} (xs : List X) (y x : X) (n : ℕ) → nth xs n ≡ Some x → nth (xs ++ y ∷ []) n ≡ Some x
 numbered_kept xs y x n e =
-    let l = numbered_within xs n (some_is (numbered xs n) x e) in
+    let l = numbered_within xs n (some_is (nth xs n) x e) in
     let ne : n ≢ suc (length xs) = omega (arith, l) in
     numbered-push xs y n ne ∙ e
 
-pub some_kept : {X : Type 0} (xs ys : List X) (n : ℕ) → is_some (numbered xs n) ≡ true → is_some (numbered (xs ++ ys) n) ≡ true
+pub some_kept : {X : Type 0} (xs ys : List X) (n : ℕ) → is_some (nth xs n) ≡ true → is_some (nth (xs ++ ys) n) ≡ true
 some_kept xs ys zero e = absurd (false≢true e)
 some_kept [] ys (suc n) e = absurd (false≢true e)
 some_kept (x ∷ xs) ys (suc zero) e = refl
 some_kept (x ∷ xs) ys (suc (suc n)) e = some_kept xs ys (suc n) e
 
-pub some-renewed : (until : ℤ) (rs : List Reader) (t n : ℕ) → is_some (numbered rs n) ≡ true → is_some (numbered (renewed until rs t) n) ≡ true
+pub some-renewed : (until : ℤ) (rs : List Reader) (t n : ℕ) → is_some (nth rs n) ≡ true → is_some (nth (renewed until rs t) n) ≡ true
 some-renewed until rs zero n e = e
 some-renewed until [] (suc t) n e = e
 some-renewed until (r ∷ rs) (suc zero) zero e = e
@@ -48,7 +48,7 @@ pub record Extends (s t : State) : Type 0 where
   pub day : s.day ≤ℤ t.day
   pub tickets : (n : ℕ) → is_ticket s n ≡ true → is_ticket t n ≡ true
   pub containers : (n : ℕ) → is_container s n ≡ true → is_container t n ≡ true
-  pub orders : (o : ℕ) (order : Order) → numbered s.orders o ≡ Some order → numbered t.orders o ≡ Some order
+  pub orders : (o : ℕ) (order : Order) → nth s.orders o ≡ Some order → nth t.orders o ≡ Some order
 
 pub same_day : (d : ℤ) → d ≤ℤ d
 same_day d = omega (arith, ints)
@@ -67,9 +67,9 @@ same_lists s t es ed er eb eo =
     record {
       settings = es;
       day = no_later s t ed;
-      tickets = λ n. subst (λ rs. is_some (numbered s.readers n) ≡ true → is_some (numbered rs n) ≡ true) (sym er) (λ h. h);
-      containers = λ n. subst (λ bs. is_some (numbered s.catalogue.containers n) ≡ true → is_some (numbered bs n) ≡ true) (sym eb) (λ h. h);
-      orders = λ o order. subst (λ os. numbered s.orders o ≡ Some order → numbered os o ≡ Some order) (sym eo) (λ h. h);
+      tickets = λ n. subst (λ rs. is_some (nth s.readers n) ≡ true → is_some (nth rs n) ≡ true) (sym er) (λ h. h);
+      containers = λ n. subst (λ bs. is_some (nth s.catalogue.containers n) ≡ true → is_some (nth bs n) ≡ true) (sym eb) (λ h. h);
+      orders = λ o order. subst (λ os. nth s.orders o ≡ Some order → nth os o ≡ Some order) (sym eo) (λ h. h);
     }
 
 cancelled_extends : (s : State) (o : ℕ) (k : Option ℕ) → Extends s (cancelled s o k)
@@ -85,7 +85,7 @@ returned_extends s c Shelf = same_lists s s refl refl refl refl refl
 returned_extends s c Desk = same_lists s s refl refl refl refl refl
 returned_extends s c (Out o) = same_lists s (returned s c (Out o)) refl refl refl refl refl
 
-pub imported_extends : (s : State) (source file : Bytes) (t : Taken) → taken s source file ≡ t → distinct s.catalogue.containers ≡ s.catalogue.containers → Extends s (imported s t)
+pub imported_extends : (s : State) (source file : Bytes) (t : Taken) → intake_of s source file ≡ t → distinct s.catalogue.containers ≡ s.catalogue.containers → Extends s (imported s t)
 imported_extends s source file (Err fault) e b = same_lists s s refl refl refl refl refl
 imported_extends s source file (Ok intake) e b =
     let x = boxes_after s.catalogue source file intake e b in
@@ -93,7 +93,7 @@ imported_extends s source file (Ok intake) e b =
       settings = refl;
       day = same_day s.day;
       tickets = λ n h. h;
-      containers = λ n h. subst (λ bs. is_some (numbered bs n) ≡ true) (sym x) (some_kept s.catalogue.containers (new_boxes s.catalogue.containers intake.file.rows) n h);
+      containers = λ n h. subst (λ bs. is_some (nth bs n) ≡ true) (sym x) (some_kept s.catalogue.containers (new_boxes s.catalogue.containers intake.file.rows) n h);
       orders = λ o order h. h;
     }
 
@@ -111,7 +111,7 @@ extends_after s (command.Issue c t) b ok = issued_extends s c (s.queue c)
 extends_after s (command.Return c) b ok = returned_extends s c (s.place c)
 extends_after s (command.Permit t u until) b ok = same_lists s (after s (command.Permit t u until)) refl refl refl refl refl
 extends_after s (command.Revoke t u) b ok = same_lists s (after s (command.Revoke t u)) refl refl refl refl refl
-extends_after s (command.Import source file) b ok = imported_extends s source file (taken s source file) refl b
+extends_after s (command.Import source file) b ok = imported_extends s source file (intake_of s source file) refl b
 extends_after s (command.SetStatus u draft whole) b ok = same_lists s (after s (command.SetStatus u draft whole)) refl refl refl refl refl
 extends_after s (command.SetClosure u until) b ok = same_lists s (after s (command.SetClosure u until)) refl refl refl refl refl
 extends_after s (command.Move u parent) b ok = same_lists s (after s (command.Move u parent)) refl refl refl refl refl

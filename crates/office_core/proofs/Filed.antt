@@ -4,13 +4,13 @@ use Rattle.std.proofs.Math.Path.{fun_ext}
 use Rattle.std.specs.Prelude.{nat_eq, is_some, option_map, filter, filter_map, take}
 use Rattle.std.specs.List.{list_any, AllByRecursion, cons_option}
 use Rattle.std.proofs.lemmas.Bool.{eqb-true, cases_eq, false≢true, and_parts, or_cases, or_right}
-use Rattle.office_core.specs.Words.{numbered, numbers_to, some_and, stands, without, first, is_empty}
+use Rattle.office_core.specs.Words.{nth, numbers_to, some_and, stands, without, first, is_empty}
 use Rattle.desk_core.specs.declared.reader.Place.TheVariants.{Shelf, Desk, Out}
 use Rattle.desk_core.specs.declared.reader.Place.{Place}
-use Rattle.office_core.specs.State.{State, Order, Line, Run, End, Done, Cancelled, container_of, order_out, is_shelf, is_desk, waits, is_due, picked, line_for, is_line_before, next_run, brings, is_idle, idle, containers, opens}
+use Rattle.office_core.specs.State.{State, Order, Line, Run, End, Done, Cancelled, container_of, order_out, is_shelf, is_desk, waits, is_due, orders_of_run, line_for, is_line_before, next_run, brings, is_idle, idle, containers, opens}
 use Rattle.office_core.specs.declared.command.Command.{Command}
 use Rattle.office_core.specs.declared.command.Command.TheVariants as command
-use Rattle.office_core.specs.Rules.{checks, after, ordered, cancelled, fetched, reshelved, issued, returned, imported, taken}
+use Rattle.office_core.specs.Rules.{checks, after, ordered, cancelled, fetched, reshelved, issued, returned, imported, intake_of}
 use Rattle.catalogue_core.specs.Intake.{Taken}
 use Rattle.office_core.specs.SoundDesk.{ExactlyOne, IsFiled, is_out_for, IsAscending, AreFiled}
 use Rattle.office_core.proofs.Words.{same_number, other_number, put_here, put_there, put_each, stands-push, stands-without_other, stands-without_same, below_none, ascending-without, ascending-push, all_from_stands, numbered_within, numbered-push, numbered-push_last, numbered_past}
@@ -152,7 +152,7 @@ cancel_filed s o (Some c) e w f =
 
 -- Order
 
-container-push : (s : State) (order : Order) (p : ℕ) → p ≢ suc (length s.orders) → option_map (λ r. r.container) (numbered (s.orders ++ order ∷ []) p) ≡ container_of s p
+container-push : (s : State) (order : Order) (p : ℕ) → p ≢ suc (length s.orders) → option_map (λ r. r.container) (nth (s.orders ++ order ∷ []) p) ≡ container_of s p
 container-push s order p ne = ap (option_map (λ r. r.container)) (numbered-push s.orders order p ne)
 
 pub next_is_none : (s : State) → container_of s (suc (length s.orders)) ≡ None
@@ -192,7 +192,7 @@ some_if_mapped f (Some x) y e = refl
 pub waits_within : (s : State) (c o : ℕ) → AreFiled s → stands o (s.queue c) ≡ true → o ≤ length s.orders
 waits_within s c o f w =
     let x = waiting (container_of s o) (λ k. stands o (s.queue k)) (λ k. is_out_for o (s.place k)) (s.past o) c (f.each o) w in
-    numbered_within s.orders o (some_if_mapped (λ r. r.container) (numbered s.orders o) c x.for_it)
+    numbered_within s.orders o (some_if_mapped (λ r. r.container) (nth s.orders o) c x.for_it)
 
 order_filed : (s : State) (t c : ℕ) → AreFiled s → AreFiled (ordered s t c)
 order_filed s t c f =
@@ -292,7 +292,7 @@ all_taken P zero ns h = tt
 all_taken P (suc k) [] h = tt
 all_taken P (suc k) (n ∷ ns) h = (h.0, all_taken P k ns h.1)
 
-pub picked_due : (s : State) → AllByRecursion (λ o. is_due s o ≡ true) (picked s)
+pub picked_due : (s : State) → AllByRecursion (λ o. is_due s o ≡ true) (orders_of_run s)
 picked_due s = all_taken (λ o. is_due s o ≡ true) s.settings.run_size (filter (is_due s) (numbers_to (length s.orders))) (all_filtered (is_due s) (numbers_to (length s.orders)))
 
 shelf_at : (s : State) (c o : ℕ) (r : Option Order) (rest : List Line) → some_and (λ order. some_and (nat_eq o) (first (s.queue order.container)) && (is_shelf (s.place order.container) && opens s order.ticket order.container)) r ≡ true → (list_any (λ line. nat_eq line.container c) rest ≡ true → is_shelf (s.place c) ≡ true) → list_any (λ line. nat_eq line.container c) (cons_option (option_map (λ order. record { container = order.container; order = o; ticket = order.ticket }) r) rest) ≡ true → is_shelf (s.place c) ≡ true
@@ -307,7 +307,7 @@ shelf_at s c o (Some order) rest due ih e =
 
 brings_from_shelf : (s : State) (c : ℕ) (os : List ℕ) → AllByRecursion (λ o. is_due s o ≡ true) os → list_any (λ line. nat_eq line.container c) (filter_map (line_for s) os) ≡ true → is_shelf (s.place c) ≡ true
 brings_from_shelf s c [] h e = absurd (false≢true e)
-brings_from_shelf s c (o ∷ os) h e = shelf_at s c o (numbered s.orders o) (filter_map (line_for s) os) h.0 (brings_from_shelf s c os h.1) e
+brings_from_shelf s c (o ∷ os) h e = shelf_at s c o (nth s.orders o) (filter_map (line_for s) os) h.0 (brings_from_shelf s c os h.1) e
 
 in_house : (b : Bool) (p q : Place) → order_out q ≡ None → (b ≡ true → order_out p ≡ None) → order_out (cond b q p) ≡ order_out p
 in_house true p q e h = e ∙ sym (h refl)
@@ -324,7 +324,7 @@ desk_in_house Desk e = refl
 desk_in_house (Out o) e = absurd (false≢true e)
 
 pub fetched_out : (s : State) (c : ℕ) → order_out ((fetched s).place c) ≡ order_out (s.place c)
-fetched_out s c = in_house (brings (next_run s) c) (s.place c) Desk refl (λ b. shelf_in_house (s.place c) (brings_from_shelf s c (picked s) (picked_due s) (sym (any-in_order is_line_before (λ line. nat_eq line.container c) (filter_map (line_for s) (picked s))) ∙ b)))
+fetched_out s c = in_house (brings (next_run s) c) (s.place c) Desk refl (λ b. shelf_in_house (s.place c) (brings_from_shelf s c (orders_of_run s) (picked_due s) (sym (any-in_order is_line_before (λ line. nat_eq line.container c) (filter_map (line_for s) (orders_of_run s))) ∙ b)))
 
 pub reshelved_out : (s : State) (c : ℕ) → order_out ((reshelved s).place c) ≡ order_out (s.place c)
 reshelved_out s c =
@@ -358,7 +358,7 @@ filed_after s (command.Issue c t) f ok = issue_filed s c (s.queue c) refl (held_
 filed_after s (command.Return c) f ok = return_filed s c (s.place c) refl f
 filed_after s (command.Permit t u until) f ok = record { each = f.each; queues = f.queues }
 filed_after s (command.Revoke t u) f ok = record { each = f.each; queues = f.queues }
-filed_after s (command.Import source file) f ok = imported_filed s (taken s source file) f
+filed_after s (command.Import source file) f ok = imported_filed s (intake_of s source file) f
 filed_after s (command.SetStatus u draft whole) f ok = record { each = f.each; queues = f.queues }
 filed_after s (command.SetClosure u until) f ok = record { each = f.each; queues = f.queues }
 filed_after s (command.Move u parent) f ok = record { each = f.each; queues = f.queues }

@@ -11,7 +11,7 @@ use Rattle.desk_core.specs.Names.{is_name}
 use Rattle.desk_core.specs.Refusals.{when, unless, first_that_holds}
 use Rattle.desk_core.specs.declared.refusal.Refusal.TheVariants.{UnknownUnit, UnknownTicket, TicketExpired, NotAvailable, AlreadyOrdered, DailyLimit, Full, NothingToMove, BadName}
 use Rattle.office_core.specs.Words.{is_empty}
-use Rattle.office_core.specs.State.{State, is_ticket, is_expired, opens, has_ordered, placed, picked, has_permit}
+use Rattle.office_core.specs.State.{State, is_ticket, is_expired, opens, has_ordered, orders_placed, orders_of_run, has_permit}
 use Rattle.office_core.specs.Fullness.{HasItsLimits, HasItsSettings, IsFullExactly, RefusesTickets, RefusesRuns, RefusesOrders, RefusesPermits, MayOrder, RefusesWhereFull}
 
 pub its_limits : HasItsLimits
@@ -84,8 +84,8 @@ idle n f h = rw h refl
 runs : (s : State) → RefusesRuns s
 runs s =
     record {
-      full = λ h. fetching (is_empty (picked s)) (nat_le most_runs (length s.runs)) h;
-      nothing = λ h. idle (is_empty (picked s)) (nat_le most_runs (length s.runs)) h;
+      full = λ h. fetching (is_empty (orders_of_run s)) (nat_le most_runs (length s.runs)) h;
+      nothing = λ h. idle (is_empty (orders_of_run s)) (nat_le most_runs (length s.runs)) h;
     }
 
 ordering : (k e a o d f : Bool) → k ≡ true → e ≡ false → a ≡ true → o ≡ false → first_that_holds (unless k UnknownTicket ∷ when e TicketExpired ∷ unless a NotAvailable ∷ when o AlreadyOrdered ∷ when d DailyLimit ∷ when f Full ∷ []) ≡ first_that_holds (when d DailyLimit ∷ when f Full ∷ [])
@@ -99,12 +99,12 @@ in_time d f h = rw h (last_told f)
 
 orders : (s : State) (t c : ℕ) → MayOrder s t c → RefusesOrders s t c
 orders s t c m =
-    let daily : Bool = nat_le s.settings.daily (placed s t s.day) in
+    let daily : Bool = nat_le s.settings.daily (orders_placed s t s.day) in
     let all : Bool = nat_le most_orders (length s.orders) in
     let at = ordering (is_ticket s t) (is_expired s t) (opens s t c) (has_ordered s t c) daily all m.ticket m.valid m.available m.not_yet in
     record {
-      full = λ l. at ∙ in_time daily all (lt-leb s.settings.daily (placed s t s.day) l);
-      day = λ l. at ∙ limited daily all (le-leb s.settings.daily (placed s t s.day) l);
+      full = λ l. at ∙ in_time daily all (lt-leb s.settings.daily (orders_placed s t s.day) l);
+      day = λ l. at ∙ limited daily all (le-leb s.settings.daily (orders_placed s t s.day) l);
     }
 
 permitting : (k u h f : Bool) → k ≡ true → u ≡ true → h ≡ false → first_that_holds (unless k UnknownTicket ∷ unless u UnknownUnit ∷ when (not h && f) Full ∷ []) ≡ when f Full

@@ -20,14 +20,14 @@ takes_row_by_row s g source file read made f e =
     let changed = changed_counts s.catalogue source read.rows g.units g.desk.boxes once made e in
     let new = new_counts s.catalogue source read.rows g.units g.desk.boxes once made e in
     let same = same_counts s.catalogue source read.rows g.units g.desk.boxes once made e in
-    let tells : ℕ → ℕ → ℕ → Done = λ a b d. done.Import a b (remarks made.forest source read.rows) d read.translations in
+    let answers : ℕ → ℕ → ℕ → Done = λ a b d. done.Import a b (remarks made.forest source read.rows) d read.translations in
     let rows = read.rows in
     let forest = s.catalogue.forest in (
       all,
       ap (told_of forest source) all
-          ∙ (ap (λ n. tells n (count_by (is_new forest source) rows) (count_by (is_same forest source) rows)) (sym changed)
-          ∙ (ap (λ n. tells (count_rows is_changed source rows s.catalogue) n (count_by (is_same forest source) rows)) (sym new)
-          ∙ ap (tells (count_rows is_changed source rows s.catalogue) (count_rows is_new source rows s.catalogue)) (sym same))),
+          ∙ (ap (λ n. answers n (count_by (is_new forest source) rows) (count_by (is_same forest source) rows)) (sym changed)
+          ∙ (ap (λ n. answers (count_rows is_changed source rows s.catalogue) n (count_by (is_same forest source) rows)) (sym new)
+          ∙ ap (answers (count_rows is_changed source rows s.catalogue) (count_rows is_new source rows s.catalogue)) (sym same))),
     )
 
 pub faults_row_by_row : (s : State) → IsSound s → FaultsRowByRow s

@@ -18,7 +18,7 @@ use Rattle.office_core.specs.State.{State}
 use Rattle.catalogue_core.specs.UnitLookup.{has_unit}
 use Rattle.catalogue_core.specs.Intake.{Intake, Taken, is_new}
 use Rattle.office_core.specs.ImportReply.{told_of, bad_file}
-use Rattle.office_core.specs.Rules.{Reply, taken, imported}
+use Rattle.office_core.specs.Rules.{Reply, intake_of, imported}
 use Rattle.catalogue_core.specs.GoodCatalogues.{AreGoodUnits}
 use Rattle.office_core.specs.Soundness.{IsSound}
 use Rattle.office_core.specs.ImportLaws.{ImportsBringTheNew}
@@ -50,7 +50,7 @@ merged_size source rows n news s g e =
     let i = length-nodes s.catalogue.forest in
     omega (arith, a, b, c, d, f, h, i)
 
-taken_more : (s : State) (source file : Bytes) (intake : Intake) → taken s source file ≡ Ok intake → AreGoodUnits s.catalogue → HasMore s (count_by (is_new s.catalogue.forest source) intake.file.rows) (imported s (Ok intake))
+taken_more : (s : State) (source file : Bytes) (intake : Intake) → intake_of s source file ≡ Ok intake → AreGoodUnits s.catalogue → HasMore s (count_by (is_new s.catalogue.forest source) intake.file.rows) (imported s (Ok intake))
 taken_more s source file intake e g =
     let it = taken_is s.catalogue source file intake e in
     let rows = intake.file.rows in
@@ -69,7 +69,7 @@ same_reply a b e = cc
 same_new : (c n s t c' n' s' t' : ℕ) (m m' : List Remark) → done.Import c n m s t ≡ done.Import c' n' m' s' t' → n ≡ n'
 same_new c n s t c' n' s' t' m m' e = cc
 
-accepted : (s : State) (source file : Bytes) (r : Taken) → taken s source file ≡ r → bad_file r ≡ None → AreGoodUnits s.catalogue → (changed new : ℕ) (marks : List Remark) (same translations : ℕ) → done_reply (told_of s.catalogue.forest source r) ≡ done_reply (done.Import changed new marks same translations) → HasMore s new (imported s r)
+accepted : (s : State) (source file : Bytes) (r : Taken) → intake_of s source file ≡ r → bad_file r ≡ None → AreGoodUnits s.catalogue → (changed new : ℕ) (marks : List Remark) (same translations : ℕ) → done_reply (told_of s.catalogue.forest source r) ≡ done_reply (done.Import changed new marks same translations) → HasMore s new (imported s r)
 accepted s source file (Err fault) e a g changed new marks same translations t = absurd (cc)
 accepted s source file (Ok intake) e a g changed new marks same translations t =
     subst (λ n. HasMore s n (imported s (Ok intake))) (same_new _ _ _ _ changed new same translations _ marks (same_reply _ _ t)) (taken_more s source file intake e g)
@@ -78,4 +78,4 @@ pub imports_bring : (s : State) → IsSound s → ImportsBringTheNew s
 imports_bring s g source file changed new marks same translations =
     step_at (λ t reply. reply ≡ Ok (done.Import changed new marks same translations) → HasMore s new t) s (command.Import source file)
     (λ why e. absurd (cc))
-    (λ ok e. accepted s source file (taken s source file) refl ok.1.0 g.units changed new marks same translations e)
+    (λ ok e. accepted s source file (intake_of s source file) refl ok.1.0 g.units changed new marks same translations e)

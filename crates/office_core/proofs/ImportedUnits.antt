@@ -18,7 +18,7 @@ use Rattle.catalogue_core.specs.Intake.{Intake, Taken, is_full}
 use Rattle.office_core.specs.ImportReply.{too_much}
 use Rattle.isad_core.specs.Limits.{most_units, most_unit_numbers, most_containers}
 use Rattle.catalogue_core.specs.Sources.{is_source}
-use Rattle.office_core.specs.Rules.{taken, imported, checks, after}
+use Rattle.office_core.specs.Rules.{intake_of, imported, checks, after}
 use Rattle.catalogue_core.specs.GoodCatalogues.{AreGoodUnits, AreGoodContainers, IsGoodUnit}
 use Rattle.office_core.specs.Soundness.{ArePermitsOfUnits, IsSound}
 use Rattle.office_core.specs.ImportLaws.{HasGoodCatalogue, ImportsKeepTheCatalogue}
@@ -48,7 +48,7 @@ room c h =
 
 -- ---- a sound state and a file that it takes
 
-module _ (s : State) (source file : Bytes) (intake : Intake) (e : taken s source file ≡ Ok intake) (g : IsSound s) (named : is_source source ≡ true) (fits : when (is_full intake.catalogue) Full ≡ None) where
+module _ (s : State) (source file : Bytes) (intake : Intake) (e : intake_of s source file ≡ Ok intake) (g : IsSound s) (named : is_source source ≡ true) (fits : when (is_full intake.catalogue) Full ≡ None) where
   it : IsTaken s.catalogue source file intake
   it = taken_is s.catalogue source file intake e
 
@@ -129,12 +129,12 @@ module _ (s : State) (source file : Bytes) (intake : Intake) (e : taken s source
   sound_import : HasGoodCatalogue (imported s (Ok intake))
   sound_import = subst HasGoodCatalogue (sym is_after) (record { units = good_units; containers = good_containers; permits = permits_there })
 
-at_taken : (s : State) (source file : Bytes) (t : Taken) → taken s source file ≡ t → IsSound s → is_source source ≡ true → too_much t ≡ None → HasGoodCatalogue (imported s t)
+at_taken : (s : State) (source file : Bytes) (t : Taken) → intake_of s source file ≡ t → IsSound s → is_source source ≡ true → too_much t ≡ None → HasGoodCatalogue (imported s t)
 at_taken s source file (Ok intake) e g named fits = sound_import s source file intake e g named fits
 at_taken s source file (Err fault) e g named fits = record { units = g.units; containers = g.containers; permits = g.permits }
 
 pub import_keeps_units : (s : State) (source file : Bytes) → IsSound s → Passes (checks s (command.Import source file)) → HasGoodCatalogue (after s (command.Import source file))
-import_keeps_units s source file g ok = at_taken s source file (taken s source file) refl g (held_so (is_source source) _ ok.0) ok.1.1.0
+import_keeps_units s source file g ok = at_taken s source file (intake_of s source file) refl g (held_so (is_source source) _ ok.0) ok.1.1.0
 
 pub imports_keep : (s : State) → IsSound s → ImportsKeepTheCatalogue s
 imports_keep s g source file =

@@ -20,7 +20,7 @@ use Rattle.catalogue_core.proofs.MergedNodes.{merged_nodes}
 use Rattle.office_core.specs.declared.command.Command.TheVariants as command
 use Rattle.office_core.specs.ImportReply.{bad_file}
 use Rattle.office_core.specs.GivenNumbers.{AreNumberedUnits, NumbersRows}
-use Rattle.office_core.specs.Rules.{imported, taken}
+use Rattle.office_core.specs.Rules.{imported, intake_of}
 use Rattle.office_core.specs.Soundness.{IsSound}
 use Rattle.office_core.specs.State.{State}
 use Rattle.office_core.proofs.Steps.{step_at}
@@ -58,7 +58,7 @@ merged_rows s source rows g =
 same_file : (a b : File) (r : _) → file_of r ≡ Ok a → file_of r ≡ Ok b → a ≡ b
 same_file a b r e f = let k : Ok a ≡ Ok b = sym e ∙ f in cc
 
-imported_rows : (s : State) (source file : Bytes) (t : Taken) → taken s source file ≡ t → bad_file t ≡ None → IsSound s → (read : File) → file_of file ≡ Ok read
+imported_rows : (s : State) (source file : Bytes) (t : Taken) → intake_of s source file ≡ t → bad_file t ≡ None → IsSound s → (read : File) → file_of file ≡ Ok read
     → AreNumberedUnits (imported s t).catalogue.forest source s.catalogue.next (new_rows s.catalogue source read.rows)
 imported_rows s source file (Err fault) e b g read f = absurd (cc)
 imported_rows s source file (Ok intake) e b g read f =
@@ -70,4 +70,4 @@ pub numbers_rows : (s : State) → IsSound s → NumbersRows s
 numbers_rows s g source file read done e f =
     step_at (λ t reply. reply ≡ Ok done → AreNumberedUnits t.catalogue.forest source s.catalogue.next (new_rows s.catalogue source read.rows)) s (command.Import source file)
     (λ why k. absurd (cc))
-    (λ ok k. imported_rows s source file (taken s source file) refl ok.1.0 g read f) e
+    (λ ok k. imported_rows s source file (intake_of s source file) refl ok.1.0 g read f) e

@@ -22,7 +22,7 @@ use Rattle.office_core.specs.declared.command.Command.{Command}
 use Rattle.office_core.specs.declared.command.Command.TheVariants as command
 use Rattle.office_core.specs.State.{State, container_of}
 use Rattle.office_core.specs.Soundness.{IsSound}
-use Rattle.office_core.specs.Rules.{after, told, step, cancelled, issued, returned, imported, taken}
+use Rattle.office_core.specs.Rules.{after, result_of, step, cancelled, issued, returned, imported, intake_of}
 use Rattle.office_core.specs.GivenNumbers.{NamesWhatCame, EachIsUnits}
 use Rattle.office_core.proofs.Steps.{step_at}
 use Rattle.office_core.proofs.Words.{numbered-push_last}
@@ -35,7 +35,7 @@ refused_names s t (command.Order ticket c) why = tt
 refused_names s t command.Run why = tt
 refused_names s t _ why = tt
 
-told_names : (s : State) (asked : Command) → NamesWhatCame s (after s asked) asked (Ok (told s asked))
+told_names : (s : State) (asked : Command) → NamesWhatCame s (after s asked) asked (Ok (result_of s asked))
 told_names s (command.Register name until) = numbered-push_last s.readers _
 told_names s (command.Order ticket c) = numbered-push_last s.orders _
 told_names s command.Run = numbered-push_last s.runs _
@@ -68,7 +68,7 @@ merged_has s source rows g u l h =
     ∙ (list_any-append (has_id u) old (map (new_unit source) new)
     ∙ or_right (list_any (has_id u) old) (list_any (has_id u) (map (new_unit source) new)) (has_new source s.catalogue.next new u (numbered_are s.catalogue.forest source s.catalogue.next [] news) l h))
 
-imported_each : (s : State) (source file : Bytes) (t : Taken) → taken s source file ≡ t → IsSound s → EachIsUnits s (imported s t)
+imported_each : (s : State) (source file : Bytes) (t : Taken) → intake_of s source file ≡ t → IsSound s → EachIsUnits s (imported s t)
 imported_each s source file (Err fault) e g = none_new s s refl
 imported_each s source file (Ok intake) e g =
     subst (λ (c : Catalogue). (u : ℕ) → s.catalogue.next ≤ u → u < c.next → has_unit c.forest u ≡ true) (sym (taken_is s.catalogue source file intake e).is) (merged_has s source intake.file.rows g)
@@ -87,7 +87,7 @@ returned_none s c Desk = refl
 returned_none s c (Out o) = refl
 
 each_after : (s : State) (asked : Command) → IsSound s → EachIsUnits s (after s asked)
-each_after s (command.Import source file) g = imported_each s source file (taken s source file) refl g
+each_after s (command.Import source file) g = imported_each s source file (intake_of s source file) refl g
 each_after s (command.Cancel o) g = none_new s (after s (command.Cancel o)) (cancelled_none s o (container_of s o))
 each_after s (command.Issue c t) g = none_new s (after s (command.Issue c t)) (issued_none s c (s.queue c))
 each_after s (command.Return c) g = none_new s (after s (command.Return c)) (returned_none s c (s.place c))

@@ -10,7 +10,7 @@ use Rattle.desk_core.specs.declared.reader.Place.{Place}
 use Rattle.office_core.specs.State.{State, End, Done, Cancelled, container_of, order_out, is_desk, is_by, waits}
 use Rattle.office_core.specs.declared.command.Command.{Command}
 use Rattle.office_core.specs.declared.command.Command.TheVariants as command
-use Rattle.office_core.specs.Rules.{Reply, checks, after, step, ordered, cancelled, fetched, reshelved, issued, returned, imported, taken}
+use Rattle.office_core.specs.Rules.{Reply, checks, after, step, ordered, cancelled, fetched, reshelved, issued, returned, imported, intake_of}
 use Rattle.office_core.specs.declared.done.Done.TheVariants as done
 use Rattle.catalogue_core.specs.Intake.{Taken}
 use Rattle.office_core.specs.SoundDesk.{is_out_for, IsAscending, AreFiled}
@@ -152,7 +152,7 @@ goes_after s (command.Issue c t) f ok = issue_goes s c (s.queue c) refl (held_so
 goes_after s (command.Return c) f ok = return_goes s c (s.place c) refl f
 goes_after s (command.Permit t u until) f ok = stays s (after s (command.Permit t u until)) (λ o. refl)
 goes_after s (command.Revoke t u) f ok = stays s (after s (command.Revoke t u)) (λ o. refl)
-goes_after s (command.Import source file) f ok = imported_goes s (taken s source file)
+goes_after s (command.Import source file) f ok = imported_goes s (intake_of s source file)
 goes_after s (command.SetStatus u draft whole) f ok = stays s (after s (command.SetStatus u draft whole)) (λ o. refl)
 goes_after s (command.SetClosure u until) f ok = stays s (after s (command.SetClosure u until)) (λ o. refl)
 goes_after s (command.Move u parent) f ok = stays s (after s (command.Move u parent)) (λ o. refl)

@@ -4,13 +4,13 @@ use Rattle.std.specs.Prelude.{nat_le, ℤ, ◌≤ℤ◌, nat_eq, is_some, option
 use Rattle.std.specs.List.{list_any}
 use Rattle.std.proofs.lemmas.List.Sums.{sum_by_push}
 use Rattle.std.proofs.lemmas.Bool.{eqb-true, leb-false, cases_eq, false≢true, and_parts, or_cases, or_right}
-use Rattle.office_core.specs.Words.{numbered, some_and, stands}
+use Rattle.office_core.specs.Words.{nth, some_and, stands}
 use Rattle.desk_core.specs.declared.reader.Place.TheVariants.{Shelf, Desk, Out}
 use Rattle.desk_core.specs.declared.reader.Place.{Place}
-use Rattle.office_core.specs.State.{State, Order, End, Done, Cancelled, is_ticket, is_container, container_of, order_out, is_by, is_out_with, has_ordered, opens, placed, is_permitted}
+use Rattle.office_core.specs.State.{State, Order, End, Done, Cancelled, is_ticket, is_container, container_of, order_out, is_by, is_out_with, has_ordered, opens, orders_placed, is_permitted}
 use Rattle.office_core.specs.declared.command.Command.{Command}
 use Rattle.office_core.specs.declared.command.Command.TheVariants as command
-use Rattle.office_core.specs.Rules.{checks, after, ordered, cancelled, issued, returned, imported, taken}
+use Rattle.office_core.specs.Rules.{checks, after, ordered, cancelled, issued, returned, imported, intake_of}
 use Rattle.std.specs.Ordering.{int_eq}
 use Rattle.std.proofs.lemmas.Bool.Decides.{Decides-int_eq}
 use Rattle.isad_core.specs.declared.values.BoxKey.{BoxKey}
@@ -31,12 +31,12 @@ good_order s t order e g =
 
 orders_same : (s t : State) → Extends s t → t.orders ≡ s.orders → ((o : ℕ) → t.past o ≡ None → s.past o ≡ None) → AreGoodOrders s → AreGoodOrders t
 orders_same s t e eo ep g =
-    let there : (o : ℕ) (order : Order) → numbered t.orders o ≡ Some order → numbered s.orders o ≡ Some order = λ o order h. subst (λ os. numbered os o ≡ Some order) eo h in
+    let there : (o : ℕ) (order : Order) → nth t.orders o ≡ Some order → nth s.orders o ≡ Some order = λ o order h. subst (λ os. nth os o ≡ Some order) eo h in
     record {
       each = λ o order h. good_order s t order e (g.each o order (there o order h));
       daily = λ u day.
           let P : List Order → Type 0 = λ os. count_by (λ order. nat_eq order.ticket u && int_eq order.day day) os ≤ t.settings.daily in
-          subst P (sym eo) (subst (λ settings. placed s u day ≤ settings.daily) (sym e.settings) (g.daily u day));
+          subst P (sym eo) (subst (λ settings. orders_placed s u day ≤ settings.daily) (sym e.settings) (g.daily u day));
       once = λ o p order other ho hp lo lp. g.once o p order other (there o order ho) (there p other hp) (ep o lo) (ep p lp);
       few = subst (λ os. length os ≤ most_orders) (sym eo) g.few;
     }
@@ -73,10 +73,10 @@ or_first : (a b : Bool) → a ≡ true → (a || b) ≡ true
 or_first true b e = refl
 or_first false b e = absurd (false≢true e)
 
-pub is_by_its_ticket : (s : State) (p : ℕ) (order : Order) → numbered s.orders p ≡ Some order → is_by s order.ticket p ≡ true
+pub is_by_its_ticket : (s : State) (p : ℕ) (order : Order) → nth s.orders p ≡ Some order → is_by s order.ticket p ≡ true
 is_by_its_ticket s p order e = ap (some_and (λ r. nat_eq r.ticket order.ticket)) e ∙ same_number order.ticket
 
-live_ordered : (s : State) (p : ℕ) (other : Order) → AreFiled s → numbered s.orders p ≡ Some other → s.past p ≡ None → has_ordered s other.ticket other.container ≡ true
+live_ordered : (s : State) (p : ℕ) (other : Order) → AreFiled s → nth s.orders p ≡ Some other → s.past p ≡ None → has_ordered s other.ticket other.container ≡ true
 live_ordered s p other f e l =
     let c = other.container in
     let t = other.ticket in
@@ -88,7 +88,7 @@ live_ordered s p other f e l =
 
 -- what is open is known
 pub opens_known : (s : State) (t c : ℕ) → opens s t c ≡ true → is_container s c ≡ true
-opens_known s t c e = at (numbered s.catalogue.containers c) e
+opens_known s t c e = at (nth s.catalogue.containers c) e
   where
     at : (r : Option BoxKey) → some_and (λ box. is_open s.catalogue.forest box (is_permitted s.day (s.permits t)) s.day) r ≡ true → is_some r ≡ true
     at None h = absurd (false≢true h)
@@ -103,19 +103,19 @@ module _ (s : State) (t c : ℕ) (f : AreFiled s) (g : AreGoodOrders s) where
   n : ℕ
   n = suc (length s.orders)
 
-  old_one : (o : ℕ) (order : Order) → o ≢ n → numbered (s.orders ++ record { ticket = t; container = c; day = s.day } ∷ []) o ≡ Some order → numbered s.orders o ≡ Some order
+  old_one : (o : ℕ) (order : Order) → o ≢ n → nth (s.orders ++ record { ticket = t; container = c; day = s.day } ∷ []) o ≡ Some order → nth s.orders o ≡ Some order
   unfolding n
   old_one o order ne h = sym (numbered-push s.orders (record { ticket = t; container = c; day = s.day }) o ne) ∙ h
 
-  new_one : (o : ℕ) (order : Order) → o ≡ n → numbered (s.orders ++ record { ticket = t; container = c; day = s.day } ∷ []) o ≡ Some order → (order.ticket ≡ t) × (order.container ≡ c) × (order.day ≡ s.day)
+  new_one : (o : ℕ) (order : Order) → o ≡ n → nth (s.orders ++ record { ticket = t; container = c; day = s.day } ∷ []) o ≡ Some order → (order.ticket ≡ t) × (order.container ≡ c) × (order.day ≡ s.day)
   unfolding n
   new_one o order e h =
       let x : Order = record { ticket = t; container = c; day = s.day } in
-      let k : Some x ≡ Some order = sym (subst (λ m. numbered (s.orders ++ x ∷ []) m ≡ Some x) (sym e) (numbered-push_last s.orders x)) ∙ h in
+      let k : Some x ≡ Some order = sym (subst (λ m. nth (s.orders ++ x ∷ []) m ≡ Some x) (sym e) (numbered-push_last s.orders x)) ∙ h in
       let same : x ≡ order = cc in
       (ap (λ r. r.ticket) (sym same), ap (λ r. r.container) (sym same), ap (λ r. r.day) (sym same))
 
-  each_after : is_ticket s t ≡ true → is_container s c ≡ true → (o : ℕ) (order : Order) → numbered (ordered s t c).orders o ≡ Some order → IsGoodOrder (ordered s t c) order
+  each_after : is_ticket s t ≡ true → is_container s c ≡ true → (o : ℕ) (order : Order) → nth (ordered s t c).orders o ≡ Some order → IsGoodOrder (ordered s t c) order
   each_after it ic o order h =
       elim (cases_eq o n) [
         | inl e ↦
@@ -125,24 +125,24 @@ module _ (s : State) (t c : ℕ) (f : AreFiled s) (g : AreGoodOrders s) where
         | inr ne ↦ let x = g.each o order (old_one o order ne h) in record { ticket = x.ticket; container = x.container; day = x.day }
       ]
 
-  daily_at : (u : ℕ) (day : ℤ) (b : Bool) → (nat_eq t u && int_eq s.day day) ≡ b → placed s t s.day < s.settings.daily → placed s u day + cond b 1 0 ≤ s.settings.daily
+  daily_at : (u : ℕ) (day : ℤ) (b : Bool) → (nat_eq t u && int_eq s.day day) ≡ b → orders_placed s t s.day < s.settings.daily → orders_placed s u day + cond b 1 0 ≤ s.settings.daily
   daily_at u day true e l =
       let p = and_parts (nat_eq t u) (int_eq s.day day) e in
-      let h : placed s u day < s.settings.daily = subst (λ k. placed s k day < s.settings.daily) (eqb-true t u p.0) (subst (λ k. placed s t k < s.settings.daily) (same_z s.day day p.1) l) in
+      let h : orders_placed s u day < s.settings.daily = subst (λ k. orders_placed s k day < s.settings.daily) (eqb-true t u p.0) (subst (λ k. orders_placed s t k < s.settings.daily) (same_z s.day day p.1) l) in
       omega (arith, h)
   daily_at u day false e l = let h = g.daily u day in omega (arith, h)
 
-  daily_after : placed s t s.day < s.settings.daily → (u : ℕ) (day : ℤ) → placed (ordered s t c) u day ≤ s.settings.daily
+  daily_after : orders_placed s t s.day < s.settings.daily → (u : ℕ) (day : ℤ) → orders_placed (ordered s t c) u day ≤ s.settings.daily
   daily_after l u day =
-      let e : placed (ordered s t c) u day ≡ placed s u day + cond (nat_eq t u && int_eq s.day day) 1 0 = sum_by_push (λ order. cond (nat_eq order.ticket u && int_eq order.day day) 1 0) s.orders (record { ticket = t; container = c; day = s.day }) in
+      let e : orders_placed (ordered s t c) u day ≡ orders_placed s u day + cond (nat_eq t u && int_eq s.day day) 1 0 = sum_by_push (λ order. cond (nat_eq order.ticket u && int_eq order.day day) 1 0) s.orders (record { ticket = t; container = c; day = s.day }) in
       let h = daily_at u day (nat_eq t u && int_eq s.day day) refl l in
       omega (arith, e, h)
 
-  not_twice : has_ordered s t c ≡ false → (p : ℕ) (other : Order) → numbered s.orders p ≡ Some other → s.past p ≡ None → other.ticket ≡ t → other.container ≡ c → ⊥
+  not_twice : has_ordered s t c ≡ false → (p : ℕ) (other : Order) → nth s.orders p ≡ Some other → s.past p ≡ None → other.ticket ≡ t → other.container ≡ c → ⊥
   not_twice none p other h l et ec =
       false≢true (sym none ∙ subst (λ k. has_ordered s t k ≡ true) ec (subst (λ k. has_ordered s k other.container ≡ true) et (live_ordered s p other f h l)))
 
-  once_after : has_ordered s t c ≡ false → (o p : ℕ) (order other : Order) → numbered (ordered s t c).orders o ≡ Some order → numbered (ordered s t c).orders p ≡ Some other → s.past o ≡ None → s.past p ≡ None → order.ticket ≡ other.ticket → order.container ≡ other.container → o ≡ p
+  once_after : has_ordered s t c ≡ false → (o p : ℕ) (order other : Order) → nth (ordered s t c).orders o ≡ Some order → nth (ordered s t c).orders p ≡ Some other → s.past o ≡ None → s.past p ≡ None → order.ticket ≡ other.ticket → order.container ≡ other.container → o ≡ p
   once_after none o p order other ho hp lo lp et ec =
       elim (cases_eq o n) [
         | inl eo ↦ elim (cases_eq p n) [
@@ -164,7 +164,7 @@ pub order_good : (s : State) (t c : ℕ) → AreFiled s → AreGoodOrders s → 
 order_good s t c f g ok =
     record {
       each = each_after s t c f g (held_so (is_ticket s t) _ ok.0) (opens_known s t c (held_so (opens s t c) _ ok.1.1.0));
-      daily = daily_after s t c f g (leb-false s.settings.daily (placed s t s.day) (held_not (nat_le s.settings.daily (placed s t s.day)) _ ok.1.1.1.1.0));
+      daily = daily_after s t c f g (leb-false s.settings.daily (orders_placed s t s.day) (held_not (nat_le s.settings.daily (orders_placed s t s.day)) _ ok.1.1.1.1.0));
       once = once_after s t c f g (held_not (has_ordered s t c) _ ok.1.1.1.0);
       few = few_after s t c (leb-false most_orders (length s.orders) (held_not (nat_le most_orders (length s.orders)) _ ok.1.1.1.1.1.0));
     }
@@ -202,7 +202,7 @@ orders_after s (command.Issue c t) b f g ok = issued_good s c (s.queue c) (exten
 orders_after s (command.Return c) b f g ok = returned_good s c (s.place c) (extends_after s (command.Return c) b ok) g
 orders_after s (command.Permit t u until) b f g ok = orders_same s (after s (command.Permit t u until)) (extends_after s (command.Permit t u until) b ok) refl (λ o h. h) g
 orders_after s (command.Revoke t u) b f g ok = orders_same s (after s (command.Revoke t u)) (extends_after s (command.Revoke t u) b ok) refl (λ o h. h) g
-orders_after s (command.Import source file) b f g ok = imported_good s (taken s source file) (extends_after s (command.Import source file) b ok) g
+orders_after s (command.Import source file) b f g ok = imported_good s (intake_of s source file) (extends_after s (command.Import source file) b ok) g
 orders_after s (command.SetStatus u draft whole) b f g ok = orders_same s (after s (command.SetStatus u draft whole)) (extends_after s (command.SetStatus u draft whole) b ok) refl (λ o h. h) g
 orders_after s (command.SetClosure u until) b f g ok = orders_same s (after s (command.SetClosure u until)) (extends_after s (command.SetClosure u until) b ok) refl (λ o h. h) g
 orders_after s (command.Move u parent) b f g ok = orders_same s (after s (command.Move u parent)) (extends_after s (command.Move u parent) b ok) refl (λ o h. h) g

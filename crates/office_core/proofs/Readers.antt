@@ -3,7 +3,7 @@ use Rattle.std.proofs.Common.{◌≡◌, ℕ, zero, suc, ◌<◌, ◌≤◌, Boo
 use Rattle.std.specs.Prelude.{ℤ, int_lt, nat_eq, nat_lt, nat_le, filter}
 use Rattle.std.specs.List.{list_any, AllByRecursion}
 use Rattle.std.proofs.lemmas.Bool.{eqb-true, eqb-false, ltb-true, ltb-false, leb-false, not-false, and_cases, cases_eq, cases_Bool, false≢true}
-use Rattle.office_core.specs.Words.{numbered}
+use Rattle.office_core.specs.Words.{nth}
 use Rattle.tree_core.specs.Forest.{cut}
 use Rattle.catalogue_core.specs.Units.{has_id}
 use Rattle.isad_core.specs.Boxes.{distinct}
@@ -14,7 +14,7 @@ use Rattle.catalogue_core.specs.UnitLookup.{has_unit}
 use Rattle.office_core.specs.declared.command.Command.{Command}
 use Rattle.office_core.specs.declared.command.Command.TheVariants as command
 use Rattle.isad_core.specs.Limits.{most_tickets, most_permits}
-use Rattle.office_core.specs.Rules.{is_name, renewed, checks, after, cancelled, issued, returned, imported, taken, removed}
+use Rattle.office_core.specs.Rules.{is_name, renewed, checks, after, cancelled, issued, returned, imported, intake_of, removed}
 use Rattle.catalogue_core.specs.Intake.{Taken}
 use Rattle.office_core.specs.SoundDesk.{AreGoodReaders, ByUnit, AreGoodPermits}
 use Rattle.office_core.proofs.Words.{put_each, numbered-push, numbered-push_last, other_number}
@@ -23,7 +23,7 @@ use Rattle.office_core.proofs.Extends.{Extends, extends_after}
 
 -- readers
 
-renewed_name : (until : ℤ) (rs : List Reader) (t n : ℕ) (reader : Reader) → numbered (renewed until rs t) n ≡ Some reader → (old : Reader) × (numbered rs n ≡ Some old) × (old.name ≡ reader.name)
+renewed_name : (until : ℤ) (rs : List Reader) (t n : ℕ) (reader : Reader) → nth (renewed until rs t) n ≡ Some reader → (old : Reader) × (nth rs n ≡ Some old) × (old.name ≡ reader.name)
 renewed_name until rs zero n reader e = (reader, e, refl)
 renewed_name until [] (suc t) n reader e = (reader, e, refl)
 renewed_name until (r ∷ rs) (suc zero) zero reader e = absurd (cc)
@@ -42,7 +42,7 @@ length-renewed until (r ∷ rs) (suc zero) = refl
 length-renewed until (r ∷ rs) (suc (suc n)) = ap suc (length-renewed until rs (suc n))
 
 readers_same : (s t : State) → t.readers ≡ s.readers → AreGoodReaders s → AreGoodReaders t
-readers_same s t e g = record { names = λ n reader h. g.names n reader (subst (λ rs. numbered rs n ≡ Some reader) e h); few = subst (λ rs. length rs ≤ most_tickets) (sym e) g.few }
+readers_same s t e g = record { names = λ n reader h. g.names n reader (subst (λ rs. nth rs n ≡ Some reader) e h); few = subst (λ rs. length rs ≤ most_tickets) (sym e) g.few }
 
 register_readers : (s : State) (name : List ℕ) (until : ℤ) → is_name name ≡ true → length s.readers < most_tickets → AreGoodReaders s → AreGoodReaders (after s (command.Register name until))
 register_readers s name until ok l g =
@@ -51,7 +51,7 @@ register_readers s name until ok l g =
     record {
       names = λ n reader h. elim (cases_eq n (suc (length s.readers))) [
         | inl same ↦
-            let k : Some x ≡ Some reader = sym (subst (λ m. numbered (s.readers ++ x ∷ []) m ≡ Some x) (sym same) (numbered-push_last s.readers x)) ∙ h in
+            let k : Some x ≡ Some reader = sym (subst (λ m. nth (s.readers ++ x ∷ []) m ≡ Some x) (sym same) (numbered-push_last s.readers x)) ∙ h in
             let it : x ≡ reader = cc in
             subst (λ r. is_name r.name ≡ true) it ok
         | inr ne ↦ g.names n reader (sym (numbered-push s.readers x n ne) ∙ h)
@@ -222,7 +222,7 @@ readers_after s (command.Issue c t) g ok = readers_same s (after s (command.Issu
 readers_after s (command.Return c) g ok = readers_same s (after s (command.Return c)) (returned_same s c (s.place c)).0 g
 readers_after s (command.Permit t u until) g ok = readers_same s (after s (command.Permit t u until)) refl g
 readers_after s (command.Revoke t u) g ok = readers_same s (after s (command.Revoke t u)) refl g
-readers_after s (command.Import source file) g ok = readers_same s (after s (command.Import source file)) (imported_readers s (taken s source file)).0 g
+readers_after s (command.Import source file) g ok = readers_same s (after s (command.Import source file)) (imported_readers s (intake_of s source file)).0 g
 readers_after s (command.SetStatus u draft whole) g ok = readers_same s (after s (command.SetStatus u draft whole)) refl g
 readers_after s (command.SetClosure u until) g ok = readers_same s (after s (command.SetClosure u until)) refl g
 readers_after s (command.Move u parent) g ok = readers_same s (after s (command.Move u parent)) refl g
@@ -242,7 +242,7 @@ permits_after s (command.Issue c t) b g ok = let e = issued_same s c (s.queue c)
 permits_after s (command.Return c) b g ok = let e = returned_same s c (s.place c) in permits_same s (after s (command.Return c)) (extends_after s (command.Return c) b ok) e.1 g
 permits_after s (command.Permit t u until) b g ok = grant_permits s t u until (held_so (is_ticket s t) _ ok.0) (held_not (not (has_permit s t u) && nat_le most_permits (length (s.permits t))) _ ok.1.1.0) g
 permits_after s (command.Revoke t u) b g ok = revoke_permits s t u (held_so (is_ticket s t) _ ok.0) g
-permits_after s (command.Import source file) b g ok = permits_same s (after s (command.Import source file)) (extends_after s (command.Import source file) b ok) (imported_readers s (taken s source file)).1 g
+permits_after s (command.Import source file) b g ok = permits_same s (after s (command.Import source file)) (extends_after s (command.Import source file) b ok) (imported_readers s (intake_of s source file)).1 g
 permits_after s (command.SetStatus u draft whole) b g ok = permits_same s (after s (command.SetStatus u draft whole)) (extends_after s (command.SetStatus u draft whole) b ok) refl g
 permits_after s (command.SetClosure u until) b g ok = permits_same s (after s (command.SetClosure u until)) (extends_after s (command.SetClosure u until) b ok) refl g
 permits_after s (command.Move u parent) b g ok = permits_same s (after s (command.Move u parent)) (extends_after s (command.Move u parent) b ok) refl g

@@ -23,7 +23,7 @@ use Rattle.office_core.specs.declared.done.Remark.{Remark}
 use Rattle.office_core.specs.declared.done.Remark.TheVariants.{LevelTooHigh, LacksEssential}
 use Rattle.office_core.specs.ImportReply.{bad_file, is_level_above, lacks_essential, remark_if, remark_on, remarks, told_of}
 use Rattle.office_core.specs.State.{State}
-use Rattle.office_core.specs.Rules.{Reply, taken, imported}
+use Rattle.office_core.specs.Rules.{Reply, intake_of, imported}
 use Rattle.office_core.specs.Remarks.{way_of, BelongsAbove, HasEssentials, IsPoorTop, IsToldOf, AreToldOf, RemarksOnRows}
 use Rattle.office_core.proofs.Steps.{step_at}
 use Rattle.std.proofs.lemmas.Option.{same_Some}
@@ -139,7 +139,7 @@ same_reply a b e = cc
 same_marks : (c n s t c' n' s' t' : ℕ) (m m' : List Remark) → done.Import c n m s t ≡ done.Import c' n' m' s' t' → m ≡ m'
 same_marks c n s t c' n' s' t' m m' e = cc
 
-accepted : (s : State) (source file : Bytes) (r : Taken) → taken s source file ≡ r → (changed new : ℕ) (marks : List Remark) (same translations : ℕ) → done_reply (told_of s.catalogue.forest source r) ≡ done_reply (done.Import changed new marks same translations) → ((fault : ℕ × ℕ) → r ≡ Err fault → ⊥) → (read : File) × (file_of file ≡ Ok read) × AreToldOf (imported s r).catalogue.forest source read.rows marks
+accepted : (s : State) (source file : Bytes) (r : Taken) → intake_of s source file ≡ r → (changed new : ℕ) (marks : List Remark) (same translations : ℕ) → done_reply (told_of s.catalogue.forest source r) ≡ done_reply (done.Import changed new marks same translations) → ((fault : ℕ × ℕ) → r ≡ Err fault → ⊥) → (read : File) × (file_of file ≡ Ok read) × AreToldOf (imported s r).catalogue.forest source read.rows marks
 accepted s source file (Err fault) e changed new marks same translations t ok = absurd (ok fault refl)
 accepted s source file (Ok intake) e changed new marks same translations t ok =
     let x = same_marks _ _ _ _ changed new same translations _ marks (same_reply _ _ t) in
@@ -149,7 +149,7 @@ pub remarks_on_rows : (s : State) → RemarksOnRows s
 remarks_on_rows s source file changed new marks same translations =
     step_at (λ t reply. reply ≡ Ok (done.Import changed new marks same translations) → (read : File) × (file_of file ≡ Ok read) × AreToldOf t.catalogue.forest source read.rows marks) s (command.Import source file)
     (λ why e. absurd (cc))
-    (λ ok e. accepted s source file (taken s source file) refl changed new marks same translations e (no_fault (taken s source file) ok.1.0))
+    (λ ok e. accepted s source file (intake_of s source file) refl changed new marks same translations e (no_fault (intake_of s source file) ok.1.0))
   where
     no_fault : (r : Taken) → bad_file r ≡ None → (fault : ℕ × ℕ) → r ≡ Err fault → ⊥
     no_fault (Ok intake) h fault e = absurd (cc)

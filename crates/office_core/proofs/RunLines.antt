@@ -3,14 +3,14 @@ use Rattle.std.proofs.Common.{◌≡◌, ◌≢◌, ℕ, zero, suc, ◌<◌, ◌
 use Rattle.std.specs.Prelude.{nat_le, nat_eq, option_map, filter, filter_map}
 use Rattle.std.specs.List.{AllByRecursion, cons_option}
 use Rattle.std.proofs.lemmas.Bool.{eqb-true, leb-false, cases_eq, false≢true, and_parts}
-use Rattle.office_core.specs.Words.{numbered, numbers_to, some_and, first, is_empty}
+use Rattle.office_core.specs.Words.{nth, numbers_to, some_and, first, is_empty}
 use Rattle.desk_core.specs.declared.reader.Place.TheVariants.{Shelf, Desk, Out}
 use Rattle.desk_core.specs.declared.reader.Place.{Place}
-use Rattle.office_core.specs.State.{State, Order, Line, Run, container_of, is_shelf, opens, is_due, picked, line_for, is_line_before, next_run}
+use Rattle.office_core.specs.State.{State, Order, Line, Run, container_of, is_shelf, opens, is_due, orders_of_run, line_for, is_line_before, next_run}
 use Rattle.office_core.specs.declared.command.Command.{Command}
 use Rattle.office_core.specs.declared.command.Command.TheVariants as command
 use Rattle.isad_core.specs.Limits.{most_runs}
-use Rattle.office_core.specs.Rules.{checks, after, fetched, cancelled, issued, returned, imported, taken}
+use Rattle.office_core.specs.Rules.{checks, after, fetched, cancelled, issued, returned, imported, intake_of}
 use Rattle.isad_core.specs.Boxes.{distinct}
 use Rattle.catalogue_core.proofs.DistinctLists.{all_so}
 use Rattle.catalogue_core.specs.Intake.{Taken}
@@ -49,24 +49,24 @@ ascending_take zero ms h = tt
 ascending_take (suc k) [] h = tt
 ascending_take (suc k) (m ∷ ms) h = (all_taken (λ n. m < n) k ms h.0, ascending_take k ms h.1)
 
-ascending_picked : (s : State) → IsAscending (picked s)
+ascending_picked : (s : State) → IsAscending (orders_of_run s)
 ascending_picked s = ascending_take s.settings.run_size (filter (is_due s) (numbers_to (length s.orders))) (ascending_filter (is_due s) (numbers_to (length s.orders)) (ascending_to (length s.orders)))
 
 -- an order that is due
 
 record IsDue (s : State) (o : ℕ) (order : Order) : Type 0 where
-  there : numbered s.orders o ≡ Some order
+  there : nth s.orders o ≡ Some order
   head : some_and (nat_eq o) (first (s.queue order.container)) ≡ true
 
-due_at : (s : State) (o : ℕ) (r : Option Order) → numbered s.orders o ≡ r → some_and (λ order. some_and (nat_eq o) (first (s.queue order.container)) && (is_shelf (s.place order.container) && opens s order.ticket order.container)) r ≡ true → (order : Order) × IsDue s o order
+due_at : (s : State) (o : ℕ) (r : Option Order) → nth s.orders o ≡ r → some_and (λ order. some_and (nat_eq o) (first (s.queue order.container)) && (is_shelf (s.place order.container) && opens s order.ticket order.container)) r ≡ true → (order : Order) × IsDue s o order
 due_at s o None e h = absurd (false≢true h)
 due_at s o (Some order) e h = (order, record { there = e; head = (and_parts (some_and (nat_eq o) (first (s.queue order.container))) (is_shelf (s.place order.container) && opens s order.ticket order.container) h).0 })
 
 due : (s : State) (o : ℕ) → is_due s o ≡ true → (order : Order) × IsDue s o order
-due s o h = due_at s o (numbered s.orders o) refl h
+due s o h = due_at s o (nth s.orders o) refl h
 
 -- the lines of orders that are due, one by one
-lines_cons : (P : List Line → Type 0) (s : State) (o : ℕ) (order : Order) (rest : List Line) → numbered s.orders o ≡ Some order → P (record { container = order.container; order = o; ticket = order.ticket } ∷ rest) → P (cons_option (line_for s o) rest)
+lines_cons : (P : List Line → Type 0) (s : State) (o : ℕ) (order : Order) (rest : List Line) → nth s.orders o ≡ Some order → P (record { container = order.container; order = o; ticket = order.ticket } ∷ rest) → P (cons_option (line_for s o) rest)
 lines_cons P s o order rest e p = subst (λ r. P (cons_option (option_map (λ order. record { container = order.container; order = o; ticket = order.ticket }) r) rest)) (sym e) p
 
 good_lines : (s : State) (os : List ℕ) → AllByRecursion (λ o. is_due s o ≡ true) os → AllByRecursion (IsGoodLine s) (filter_map (line_for s) os)
@@ -108,7 +108,7 @@ not_empty (n ∷ ns) e = omega arith
 
 good_line : (s t : State) (l : Line) → Extends s t → IsGoodLine s l → IsGoodLine t l
 good_line s t l e g =
-    let x = mapped_some (numbered s.orders l.order) l.container g.order in
+    let x = mapped_some (nth s.orders l.order) l.container g.order in
     let n = e.orders l.order x.0 x.1 in
     record { order = ap (option_map (λ r. r.container)) n ∙ ap Some x.2; ticket = ap (some_and (λ r. nat_eq r.ticket l.ticket)) n ∙ (sym (ap (some_and (λ r. nat_eq r.ticket l.ticket)) x.1) ∙ g.ticket) }
 
@@ -127,32 +127,32 @@ good_run s t run e g =
 runs_same : (s t : State) → Extends s t → t.runs ≡ s.runs → AreGoodRuns s → AreGoodRuns t
 runs_same s t e er g =
     record {
-      each = λ n run h. good_run s t run e (g.each n run (subst (λ rs. numbered rs n ≡ Some run) er h));
+      each = λ n run h. good_run s t run e (g.each n run (subst (λ rs. nth rs n ≡ Some run) er h));
       few = subst (λ rs. length rs ≤ most_runs) (sym er) g.few;
     }
 
-run_good : (s : State) → is_empty (picked s) ≡ false → IsGoodRun (fetched s) (next_run s)
+run_good : (s : State) → is_empty (orders_of_run s) ≡ false → IsGoodRun (fetched s) (next_run s)
 run_good s some =
     let all = picked_due s in
-    let lines = filter_map (line_for s) (picked s) in
-    let n = length-in_order is_line_before lines ∙ count_lines s (picked s) all in
-    let one = not_empty (picked s) some in
+    let lines = filter_map (line_for s) (orders_of_run s) in
+    let n = length-in_order is_line_before lines ∙ count_lines s (orders_of_run s) all in
+    let one = not_empty (orders_of_run s) some in
     let most = length-take s.settings.run_size (filter (is_due s) (numbers_to (length s.orders))) in
     record {
       day = same_day s.day;
       some = omega (arith, n, one);
       few = omega (arith, n, most);
-      by_container = by_container-in_order lines (apart_lines s (picked s) all (ascending_picked s));
-      lines = all_so (IsGoodLine s) (IsGoodLine (fetched s)) (λ l h. record { order = h.order; ticket = h.ticket }) (next_run s).lines (all-in_order is_line_before (IsGoodLine s) lines (good_lines s (picked s) all));
+      by_container = by_container-in_order lines (apart_lines s (orders_of_run s) all (ascending_picked s));
+      lines = all_so (IsGoodLine s) (IsGoodLine (fetched s)) (λ l h. record { order = h.order; ticket = h.ticket }) (next_run s).lines (all-in_order is_line_before (IsGoodLine s) lines (good_lines s (orders_of_run s) all));
     }
 
-fetched_runs : (s : State) → Extends s (fetched s) → is_empty (picked s) ≡ false → length s.runs < most_runs → AreGoodRuns s → AreGoodRuns (fetched s)
+fetched_runs : (s : State) → Extends s (fetched s) → is_empty (orders_of_run s) ≡ false → length s.runs < most_runs → AreGoodRuns s → AreGoodRuns (fetched s)
 fetched_runs s e some l g =
     let more = length-append s.runs (next_run s ∷ []) in
     record {
       each = λ n run h. elim (cases_eq n (suc (length s.runs))) [
         | inl same ↦
-            let k : Some (next_run s) ≡ Some run = sym (subst (λ m. numbered (s.runs ++ next_run s ∷ []) m ≡ Some (next_run s)) (sym same) (numbered-push_last s.runs (next_run s))) ∙ h in
+            let k : Some (next_run s) ≡ Some run = sym (subst (λ m. nth (s.runs ++ next_run s ∷ []) m ≡ Some (next_run s)) (sym same) (numbered-push_last s.runs (next_run s))) ∙ h in
             let it : next_run s ≡ run = cc in
             subst (IsGoodRun (fetched s)) it (run_good s some)
         | inr ne ↦ good_run s (fetched s) run e (g.each n run (sym (numbered-push s.runs (next_run s) n ne) ∙ h))
@@ -185,13 +185,13 @@ runs_after s (command.TakeSeat t) b g ok = runs_same s (after s (command.TakeSea
 runs_after s (command.LeaveSeat t) b g ok = runs_same s (after s (command.LeaveSeat t)) (extends_after s (command.LeaveSeat t) b ok) refl g
 runs_after s (command.Order t c) b g ok = runs_same s (after s (command.Order t c)) (extends_after s (command.Order t c) b ok) refl g
 runs_after s (command.Cancel o) b g ok = runs_same s (after s (command.Cancel o)) (extends_after s (command.Cancel o) b ok) (cancelled_runs s o (container_of s o)) g
-runs_after s command.Run b g ok = fetched_runs s (extends_after s command.Run b ok) (held_not (is_empty (picked s)) _ ok.0) (leb-false most_runs (length s.runs) (held_not (nat_le most_runs (length s.runs)) _ ok.1.0)) g
+runs_after s command.Run b g ok = fetched_runs s (extends_after s command.Run b ok) (held_not (is_empty (orders_of_run s)) _ ok.0) (leb-false most_runs (length s.runs) (held_not (nat_le most_runs (length s.runs)) _ ok.1.0)) g
 runs_after s command.Reshelve b g ok = runs_same s (after s command.Reshelve) (extends_after s command.Reshelve b ok) refl g
 runs_after s (command.Issue c t) b g ok = runs_same s (after s (command.Issue c t)) (extends_after s (command.Issue c t) b ok) (issued_runs s c (s.queue c)) g
 runs_after s (command.Return c) b g ok = runs_same s (after s (command.Return c)) (extends_after s (command.Return c) b ok) (returned_runs s c (s.place c)) g
 runs_after s (command.Permit t u until) b g ok = runs_same s (after s (command.Permit t u until)) (extends_after s (command.Permit t u until) b ok) refl g
 runs_after s (command.Revoke t u) b g ok = runs_same s (after s (command.Revoke t u)) (extends_after s (command.Revoke t u) b ok) refl g
-runs_after s (command.Import source file) b g ok = runs_same s (after s (command.Import source file)) (extends_after s (command.Import source file) b ok) (imported_runs s (taken s source file)) g
+runs_after s (command.Import source file) b g ok = runs_same s (after s (command.Import source file)) (extends_after s (command.Import source file) b ok) (imported_runs s (intake_of s source file)) g
 runs_after s (command.SetStatus u draft whole) b g ok = runs_same s (after s (command.SetStatus u draft whole)) (extends_after s (command.SetStatus u draft whole) b ok) refl g
 runs_after s (command.SetClosure u until) b g ok = runs_same s (after s (command.SetClosure u until)) (extends_after s (command.SetClosure u until) b ok) refl g
 runs_after s (command.Move u parent) b g ok = runs_same s (after s (command.Move u parent)) (extends_after s (command.Move u parent) b ok) refl g

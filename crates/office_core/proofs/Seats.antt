@@ -9,7 +9,7 @@ use Rattle.desk_core.specs.declared.reader.Place.{Place}
 use Rattle.office_core.specs.State.{is_seated, State, container_of, is_ticket, is_seat_of, sit, rise}
 use Rattle.office_core.specs.declared.command.Command.{Command}
 use Rattle.office_core.specs.declared.command.Command.TheVariants as command
-use Rattle.office_core.specs.Rules.{checks, after, cancelled, issued, returned, imported, taken}
+use Rattle.office_core.specs.Rules.{checks, after, cancelled, issued, returned, imported, intake_of}
 use Rattle.isad_core.specs.Boxes.{distinct}
 use Rattle.catalogue_core.specs.Intake.{Taken}
 use Rattle.office_core.specs.SoundDesk.{SitOnce, AreGoodSeats}
@@ -156,7 +156,7 @@ seats_after s (command.Issue c t) b g ok = seats_same s (after s (command.Issue 
 seats_after s (command.Return c) b g ok = seats_same s (after s (command.Return c)) (extends_after s (command.Return c) b ok) (returned_seats s c (s.place c)) g
 seats_after s (command.Permit t u until) b g ok = seats_same s (after s (command.Permit t u until)) (extends_after s (command.Permit t u until) b ok) refl g
 seats_after s (command.Revoke t u) b g ok = seats_same s (after s (command.Revoke t u)) (extends_after s (command.Revoke t u) b ok) refl g
-seats_after s (command.Import source file) b g ok = seats_same s (after s (command.Import source file)) (extends_after s (command.Import source file) b ok) (imported_seats s (taken s source file)) g
+seats_after s (command.Import source file) b g ok = seats_same s (after s (command.Import source file)) (extends_after s (command.Import source file) b ok) (imported_seats s (intake_of s source file)) g
 seats_after s (command.SetStatus u draft whole) b g ok = seats_same s (after s (command.SetStatus u draft whole)) (extends_after s (command.SetStatus u draft whole) b ok) refl g
 seats_after s (command.SetClosure u until) b g ok = seats_same s (after s (command.SetClosure u until)) (extends_after s (command.SetClosure u until) b ok) refl g
 seats_after s (command.Move u parent) b g ok = seats_same s (after s (command.Move u parent)) (extends_after s (command.Move u parent) b ok) refl g

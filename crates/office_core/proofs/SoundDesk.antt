@@ -4,7 +4,7 @@ use Rattle.std.specs.Prelude.{ℤ, option_map}
 use Rattle.std.proofs.lemmas.List.{length-replicate}
 use Rattle.std.proofs.lemmas.Bool.{false≢true}
 use Rattle.office_core.specs.declared.command.Command.{Command}
-use Rattle.office_core.specs.Words.{numbered}
+use Rattle.office_core.specs.Words.{nth}
 use Rattle.office_core.specs.State.{Settings, State, Order, start}
 use Rattle.office_core.specs.Rules.{checks, after, state_after}
 use Rattle.office_core.specs.SoundDesk.{IsFiled, AreFiled, IsSoundDesk}
@@ -34,14 +34,14 @@ desk_after s asked g ok =
 pub always_sound_desk : (s : State) (later : List Command) → IsSoundDesk s → IsSoundDesk (state_after s later)
 always_sound_desk = run_keeps IsSoundDesk desk_after
 
-pub no_value : {X : Type 0} (n : ℕ) (x : X) → numbered {X = X} [] n ≡ Some x → ⊥
+pub no_value : {X : Type 0} (n : ℕ) (x : X) → nth {X = X} [] n ≡ Some x → ⊥
 no_value zero x e = cc
 no_value (suc n) x e = cc
 
 filed_start : (settings : Settings) (day : ℤ) → AreFiled (start settings day)
 filed_start settings day = record { each = at; queues = λ c. tt }
   where
-    at : (o : ℕ) → IsFiled (option_map (λ order. order.container) (numbered {X = Order} [] o)) (λ c. false) (λ c. false) None
+    at : (o : ℕ) → IsFiled (option_map (λ order. order.container) (nth {X = Order} [] o)) (λ c. false) (λ c. false) None
     at zero = ((λ c. refl), (λ c. refl), refl)
     at (suc o) = ((λ c. refl), (λ c. refl), refl)
 

@@ -24,16 +24,16 @@ use Rattle.catalogue_core.proofs.KeptUnits.{status_keeps, closure_keeps}
 use Rattle.catalogue_core.proofs.UnitsAfter.{ids_between}
 use Rattle.office_core.specs.declared.command.Command.{Command}
 use Rattle.office_core.specs.declared.command.Command.TheVariants as command
-use Rattle.office_core.specs.Words.{numbered}
+use Rattle.office_core.specs.Words.{nth}
 use Rattle.office_core.specs.State.{State, Reader, container_of}
-use Rattle.office_core.specs.Rules.{after, step, state_after, renewed, cancelled, issued, returned, imported, taken}
+use Rattle.office_core.specs.Rules.{after, step, state_after, renewed, cancelled, issued, returned, imported, intake_of}
 use Rattle.office_core.specs.GivenNumbers.{NamesStay, names, is_there, IsThatUnit, StaysNamed}
 use Rattle.office_core.proofs.Boxes.{step_apart}
 use Rattle.office_core.proofs.Steps.{step_at}
 
 -- ---- lists
 
-kept_behind : {X : Type 0} (xs ys : List X) (n : ℕ) (x : X) → numbered xs n ≡ Some x → numbered (xs ++ ys) n ≡ Some x
+kept_behind : {X : Type 0} (xs ys : List X) (n : ℕ) (x : X) → nth xs n ≡ Some x → nth (xs ++ ys) n ≡ Some x
 kept_behind xs ys zero x e = absurd (cc)
 kept_behind [] ys (suc n) x e = absurd (cc)
 kept_behind (y ∷ xs) ys (suc zero) x e = e
@@ -49,7 +49,7 @@ names_renewed until (r ∷ rs) (suc zero) = refl
 names_renewed until (r ∷ rs) (suc (suc t)) = ap (λ l. r.name ∷ l) (names_renewed until rs (suc t))
 
 names_more : (rs : List Reader) (new : Reader) → NamesStay (map name rs) (map name (rs ++ new ∷ []))
-names_more rs new n x h = subst (λ l. numbered l n ≡ Some x) (sym (map-append name rs (new ∷ []))) (kept_behind (map name rs) (new.name ∷ []) n x h)
+names_more rs new n x h = subst (λ l. nth l n ≡ Some x) (sym (map-append name rs (new ∷ []))) (kept_behind (map name rs) (new.name ∷ []) n x h)
 
 -- ---- units
 
@@ -101,10 +101,10 @@ merged_stay s source rows =
 same_named : (s t : State) → t.readers ≡ s.readers → t.orders ≡ s.orders → t.runs ≡ s.runs → t.catalogue ≡ s.catalogue → StaysNamed s t
 same_named s t er eo en ec =
     record {
-      containers = λ c box. subst (λ (k : Catalogue). numbered s.catalogue.containers c ≡ Some box → numbered k.containers c ≡ Some box) (sym ec) (λ h. h);
-      orders = λ o order. subst (λ os. numbered s.orders o ≡ Some order → numbered os o ≡ Some order) (sym eo) (λ h. h);
-      runs = λ n run. subst (λ rs. numbered s.runs n ≡ Some run → numbered rs n ≡ Some run) (sym en) (λ h. h);
-      readers = λ r name. subst (λ rs. numbered (names s) r ≡ Some name → numbered (map (λ (reader : Reader). reader.name) rs) r ≡ Some name) (sym er) (λ h. h);
+      containers = λ c box. subst (λ (k : Catalogue). nth s.catalogue.containers c ≡ Some box → nth k.containers c ≡ Some box) (sym ec) (λ h. h);
+      orders = λ o order. subst (λ os. nth s.orders o ≡ Some order → nth os o ≡ Some order) (sym eo) (λ h. h);
+      runs = λ n run. subst (λ rs. nth s.runs n ≡ Some run → nth rs n ≡ Some run) (sym en) (λ h. h);
+      readers = λ r name. subst (λ rs. nth (names s) r ≡ Some name → nth (map (λ (reader : Reader). reader.name) rs) r ≡ Some name) (sym er) (λ h. h);
       units = subst (λ (k : Catalogue). AllByRecursion (IsThatUnit s) (nodes k.forest)) (sym ec) (units_stay s);
       next = subst (λ (k : Catalogue). s.catalogue.next ≤ k.next) (sym ec) (omega arith);
     }
@@ -128,12 +128,12 @@ returned_named s c Shelf = itself_named s
 returned_named s c Desk = itself_named s
 returned_named s c (Out o) = same_named s (returned s c (Out o)) refl refl refl refl
 
-imported_named : (s : State) (source file : Bytes) (t : Taken) → taken s source file ≡ t → distinct s.catalogue.containers ≡ s.catalogue.containers → StaysNamed s (imported s t)
+imported_named : (s : State) (source file : Bytes) (t : Taken) → intake_of s source file ≡ t → distinct s.catalogue.containers ≡ s.catalogue.containers → StaysNamed s (imported s t)
 imported_named s source file (Err fault) e b = itself_named s
 imported_named s source file (Ok intake) e b =
     let boxes = boxes_after s.catalogue source file intake e b in
     record {
-      containers = λ c box h. subst (λ bs. numbered bs c ≡ Some box) (sym boxes) (kept_behind s.catalogue.containers (new_boxes s.catalogue.containers intake.file.rows) c box h);
+      containers = λ c box h. subst (λ bs. nth bs c ≡ Some box) (sym boxes) (kept_behind s.catalogue.containers (new_boxes s.catalogue.containers intake.file.rows) c box h);
       orders = λ o order h. h;
       runs = λ n run h. h;
       readers = λ r name h. h;
@@ -142,7 +142,7 @@ imported_named s source file (Ok intake) e b =
     }
 
 named_after : (s : State) (asked : Command) → distinct s.catalogue.containers ≡ s.catalogue.containers → StaysNamed s (after s asked)
-named_after s (command.Import source file) b = imported_named s source file (taken s source file) refl b
+named_after s (command.Import source file) b = imported_named s source file (intake_of s source file) refl b
 named_after s (command.SetStatus u draft whole) b = forest_named s _ (each_stay s _ (status_keeps (chosen whole u s.catalogue) draft))
 named_after s (command.SetClosure u until) b = forest_named s _ (each_stay s _ (closure_keeps until u))
 named_after s (command.Move u parent) b = forest_named s _ (all_moved (IsThatUnit s) u parent s.catalogue.forest (units_stay s))
@@ -169,7 +169,7 @@ named_after s (command.Renew t until) b =
       containers = λ c box h. h;
       orders = λ o order h. h;
       runs = λ n run h. h;
-      readers = λ r name h. ap (λ l. numbered l r) (names_renewed until s.readers t) ∙ h;
+      readers = λ r name h. ap (λ l. nth l r) (names_renewed until s.readers t) ∙ h;
       units = units_stay s;
       next = omega arith;
     }

@@ -11,7 +11,7 @@ use Rattle.catalogue_core.specs.Units.{Unit, has_id}
 use Rattle.catalogue_core.specs.Statuses.{chosen}
 use Rattle.office_core.specs.declared.command.Command.{Command}
 use Rattle.office_core.specs.declared.command.Command.TheVariants as command
-use Rattle.office_core.specs.Words.{put}
+use Rattle.office_core.specs.Words.{update_at}
 use Rattle.office_core.specs.State.{State, Permit, container_of, granted, revoked}
 use Rattle.catalogue_core.specs.UnitLookup.{has_unit}
 use Rattle.isad_core.specs.Limits.{most_deep}
@@ -105,12 +105,12 @@ permits_good s permits p g =
 
 granted_good : (s : State) (t u : ℕ) (until : ℤ) → has_unit s.catalogue.forest u ≡ true → HasGoodCatalogue s → HasGoodCatalogue (after s (command.Permit t u until))
 granted_good s t u until there g =
-    permits_good s (put s.permits t (granted u until (s.permits t)))
+    permits_good s (update_at s.permits t (granted u until (s.permits t)))
     (put_each (λ v ps. AllByRecursion (λ permit. has_unit s.catalogue.forest permit.unit ≡ true) ps) s.permits t (granted u until (s.permits t)) (all_granted (λ v. has_unit s.catalogue.forest v ≡ true) u until (s.permits t) there (g.permits t)) (λ v ne. g.permits v)) g
 
 revoked_good : (s : State) (t u : ℕ) → HasGoodCatalogue s → HasGoodCatalogue (after s (command.Revoke t u))
 revoked_good s t u g =
-    permits_good s (put s.permits t (revoked u (s.permits t)))
+    permits_good s (update_at s.permits t (revoked u (s.permits t)))
     (put_each (λ v ps. AllByRecursion (λ permit. has_unit s.catalogue.forest permit.unit ≡ true) ps) s.permits t (revoked u (s.permits t)) (all_filtered (λ permit. has_unit s.catalogue.forest permit.unit ≡ true) (λ permit. not (nat_eq permit.unit u)) (s.permits t) (g.permits t)) (λ v ne. g.permits v)) g
 
 -- ---- each command

@@ -7,7 +7,7 @@ use Rattle.desk_core.specs.Refusals.{Check, when, unless, first_that_holds}
 use Rattle.desk_core.specs.declared.refusal.Refusal.{Refusal}
 use Rattle.office_core.specs.declared.command.Command.{Command}
 use Rattle.office_core.specs.State.{State}
-use Rattle.office_core.specs.Rules.{gate, kept, Reply, checks, after, told, decided, refusal, step, state_after}
+use Rattle.office_core.specs.Rules.{gate, lowest_withheld, Reply, checks, after, result_of, decide, refusal, step, state_after}
 
 -- no check holds
 abbrev pub Passes : List Check → Type 0
@@ -28,18 +28,18 @@ held_so true why h = refl
 held_so false why h = absurd (cc)
 
 -- the gate lets it pass: nothing that is out is withheld from its reader
-pub passes_gate : (s : State) → gate s ≡ None → is_some (kept s) ≡ false
-passes_gate s h = at (kept s) h
+pub passes_gate : (s : State) → gate s ≡ None → is_some (lowest_withheld s) ≡ false
+passes_gate s h = at (lowest_withheld s) h
   where
     at : (x : Option ℕ) → option_map WithReader x ≡ None → is_some x ≡ false
     at None e = refl
     at (Some c) e = absurd (cc)
 
 -- what holds of the old state, and of the new one where no check holds, holds after the step
-pub step_at : (P : State → Reply → Type 0) (s : State) (asked : Command) → ((why : Refusal) → P s (Err why)) → (Passes (checks s asked) → P (after s asked) (Ok (told s asked))) → P (step s asked).0 (step s asked).1
+pub step_at : (P : State → Reply → Type 0) (s : State) (asked : Command) → ((why : Refusal) → P s (Err why)) → (Passes (checks s asked) → P (after s asked) (Ok (result_of s asked))) → P (step s asked).0 (step s asked).1
 step_at P s asked old new = at (refusal s asked) (λ e. new (passes (checks s asked) e))
   where
-    at : (r : Option Refusal) → (r ≡ None → P (after s asked) (Ok (told s asked))) → P (decided r s (after s asked) (told s asked)).0 (decided r s (after s asked) (told s asked)).1
+    at : (r : Option Refusal) → (r ≡ None → P (after s asked) (Ok (result_of s asked))) → P (decide r s (after s asked) (result_of s asked)).0 (decide r s (after s asked) (result_of s asked)).1
     at None h = h refl
     at (Some why) h = old why
 

@@ -20,7 +20,7 @@ use Rattle.catalogue_core.proofs.LegibleMerges.{each_legible, taken_legible}
 use Rattle.office_core.specs.declared.command.Command.{Command}
 use Rattle.office_core.specs.declared.command.Command.TheVariants as command
 use Rattle.office_core.specs.State.{Reader, Settings, State, container_of, start}
-use Rattle.office_core.specs.Rules.{after, cancelled, checks, imported, issued, renewed, returned, state_after, taken}
+use Rattle.office_core.specs.Rules.{after, cancelled, checks, imported, issued, renewed, returned, state_after, intake_of}
 use Rattle.office_core.specs.Soundness.{AreGoodSettings, NamesDays, is_country, is_repository}
 use Rattle.office_core.specs.SoundOffice.{AreTexts, IsSoundOffice, NamesTexts}
 use Rattle.office_core.proofs.Steps.{Passes, held_so, run_keeps_if}
@@ -67,7 +67,7 @@ other_catalogue s t e r c h = record {
   readers = subst (AllByRecursion (λ (reader : Reader). IsUtf8 reader.name)) (sym r) h.readers;
 }
 
-imported_texts : (s : State) (source file : Bytes) (t : Taken) → taken s source file ≡ t → is_source source ≡ true → AreTexts s → AreTexts (imported s t)
+imported_texts : (s : State) (source file : Bytes) (t : Taken) → intake_of s source file ≡ t → is_source source ≡ true → AreTexts s → AreTexts (imported s t)
 imported_texts s source file (Err fault) e named h = h
 imported_texts s source file (Ok intake) e named h =
     other_catalogue s (imported s (Ok intake)) refl refl (taken_legible s.catalogue source file intake e (source_legible source named) h.catalogue) h
@@ -99,7 +99,7 @@ texts_after s (command.Register name until) h n ok = record {
   readers = all_append (λ (r : Reader). IsUtf8 r.name) s.readers (record { name = name; until = until } ∷ []) h.readers (n, tt);
 }
 texts_after s (command.Renew t until) h n ok = record { country = h.country; repo = h.repo; catalogue = h.catalogue; readers = reader_names until s.readers t h.readers }
-texts_after s (command.Import source file) h n ok = imported_texts s source file (taken s source file) refl (held_so (is_source source) _ ok.0) h
+texts_after s (command.Import source file) h n ok = imported_texts s source file (intake_of s source file) refl (held_so (is_source source) _ ok.0) h
 texts_after s (command.SetStatus u draft whole) h n ok = other_catalogue s (after s (command.SetStatus u draft whole)) refl refl (each_legible s.catalogue _ (status_keeps (chosen whole u s.catalogue) draft) h.catalogue) h
 texts_after s (command.SetClosure u until) h n ok = other_catalogue s (after s (command.SetClosure u until)) refl refl (each_legible s.catalogue _ (closure_keeps until u) h.catalogue) h
 texts_after s (command.Move u parent) h n ok = other_catalogue s (after s (command.Move u parent)) refl refl (record { units = all_moved HasLegibleTexts u parent s.catalogue.forest h.catalogue.units; containers = h.catalogue.containers }) h

@@ -17,10 +17,10 @@ use Rattle.catalogue_core.specs.Units.{has_id}
 use Rattle.office_core.specs.declared.command.Command.{Command}
 use Rattle.office_core.specs.declared.command.Command.TheVariants as command
 use Rattle.office_core.specs.declared.done.Done.{Done}
-use Rattle.office_core.specs.Words.{numbered, numbers_to, first_that, some_and}
+use Rattle.office_core.specs.Words.{nth, numbers_to, first_that, some_and}
 use Rattle.office_core.specs.State.{Order, State, is_ticket, is_container, order_out, opens, has_permit}
 use Rattle.office_core.specs.ImportReply.{bad_file, too_much}
-use Rattle.office_core.specs.Rules.{is_kept_from_holder, kept, gate, imported, taken, after, checks, told, decided, refusal as refusal_of}
+use Rattle.office_core.specs.Rules.{is_kept_from_holder, lowest_withheld, gate, imported, intake_of, after, checks, result_of, decide, refusal as refusal_of}
 use Rattle.office_core.specs.SoundDesk.{IsSoundDesk}
 use Rattle.office_core.specs.AccessRestrictions.{WouldBeWithheld, IsLowestWithheld, may_withhold, AsksForReaders, AsksForNone, MayBeDone, AsksForReadersAlone}
 use Rattle.office_core.proofs.Counts.{none_to, none_that, numbered_from_one}
@@ -72,11 +72,11 @@ told_by_none c [] h e = absurd (cc)
 told_by_none c (None ∷ cs) h e = told_by_none c cs h.1 e
 told_by_none c (Some why ∷ cs) h e = h.0 e
 
-refused_so : (r : Option Refusal) (s t : State) (d : Done) (why : Refusal) → (decided r s t d).1 ≡ Err why → r ≡ Some why
+refused_so : (r : Option Refusal) (s t : State) (d : Done) (why : Refusal) → (decide r s t d).1 ≡ Err why → r ≡ Some why
 refused_so None s t d why e = absurd (cc)
 refused_so (Some w) s t d why e = let k : w ≡ why = cc in ap Some k
 
-accepted_so : (r : Option Refusal) (s t : State) (d done : Done) → (decided r s t d).1 ≡ Ok done → r ≡ None
+accepted_so : (r : Option Refusal) (s t : State) (d done : Done) → (decide r s t d).1 ≡ Ok done → r ≡ None
 accepted_so None s t d done e = refl
 accepted_so (Some w) s t d done e = absurd (cc)
 
@@ -85,11 +85,11 @@ kept_so None c e = absurd (cc)
 kept_so (Some d) c e = cc
 
 -- where a command that may withhold is refused for a reader, the gate keeps that container
-gate_keeps : (s : State) (asked : Command) (c : ℕ) → may_withhold asked ≡ true → refusal_of s asked ≡ Some (WithReader c) → kept (after s asked) ≡ Some c
+gate_keeps : (s : State) (asked : Command) (c : ℕ) → may_withhold asked ≡ true → refusal_of s asked ≡ Some (WithReader c) → lowest_withheld (after s asked) ≡ Some c
 gate_keeps s (command.Import source file) c m e =
     let name : Bool = is_source source in
-    kept_so _ c (told_by_last c (unless name refusal.BadName ∷ bad_file (taken s source file) ∷ too_much (taken s source file) ∷ []) (gate (after s (command.Import source file)))
-    (unless_other name refusal.BadName c refl, (bad_file_other (taken s source file) c, (too_much_other (taken s source file) c, tt))) e)
+    kept_so _ c (told_by_last c (unless name refusal.BadName ∷ bad_file (intake_of s source file) ∷ too_much (intake_of s source file) ∷ []) (gate (after s (command.Import source file)))
+    (unless_other name refusal.BadName c refl, (bad_file_other (intake_of s source file) c, (too_much_other (intake_of s source file) c, tt))) e)
 gate_keeps s (command.SetStatus u draft whole) c m e =
     let known : Bool = has_unit s.catalogue.forest u in
     kept_so _ c (told_by_last c (unless known refusal.UnknownUnit ∷ []) (gate (after s (command.SetStatus u draft whole))) (unless_other known refusal.UnknownUnit c refl, tt) e)
@@ -173,26 +173,26 @@ lowest_of p (suc n) c e = elim (first_of p (numbers_to n) (suc n ∷ []) c e) [
 -- ---- what is kept from its holder would be withheld
 
 module _ (s t : State) (places : t.place ≡ s.place) (orders : t.orders ≡ s.orders) where
-  held_with : (c o : ℕ) (r : Option Order) → order_out (s.place c) ≡ Some o → numbered t.orders o ≡ r → some_and (λ (order : Order). not (opens t order.ticket c)) r ≡ true → WouldBeWithheld s t c
+  held_with : (c o : ℕ) (r : Option Order) → order_out (s.place c) ≡ Some o → nth t.orders o ≡ r → some_and (λ (order : Order). not (opens t order.ticket c)) r ≡ true → WouldBeWithheld s t c
   held_with c o None out n h = absurd (false≢true h)
   held_with c o (Some order) out n h =
-      record { number = o; order = order; out = out; placed = ap (λ l. numbered l o) (sym orders) ∙ n; shut = not_so (opens t order.ticket c) h }
+      record { number = o; order = order; out = out; placed = ap (λ l. nth l o) (sym orders) ∙ n; shut = not_so (opens t order.ticket c) h }
     where
       not_so : (b : Bool) → not b ≡ true → b ≡ false
       not_so true e = absurd (false≢true e)
       not_so false e = refl
 
-  kept_would : (c : ℕ) (x : Option ℕ) → order_out (t.place c) ≡ x → some_and (λ o. some_and (λ (order : Order). not (opens t order.ticket c)) (numbered t.orders o)) x ≡ true → WouldBeWithheld s t c
+  kept_would : (c : ℕ) (x : Option ℕ) → order_out (t.place c) ≡ x → some_and (λ o. some_and (λ (order : Order). not (opens t order.ticket c)) (nth t.orders o)) x ≡ true → WouldBeWithheld s t c
   kept_would c None e h = absurd (false≢true h)
-  kept_would c (Some o) e h = held_with c o (numbered t.orders o) (ap (λ place. order_out (place c)) (sym places) ∙ e) refl h
+  kept_would c (Some o) e h = held_with c o (nth t.orders o) (ap (λ place. order_out (place c)) (sym places) ∙ e) refl h
 
   would_kept : (c : ℕ) → WouldBeWithheld s t c → is_kept_from_holder t c ≡ true
   would_kept c w =
-      ap (some_and (λ o. some_and (λ (order : Order). not (opens t order.ticket c)) (numbered t.orders o))) (ap (λ place. order_out (place c)) places ∙ w.out)
-      ∙ ap (some_and (λ (order : Order). not (opens t order.ticket c))) (ap (λ l. numbered l w.number) orders ∙ w.placed)
+      ap (some_and (λ o. some_and (λ (order : Order). not (opens t order.ticket c)) (nth t.orders o))) (ap (λ place. order_out (place c)) places ∙ w.out)
+      ∙ ap (some_and (λ (order : Order). not (opens t order.ticket c))) (ap (λ l. nth l w.number) orders ∙ w.placed)
       ∙ ap not w.shut
 
-  lowest_would : ((c : ℕ) → is_container s c ≡ true → is_container t c ≡ true) → IsSoundDesk s → (c : ℕ) → kept t ≡ Some c → IsLowestWithheld s t c
+  lowest_would : ((c : ℕ) → is_container s c ≡ true → is_container t c ≡ true) → IsSoundDesk s → (c : ℕ) → lowest_withheld t ≡ Some c → IsLowestWithheld s t c
   lowest_would known g c e =
       let it = lowest_of (is_kept_from_holder t) (length t.catalogue.containers) c e in
       record {
@@ -211,7 +211,7 @@ imported_orders s (Ok intake) = refl
 imported_orders s (Err fault) = refl
 
 same_place : (s : State) (asked : Command) → may_withhold asked ≡ true → (after s asked).place ≡ s.place
-same_place s (command.Import source file) m = imported_place s (taken s source file)
+same_place s (command.Import source file) m = imported_place s (intake_of s source file)
 same_place s (command.SetStatus u draft whole) m = refl
 same_place s (command.SetClosure u until) m = refl
 same_place s (command.Move u parent) m = refl
@@ -231,7 +231,7 @@ same_place s (command.Return k) m = absurd (false≢true m)
 same_place s (command.Permit t u until) m = absurd (false≢true m)
 
 same_orders : (s : State) (asked : Command) → may_withhold asked ≡ true → (after s asked).orders ≡ s.orders
-same_orders s (command.Import source file) m = imported_orders s (taken s source file)
+same_orders s (command.Import source file) m = imported_orders s (intake_of s source file)
 same_orders s (command.SetStatus u draft whole) m = refl
 same_orders s (command.SetClosure u until) m = refl
 same_orders s (command.Move u parent) m = refl
@@ -251,7 +251,7 @@ same_orders s (command.Return k) m = absurd (false≢true m)
 same_orders s (command.Permit t u until) m = absurd (false≢true m)
 
 still_known : (s : State) (asked : Command) → may_withhold asked ≡ true → IsSoundDesk s → (c : ℕ) → is_container s c ≡ true → is_container (after s asked) c ≡ true
-still_known s (command.Import source file) m g c h = (imported_extends s source file (taken s source file) refl g.boxes).containers c h
+still_known s (command.Import source file) m g c h = (imported_extends s source file (intake_of s source file) refl g.boxes).containers c h
 still_known s (command.SetStatus u draft whole) m g c h = h
 still_known s (command.SetClosure u until) m g c h = h
 still_known s (command.Move u parent) m g c h = h
@@ -276,10 +276,10 @@ nothing_withheld : (s : State) (asked : Command) → may_withhold asked ≡ true
 nothing_withheld s asked m g r c w =
     let p = places_after s asked g.boxes g.filed g.orders g.places (passes (checks s asked) r) in
     let out : order_out ((after s asked).place c) ≡ Some w.number = ap (λ place. order_out (place c)) (same_place s asked m) ∙ w.out in
-    let placed : numbered (after s asked).orders w.number ≡ Some w.order = ap (λ l. numbered l w.number) (same_orders s asked m) ∙ w.placed in
+    let placed : nth (after s asked).orders w.number ≡ Some w.order = ap (λ l. nth l w.number) (same_orders s asked m) ∙ w.placed in
     false≢true (sym w.shut ∙ (p.holders c w.number w.order out placed).may_see)
 
-after_accepted : (r : Option Refusal) (s t : State) (d : Done) → r ≡ None → (decided r s t d).0 ≡ t
+after_accepted : (r : Option Refusal) (s t : State) (d : Done) → r ≡ None → (decide r s t d).0 ≡ t
 after_accepted None s t d e = refl
 after_accepted (Some why) s t d e = absurd (cc)
 
@@ -287,10 +287,10 @@ pub asks_for_readers : (s : State) (asked : Command) → IsSoundDesk s → may_w
 asks_for_readers s asked g m =
     record {
       refused = λ c e. lowest_would s (after s asked) (same_place s asked m) (same_orders s asked m) (still_known s asked m g) g c
-          (gate_keeps s asked c m (refused_so (refusal_of s asked) s (after s asked) (told s asked) (WithReader c) e));
+          (gate_keeps s asked c m (refused_so (refusal_of s asked) s (after s asked) (result_of s asked) (WithReader c) e));
       accepted = λ done e c w.
-          let r = accepted_so (refusal_of s asked) s (after s asked) (told s asked) done e in
-          nothing_withheld s asked m g r c (subst (λ t. WouldBeWithheld s t c) (after_accepted (refusal_of s asked) s (after s asked) (told s asked) r) w);
+          let r = accepted_so (refusal_of s asked) s (after s asked) (result_of s asked) done e in
+          nothing_withheld s asked m g r c (subst (λ t. WouldBeWithheld s t c) (after_accepted (refusal_of s asked) s (after s asked) (result_of s asked) r) w);
     }
 
 -- ---- where nothing else refuses it
@@ -321,8 +321,8 @@ to_last (Some why ∷ cs) g h = absurd (let e : Some why ≡ None = h.0 in cc)
 -- what may be done is asked the gate alone
 gate_alone : (s : State) (asked : Command) → MayBeDone s asked → refusal_of s asked ≡ gate (after s asked)
 gate_alone s (command.Import source file) h =
-    to_last (unless (is_source source) refusal.BadName ∷ bad_file (taken s source file) ∷ too_much (taken s source file) ∷ []) (gate (after s (command.Import source file)))
-    (unless_passes (is_source source) refusal.BadName h.name, (bad_file_passes (taken s source file) h.intake h.read, (too_much_passes (taken s source file) h.intake h.read h.room, tt)))
+    to_last (unless (is_source source) refusal.BadName ∷ bad_file (intake_of s source file) ∷ too_much (intake_of s source file) ∷ []) (gate (after s (command.Import source file)))
+    (unless_passes (is_source source) refusal.BadName h.name, (bad_file_passes (intake_of s source file) h.intake h.read, (too_much_passes (intake_of s source file) h.intake h.read h.room, tt)))
 gate_alone s (command.SetStatus u draft whole) h =
     to_last (unless (has_unit s.catalogue.forest u) refusal.UnknownUnit ∷ []) (gate (after s (command.SetStatus u draft whole)))
     (unless_passes (has_unit s.catalogue.forest u) refusal.UnknownUnit h, tt)
@@ -375,11 +375,11 @@ may_withhold_so s (command.Return k) h = absurd h
 may_withhold_so s (command.Permit t u until) h = absurd h
 
 module _ (s : State) (asked : Command) (sound : IsSoundDesk s) (m : may_withhold asked ≡ true) where
-  kept_lowest : (c : ℕ) → kept (after s asked) ≡ Some c → IsLowestWithheld s (after s asked) c
+  kept_lowest : (c : ℕ) → lowest_withheld (after s asked) ≡ Some c → IsLowestWithheld s (after s asked) c
   kept_lowest = lowest_would s (after s asked) (same_place s asked m) (same_orders s asked m) (still_known s asked m sound) sound
 
   -- what would be withheld is kept by the gate, if nothing lower is
-  is_kept : (c : ℕ) → WouldBeWithheld s (after s asked) c → kept (after s asked) ≡ None → ⊥
+  is_kept : (c : ℕ) → WouldBeWithheld s (after s asked) c → lowest_withheld (after s asked) ≡ None → ⊥
   is_kept c w e =
       let known = still_known s asked m sound c (out_known s c w.number sound.filed sound.orders w.out) in
       let boxes = (after s asked).catalogue.containers in
@@ -387,10 +387,10 @@ module _ (s : State) (asked : Command) (sound : IsSoundDesk s) (m : may_withhold
       (numbered_from_one boxes c known) (numbered_within boxes c known) in
       false≢true (sym none ∙ would_kept s (after s asked) (same_place s asked m) (same_orders s asked m) c w)
 
-  lowest_kept : (c : ℕ) → IsLowestWithheld s (after s asked) c → kept (after s asked) ≡ Some c
-  lowest_kept c low = at (kept (after s asked)) refl
+  lowest_kept : (c : ℕ) → IsLowestWithheld s (after s asked) c → lowest_withheld (after s asked) ≡ Some c
+  lowest_kept c low = at (lowest_withheld (after s asked)) refl
     where
-      at : (r : Option ℕ) → kept (after s asked) ≡ r → r ≡ Some c
+      at : (r : Option ℕ) → lowest_withheld (after s asked) ≡ r → r ≡ Some c
       at None e = absurd (is_kept c low.withheld e)
       at (Some d) e =
           let it = kept_lowest d e in
@@ -399,23 +399,23 @@ module _ (s : State) (asked : Command) (sound : IsSoundDesk s) (m : may_withhold
           let same : d ≡ c = omega (arith, up, down) in
           ap Some same
 
-  none_kept : ((c : ℕ) → WouldBeWithheld s (after s asked) c → ⊥) → kept (after s asked) ≡ None
-  none_kept none = at (kept (after s asked)) refl
+  none_kept : ((c : ℕ) → WouldBeWithheld s (after s asked) c → ⊥) → lowest_withheld (after s asked) ≡ None
+  none_kept none = at (lowest_withheld (after s asked)) refl
     where
-      at : (r : Option ℕ) → kept (after s asked) ≡ r → r ≡ None
+      at : (r : Option ℕ) → lowest_withheld (after s asked) ≡ r → r ≡ None
       at None e = refl
       at (Some d) e = absurd (none d (kept_lowest d e).withheld)
 
-decided_by : (r q : Option Refusal) (s t : State) (d : Done) → r ≡ q → decided r s t d ≡ decided q s t d
-decided_by r q s t d e = ap (λ x. decided x s t d) e
+decided_by : (r q : Option Refusal) (s t : State) (d : Done) → r ≡ q → decide r s t d ≡ decide q s t d
+decided_by r q s t d e = ap (λ x. decide x s t d) e
 
 pub asks_for_readers_alone : (s : State) (asked : Command) → IsSoundDesk s → MayBeDone s asked → AsksForReadersAlone s asked
 asks_for_readers_alone s asked g h =
     let m = may_withhold_so s asked h in
     record {
-      refused = λ c low. decided_by (refusal_of s asked) (Some (WithReader c)) s (after s asked) (told s asked)
+      refused = λ c low. decided_by (refusal_of s asked) (Some (WithReader c)) s (after s asked) (result_of s asked)
           (gate_alone s asked h ∙ ap (option_map WithReader) (lowest_kept s asked g m c low));
-      done = λ none. decided_by (refusal_of s asked) None s (after s asked) (told s asked)
+      done = λ none. decided_by (refusal_of s asked) None s (after s asked) (result_of s asked)
           (gate_alone s asked h ∙ ap (option_map WithReader) (none_kept s asked g m none));
     }
 
@@ -440,4 +440,4 @@ other_refusals s (command.Remove u) c m e = absurd (false≢true (sym m))
 other_refusals s (command.Revoke t u) c m e = absurd (false≢true (sym m))
 
 pub asks_for_none : (s : State) (asked : Command) → may_withhold asked ≡ false → AsksForNone s asked
-asks_for_none s asked m c e = other_refusals s asked c m (refused_so (refusal_of s asked) s (after s asked) (told s asked) (WithReader c) e)
+asks_for_none s asked m c e = other_refusals s asked c m (refused_so (refusal_of s asked) s (after s asked) (result_of s asked) (WithReader c) e)

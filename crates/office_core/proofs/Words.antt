@@ -3,7 +3,7 @@ use Rattle.std.proofs.Common.{◌≡◌, ◌≢◌, ℕ, zero, suc, ◌<◌, ◌
 use Rattle.std.specs.Prelude.{nat_eq, is_some}
 use Rattle.std.specs.List.{AllByRecursion}
 use Rattle.std.proofs.lemmas.Bool.{eqb-true, ne_eqb, eq-eqb, cases_eq, false≢true, or_right}
-use Rattle.office_core.specs.Words.{numbered, put, stands, without}
+use Rattle.office_core.specs.Words.{nth, update_at, stands, without}
 use Rattle.office_core.specs.SoundDesk.{IsAscending}
 use Rattle.std.proofs.Math.Bool.{or-false}
 
@@ -13,17 +13,17 @@ same_number n = eq-eqb n n refl
 pub other_number : (n m : ℕ) → n ≢ m → nat_eq n m ≡ false
 other_number n m h = ne_eqb n m h
 
-pub put_here : {X : Type 0} (f : ℕ → X) (n : ℕ) (x : X) → put f n x n ≡ x
+pub put_here : {X : Type 0} (f : ℕ → X) (n : ℕ) (x : X) → update_at f n x n ≡ x
 put_here f n x = ap (λ b. cond b x (f n)) (same_number n)
 
-pub put_there : {X : Type 0} (f : ℕ → X) (n : ℕ) (x : X) (m : ℕ) → m ≢ n → put f n x m ≡ f m
+pub put_there : {X : Type 0} (f : ℕ → X) (n : ℕ) (x : X) (m : ℕ) → m ≢ n → update_at f n x m ≡ f m
 put_there f n x m h = ap (λ b. cond b x (f m)) (other_number n m (λ e. h (sym e)))
 
 -- what holds at n with the new value and elsewhere with the old one
-pub put_each : {X : Type 0} (P : ℕ → X → Type 0) (f : ℕ → X) (n : ℕ) (x : X) → P n x → ((m : ℕ) → m ≢ n → P m (f m)) → (m : ℕ) → P m (put f n x m)
+pub put_each : {X : Type 0} (P : ℕ → X → Type 0) (f : ℕ → X) (n : ℕ) (x : X) → P n x → ((m : ℕ) → m ≢ n → P m (f m)) → (m : ℕ) → P m (update_at f n x m)
 put_each P f n x here there m =
     elim (cases_eq m n) [
-      | inl e ↦ subst (λ k. P k (put f n x k)) (sym e) (subst (P n) (sym (put_here f n x)) here)
+      | inl e ↦ subst (λ k. P k (update_at f n x k)) (sym e) (subst (P n) (sym (put_here f n x)) here)
       | inr h ↦ subst (P m) (sym (put_there f n x m h)) (there m h)
     ]
 
@@ -88,24 +88,24 @@ all_from_stands P (m ∷ ms) h = (h m (ap (λ b. b || stands m ms) (same_number 
 
 -- the n-th
 
-pub numbered_within : {X : Type 0} (xs : List X) (n : ℕ) → is_some (numbered xs n) ≡ true → n ≤ length xs
+pub numbered_within : {X : Type 0} (xs : List X) (n : ℕ) → is_some (nth xs n) ≡ true → n ≤ length xs
 numbered_within xs zero h = omega arith
 numbered_within [] (suc n) h = absurd (false≢true h)
 numbered_within (x ∷ xs) (suc zero) h = omega arith
 numbered_within (x ∷ xs) (suc (suc n)) h = let e = numbered_within xs (suc n) h in omega (arith, e)
 
-pub numbered-push : {X : Type 0} (xs : List X) (x : X) (n : ℕ) → n ≢ suc (length xs) → numbered (xs ++ x ∷ []) n ≡ numbered xs n
+pub numbered-push : {X : Type 0} (xs : List X) (x : X) (n : ℕ) → n ≢ suc (length xs) → nth (xs ++ x ∷ []) n ≡ nth xs n
 numbered-push xs x zero h = refl
 numbered-push [] x (suc zero) h = absurd (h refl)
 numbered-push [] x (suc (suc n)) h = refl
 numbered-push (y ∷ ys) x (suc zero) h = refl
 numbered-push (y ∷ ys) x (suc (suc n)) h = numbered-push ys x (suc n) (λ e. h (ap suc e))
 
-pub numbered-push_last : {X : Type 0} (xs : List X) (x : X) → numbered (xs ++ x ∷ []) (suc (length xs)) ≡ Some x
+pub numbered-push_last : {X : Type 0} (xs : List X) (x : X) → nth (xs ++ x ∷ []) (suc (length xs)) ≡ Some x
 numbered-push_last [] x = refl
 numbered-push_last (y ∷ ys) x = numbered-push_last ys x
 
-pub numbered_past : {X : Type 0} (xs : List X) (n : ℕ) → length xs < n → numbered xs n ≡ None
+pub numbered_past : {X : Type 0} (xs : List X) (n : ℕ) → length xs < n → nth xs n ≡ None
 numbered_past xs zero h = refl
 numbered_past [] (suc n) h = refl
 numbered_past (x ∷ xs) (suc zero) h = absurd (omega arith)

@@ -12,16 +12,16 @@ use Rattle.desk_core.specs.declared.refusal.Refusal.TheVariants.{WithReader}
 use Rattle.office_core.specs.declared.command.Command.{Command}
 use Rattle.office_core.specs.declared.command.Command.TheVariants as command
 use Rattle.office_core.specs.declared.done.Done.{Done}
-use Rattle.office_core.specs.Words.{numbered}
+use Rattle.office_core.specs.Words.{nth}
 use Rattle.office_core.specs.State.{Order, State, is_ticket, order_out, opens, has_permit}
-use Rattle.office_core.specs.Rules.{after, taken, told, step}
+use Rattle.office_core.specs.Rules.{after, intake_of, result_of, step}
 
 -- The container is out with an order, and the state afterwards does not open it to the reader of that order.
 pub record WouldBeWithheld (s after : State) (c : ℕ) : Type 0 where
   pub number : ℕ
   pub order : Order
   pub out : order_out (s.place c) ≡ Some number
-  pub placed : numbered s.orders number ≡ Some order
+  pub placed : nth s.orders number ≡ Some order
   pub shut : opens after order.ticket c ≡ false
 
 -- the container would be withheld, and no lower one would
@@ -43,7 +43,7 @@ may_withhold _ = false
 -- withhold. If it is accepted, it withholds no container that is out.
 pub record AsksForReaders (s : State) (asked : Command) : Type 0 where
   pub refused : (c : ℕ) → (step s asked).1 ≡ Err (WithReader c) → IsLowestWithheld s (after s asked) c
-  pub accepted : (told : Done) → (step s asked).1 ≡ Ok told → (c : ℕ) → WouldBeWithheld s (step s asked).0 c → ⊥
+  pub accepted : (result_of : Done) → (step s asked).1 ≡ Ok result_of → (c : ℕ) → WouldBeWithheld s (step s asked).0 c → ⊥
 
 -- any other command is never refused for this reason
 abbrev pub AsksForNone : State → Command → Type 0
@@ -55,7 +55,7 @@ AsksForNone s asked = (c : ℕ) → (step s asked).1 ≡ Err (WithReader c) → 
 pub record MayImport (s : State) (source file : Bytes) : Type 0 where
   pub name : is_source source ≡ true
   pub intake : Intake
-  pub read : taken s source file ≡ Ok intake
+  pub read : intake_of s source file ≡ Ok intake
   pub room : is_full intake.catalogue ≡ false
 
 -- The unit and the parent exist, the parent is outside the unit's branch, and the branch does not get too deep.
@@ -85,4 +85,4 @@ MayBeDone s _ = ⊥
 -- carried out otherwise.
 pub record AsksForReadersAlone (s : State) (asked : Command) : Type 0 where
   pub refused : (c : ℕ) → IsLowestWithheld s (after s asked) c → step s asked ≡ (s, Err (WithReader c))
-  pub done : ((c : ℕ) → WouldBeWithheld s (after s asked) c → ⊥) → step s asked ≡ (after s asked, Ok (told s asked))
+  pub done : ((c : ℕ) → WouldBeWithheld s (after s asked) c → ⊥) → step s asked ≡ (after s asked, Ok (result_of s asked))

@@ -13,7 +13,7 @@ use Rattle.desk_core.specs.Refusals.{when}
 use Rattle.desk_core.specs.declared.refusal.Refusal.TheVariants.{UnknownUnit, DailyLimit, Full, NothingToMove, BadName}
 use Rattle.office_core.specs.declared.command.Command.TheVariants.{Register, Order, Run, Permit}
 use Rattle.office_core.specs.Words.{is_empty}
-use Rattle.office_core.specs.State.{Settings, State, is_ticket, is_expired, opens, has_ordered, placed, picked, has_permit}
+use Rattle.office_core.specs.State.{Settings, State, is_ticket, is_expired, opens, has_ordered, orders_placed, orders_of_run, has_permit}
 use Rattle.office_core.specs.Rules.{refusal}
 use Rattle.office_core.specs.Soundness.{AreGoodSettings}
 
@@ -72,14 +72,14 @@ pub record RefusesTickets (s : State) : Type 0 where
 -- If there is something to fetch, a run is refused exactly if all were made. That there is nothing to fetch is checked
 -- first.
 pub record RefusesRuns (s : State) : Type 0 where
-  pub full : is_empty (picked s) ≡ false → refusal s Run ≡ when (nat_le most_runs (length s.runs)) Full
-  pub nothing : is_empty (picked s) ≡ true → refusal s Run ≡ Some NothingToMove
+  pub full : is_empty (orders_of_run s) ≡ false → refusal s Run ≡ when (nat_le most_runs (length s.runs)) Full
+  pub nothing : is_empty (orders_of_run s) ≡ true → refusal s Run ≡ Some NothingToMove
 
 -- A ticket that may order a container is refused exactly if all orders were placed that there may be. Its daily limit is
 -- checked first.
 pub record RefusesOrders (s : State) (t c : ℕ) : Type 0 where
-  pub full : placed s t s.day < s.settings.daily → refusal s (Order t c) ≡ when (nat_le most_orders (length s.orders)) Full
-  pub day : s.settings.daily ≤ placed s t s.day → refusal s (Order t c) ≡ Some DailyLimit
+  pub full : orders_placed s t s.day < s.settings.daily → refusal s (Order t c) ≡ when (nat_le most_orders (length s.orders)) Full
+  pub day : s.settings.daily ≤ orders_placed s t s.day → refusal s (Order t c) ≡ Some DailyLimit
 
 -- A ticket is refused a new permit exactly if it has as many as it may. A permit for a unit that it has one for is never
 -- refused. That the unit is unknown is checked first.

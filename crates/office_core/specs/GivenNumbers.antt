@@ -9,7 +9,7 @@ use Rattle.catalogue_core.specs.Intake.{is_new}
 use Rattle.atom_csv.specs.FileContents.{file_of}
 use Rattle.atom_csv.specs.declared.file.File.{File}
 use Rattle.atom_csv.specs.declared.file.Row.{Row}
-use Rattle.office_core.specs.Words.{numbered}
+use Rattle.office_core.specs.Words.{nth}
 use Rattle.office_core.specs.State.{Reader, State, Settings, start, next_run}
 use Rattle.office_core.specs.declared.command.Command.{Command}
 use Rattle.office_core.specs.declared.command.Command.TheVariants as command
@@ -22,7 +22,7 @@ use Rattle.office_core.specs.Laws.{numbers_from}
 
 -- the n-th of the one list is the n-th of the other
 abbrev pub NamesStay : {X : Type 0} → List X → List X → Type 0
-NamesStay {X} old new = (n : ℕ) (x : X) → numbered old n ≡ Some x → numbered new n ≡ Some x
+NamesStay {X} old new = (n : ℕ) (x : X) → nth old n ≡ Some x → nth new n ≡ Some x
 
 -- the names of the readers, by ticket
 abbrev pub names : State → List Bytes
@@ -78,20 +78,20 @@ run_given command.Run (Ok (done.Run n taken)) = Some n
 run_given _ _ = None
 
 -- the numbers of a kind that a command gives: those of the reply, and those that containers and units get
-abbrev pub given : Kind → State → Command → List ℕ
-given Tickets s asked = option_to_list (ticket_given asked (step s asked).1)
-given Orders s asked = option_to_list (order_given asked (step s asked).1)
-given Runs s asked = option_to_list (run_given asked (step s asked).1)
-given Containers s asked =
+abbrev pub given_numbers : Kind → State → Command → List ℕ
+given_numbers Tickets s asked = option_to_list (ticket_given asked (step s asked).1)
+given_numbers Orders s asked = option_to_list (order_given asked (step s asked).1)
+given_numbers Runs s asked = option_to_list (run_given asked (step s asked).1)
+given_numbers Containers s asked =
     numbers_from
     (suc (length s.catalogue.containers))
     (length (step s asked).0.catalogue.containers - length s.catalogue.containers)
-given Units s asked = numbers_from s.catalogue.next ((step s asked).0.catalogue.next - s.catalogue.next)
+given_numbers Units s asked = numbers_from s.catalogue.next ((step s asked).0.catalogue.next - s.catalogue.next)
 
 -- the numbers of a kind that a list of commands gives, one command after another
 abbrev pub all_given : Kind → State → List Command → List ℕ
 all_given kind s [] = []
-all_given kind s (asked ∷ later) = given kind s asked ++ all_given kind (step s asked).0 later
+all_given kind s (asked ∷ later) = given_numbers kind s asked ++ all_given kind (step s asked).0 later
 
 -- The given numbers are the next ones, each once and in order: no number is left out or given twice.
 abbrev pub GivenInOrder : Kind → State → List Command → Type 0
@@ -108,10 +108,10 @@ StartsAtOne kind = (settings : Settings) (day : ℤ) → next_number kind (start
 -- The number in the reply is that of the new reader, order or run.
 abbrev pub NamesWhatCame : State → State → Command → Reply → Type 0
 NamesWhatCame s t (command.Register name until) (Ok (done.Register r)) =
-    numbered t.readers r ≡ Some (record { name = name; until = until })
+    nth t.readers r ≡ Some (record { name = name; until = until })
 NamesWhatCame s t (command.Order ticket c) (Ok (done.Order o)) =
-    numbered t.orders o ≡ Some (record { ticket = ticket; container = c; day = s.day })
-NamesWhatCame s t command.Run (Ok (done.Run n taken)) = numbered t.runs n ≡ Some (next_run s)
+    nth t.orders o ≡ Some (record { ticket = ticket; container = c; day = s.day })
+NamesWhatCame s t command.Run (Ok (done.Run n taken)) = nth t.runs n ≡ Some (next_run s)
 NamesWhatCame s t _ _ = Prim.Unit {0}
 
 -- a unit that is new has one of the numbers that the command gives

@@ -1,6 +1,6 @@
 -- What the rules preserve.
 use Rattle.std.specs.Prelude.{◌≡◌, ◌≢◌, ℕ, zero, suc, ◌≤◌, Bool, true, cond, List, [], ◌∷◌, length, Option, Some, None, Ok, option_map, ◌⊎◌}
-use Rattle.office_core.specs.Words.{numbered, stands}
+use Rattle.office_core.specs.Words.{nth, stands}
 use Rattle.office_core.specs.State.{Order, End, Done, Cancelled, State, container_of, order_out, is_by}
 use Rattle.office_core.specs.SoundDesk.{is_out_for, IsGoodHolder}
 use Rattle.office_core.specs.declared.command.Command.TheVariants as command
@@ -58,7 +58,7 @@ IssuesTheFirst s =
 
 -- Each container that is out is open, on this day, to the reader of the order that it is out with.
 abbrev pub OpenToHolders : State → Type 0
-OpenToHolders s = (c o : ℕ) → order_out (s.place c) ≡ Some o → (order : Order) × (numbered s.orders o ≡ Some order) × IsGoodHolder s c order.ticket
+OpenToHolders s = (c o : ℕ) → order_out (s.place c) ≡ Some o → (order : Order) × (nth s.orders o ≡ Some order) × IsGoodHolder s c order.ticket
 
 -- ---- numbers
 

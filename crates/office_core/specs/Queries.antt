@@ -18,7 +18,7 @@ use Rattle.office_core.specs.declared.query.Query.{Query}
 use Rattle.office_core.specs.declared.query.Query.TheVariants as query
 use Rattle.office_core.specs.declared.query.Answer.{Answer}
 use Rattle.office_core.specs.declared.query.Answer.TheVariants.{Text, Json, Unknown}
-use Rattle.office_core.specs.Words.{numbered, numbers_to, some_and}
+use Rattle.office_core.specs.Words.{nth, numbers_to, some_and}
 use Rattle.office_core.specs.State.{Reader, Line, Run, Permit, State, is_by, waits, container_of, order_out, seat_of, containers}
 use Rattle.office_core.specs.Json.{count, date, list, or_null, fields}
 use Rattle.catalogue_core.specs.Pages.{Press, is_numbered, fonds_text, aid_of, page_of}
@@ -64,7 +64,7 @@ order_json s o =
     ∷ (codes "order", count o)
     ∷ (codes "state", string (cond (waits s o) (codes "waiting") (codes "out")))
     ∷ []))
-    (numbered s.orders o)
+    (nth s.orders o)
 
 -- an order is out if its container is out with it
 abbrev pub is_out_now : State → ℕ → Bool
@@ -91,7 +91,7 @@ place_name (Out o) = codes "out"
 
 abbrev pub waiting_json : State → ℕ → Option Data
 waiting_json s o =
-    option_map (λ order. fields ((codes "order", count o) ∷ (codes "ticket", count order.ticket) ∷ [])) (numbered s.orders o)
+    option_map (λ order. fields ((codes "order", count o) ∷ (codes "ticket", count order.ticket) ∷ [])) (nth s.orders o)
 
 abbrev pub queue_json : State → ℕ → BoxKey → Data
 queue_json s c box =
@@ -111,7 +111,7 @@ issued_json s c = with_order (order_out (s.place c))
     with_order (Some o) =
         option_map
         (λ order. fields ((codes "container", count c) ∷ (codes "order", count o) ∷ (codes "ticket", count order.ticket) ∷ []))
-        (numbered s.orders o)
+        (nth s.orders o)
 
 -- a line of a run, with what is written on its container
 abbrev pub candidate_of : State → Line → Option Candidate
@@ -125,7 +125,7 @@ candidate_of s line =
       name = box.name;
       kind = box.kind;
     })
-    (numbered s.catalogue.containers line.container)
+    (nth s.catalogue.containers line.container)
 
 abbrev pub permit_json : Permit → Data
 permit_json permit = fields ((codes "unit", count permit.unit) ∷ (codes "until", date permit.until) ∷ [])
@@ -140,12 +140,12 @@ run_answer s n None = Unknown UnknownRun
 run_answer s n (Some run) = Text (slip n run.day (filter_map (candidate_of s) run.lines))
 
 abbrev pub desk_answer : State → Query → Answer
-desk_answer s (query.ReaderOrders t) = known_json UnknownTicket (option_map (reader_json s t) (numbered s.readers t))
-desk_answer s (query.Queue c) = known_json UnknownContainer (option_map (queue_json s c) (numbered s.catalogue.containers c))
-desk_answer s (query.RunSlip n) = run_answer s n (numbered s.runs n)
+desk_answer s (query.ReaderOrders t) = known_json UnknownTicket (option_map (reader_json s t) (nth s.readers t))
+desk_answer s (query.Queue c) = known_json UnknownContainer (option_map (queue_json s c) (nth s.catalogue.containers c))
+desk_answer s (query.RunSlip n) = run_answer s n (nth s.runs n)
 desk_answer s query.IssuedNow = Json (compact_text (list (filter_map (issued_json s) (containers s))))
 desk_answer s (query.ReaderPermits t) =
-    known_json UnknownTicket (option_map (λ reader. list (map permit_json (s.permits t))) (numbered s.readers t))
+    known_json UnknownTicket (option_map (λ reader. list (map permit_json (s.permits t))) (nth s.readers t))
 desk_answer s query.Fonds = Unknown UnknownUnit
 desk_answer s (query.Aid u) = Unknown UnknownUnit
 desk_answer s (query.Page u) = Unknown UnknownUnit

@@ -18,8 +18,8 @@ use Rattle.office_core.specs.declared.command.Command.{Command}
 use Rattle.office_core.specs.declared.command.Command.TheVariants as command
 use Rattle.office_core.specs.declared.done.Done.{Done}
 use Rattle.office_core.specs.declared.done.Done.TheVariants as done
-use Rattle.office_core.specs.Words.{numbered, put, some_and, first_that, first, is_empty, stands, without}
-use Rattle.office_core.specs.State.{Reader, State, is_ticket, is_expired, is_seated, seat_of, free_seat, sit, rise, containers, is_container, opens, container_of, is_by, order_out, is_desk, is_out, held, waits, has_ordered, placed, picked, next_run, brings, idle, has_permit, granted, revoked, granted_until}
+use Rattle.office_core.specs.Words.{nth, update_at, some_and, first_that, first, is_empty, stands, without}
+use Rattle.office_core.specs.State.{Reader, State, is_ticket, is_expired, is_seated, seat_of, free_seat, sit, rise, containers, is_container, opens, container_of, is_by, order_out, is_desk, is_out, held_count, waits, has_ordered, orders_placed, orders_of_run, next_run, brings, idle, has_permit, granted, revoked, granted_until}
 use Rattle.catalogue_core.specs.UnitLookup.{has_unit}
 use Rattle.office_core.specs.State as state
 use Rattle.catalogue_core.specs.Intake.{Taken, take}
@@ -31,16 +31,16 @@ use Rattle.catalogue_core.specs.Sources.{is_source}
 -- out, and not open to the reader who has it
 abbrev pub is_kept_from_holder : State → ℕ → Bool
 is_kept_from_holder s c =
-    some_and (λ o. some_and (λ order. not (opens s order.ticket c)) (numbered s.orders o)) (order_out (s.place c))
+    some_and (λ o. some_and (λ order. not (opens s order.ticket c)) (nth s.orders o)) (order_out (s.place c))
 
 -- the lowest container that is out and not open to the reader who has it
-abbrev pub kept : State → Option ℕ
-kept s = first_that (is_kept_from_holder s) (containers s)
+abbrev pub lowest_withheld : State → Option ℕ
+lowest_withheld s = first_that (is_kept_from_holder s) (containers s)
 
 -- After a change of the catalogue, or after a permit was revoked, no container that is out may be withheld from the
 -- reader who has it.
 abbrev pub gate : State → Check
-gate s = option_map WithReader (kept s)
+gate s = option_map WithReader (lowest_withheld s)
 
 -- ---- what a command does if no check holds
 
@@ -65,13 +65,13 @@ abbrev pub ordered : State → ℕ → ℕ → State
 ordered s t c =
     record s {
       orders = s.orders ++ record { ticket = t; container = c; day = s.day } ∷ [];
-      queue = put s.queue c (s.queue c ++ suc (length s.orders) ∷ []);
+      queue = update_at s.queue c (s.queue c ++ suc (length s.orders) ∷ []);
     }
 
 abbrev pub cancelled : State → ℕ → Option ℕ → State
 cancelled s o None = s
 cancelled s o (Some c) =
-    record s { queue = put s.queue c (without o (s.queue c)); past = put s.past o (Some state.Cancelled) }
+    record s { queue = update_at s.queue c (without o (s.queue c)); past = update_at s.past o (Some state.Cancelled) }
 
 abbrev pub fetched : State → State
 fetched s = record s { place = λ c. cond (brings (next_run s) c) Desk (s.place c); runs = s.runs ++ next_run s ∷ [] }
@@ -82,18 +82,18 @@ reshelved s = record s { place = λ c. cond (stands c (idle s)) Shelf (s.place c
 -- the first order is out
 abbrev pub issued : State → ℕ → List ℕ → State
 issued s c [] = s
-issued s c (o ∷ os) = record s { queue = put s.queue c os; place = put s.place c (Out o) }
+issued s c (o ∷ os) = record s { queue = update_at s.queue c os; place = update_at s.place c (Out o) }
 
 abbrev pub returned : State → ℕ → Place → State
 returned s c Shelf = s
 returned s c Desk = s
-returned s c (Out o) = record s { place = put s.place c Desk; past = put s.past o (Some state.Done) }
+returned s c (Out o) = record s { place = update_at s.place c Desk; past = update_at s.past o (Some state.Done) }
 
 -- ---- an import
 
 -- what a file from a source makes of the catalogue, or its first faulty row
-abbrev pub taken : State → Bytes → Bytes → Taken
-taken s source file = take s.catalogue source file
+abbrev pub intake_of : State → Bytes → Bytes → Taken
+intake_of s source file = take s.catalogue source file
 
 abbrev pub imported : State → Taken → State
 imported s (Ok intake) = record s { catalogue = intake.catalogue }
@@ -103,7 +103,7 @@ imported s (Err fault) = s
 
 abbrev pub after : State → Command → State
 after s (command.OpenDay day) = opened s day
-after s (command.Import source file) = imported s (taken s source file)
+after s (command.Import source file) = imported s (intake_of s source file)
 after s (command.SetStatus u draft whole) =
     record s { catalogue = with_status (chosen whole u s.catalogue) draft s.catalogue }
 after s (command.SetClosure u until) = record s { catalogue = with_closure u until s.catalogue }
@@ -119,8 +119,8 @@ after s command.Run = fetched s
 after s command.Reshelve = reshelved s
 after s (command.Issue c t) = issued s c (s.queue c)
 after s (command.Return c) = returned s c (s.place c)
-after s (command.Permit t u until) = record s { permits = put s.permits t (granted u until (s.permits t)) }
-after s (command.Revoke t u) = record s { permits = put s.permits t (revoked u (s.permits t)) }
+after s (command.Permit t u until) = record s { permits = update_at s.permits t (granted u until (s.permits t)) }
+after s (command.Revoke t u) = record s { permits = update_at s.permits t (revoked u (s.permits t)) }
 
 -- ---- what a command requires, in order
 
@@ -131,8 +131,8 @@ checks s (command.OpenDay day) =
     ∷ []
 checks s (command.Import source file) =
     unless (is_source source) BadName
-    ∷ bad_file (taken s source file)
-    ∷ too_much (taken s source file)
+    ∷ bad_file (intake_of s source file)
+    ∷ too_much (intake_of s source file)
     ∷ gate (after s (command.Import source file))
     ∷ []
 checks s (command.SetStatus u draft whole) =
@@ -168,7 +168,7 @@ checks s (command.TakeSeat t) =
       free = free_seat s;
     })
 checks s (command.LeaveSeat t) =
-    leave_seat_checks (record { known = is_ticket s t; seated = is_seated s t; held = held s t })
+    leave_seat_checks (record { known = is_ticket s t; seated = is_seated s t; held = held_count s t })
 checks s (command.Order t c) =
     order_checks
     (record {
@@ -176,7 +176,7 @@ checks s (command.Order t c) =
       expired = is_expired s t;
       available = opens s t c;
       ordered = has_ordered s t c;
-      placed = placed s t s.day;
+      placed = orders_placed s t s.day;
       daily = s.settings.daily;
       orders = length s.orders;
     })
@@ -185,7 +185,7 @@ checks s (command.Cancel o) =
     ∷ unless (waits s o) OrderNotWaiting
     ∷ []
 checks s command.Run =
-    when (is_empty (picked s)) NothingToMove
+    when (is_empty (orders_of_run s)) NothingToMove
     ∷ when (nat_le most_runs (length s.runs)) Full
     ∷ []
 checks s command.Reshelve = when (is_empty (idle s)) NothingToMove ∷ []
@@ -197,7 +197,7 @@ checks s (command.Issue c t) =
       first = some_and (is_by s t) (first (s.queue c));
       expired = is_expired s t;
       seated = is_seated s t;
-      held = held s t;
+      held = held_count s t;
       hands = s.settings.hands;
       available = opens s t c;
     })
@@ -219,25 +219,25 @@ checks s (command.Revoke t u) =
 
 -- ---- the result if no check holds
 
-abbrev pub told : State → Command → Done
-told s (command.OpenDay day) = done.OpenDay day
-told s (command.Import source file) = told_of s.catalogue.forest source (taken s source file)
-told s (command.SetStatus u draft whole) = done.SetStatus (length (chosen whole u s.catalogue))
-told s (command.SetClosure u until) = done.SetClosure u
-told s (command.Move u parent) = done.Move u
-told s (command.Remove u) = done.Remove (length (branch (has_id u) s.catalogue.forest))
-told s (command.Register name until) = done.Register (suc (length s.readers))
-told s (command.Renew t until) = done.Renew t
-told s (command.TakeSeat t) = done.TakeSeat (unwrap_or (free_seat s) 0)
-told s (command.LeaveSeat t) = done.LeaveSeat (unwrap_or (seat_of s t) 0)
-told s (command.Order t c) = done.Order (suc (length s.orders))
-told s (command.Cancel o) = done.Cancel o
-told s command.Run = done.Run (suc (length s.runs)) (length (picked s))
-told s command.Reshelve = done.Reshelve (idle s)
-told s (command.Issue c t) = done.Issue (unwrap_or (first (s.queue c)) 0)
-told s (command.Return c) = done.Return (unwrap_or (order_out (s.place c)) 0)
-told s (command.Permit t u until) = done.Permit t u (granted_until u until (s.permits t))
-told s (command.Revoke t u) = done.Revoke u
+abbrev pub result_of : State → Command → Done
+result_of s (command.OpenDay day) = done.OpenDay day
+result_of s (command.Import source file) = told_of s.catalogue.forest source (intake_of s source file)
+result_of s (command.SetStatus u draft whole) = done.SetStatus (length (chosen whole u s.catalogue))
+result_of s (command.SetClosure u until) = done.SetClosure u
+result_of s (command.Move u parent) = done.Move u
+result_of s (command.Remove u) = done.Remove (length (branch (has_id u) s.catalogue.forest))
+result_of s (command.Register name until) = done.Register (suc (length s.readers))
+result_of s (command.Renew t until) = done.Renew t
+result_of s (command.TakeSeat t) = done.TakeSeat (unwrap_or (free_seat s) 0)
+result_of s (command.LeaveSeat t) = done.LeaveSeat (unwrap_or (seat_of s t) 0)
+result_of s (command.Order t c) = done.Order (suc (length s.orders))
+result_of s (command.Cancel o) = done.Cancel o
+result_of s command.Run = done.Run (suc (length s.runs)) (length (orders_of_run s))
+result_of s command.Reshelve = done.Reshelve (idle s)
+result_of s (command.Issue c t) = done.Issue (unwrap_or (first (s.queue c)) 0)
+result_of s (command.Return c) = done.Return (unwrap_or (order_out (s.place c)) 0)
+result_of s (command.Permit t u until) = done.Permit t u (granted_until u until (s.permits t))
+result_of s (command.Revoke t u) = done.Revoke u
 
 -- ---- one step: the first check that holds refuses the command, and nothing changes
 
@@ -247,12 +247,12 @@ refusal s asked = first_that_holds (checks s asked)
 abbrev pub Reply : Type 0
 Reply = Result Done Refusal
 
-abbrev pub decided : Option Refusal → State → State → Done → State × Reply
-decided (Some why) old new done = (old, Err why)
-decided None old new done = (new, Ok done)
+abbrev pub decide : Option Refusal → State → State → Done → State × Reply
+decide (Some why) old new done = (old, Err why)
+decide None old new done = (new, Ok done)
 
 abbrev pub step : State → Command → State × Reply
-step s asked = decided (refusal s asked) s (after s asked) (told s asked)
+step s asked = decide (refusal s asked) s (after s asked) (result_of s asked)
 
 -- the state after a list of commands, and the replies to them
 abbrev pub state_after : State → List Command → State

@@ -107,8 +107,8 @@ pub record ShowsAllPublished (s : State) : Type 0 where
 -- ---- the office as far as it is published
 
 -- the identifier and the level of a description
-abbrev pub bare : Values → Values
-bare values = record { level = values.level; texts = text_of ReferenceCode values ∷ []; boxes = [] }
+abbrev pub identifier_and_level : Values → Values
+identifier_and_level values = record { level = values.level; texts = text_of ReferenceCode values ∷ []; boxes = [] }
 
 -- a unit without its source and its number there; a closed unit has only the identifier and the level of its
 -- description, and a unit that is not closed has no end of closure
@@ -116,7 +116,7 @@ abbrev pub published_unit : Unit × Bool → Unit
 published_unit (unit, closed) = record unit {
   source = [];
   legacy = [];
-  values = cond closed (bare unit.values) unit.values;
+  values = cond closed (identifier_and_level unit.values) unit.values;
   until = cond closed unit.until None;
 }
 

@@ -5,8 +5,8 @@ use Rattle.isad_core.specs.Limits.{most_orders, most_tickets, most_runs, most_pe
 use Rattle.desk_core.specs.declared.reader.Place.{Place}
 use Rattle.desk_core.specs.declared.reader.Place.TheVariants.{Shelf}
 use Rattle.isad_core.specs.Boxes.{distinct}
-use Rattle.office_core.specs.Words.{numbered, some_and, stands}
-use Rattle.office_core.specs.State.{Reader, Order, Line, Run, Permit, End, State, is_ticket, is_seat_of, is_seated, is_container, opens, container_of, is_by, order_out, held, placed}
+use Rattle.office_core.specs.Words.{nth, some_and, stands}
+use Rattle.office_core.specs.State.{Reader, Order, Line, Run, Permit, End, State, is_ticket, is_seat_of, is_seated, is_container, opens, container_of, is_by, order_out, held_count, orders_placed}
 use Rattle.office_core.specs.Rules.{is_name}
 
 -- ---- orders
@@ -47,11 +47,11 @@ pub record IsGoodOrder (s : State) (order : Order) : Type 0 where
   pub day : order.day ≤ℤ s.day
 
 pub record AreGoodOrders (s : State) : Type 0 where
-  pub each : (o : ℕ) (order : Order) → numbered s.orders o ≡ Some order → IsGoodOrder s order
+  pub each : (o : ℕ) (order : Order) → nth s.orders o ≡ Some order → IsGoodOrder s order
   -- no ticket has placed more orders on a day than it may
-  pub daily : (t : ℕ) (day : ℤ) → placed s t day ≤ s.settings.daily
+  pub daily : (t : ℕ) (day : ℤ) → orders_placed s t day ≤ s.settings.daily
   -- no ticket has two live orders for a container
-  pub once : (o p : ℕ) (order other : Order) → numbered s.orders o ≡ Some order → numbered s.orders p ≡ Some other → s.past o ≡ None → s.past p ≡ None → order.ticket ≡ other.ticket → order.container ≡ other.container → o ≡ p
+  pub once : (o p : ℕ) (order other : Order) → nth s.orders o ≡ Some order → nth s.orders p ≡ Some other → s.past o ≡ None → s.past p ≡ None → order.ticket ≡ other.ticket → order.container ≡ other.container → o ≡ p
   pub few : length s.orders ≤ most_orders
 
 -- ---- seats
@@ -72,11 +72,11 @@ pub record AreGoodSeats (s : State) : Type 0 where
 -- the holder of the container has a seat, has no more containers than the settings allow, and may see what is in it
 pub record IsGoodHolder (s : State) (c t : ℕ) : Type 0 where
   pub seated : is_seated s t ≡ true
-  pub few : held s t ≤ s.settings.hands
+  pub few : held_count s t ≤ s.settings.hands
   pub may_see : opens s t c ≡ true
 
 pub record AreGoodPlaces (s : State) : Type 0 where
-  pub holders : (c o : ℕ) (order : Order) → order_out (s.place c) ≡ Some o → numbered s.orders o ≡ Some order → IsGoodHolder s c order.ticket
+  pub holders : (c o : ℕ) (order : Order) → order_out (s.place c) ≡ Some o → nth s.orders o ≡ Some order → IsGoodHolder s c order.ticket
   -- a number that is not a container's has the place `Shelf`
   pub known : (c : ℕ) → is_container s c ≡ false → s.place c ≡ Shelf
 
@@ -100,13 +100,13 @@ pub record IsGoodRun (s : State) (run : Run) : Type 0 where
   pub lines : AllByRecursion (IsGoodLine s) run.lines
 
 pub record AreGoodRuns (s : State) : Type 0 where
-  pub each : (n : ℕ) (run : Run) → numbered s.runs n ≡ Some run → IsGoodRun s run
+  pub each : (n : ℕ) (run : Run) → nth s.runs n ≡ Some run → IsGoodRun s run
   pub few : length s.runs ≤ most_runs
 
 -- ---- readers and permits
 
 pub record AreGoodReaders (s : State) : Type 0 where
-  pub names : (t : ℕ) (reader : Reader) → numbered s.readers t ≡ Some reader → is_name reader.name ≡ true
+  pub names : (t : ℕ) (reader : Reader) → nth s.readers t ≡ Some reader → is_name reader.name ≡ true
   pub few : length s.readers ≤ most_tickets
 
 -- each unit once, in the order of their numbers

@@ -8,7 +8,7 @@ use Rattle.desk_core.specs.declared.reader.Place.{Place}
 use Rattle.desk_core.specs.declared.reader.Place.TheVariants.{Shelf, Desk, Out}
 use Rattle.catalogue_core.specs.CatalogueMerge.{Catalogue, empty_catalogue}
 use Rattle.catalogue_core.specs.ContainerContents.{is_open}
-use Rattle.office_core.specs.Words.{numbered, numbers_to, some_and, place_of, first, is_empty, stands}
+use Rattle.office_core.specs.Words.{nth, numbers_to, some_and, place_of, first, is_empty, stands}
 
 pub record Settings : Type 0 where
   pub country : Bytes
@@ -25,7 +25,7 @@ pub record Reader : Type 0 where
 pub record Order : Type 0 where
   pub ticket : ℕ
   pub container : ℕ
-  pub day : ℤ  -- when it was placed
+  pub day : ℤ  -- when it was orders_placed
 
 -- a line of a run: a container that it fetches, the first order for it, and the ticket of that order
 pub record Line : Type 0 where
@@ -80,11 +80,11 @@ start settings day =
 -- ---- readers and seats
 
 abbrev pub is_ticket : State → ℕ → Bool
-is_ticket s t = is_some (numbered s.readers t)
+is_ticket s t = is_some (nth s.readers t)
 
 -- the ticket's last day is before today
 abbrev pub is_expired : State → ℕ → Bool
-is_expired s t = some_and (λ reader. int_lt reader.until s.day) (numbered s.readers t)
+is_expired s t = some_and (λ reader. int_lt reader.until s.day) (nth s.readers t)
 
 abbrev pub is_seat_of : ℕ → Option ℕ → Bool
 is_seat_of t seat = some_and (nat_eq t) seat
@@ -115,7 +115,7 @@ abbrev pub containers : State → List ℕ
 containers s = numbers_to (length s.catalogue.containers)
 
 abbrev pub is_container : State → ℕ → Bool
-is_container s c = is_some (numbered s.catalogue.containers c)
+is_container s c = is_some (nth s.catalogue.containers c)
 
 -- one of these permits is for that unit and valid on that day
 abbrev pub is_permitted : ℤ → List Permit → ℕ → Bool
@@ -126,13 +126,13 @@ abbrev pub opens : State → ℕ → ℕ → Bool
 opens s t c =
     some_and
     (λ box. is_open s.catalogue.forest box (is_permitted s.day (s.permits t)) s.day)
-    (numbered s.catalogue.containers c)
+    (nth s.catalogue.containers c)
 
 abbrev pub container_of : State → ℕ → Option ℕ
-container_of s o = option_map (λ order. order.container) (numbered s.orders o)
+container_of s o = option_map (λ order. order.container) (nth s.orders o)
 
 abbrev pub is_by : State → ℕ → ℕ → Bool
-is_by s t o = some_and (λ order. nat_eq order.ticket t) (numbered s.orders o)
+is_by s t o = some_and (λ order. nat_eq order.ticket t) (nth s.orders o)
 
 -- the order that a container is out with
 abbrev pub order_out : Place → Option ℕ
@@ -157,8 +157,8 @@ abbrev pub is_out_with : State → ℕ → ℕ → Bool
 is_out_with s t c = some_and (is_by s t) (order_out (s.place c))
 
 -- how many containers are out with the ticket
-abbrev pub held : State → ℕ → ℕ
-held s t = count_by (is_out_with s t) (containers s)
+abbrev pub held_count : State → ℕ → ℕ
+held_count s t = count_by (is_out_with s t) (containers s)
 
 abbrev pub waits : State → ℕ → Bool
 waits s o = some_and (λ c. stands o (s.queue c)) (container_of s o)
@@ -168,8 +168,8 @@ abbrev pub has_ordered : State → ℕ → ℕ → Bool
 has_ordered s t c = list_any (is_by s t) (s.queue c) || is_out_with s t c
 
 -- how many orders the ticket placed on a day, including cancelled ones
-abbrev pub placed : State → ℕ → ℤ → ℕ
-placed s t day = count_by (λ order. nat_eq order.ticket t && int_eq order.day day) s.orders
+abbrev pub orders_placed : State → ℕ → ℤ → ℕ
+orders_placed s t day = count_by (λ order. nat_eq order.ticket t && int_eq order.day day) s.orders
 
 -- ---- runs
 
@@ -179,22 +179,22 @@ is_due s o =
     some_and
     (λ order. some_and (nat_eq o) (first (s.queue order.container))
     && (is_shelf (s.place order.container) && opens s order.ticket order.container))
-    (numbered s.orders o)
+    (nth s.orders o)
 
 -- the lowest orders that are due, as many as a run takes
-abbrev pub picked : State → List ℕ
-picked s = take s.settings.run_size (filter (is_due s) (numbers_to (length s.orders)))
+abbrev pub orders_of_run : State → List ℕ
+orders_of_run s = take s.settings.run_size (filter (is_due s) (numbers_to (length s.orders)))
 
 abbrev pub line_for : State → ℕ → Option Line
 line_for s o =
-    option_map (λ order. record { container = order.container; order = o; ticket = order.ticket }) (numbered s.orders o)
+    option_map (λ order. record { container = order.container; order = o; ticket = order.ticket }) (nth s.orders o)
 
 abbrev pub is_line_before : Line → Line → Bool
 is_line_before a b = nat_lt a.container b.container
 
 -- its lines are ordered by the numbers of their containers
 abbrev pub next_run : State → Run
-next_run s = record { day = s.day; lines = in_order is_line_before (filter_map (line_for s) (picked s)) }
+next_run s = record { day = s.day; lines = in_order is_line_before (filter_map (line_for s) (orders_of_run s)) }
 
 abbrev pub brings : Run → ℕ → Bool
 brings run c = list_any (λ line. nat_eq line.container c) run.lines

@@ -3,9 +3,9 @@ use Rattle.std.specs.Prelude.{ℕ, zero, suc, Bool, true, false, not, cond, List
 pub use Rattle.isad_core.specs.Words.{some_and, stands}
 
 -- the n-th of a list, counted from 1
-abbrev pub numbered : {X : Type 0} → List X → ℕ → Option X
-numbered xs zero = None
-numbered xs (suc n) = slice_get xs n
+abbrev pub nth : {X : Type 0} → List X → ℕ → Option X
+nth xs zero = None
+nth xs (suc n) = slice_get xs n
 
 -- the numbers from 1 to n
 abbrev pub numbers_to : ℕ → List ℕ
@@ -13,8 +13,8 @@ numbers_to zero = []
 numbers_to (suc n) = numbers_to n ++ suc n ∷ []
 
 -- the function with another value at n
-abbrev pub put : {X : Type 0} → (ℕ → X) → ℕ → X → ℕ → X
-put f n x m = cond (nat_eq n m) x (f m)
+abbrev pub update_at : {X : Type 0} → (ℕ → X) → ℕ → X → ℕ → X
+update_at f n x m = cond (nat_eq n m) x (f m)
 
 -- the first that passes
 abbrev pub first_that : {X : Type 0} → (X → Bool) → List X → Option X

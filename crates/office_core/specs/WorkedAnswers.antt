@@ -11,7 +11,7 @@ use Rattle.office_core.specs.declared.query.Answer.TheVariants.{Text, Json, Unkn
 use Rattle.office_core.specs.Json.{reply_text}
 use Rattle.office_core.specs.Queries.{answer}
 use Rattle.office_core.specs.Rules.{state_after}
-use Rattle.office_core.specs.WorkedExamples.{office, import, publish, draft, close, ann, order, refused, rows, february_1, march_1, march_2, year_2030, docks, boxes, lock_gates, smith, harbour}
+use Rattle.office_core.specs.WorkedExamples.{office, import, publish, draft, close, ann, order, refusal_reply, rows, february_1, march_1, march_2, year_2030, docks, boxes, lock_gates, smith, harbour}
 
 -- the answer after these commands
 abbrev pub Says : List Command → Query → Answer → Type 0
@@ -79,7 +79,7 @@ pub record AtTheDesk : Type 0 where
 pub record Replies : Type 0 where
   pub header_alone : reply_text (rows 0 0 0 0 []) ≡ codes "{\"changed\":0,\"new\":0,\"remarks\":[],\"same\":0,\"translations\":0}"
   pub two_rows : reply_text (rows 0 2 0 0 (LacksEssential 2 ∷ [])) ≡ codes "{\"changed\":0,\"new\":2,\"remarks\":[{\"kind\":2,\"row\":2}],\"same\":0,\"translations\":0}"
-  pub with_reader : reply_text (refused (WithReader 1)) ≡ codes "{\"code\":21,\"container\":1,\"refused\":\"WithReader\"}"
-  pub bad_file : reply_text (refused (BadFile 3 11)) ≡ codes "{\"cause\":11,\"code\":22,\"refused\":\"BadFile\",\"row\":3}"
-  pub bad_name : reply_text (refused BadName) ≡ codes "{\"code\":27,\"refused\":\"BadName\"}"
+  pub with_reader : reply_text (refusal_reply (WithReader 1)) ≡ codes "{\"code\":21,\"container\":1,\"refused\":\"WithReader\"}"
+  pub bad_file : reply_text (refusal_reply (BadFile 3 11)) ≡ codes "{\"cause\":11,\"code\":22,\"refused\":\"BadFile\",\"row\":3}"
+  pub bad_name : reply_text (refusal_reply BadName) ≡ codes "{\"code\":27,\"refused\":\"BadName\"}"
   pub an_order : reply_text (order 4) ≡ codes "{\"order\":4}"

@@ -9,7 +9,7 @@ use Rattle.office_core.specs.declared.done.Done.TheVariants as done
 use Rattle.office_core.specs.declared.done.Remark.TheVariants.{LevelTooHigh, LacksEssential}
 use Rattle.office_core.specs.Rules.{replies}
 use Rattle.office_core.specs.WorkedAnswers.{Says}
-use Rattle.office_core.specs.WorkedExamples.{Answers, import, draft, refused, rows, docks, docks_renamed, docks_and_mersey, docks_strayed, docks_strayed_with_another, two_boxes, two_boxes_turned, file_in_an_item, subfonds_in_an_odd_place, boxes_and_5, boxes_with_9_and_5, boxes_with_9_and_two, one_number_left}
+use Rattle.office_core.specs.WorkedExamples.{Answers, import, draft, refusal_reply, rows, docks, docks_renamed, docks_and_mersey, docks_strayed, docks_strayed_with_another, two_boxes, two_boxes_turned, file_in_an_item, subfonds_in_an_odd_place, boxes_and_5, boxes_with_9_and_5, boxes_with_9_and_two, one_number_left}
 
 -- ---- whose units a file changes
 
@@ -25,7 +25,7 @@ abbrev pub KnownRowsStay : Type 0
 KnownRowsStay =
     Answers
     (import docks ∷ import docks_strayed ∷ import docks_strayed_with_another ∷ [])
-    (rows 0 2 0 0 (LacksEssential 2 ∷ []) ∷ rows 0 0 1 0 [] ∷ refused (BadFile 3 11) ∷ [])
+    (rows 0 2 0 0 (LacksEssential 2 ∷ []) ∷ rows 0 0 1 0 [] ∷ refusal_reply (BadFile 3 11) ∷ [])
 
 -- the same containers in another order are a change
 abbrev pub BoxesTurned : Type 0
@@ -46,7 +46,7 @@ LevelsOfParents =
 abbrev pub TooMuchBeforeTheGate : Type 0
 TooMuchBeforeTheGate =
     replies one_number_left (import boxes_with_9_and_two ∷ import boxes_with_9_and_5 ∷ import boxes_and_5 ∷ import boxes_with_9_and_5 ∷ [])
-    ≡ refused Full ∷ refused (WithReader 2) ∷ rows 0 1 4 0 (LacksEssential 2 ∷ LacksEssential 3 ∷ LacksEssential 4 ∷ LacksEssential 5 ∷ LacksEssential 6 ∷ []) ∷ refused (WithReader 2) ∷ []
+    ≡ refusal_reply Full ∷ refusal_reply (WithReader 2) ∷ rows 0 1 4 0 (LacksEssential 2 ∷ LacksEssential 3 ∷ LacksEssential 4 ∷ LacksEssential 5 ∷ LacksEssential 6 ∷ []) ∷ refusal_reply (WithReader 2) ∷ []
 
 -- ---- statuses
 

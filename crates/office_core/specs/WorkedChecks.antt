@@ -8,7 +8,7 @@ use Rattle.desk_core.specs.declared.refusal.Refusal.{Refusal}
 use Rattle.desk_core.specs.declared.refusal.Refusal.TheVariants.{UnknownUnit, UnknownTicket, UnknownContainer, TicketExpired, NotAvailable, AlreadyOrdered, DailyLimit, NoSeatFree, AlreadySeated, NotSeated, HoldsContainers, NotAtDesk, NotFirst, HandsFull, BadName, Full}
 use Rattle.office_core.specs.declared.command.Command.TheVariants.{Import, Permit}
 use Rattle.office_core.specs.Rules.{replies}
-use Rattle.office_core.specs.WorkedExamples.{Answers, refused, with_most_permits, april_1}
+use Rattle.office_core.specs.WorkedExamples.{Answers, refusal_reply, with_most_permits, april_1}
 
 -- ---- an order
 
@@ -66,8 +66,8 @@ abbrev pub PermitInTurn : Type 0
 PermitInTurn =
     replies with_most_permits
     (Permit 9 (most_permits + 2) april_1 ∷ Permit 1 (most_permits + 2) april_1 ∷ Permit 1 (most_permits + 1) april_1 ∷ [])
-    ≡ refused UnknownTicket ∷ refused UnknownUnit ∷ refused Full ∷ []
+    ≡ refusal_reply UnknownTicket ∷ refusal_reply UnknownUnit ∷ refusal_reply Full ∷ []
 
 -- a file that cannot be read, from a source with a bad name
 abbrev pub NameBeforeFile : Type 0
-NameBeforeFile = Answers (Import [] [] ∷ Import (codes "a b") (codes "title\n") ∷ []) (refused BadName ∷ refused BadName ∷ [])
+NameBeforeFile = Answers (Import [] [] ∷ Import (codes "a b") (codes "title\n") ∷ []) (refusal_reply BadName ∷ refusal_reply BadName ∷ [])

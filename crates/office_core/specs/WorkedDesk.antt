@@ -5,7 +5,7 @@ use Rattle.desk_core.specs.declared.refusal.Refusal.TheVariants.{UnknownTicket, 
 use Rattle.office_core.specs.declared.command.Command.TheVariants.{OpenDay, Move, Remove, Register, Renew, TakeSeat, LeaveSeat, Order, Cancel, Run, Reshelve, Issue, Return, Permit, Revoke}
 use Rattle.office_core.specs.declared.done.Done.TheVariants as done
 use Rattle.office_core.specs.WorkedReplies.{four_new}
-use Rattle.office_core.specs.WorkedExamples.{Answers, import, draft, close, ann, bob, order, issued, refused, february_1, march_1, march_2, april_1, year_end, boxes}
+use Rattle.office_core.specs.WorkedExamples.{Answers, import, draft, close, ann, bob, order, issue_reply, refusal_reply, february_1, march_1, march_2, april_1, year_end, boxes}
 
 -- ---- tickets
 
@@ -14,14 +14,14 @@ abbrev pub RenewedAlone : Type 0
 RenewedAlone =
     Answers
     (ann ∷ Register (codes "Bob") march_1 ∷ OpenDay march_2 ∷ TakeSeat 2 ∷ Renew 2 year_end ∷ TakeSeat 2 ∷ Renew 2 march_1 ∷ TakeSeat 1 ∷ [])
-    (Ok (done.Register 1) ∷ Ok (done.Register 2) ∷ Ok (done.OpenDay march_2) ∷ refused TicketExpired ∷ Ok (done.Renew 2) ∷ Ok (done.TakeSeat 1) ∷ Ok (done.Renew 2) ∷ Ok (done.TakeSeat 2) ∷ [])
+    (Ok (done.Register 1) ∷ Ok (done.Register 2) ∷ Ok (done.OpenDay march_2) ∷ refusal_reply TicketExpired ∷ Ok (done.Renew 2) ∷ Ok (done.TakeSeat 1) ∷ Ok (done.Renew 2) ∷ Ok (done.TakeSeat 2) ∷ [])
 
 -- a ticket can be given with a last day that is past: it has expired at once
 abbrev pub RegisteredTooLate : Type 0
 RegisteredTooLate =
     Answers
     (Register (codes "Ann") february_1 ∷ TakeSeat 1 ∷ Renew 1 march_1 ∷ TakeSeat 1 ∷ [])
-    (Ok (done.Register 1) ∷ refused TicketExpired ∷ Ok (done.Renew 1) ∷ Ok (done.TakeSeat 1) ∷ [])
+    (Ok (done.Register 1) ∷ refusal_reply TicketExpired ∷ Ok (done.Renew 1) ∷ Ok (done.TakeSeat 1) ∷ [])
 
 -- ---- runs
 
@@ -30,7 +30,7 @@ abbrev pub RunForAnExpiredTicket : Type 0
 RunForAnExpiredTicket =
     Answers
     (import boxes ∷ Register (codes "Ann") march_1 ∷ Order 1 1 ∷ OpenDay march_2 ∷ Run ∷ Issue 1 1 ∷ [])
-    (four_new ∷ Ok (done.Register 1) ∷ order 1 ∷ Ok (done.OpenDay march_2) ∷ Ok (done.Run 1 1) ∷ refused TicketExpired ∷ [])
+    (four_new ∷ Ok (done.Register 1) ∷ order 1 ∷ Ok (done.OpenDay march_2) ∷ Ok (done.Run 1 1) ∷ refusal_reply TicketExpired ∷ [])
 
 -- the containers that go back to the shelf are listed in ascending order, however they were ordered and fetched
 abbrev pub ReshelvedInOrder : Type 0
@@ -44,7 +44,7 @@ abbrev pub RunForFullHands : Type 0
 RunForFullHands =
     Answers
     (import boxes ∷ ann ∷ Order 1 1 ∷ Run ∷ TakeSeat 1 ∷ Issue 1 1 ∷ Order 1 2 ∷ Order 1 3 ∷ Run ∷ Issue 2 1 ∷ [])
-    (four_new ∷ Ok (done.Register 1) ∷ order 1 ∷ Ok (done.Run 1 1) ∷ Ok (done.TakeSeat 1) ∷ issued 1 ∷ order 2 ∷ order 3 ∷ Ok (done.Run 2 2) ∷ refused HandsFull ∷ [])
+    (four_new ∷ Ok (done.Register 1) ∷ order 1 ∷ Ok (done.Run 1 1) ∷ Ok (done.TakeSeat 1) ∷ issue_reply 1 ∷ order 2 ∷ order 3 ∷ Ok (done.Run 2 2) ∷ refusal_reply HandsFull ∷ [])
 
 -- ---- tickets that have expired, if nothing depends on it
 
@@ -54,14 +54,14 @@ abbrev pub ExpiredHolder : Type 0
 ExpiredHolder =
     Answers
     (import boxes ∷ ann ∷ Order 1 1 ∷ Run ∷ TakeSeat 1 ∷ Issue 1 1 ∷ Renew 1 february_1 ∷ draft 3 ∷ draft 1 ∷ close 2 april_1 ∷ Move 4 None ∷ Remove 4 ∷ Return 1 ∷ draft 1 ∷ LeaveSeat 1 ∷ [])
-    (four_new ∷ Ok (done.Register 1) ∷ order 1 ∷ Ok (done.Run 1 1) ∷ Ok (done.TakeSeat 1) ∷ issued 1 ∷ Ok (done.Renew 1) ∷ Ok (done.SetStatus 1) ∷ refused (WithReader 1) ∷ Ok (done.SetClosure 2) ∷ Ok (done.Move 4) ∷ Ok (done.Remove 1) ∷ Ok (done.Return 1) ∷ Ok (done.SetStatus 1) ∷ Ok (done.LeaveSeat 1) ∷ [])
+    (four_new ∷ Ok (done.Register 1) ∷ order 1 ∷ Ok (done.Run 1 1) ∷ Ok (done.TakeSeat 1) ∷ issue_reply 1 ∷ Ok (done.Renew 1) ∷ Ok (done.SetStatus 1) ∷ refusal_reply (WithReader 1) ∷ Ok (done.SetClosure 2) ∷ Ok (done.Move 4) ∷ Ok (done.Remove 1) ∷ Ok (done.Return 1) ∷ Ok (done.SetStatus 1) ∷ Ok (done.LeaveSeat 1) ∷ [])
 
 -- an expired ticket can be given permits, and they can be taken away again
 abbrev pub PermitsOfTheExpired : Type 0
 PermitsOfTheExpired =
     Answers
     (import boxes ∷ Register (codes "Ann") february_1 ∷ Permit 1 2 april_1 ∷ Revoke 1 1 ∷ Revoke 1 2 ∷ Revoke 1 2 ∷ [])
-    (four_new ∷ Ok (done.Register 1) ∷ Ok (done.Permit 1 2 april_1) ∷ refused NoPermit ∷ Ok (done.Revoke 2) ∷ refused NoPermit ∷ [])
+    (four_new ∷ Ok (done.Register 1) ∷ Ok (done.Permit 1 2 april_1) ∷ refusal_reply NoPermit ∷ Ok (done.Revoke 2) ∷ refusal_reply NoPermit ∷ [])
 
 -- a permit keeps the later day, even if it is past
 abbrev pub PermitOfAnEarlierDay : Type 0
@@ -77,22 +77,22 @@ abbrev pub NotFirstAndExpired : Type 0
 NotFirstAndExpired =
     Answers
     (import boxes ∷ Register (codes "Ann") march_1 ∷ bob ∷ Order 2 1 ∷ Order 1 1 ∷ Run ∷ OpenDay march_2 ∷ Issue 1 1 ∷ Cancel 1 ∷ Issue 1 1 ∷ [])
-    (four_new ∷ Ok (done.Register 1) ∷ Ok (done.Register 2) ∷ order 1 ∷ order 2 ∷ Ok (done.Run 1 1) ∷ Ok (done.OpenDay march_2) ∷ refused NotFirst ∷ Ok (done.Cancel 1) ∷ refused TicketExpired ∷ [])
+    (four_new ∷ Ok (done.Register 1) ∷ Ok (done.Register 2) ∷ order 1 ∷ order 2 ∷ Ok (done.Run 1 1) ∷ Ok (done.OpenDay march_2) ∷ refusal_reply NotFirst ∷ Ok (done.Cancel 1) ∷ refusal_reply TicketExpired ∷ [])
 
 -- a box that was closed since it was ordered, requested with full hands: the hands are full
 abbrev pub HandsFullAndClosed : Type 0
 HandsFullAndClosed =
     Answers
     (import boxes ∷ ann ∷ Order 1 1 ∷ Order 1 2 ∷ Run ∷ TakeSeat 1 ∷ Issue 1 1 ∷ close 2 april_1 ∷ Issue 2 1 ∷ Return 1 ∷ Issue 2 1 ∷ [])
-    (four_new ∷ Ok (done.Register 1) ∷ order 1 ∷ order 2 ∷ Ok (done.Run 1 2) ∷ Ok (done.TakeSeat 1) ∷ issued 1 ∷ Ok (done.SetClosure 2) ∷ refused HandsFull ∷ Ok (done.Return 1) ∷ refused NotAvailable ∷ [])
+    (four_new ∷ Ok (done.Register 1) ∷ order 1 ∷ order 2 ∷ Ok (done.Run 1 2) ∷ Ok (done.TakeSeat 1) ∷ issue_reply 1 ∷ Ok (done.SetClosure 2) ∷ refusal_reply HandsFull ∷ Ok (done.Return 1) ∷ refusal_reply NotAvailable ∷ [])
 
 -- a box that was closed since it was ordered, ordered again: it is not available
 abbrev pub OrderedAndClosed : Type 0
 OrderedAndClosed =
     Answers
     (import boxes ∷ ann ∷ Order 1 1 ∷ close 1 april_1 ∷ Order 1 1 ∷ [])
-    (four_new ∷ Ok (done.Register 1) ∷ order 1 ∷ Ok (done.SetClosure 1) ∷ refused NotAvailable ∷ [])
+    (four_new ∷ Ok (done.Register 1) ∷ order 1 ∷ Ok (done.SetClosure 1) ∷ refusal_reply NotAvailable ∷ [])
 
 -- a permit for an unknown ticket and an unknown unit: the ticket is unknown
 abbrev pub UnknownTicketAndUnit : Type 0
-UnknownTicketAndUnit = Answers (Permit 9 9 year_end ∷ Revoke 9 9 ∷ []) (refused UnknownTicket ∷ refused UnknownTicket ∷ [])
+UnknownTicketAndUnit = Answers (Permit 9 9 year_end ∷ Revoke 9 9 ∷ []) (refusal_reply UnknownTicket ∷ refusal_reply UnknownTicket ∷ [])

@@ -9,7 +9,7 @@ use Rattle.office_core.specs.declared.command.Command.{Command}
 use Rattle.office_core.specs.declared.command.Command.TheVariants as command
 use Rattle.office_core.specs.declared.done.Done.TheVariants as done
 use Rattle.office_core.specs.declared.done.Remark.{Remark}
-use Rattle.office_core.specs.Words.{put}
+use Rattle.office_core.specs.Words.{update_at}
 use Rattle.office_core.specs.State.{State, Permit, start}
 use Rattle.office_core.specs.Rules.{Reply, replies, state_after}
 
@@ -70,11 +70,11 @@ close unit until = command.SetClosure unit (Some until)
 abbrev pub order : ℕ → Reply
 order o = Ok (done.Order o)
 
-abbrev pub issued : ℕ → Reply
-issued o = Ok (done.Issue o)
+abbrev pub issue_reply : ℕ → Reply
+issue_reply o = Ok (done.Issue o)
 
-abbrev pub refused : Refusal → Reply
-refused why = Err why
+abbrev pub refusal_reply : Refusal → Reply
+refusal_reply why = Err why
 
 -- the reply to an import, with the numbers of rows that changed a unit, made one, left one unchanged, or are
 -- translations
@@ -238,5 +238,5 @@ with_most_permits =
     record office {
       catalogue = record { forest = units_from 1 (suc most_permits); containers = []; next = most_permits + 2 };
       readers = record { name = codes "Ann"; until = year_end } ∷ [];
-      permits = put office.permits 1 (permits_from 1 most_permits);
+      permits = update_at office.permits 1 (permits_from 1 most_permits);
     }

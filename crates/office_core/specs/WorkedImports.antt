@@ -14,7 +14,7 @@ use Rattle.office_core.specs.declared.done.Done.TheVariants as done
 use Rattle.office_core.specs.declared.done.Remark.TheVariants.{LacksEssential}
 use Rattle.office_core.specs.Rules.{state_after}
 use Rattle.office_core.specs.WorkedAnswers.{Says}
-use Rattle.office_core.specs.WorkedExamples.{Answers, office, import, publish, draft, close, ann, order, issued, refused, rows, february_1, march_1, year_2030, docks, docks_and_mersey, lock_gates, chain}
+use Rattle.office_core.specs.WorkedExamples.{Answers, office, import, publish, draft, close, ann, order, issue_reply, refusal_reply, rows, february_1, march_1, year_2030, docks, docks_and_mersey, lock_gates, chain}
 
 -- ---- remarks
 
@@ -90,4 +90,4 @@ abbrev pub TooDeepBeforeTheGate : Type 0
 TooDeepBeforeTheGate =
     Answers
     (import (chain (most_deep - 1)) ∷ Import (codes "b") lock_gates ∷ ann ∷ Order 1 1 ∷ Run ∷ TakeSeat 1 ∷ Issue 1 1 ∷ Move most_deep (Some (most_deep - 1)) ∷ Move most_deep (Some (most_deep - 2)) ∷ Return 1 ∷ Move most_deep (Some (most_deep - 1)) ∷ Move most_deep (Some (most_deep - 2)) ∷ [])
-    (rows 0 (most_deep - 1) 0 0 (LacksEssential 2 ∷ []) ∷ rows 0 2 0 0 (LacksEssential 2 ∷ []) ∷ Ok (done.Register 1) ∷ order 1 ∷ Ok (done.Run 1 1) ∷ Ok (done.TakeSeat 1) ∷ issued 1 ∷ refused TooDeep ∷ refused (WithReader 1) ∷ Ok (done.Return 1) ∷ refused TooDeep ∷ Ok (done.Move most_deep) ∷ [])
+    (rows 0 (most_deep - 1) 0 0 (LacksEssential 2 ∷ []) ∷ rows 0 2 0 0 (LacksEssential 2 ∷ []) ∷ Ok (done.Register 1) ∷ order 1 ∷ Ok (done.Run 1 1) ∷ Ok (done.TakeSeat 1) ∷ issue_reply 1 ∷ refusal_reply TooDeep ∷ refusal_reply (WithReader 1) ∷ Ok (done.Return 1) ∷ refusal_reply TooDeep ∷ Ok (done.Move most_deep) ∷ [])

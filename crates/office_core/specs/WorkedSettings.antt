@@ -9,7 +9,7 @@ use Rattle.office_core.specs.declared.done.Done.TheVariants as done
 use Rattle.office_core.specs.State.{State, start}
 use Rattle.office_core.specs.Rules.{Reply, replies, state_after}
 use Rattle.office_core.specs.WorkedReplies.{four_new}
-use Rattle.office_core.specs.WorkedExamples.{import, ann, bob, order, issued, refused, march_1, march_2, boxes}
+use Rattle.office_core.specs.WorkedExamples.{import, ann, bob, order, issue_reply, refusal_reply, march_1, march_2, boxes}
 
 -- a new office with these settings
 abbrev pub office_of : (seats daily hands run_size : ℕ) → State
@@ -21,14 +21,14 @@ abbrev pub OneOfEach : Type 0
 OneOfEach =
     replies (office_of 1 1 1 1)
     (import boxes ∷ ann ∷ bob ∷ TakeSeat 1 ∷ TakeSeat 2 ∷ Order 1 1 ∷ Order 1 2 ∷ Order 2 2 ∷ Run ∷ Run ∷ Run ∷ OpenDay march_2 ∷ Order 1 3 ∷ Order 1 4 ∷ Run ∷ TakeSeat 1 ∷ Issue 1 1 ∷ Issue 3 1 ∷ Return 1 ∷ Issue 3 1 ∷ [])
-    ≡ four_new ∷ Ok (done.Register 1) ∷ Ok (done.Register 2) ∷ Ok (done.TakeSeat 1) ∷ refused NoSeatFree ∷ order 1 ∷ refused DailyLimit ∷ order 2 ∷ Ok (done.Run 1 1) ∷ Ok (done.Run 2 1) ∷ refused NothingToMove ∷ Ok (done.OpenDay march_2) ∷ order 3 ∷ refused DailyLimit ∷ Ok (done.Run 3 1) ∷ Ok (done.TakeSeat 1) ∷ issued 1 ∷ refused HandsFull ∷ Ok (done.Return 1) ∷ issued 3 ∷ []
+    ≡ four_new ∷ Ok (done.Register 1) ∷ Ok (done.Register 2) ∷ Ok (done.TakeSeat 1) ∷ refusal_reply NoSeatFree ∷ order 1 ∷ refusal_reply DailyLimit ∷ order 2 ∷ Ok (done.Run 1 1) ∷ Ok (done.Run 2 1) ∷ refusal_reply NothingToMove ∷ Ok (done.OpenDay march_2) ∷ order 3 ∷ refusal_reply DailyLimit ∷ Ok (done.Run 3 1) ∷ Ok (done.TakeSeat 1) ∷ issue_reply 1 ∷ refusal_reply HandsFull ∷ Ok (done.Return 1) ∷ issue_reply 3 ∷ []
 
 -- three seats, four orders a day, two containers in hand, runs of three
 abbrev pub SomeOfEach : Type 0
 SomeOfEach =
     replies (office_of 3 4 2 3)
     (import boxes ∷ ann ∷ bob ∷ ann ∷ ann ∷ TakeSeat 1 ∷ TakeSeat 2 ∷ TakeSeat 3 ∷ TakeSeat 4 ∷ Order 1 1 ∷ Order 1 2 ∷ Order 1 3 ∷ Order 1 4 ∷ Cancel 4 ∷ Order 1 4 ∷ Order 2 4 ∷ Run ∷ Run ∷ Issue 1 1 ∷ Issue 2 1 ∷ Issue 3 1 ∷ Return 2 ∷ Issue 3 1 ∷ [])
-    ≡ four_new ∷ Ok (done.Register 1) ∷ Ok (done.Register 2) ∷ Ok (done.Register 3) ∷ Ok (done.Register 4) ∷ Ok (done.TakeSeat 1) ∷ Ok (done.TakeSeat 2) ∷ Ok (done.TakeSeat 3) ∷ refused NoSeatFree ∷ order 1 ∷ order 2 ∷ order 3 ∷ order 4 ∷ Ok (done.Cancel 4) ∷ refused DailyLimit ∷ order 5 ∷ Ok (done.Run 1 3) ∷ Ok (done.Run 2 1) ∷ issued 1 ∷ issued 2 ∷ refused HandsFull ∷ Ok (done.Return 2) ∷ issued 3 ∷ []
+    ≡ four_new ∷ Ok (done.Register 1) ∷ Ok (done.Register 2) ∷ Ok (done.Register 3) ∷ Ok (done.Register 4) ∷ Ok (done.TakeSeat 1) ∷ Ok (done.TakeSeat 2) ∷ Ok (done.TakeSeat 3) ∷ refusal_reply NoSeatFree ∷ order 1 ∷ order 2 ∷ order 3 ∷ order 4 ∷ Ok (done.Cancel 4) ∷ refusal_reply DailyLimit ∷ order 5 ∷ Ok (done.Run 1 3) ∷ Ok (done.Run 2 1) ∷ issue_reply 1 ∷ issue_reply 2 ∷ refusal_reply HandsFull ∷ Ok (done.Return 2) ∷ issue_reply 3 ∷ []
 
 -- ---- as many seats, orders a day, containers in hand and in a run as there may be
 
@@ -54,7 +54,7 @@ most = state_after (office_of most_seats most_daily most_hands most_run_size) (i
 
 pub record MostOfEach : Type 0 where
   -- a reader finds no seat when all are taken
-  pub seats : replies most (each_from TakeSeat 1 (most_seats + 1)) ≡ each_from seat 1 most_seats ++ refused NoSeatFree ∷ []
+  pub seats : replies most (each_from TakeSeat 1 (most_seats + 1)) ≡ each_from seat 1 most_seats ++ refusal_reply NoSeatFree ∷ []
   -- a ticket's order past the limit of the day is refused; a run takes all but one; a ticket holds so many and no more
   pub desk : replies most (each_from (Order 1) 1 (most_daily + 1) ++ (each_from (Order 2) (most_daily + 1) most_daily ++ (Order 3 (most_run_size + 1) ∷ Run ∷ Run ∷ Run ∷ TakeSeat 1 ∷ each_from (λ c. Issue c 1) 1 (most_hands + 1))))
-      ≡ each_from order 1 most_daily ++ (refused DailyLimit ∷ each_from order (most_daily + 1) most_daily ++ (order (most_run_size + 1) ∷ Ok (done.Run 1 most_run_size) ∷ Ok (done.Run 2 1) ∷ refused NothingToMove ∷ Ok (done.TakeSeat 1) ∷ each_from issued 1 most_hands ++ refused HandsFull ∷ []))
+      ≡ each_from order 1 most_daily ++ (refusal_reply DailyLimit ∷ each_from order (most_daily + 1) most_daily ++ (order (most_run_size + 1) ∷ Ok (done.Run 1 most_run_size) ∷ Ok (done.Run 2 1) ∷ refusal_reply NothingToMove ∷ Ok (done.TakeSeat 1) ∷ each_from issue_reply 1 most_hands ++ refusal_reply HandsFull ∷ []))

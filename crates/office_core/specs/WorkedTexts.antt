@@ -4,7 +4,7 @@ use Rattle.desk_core.specs.declared.refusal.Refusal.TheVariants.{UnknownUnit, Un
 use Rattle.office_core.specs.declared.done.Done.TheVariants as done
 use Rattle.office_core.specs.declared.done.Remark.TheVariants.{LevelTooHigh, LacksEssential}
 use Rattle.office_core.specs.Json.{reply_text}
-use Rattle.office_core.specs.WorkedExamples.{refused, rows, march_2}
+use Rattle.office_core.specs.WorkedExamples.{refusal_reply, rows, march_2}
 
 -- a command that was done
 pub record EachReply : Type 0 where
@@ -29,31 +29,31 @@ pub record EachReply : Type 0 where
 
 -- a command that was refused
 pub record EachRefusal : Type 0 where
-  pub unknown_unit : reply_text (refused UnknownUnit) ≡ codes "{\"code\":1,\"refused\":\"UnknownUnit\"}"
-  pub unknown_ticket : reply_text (refused UnknownTicket) ≡ codes "{\"code\":2,\"refused\":\"UnknownTicket\"}"
-  pub unknown_container : reply_text (refused UnknownContainer) ≡ codes "{\"code\":3,\"refused\":\"UnknownContainer\"}"
-  pub ticket_expired : reply_text (refused TicketExpired) ≡ codes "{\"code\":4,\"refused\":\"TicketExpired\"}"
-  pub not_available : reply_text (refused NotAvailable) ≡ codes "{\"code\":5,\"refused\":\"NotAvailable\"}"
-  pub already_ordered : reply_text (refused AlreadyOrdered) ≡ codes "{\"code\":6,\"refused\":\"AlreadyOrdered\"}"
-  pub daily_limit : reply_text (refused DailyLimit) ≡ codes "{\"code\":7,\"refused\":\"DailyLimit\"}"
-  pub no_seat_free : reply_text (refused NoSeatFree) ≡ codes "{\"code\":8,\"refused\":\"NoSeatFree\"}"
-  pub already_seated : reply_text (refused AlreadySeated) ≡ codes "{\"code\":9,\"refused\":\"AlreadySeated\"}"
-  pub not_seated : reply_text (refused NotSeated) ≡ codes "{\"code\":10,\"refused\":\"NotSeated\"}"
-  pub holds_containers : reply_text (refused HoldsContainers) ≡ codes "{\"code\":11,\"refused\":\"HoldsContainers\"}"
-  pub unknown_order : reply_text (refused UnknownOrder) ≡ codes "{\"code\":12,\"refused\":\"UnknownOrder\"}"
-  pub order_not_waiting : reply_text (refused OrderNotWaiting) ≡ codes "{\"code\":13,\"refused\":\"OrderNotWaiting\"}"
-  pub not_at_desk : reply_text (refused NotAtDesk) ≡ codes "{\"code\":14,\"refused\":\"NotAtDesk\"}"
-  pub not_first : reply_text (refused NotFirst) ≡ codes "{\"code\":15,\"refused\":\"NotFirst\"}"
-  pub hands_full : reply_text (refused HandsFull) ≡ codes "{\"code\":16,\"refused\":\"HandsFull\"}"
-  pub not_issued : reply_text (refused NotIssued) ≡ codes "{\"code\":17,\"refused\":\"NotIssued\"}"
-  pub day_not_later : reply_text (refused DayNotLater) ≡ codes "{\"code\":18,\"refused\":\"DayNotLater\"}"
-  pub still_issued : reply_text (refused StillIssued) ≡ codes "{\"code\":19,\"refused\":\"StillIssued\"}"
-  pub into_itself : reply_text (refused IntoItself) ≡ codes "{\"code\":20,\"refused\":\"IntoItself\"}"
-  pub with_reader : reply_text (refused (WithReader 7)) ≡ codes "{\"code\":21,\"container\":7,\"refused\":\"WithReader\"}"
-  pub bad_file : reply_text (refused (BadFile 8 9)) ≡ codes "{\"cause\":9,\"code\":22,\"refused\":\"BadFile\",\"row\":8}"
-  pub full : reply_text (refused Full) ≡ codes "{\"code\":23,\"refused\":\"Full\"}"
-  pub nothing_to_move : reply_text (refused NothingToMove) ≡ codes "{\"code\":24,\"refused\":\"NothingToMove\"}"
-  pub too_deep : reply_text (refused TooDeep) ≡ codes "{\"code\":25,\"refused\":\"TooDeep\"}"
-  pub unknown_run : reply_text (refused UnknownRun) ≡ codes "{\"code\":26,\"refused\":\"UnknownRun\"}"
-  pub bad_name : reply_text (refused BadName) ≡ codes "{\"code\":27,\"refused\":\"BadName\"}"
-  pub no_permit : reply_text (refused NoPermit) ≡ codes "{\"code\":28,\"refused\":\"NoPermit\"}"
+  pub unknown_unit : reply_text (refusal_reply UnknownUnit) ≡ codes "{\"code\":1,\"refused\":\"UnknownUnit\"}"
+  pub unknown_ticket : reply_text (refusal_reply UnknownTicket) ≡ codes "{\"code\":2,\"refused\":\"UnknownTicket\"}"
+  pub unknown_container : reply_text (refusal_reply UnknownContainer) ≡ codes "{\"code\":3,\"refused\":\"UnknownContainer\"}"
+  pub ticket_expired : reply_text (refusal_reply TicketExpired) ≡ codes "{\"code\":4,\"refused\":\"TicketExpired\"}"
+  pub not_available : reply_text (refusal_reply NotAvailable) ≡ codes "{\"code\":5,\"refused\":\"NotAvailable\"}"
+  pub already_ordered : reply_text (refusal_reply AlreadyOrdered) ≡ codes "{\"code\":6,\"refused\":\"AlreadyOrdered\"}"
+  pub daily_limit : reply_text (refusal_reply DailyLimit) ≡ codes "{\"code\":7,\"refused\":\"DailyLimit\"}"
+  pub no_seat_free : reply_text (refusal_reply NoSeatFree) ≡ codes "{\"code\":8,\"refused\":\"NoSeatFree\"}"
+  pub already_seated : reply_text (refusal_reply AlreadySeated) ≡ codes "{\"code\":9,\"refused\":\"AlreadySeated\"}"
+  pub not_seated : reply_text (refusal_reply NotSeated) ≡ codes "{\"code\":10,\"refused\":\"NotSeated\"}"
+  pub holds_containers : reply_text (refusal_reply HoldsContainers) ≡ codes "{\"code\":11,\"refused\":\"HoldsContainers\"}"
+  pub unknown_order : reply_text (refusal_reply UnknownOrder) ≡ codes "{\"code\":12,\"refused\":\"UnknownOrder\"}"
+  pub order_not_waiting : reply_text (refusal_reply OrderNotWaiting) ≡ codes "{\"code\":13,\"refused\":\"OrderNotWaiting\"}"
+  pub not_at_desk : reply_text (refusal_reply NotAtDesk) ≡ codes "{\"code\":14,\"refused\":\"NotAtDesk\"}"
+  pub not_first : reply_text (refusal_reply NotFirst) ≡ codes "{\"code\":15,\"refused\":\"NotFirst\"}"
+  pub hands_full : reply_text (refusal_reply HandsFull) ≡ codes "{\"code\":16,\"refused\":\"HandsFull\"}"
+  pub not_issued : reply_text (refusal_reply NotIssued) ≡ codes "{\"code\":17,\"refused\":\"NotIssued\"}"
+  pub day_not_later : reply_text (refusal_reply DayNotLater) ≡ codes "{\"code\":18,\"refused\":\"DayNotLater\"}"
+  pub still_issued : reply_text (refusal_reply StillIssued) ≡ codes "{\"code\":19,\"refused\":\"StillIssued\"}"
+  pub into_itself : reply_text (refusal_reply IntoItself) ≡ codes "{\"code\":20,\"refused\":\"IntoItself\"}"
+  pub with_reader : reply_text (refusal_reply (WithReader 7)) ≡ codes "{\"code\":21,\"container\":7,\"refused\":\"WithReader\"}"
+  pub bad_file : reply_text (refusal_reply (BadFile 8 9)) ≡ codes "{\"cause\":9,\"code\":22,\"refused\":\"BadFile\",\"row\":8}"
+  pub full : reply_text (refusal_reply Full) ≡ codes "{\"code\":23,\"refused\":\"Full\"}"
+  pub nothing_to_move : reply_text (refusal_reply NothingToMove) ≡ codes "{\"code\":24,\"refused\":\"NothingToMove\"}"
+  pub too_deep : reply_text (refusal_reply TooDeep) ≡ codes "{\"code\":25,\"refused\":\"TooDeep\"}"
+  pub unknown_run : reply_text (refusal_reply UnknownRun) ≡ codes "{\"code\":26,\"refused\":\"UnknownRun\"}"
+  pub bad_name : reply_text (refusal_reply BadName) ≡ codes "{\"code\":27,\"refused\":\"BadName\"}"
+  pub no_permit : reply_text (refusal_reply NoPermit) ≡ codes "{\"code\":28,\"refused\":\"NoPermit\"}"

@@ -47,27 +47,27 @@ module _ {S X Stays Model : Type 0} (g : store.Ghosts S) (represents : Database 
       → ((s : Stays) (m : Model) → represents old.now s m → may m → kept m → HasCleanDisk new → IsUnlimited old → HasCause old new e) → Answers g represents kept before after r may answer
   tells_not answer e is cut why =
       subst (λ (r : Result X StoreFault). Answers g represents kept before after r may answer) (sym is)
-      (record { answers = λ clean s m shown. tt; looks = tt; cut = cut; faults = λ s m shown may kept clean free. why s m shown may kept clean free })
+      (record { answers = λ clean s m shown. tt; looks = tt; aborts = cut; faults = λ s m shown may kept clean free. why s m shown may kept clean free })
 
   pub makes_not : (made : Model → Model) (touched : List ℕ) (e : StoreFault) → r ≡ Err e → IsAborted old new
       → ((s : Stays) (m : Model) → represents old.now s m → may m → kept m → HasCleanDisk new → IsUnlimited old → HasCause old new e) → Updates g represents kept before after r may made touched
   makes_not made touched e is cut why =
       subst (λ (r : Result X StoreFault). Updates g represents kept before after r may made touched) (sym is)
-      (record { represents_updated = λ clean s m shown may. tt; only = λ clean. tt; goes = tt; cut = cut; faults = λ s m shown may kept clean free. why s m shown may kept clean free })
+      (record { represents_updated = λ clean s m shown may. tt; only = λ clean. tt; goes = tt; aborts = cut; faults = λ s m shown may kept clean free. why s m shown may kept clean free })
 
 -- ---- a call of several steps that writes
 
 -- all of them succeeded
 pub left_well : {X : Type 0} (touched : List ℕ) (a b : State) → Goes a b → {x : X} → LeavesOr (OnlyTouches touched) a b (Ok x)
-left_well touched a b went = record { crash = went.on.crash; goes = went; cut = tt; spares = λ clean. tt }
+left_well touched a b went = record { crash = went.on.crash; goes = went; aborts = tt; spares = λ clean. tt }
 
 -- the rows are not ours
 pub left_known : {X : Type 0} (touched : List ℕ) (a b : State) → Goes a b → (HasCleanDisk b → OnlyTouches touched a.now b.now) → LeavesOr {X = X} (OnlyTouches touched) a b (Err fault.Schema)
-left_known touched a b went only = record { crash = went.on.crash; goes = tt; cut = cut_after a b went.on; spares = λ clean. record { disk = tt; rows = inl (only clean) } }
+left_known touched a b went only = record { crash = went.on.crash; goes = tt; aborts = cut_after a b went.on; spares = λ clean. record { disk = tt; rows = inl (only clean) } }
 
 -- it ends with a fault
 pub left_by : {X : Type 0} (touched : List ℕ) (a b : State) (r : Result X StoreFault) (e : StoreFault) → r ≡ Err e → IsAborted a b → (HasCleanDisk b → Spares (OnlyTouches touched) a b e) → LeavesOr (OnlyTouches touched) a b r
-left_by {X} touched a b r e is cut spares = subst (LeavesOr {X = X} (OnlyTouches touched) a b) (sym is) (record { crash = cut.crash; goes = tt; cut = cut; spares = spares })
+left_by {X} touched a b r e is cut spares = subst (LeavesOr {X = X} (OnlyTouches touched) a b) (sym is) (record { crash = cut.crash; goes = tt; aborts = cut; spares = spares })
 
 -- one of them failed
 pub left_fault : {X : Type 0} (touched : List ℕ) (a b c : State) → Goes a b → (HasCleanDisk b → OnlyTouches touched a.now b.now) → (r : Result X StoreFault) (e : StoreFault) → r ≡ Err e → IsAborted b c → (HasCleanDisk c → Spares (OnlyTouches touched) b c e)
@@ -75,13 +75,13 @@ pub left_fault : {X : Type 0} (touched : List ℕ) (a b c : State) → Goes a b 
 left_fault {X} touched a b c went only r e is aborted spares =
     let cut = cut_then a b c went.on aborted in
     subst (LeavesOr {X = X} (OnlyTouches touched) a c) (sym is)
-    (record { crash = cut.crash; goes = tt; cut = cut; spares = λ clean. let before = early b c _ aborted.crash clean in touched_spares touched a b c went.on before (only before) e (spares clean) })
+    (record { crash = cut.crash; goes = tt; aborts = cut; spares = λ clean. let before = early b c _ aborted.crash clean in touched_spares touched a b c went.on before (only before) e (spares clean) })
 
 -- ---- a call that makes tables
 
 -- it ends with a fault
 pub making_not : {X : Type 0} (a b : State) (r : Result X StoreFault) (e : StoreFault) → r ≡ Err e → IsAborted a b → (HasCleanDisk b → BlamesDisk a b e) → (HasCleanDisk b → IsUnlimited a → HasCause a b e) → LeavesMaking a b r
-making_not {X} a b r e is cut blames why = subst (LeavesMaking {X = X} a b) (sym is) (record { goes = tt; cut = cut; disk = blames; faults = why })
+making_not {X} a b r e is cut blames why = subst (LeavesMaking {X = X} a b) (sym is) (record { goes = tt; aborts = cut; disk = blames; faults = why })
 
 -- after steps that succeeded
 pub making_then : {X : Type 0} (a b c : State) → Continues a b → (r : Result X StoreFault) (e : StoreFault) → r ≡ Err e → IsAborted b c → (HasCleanDisk c → BlamesDisk b c e) → (HasCleanDisk c → IsUnlimited b → HasCause b c e) → LeavesMaking a c r
@@ -93,7 +93,7 @@ making_then a b c on r e is cut blames why =
 pub making_last : {X : Type 0} (a b c : State) → Continues a b → (r : Result X StoreFault) → OnOk r (Continues b c) → OnErr r (IsAborted b c) → (HasCleanDisk c → IfErr r (BlamesDisk b c)) → (HasCleanDisk b → FaultsHaveCause b c r) → LeavesMaking a c r
 making_last a b c on r goes cut blames why = record {
   goes = on_ok_then r (Continues b c) (Continues a c) (continues_then a b c on) goes;
-  cut = on_err_then r (IsAborted b c) (IsAborted a c) (cut_then a b c on) cut;
+  aborts = on_err_then r (IsAborted b c) (IsAborted a c) (cut_then a b c on) cut;
   disk = λ clean. last_disk a b c on r cut clean (blames clean);
   faults = excused_then a b c on r cut why;
 }
@@ -102,11 +102,11 @@ making_last a b c on r goes cut blames why = record {
 
 -- it ends with what was read
 pub read_well : {X : Type 0} (a b : State) → LeavesUnchanged a b → {x : X} → Reads a b (Ok x)
-read_well a b looked = record { crash = looked.goes.on.crash; looks = looked; cut = tt; spares = λ clean. tt }
+read_well a b looked = record { crash = looked.goes.on.crash; looks = looked; aborts = tt; spares = λ clean. tt }
 
 -- it ends with a fault
 pub read_not : {X : Type 0} (a b : State) (r : Result X StoreFault) (e : StoreFault) → r ≡ Err e → IsAborted a b → (HasCleanDisk b → Spares IsSame a b e) → Reads a b r
-read_not a b r e is cut spares = subst (Reads a b) (sym is) (record { crash = cut.crash; looks = tt; cut = cut; spares = spares })
+read_not a b r e is cut spares = subst (Reads a b) (sym is) (record { crash = cut.crash; looks = tt; aborts = cut; spares = spares })
 
 -- after a look
 pub read_cut : {X : Type 0} (a b c : State) (r : Result X StoreFault) (e : StoreFault) → r ≡ Err e → LeavesUnchanged a b → IsAborted b c → (HasCleanDisk c → Spares IsSame b c e) → Reads a c r
@@ -117,11 +117,11 @@ read_cut a b c r e is looked cut spares = read_not a c r e is (cut_then a b c lo
 -- its last step leaves the transaction so, after others that went well
 pub leaves_last : {X : Type 0} (touched : List ℕ) (a b c : State) (r : Result X StoreFault) → Goes a b → (HasCleanDisk b → OnlyTouches touched a.now b.now) → LeavesOr (OnlyTouches touched) b c r → LeavesOr (OnlyTouches touched) a c r
 leaves_last touched a b c (Ok x) went only last = left_well touched a c (goes_then a b c went last.goes)
-leaves_last touched a b c (Err e) went only last = left_fault touched a b c went only (Err e) e refl last.cut last.spares
+leaves_last touched a b c (Err e) went only last = left_fault touched a b c went only (Err e) e refl last.aborts last.spares
 
 -- a statement touches no table where it fails
 pub leaves_part : {X : Type 0} (touched : List ℕ) (a b : State) (r : Result X StoreFault) → Leaves a b r → LeavesOr (OnlyTouches touched) a b r
-leaves_part touched a b r it = record { crash = it.crash; goes = it.goes; cut = it.cut; spares = λ clean. untouched_last touched a b r (it.spares clean) }
+leaves_part touched a b r it = record { crash = it.crash; goes = it.goes; aborts = it.aborts; spares = λ clean. untouched_last touched a b r (it.spares clean) }
 
 -- ---- a call on tables that show a model, of which a later step fails
 

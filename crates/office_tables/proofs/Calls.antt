@@ -10,7 +10,7 @@ use Rattle.sqlite.specs.Listing.{understood}
 use Rattle.sqlite.specs.State.{State, HasCleanDisk, IsUnchanged, Survives, Shown, Shows, Executes, FailsToQuery, CommitsBy, MayCommit, CommitsShowing}
 use Rattle.sqlite.proofs.Callers.{IsPlain, command_of, statement_of, never_commits}
 use Rattle.sqlite.proofs.StateLemmas.{survives_weaker, survives_then}
-use Rattle.tree_core.specs.Versions.{Version}
+use Rattle.office_tables.specs.Versions.{Version}
 use Rattle.office_tables.specs.Schema.{schema}
 use Rattle.office_tables.specs.Step.{InTransaction, InOffice, GoesOn, IsBack, Continues, Goes, IsAborted, LeavesUnchanged}
 use Rattle.office_tables.specs.Transactions.{IsStopped}
@@ -52,12 +52,12 @@ goes_then a b c p q = record {
 pub cut_then : (a b c : State) → Continues a b → IsAborted b c → IsAborted a c
 cut_then a b c p q = record {
   crash = crash_then a b c p.crash q.crash;
-  cut = λ clean. cut_on a b c (p.within (early b c _ q.crash clean)) (q.cut clean);
+  aborts = λ clean. cut_on a b c (p.within (early b c _ q.crash clean)) (q.aborts clean);
 }
 
 -- a step that succeeded, of a call that then fails
 pub cut_after : (a b : State) → Continues a b → IsAborted a b
-cut_after a b p = record { crash = p.crash; cut = λ clean. inl (p.within clean) }
+cut_after a b p = record { crash = p.crash; aborts = λ clean. inl (p.within clean) }
 
 pub still : (version : Version) (a b : State) → InTransaction version a → Goes a b → InTransaction version b
 still version a b inside p clean = (p.schema clean ∙ (inside (early a b _ p.on.crash clean)).0, (p.on.within clean).mode ∙ (inside (early a b _ p.on.crash clean)).1)
@@ -140,7 +140,7 @@ module _ (sql : List ℕ) (params : Row) (old new : State) (command : Command) (
       (λ clean db h. let it = known (early old new _ s clean) in never it.inside (alone command _ db writes (commits_as it db h))) s
 
   pub write_cut : (e : Error) → (HasCleanDisk new → Executes sql params old new (Err e)) → Survives old new (CommitsBy sql params old) → IsAborted old new
-  write_cut e runs s = record { crash = write_crash s; cut = λ clean. stopped old new (known (early old new _ s clean)).inside (stops sql params old new e (runs clean)) }
+  write_cut e runs s = record { crash = write_crash s; aborts = λ clean. stopped old new (known (early old new _ s clean)).inside (stops sql params old new e (runs clean)) }
 
   pub write_continues : (HasCleanDisk new → Shows old new new.now (if old.in_transaction then old.committed else new.now) old.in_transaction) → Survives old new (CommitsBy sql params old) → Continues old new
   write_continues done s = record { crash = write_crash s; within = λ clean. shown_on old new (known (early old new _ s clean)).inside (done clean) }
@@ -152,7 +152,7 @@ module _ (sql : List ℕ) (params : Row) (old new : State) (command : Command) (
   read_crash s = survives_weaker old new _ _ (λ clean db h. never_commits sql params old db (known (early old new _ s clean)).plain h) s
 
   pub read_cut : (e : Error) → (HasCleanDisk new → FailsToQuery sql params old new e) → Survives old new (CommitsShowing sql params old) → IsAborted old new
-  read_cut e runs s = record { crash = read_crash s; cut = λ clean. stopped old new (known (early old new _ s clean)).inside (fails sql params old new e (runs clean)) }
+  read_cut e runs s = record { crash = read_crash s; aborts = λ clean. stopped old new (known (early old new _ s clean)).inside (fails sql params old new e (runs clean)) }
 
   pub read_looks : (rows : List Row) → (HasCleanDisk new → Shown sql params old new rows) → Survives old new (CommitsShowing sql params old) → LeavesUnchanged old new
   read_looks rows shown s =

@@ -18,7 +18,7 @@ use Rattle.sqlite.proofs.Callers.{runs_as}
 use Rattle.sqlite_tied.specs.Compute.{everything}
 use Rattle.sqlite_trees.specs.Sound.{same_name, begins, is_free_name, fits_kind}
 use Rattle.office_tables.specs.Creation.{DefinesTable, DefinesIndex, HasMade}
-use Rattle.tree_core.specs.Versions.{Links}
+use Rattle.office_tables.specs.Versions.{First}
 use Rattle.office_tables.specs.Schema.{desk_schema, desk_tables, schema, office, unit, element, container, housing, link, index}
 use Rattle.office_tables.proofs.Steps.{went, same_value}
 
@@ -95,7 +95,7 @@ pub link_defined : DefinesTable desk_tables s5 link_text s6
 unfolding understood everything naming
 link_defined = record { table = free link; says = record { is = refl; plain = (refl, refl); whole = refl; alone = (refl, refl) }; defined = refl; allowed = record { named = record { free = refl; utf8 = refl; unreserved = refl }; guards = refl; formed = refl; fit = refl; trees = refl; reals = refl; key_reals = refl }; uncounted = refl; is = refl; more = office ∷ unit ∷ element ∷ container ∷ housing ∷ []; first = refl; rest = refl; last = refl }
 
-pub link_indexed : DefinesIndex desk_tables s6 link_index_text (schema Links)
+pub link_indexed : DefinesIndex desk_tables s6 link_index_text (schema First)
 unfolding understood everything naming
 link_indexed = record { at = 12; table = link; index = index (codes "link_by_parent") 0 link (2 ∷ 3 ∷ []); says = record { is = refl; plain = (refl, refl); whole = refl; alone = (refl, refl) }; place = refl; defined = refl; allowed = record { named = record { free = refl; utf8 = refl; unreserved = refl }; utf8 = refl; fit = refl; trees = refl; reals = refl; key_reals = refl }; is = refl; same = refl; more = office ∷ unit ∷ element ∷ container ∷ housing ∷ link ∷ []; first = refl; rest = refl; among = inr (inr (inr (inr (inr (inl refl))))) }
 

@@ -92,7 +92,7 @@ module _ (sql : List ℕ) (old new : State) (ours : IsOurQuery sql old) (crash :
   }
 
   short : (e : StoreFault) → (HasCleanDisk new → StopsShort sql [] old new e) → IsAborted old new
-  short e stops = record { crash = crash; cut = λ clean. at clean (stops clean) }
+  short e stops = record { crash = crash; aborts = λ clean. at clean (stops clean) }
     where
       at : HasCleanDisk new → StopsShort sql [] old new e → GoesOn old new ⊎ IsBack old new
       at clean (inl h) = inl (unchanged_on old new (inside clean) h.1)
@@ -106,10 +106,10 @@ module _ (sql : List ℕ) (old new : State) (ours : IsOurQuery sql old) (crash :
   gathered_reads Holds (Ok all) gathers stops = record {
     crash = crash;
     looks = looked (λ clean. keeps sql [] old new (gathers clean).rows (our_plain sql old ours (early old new _ crash clean)) (gathers clean).shown);
-    cut = tt;
+    aborts = tt;
     spares = λ clean. tt;
   }
-  gathered_reads Holds (Err e) gathers stops = record { crash = crash; looks = tt; cut = short e stops; spares = λ clean. short_spares e clean (stops clean) }
+  gathered_reads Holds (Err e) gathers stops = record { crash = crash; looks = tt; aborts = short e stops; spares = λ clean. short_spares e clean (stops clean) }
 
 -- why it stopped, where the query is refused for such a cause alone
 pub stop_cause : (sql : List ℕ) (old new : State) (e : StoreFault) → ((why : Error) → FailsToQuery sql [] old new why → cause.HasCause old new (fault_of why)) → StopsShort sql [] old new e → cause.HasCause old new e

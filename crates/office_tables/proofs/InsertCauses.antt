@@ -37,7 +37,7 @@ use Rattle.sqlite_trees.specs.Tree.{with_tree}
 use Rattle.sqlite_trees.specs.View.{is_int}
 use Rattle.sqlite_value.proofs.OrderLemmas.{value_cmp_total}
 use Rattle.office_tables.specs.Faults.{fault_of, IsUnlimited, HasCause}
-use Rattle.tree_core.specs.Versions.{Version, Links, Spans}
+use Rattle.office_tables.specs.Versions.{Version, First, Second}
 use Rattle.office_tables.specs.Schema.{schema}
 use Rattle.office_tables.proofs.Causes.{failed_cause}
 use Rattle.office_tables.proofs.Failures.{IsWhole, fails_as}
@@ -66,8 +66,8 @@ apart_from (t ∷ tables) h =
     )
 
 pub tables_apart : (v : Version) → IsAscending (λ (a b : Table). a.tree ≡ b.tree → ⊥) (schema v).tables
-tables_apart Links = apart_from (schema Links).tables refl
-tables_apart Spans = apart_from (schema Spans).tables refl
+tables_apart First = apart_from (schema First).tables refl
+tables_apart Second = apart_from (schema Second).tables refl
 
 -- ---- a row that its table takes
 

@@ -2,23 +2,11 @@
 use Rattle.std.proofs.Common.{◌≡◌, inl, inr, ℕ, List, map, sym, subst, Result, Ok, Err, IfErr}
 use Rattle.std.specs.List.{AllByRecursion}
 use Rattle.sqlite.specs.Order.{Row}
-use Rattle.sqlite.specs.Command.{Command}
 use Rattle.sqlite.specs.State.{State, Shown, FailsToQuery}
 use Rattle.sqlite.specs.declared.error.Error.{Error}
-use Rattle.office_tables.specs.Query.{IsOurQuery, Misses}
+use Rattle.office_tables.specs.Query.{Misses}
 use Rattle.office_tables.specs.Faults.{fault_of, HasCause}
-use Rattle.office_tables.specs.StatementMeaning.{Means}
-use Rattle.office_tables.specs.Schema.{Version}
-use Rattle.office_tables.specs.Step.{InOffice, InTransaction}
 use Rattle.office_tables.specs.declared.fault.StoreFault.{StoreFault}
-
--- a text that means the same with the tables of either version
-pub asks : (sql : List ℕ) (count : ℕ) (command : Command) (s : State) → ((v : Version) → Means v sql count command) → InOffice s → IsOurQuery sql s
-asks sql count command s means inside = record { count = count; command = command; here = λ clean. let it = inside clean in (it.0, it.1, it.2, means it.0) }
-
--- a text for the tables of one version
-pub asks_in : (v : Version) (sql : List ℕ) (count : ℕ) (command : Command) (s : State) → Means v sql count command → InTransaction v s → IsOurQuery sql s
-asks_in v sql count command s means inside = record { count = count; command = command; here = λ clean. let it = inside clean in (v, it.0, it.1, means) }
 
 -- every fault of a query has its cause, where its rows are legible records
 pub all_caused : {A X : Type 0} (cells : A → Row) (IsLegible : A → Type 0) (sql : List ℕ) (params : Row) (old new : State) (r : Result X StoreFault) → IfErr r (Misses cells IsLegible sql params old new)

@@ -12,10 +12,9 @@ use Rattle.sqlite.specs.Listing.{understood}
 use Rattle.sqlite.specs.State.{State, HasCleanDisk, Survives, Executes, CommitsBy, Runs, Writes, mode_of}
 use Rattle.sqlite.proofs.Callers.{runs_as, statement_of}
 use Rattle.office_tables.specs.ChangeStatement.{IsOurs, changes_rows, Ran}
-use Rattle.office_tables.specs.StatementMeaning.{Means}
 use Rattle.office_tables.specs.Faults.{fault_of, HasCause, BlamesDisk}
-use Rattle.office_tables.specs.Schema.{Version, schema}
-use Rattle.office_tables.specs.Step.{Goes, IsAborted, InOffice, Spares, IsSame}
+use Rattle.office_tables.specs.Schema.{schema}
+use Rattle.office_tables.specs.Step.{Goes, IsAborted, Spares, IsSame}
 use Rattle.office_tables.specs.declared.fault.StoreFault.{StoreFault}
 use Rattle.office_tables.proofs.Calls.{early, Knows, known_in, is_write, write_cut, write_continues}
 use Rattle.office_tables.proofs.Steps.{went, same_value}
@@ -81,7 +80,3 @@ ran_well sql params old new (Err fault) P ran h = tt
 pub ran_badly : (sql : List ℕ) (params : Row) (old new : State) (r : Result Unit StoreFault) → Ran sql params old new r → ((e : Error) → Executes sql params old new (Err e) → HasCause old new (fault_of e)) → IfErr r (HasCause old new)
 ran_badly sql params old new (Ok done) ran h = tt
 ran_badly sql params old new (Err fault) ran h = subst (HasCause old new) (sym ran.1) (h ran.0 ran.2)
-
--- a text that means the same with the tables of either version
-pub ours : (sql : List ℕ) (count : ℕ) (command : Command) (s : State) → changes_rows command ≡ true → ((v : Version) → Means v sql count command) → InOffice s → IsOurs sql s
-ours sql count command s changes means inside = record { count = count; command = command; changes = changes; here = λ clean. let it = inside clean in (it.0, it.1, it.2, means it.0) }

@@ -1,12 +1,12 @@
 -- What one statement does, from what became of its text. While the disk is clean, the tables are those of a version.
-use Rattle.std.proofs.Common.{◌≡◌, ◌⊎◌, inl, inr, ℤ, List, [], ◌∷◌, map, Result, IfOk, IfErr, OnOk, sym, subst}
+use Rattle.std.proofs.Common.{◌≡◌, ◌⊎◌, inl, inr, ℤ, List, [], ◌∷◌, map, Result, Ok, IfOk, IfErr, OnOk, sym, subst}
 use Rattle.sqlite_trees.specs.declared.store.Store as store
 use Rattle.sqlite.specs.Edit.{next_rowid}
 use Rattle.sqlite.specs.Held.{Held, state}
 use Rattle.sqlite.specs.Order.{Row}
 use Rattle.sqlite.specs.State.{State, HasCleanDisk}
 use Rattle.sqlite.specs.Table.{Table}
-use Rattle.tree_core.specs.Versions.{Version}
+use Rattle.office_tables.specs.Versions.{Version}
 use Rattle.office_tables.specs.ChangeStatement.{IsOutside, Leaves}
 use Rattle.office_tables.specs.Faults.{IsUnlimited, HasCause}
 use Rattle.office_tables.specs.Query.{Reads}
@@ -30,6 +30,11 @@ done old r P (inr it) then = then it
 pub caused : {X Y : Type 0} (old new : State) (r : Result X StoreFault) → IsOutside old r ⊎ Y → (Y → IfErr r (HasCause old new)) → IfErr r (HasCause old new)
 caused old new r (inl outside) then = subst (λ r. IfErr r (HasCause old new)) (sym outside.1) outside.0
 caused old new r (inr it) then = then it
+
+-- where a call succeeded, a transaction was open
+pub found_in : {X Y : Type 0} (old : State) (x : X) → IsOutside old (Ok x) ⊎ Y → Y
+found_in old x (inl outside) = absurd (let clash = outside.1 in cc)
+found_in old x (inr it) = it
 
 -- ---- one statement: with the tables of one version, and with those of either
 module _ {S X : Type 0} {g : store.Ghosts S} {before after : Held S} {r : Result X StoreFault} where

@@ -27,14 +27,14 @@ module _ {S X Stays Model : Type 0} (g : store.Ghosts S) (represents : Database 
       → ((s : Stays) (m : Model) → represents old.now s m → may m → kept m → HasCleanDisk new → IsUnlimited old → HasCause old new e) → StoreAnswers g represents kept before after r may answer
   tells_not answer e is cut spares why =
       subst (λ (r : Result X StoreFault). StoreAnswers g represents kept before after r may answer) (sym is)
-      (record { answers = λ clean s m shown. tt; looks = tt; cut = cut; spares = spares; faults = λ s m shown may kept clean free. why s m shown may kept clean free })
+      (record { answers = λ clean s m shown. tt; looks = tt; aborts = cut; spares = spares; faults = λ s m shown may kept clean free. why s m shown may kept clean free })
 
   -- it ends so, and may have touched the tables
   pub makes_part : (made : Model → Model) (touched : List ℕ) (e : StoreFault) → r ≡ Err e → IsAborted old new → (HasCleanDisk new → Spares (OnlyTouches touched) old new e)
       → ((s : Stays) (m : Model) → represents old.now s m → may m → kept m → HasCleanDisk new → IsUnlimited old → HasCause old new e) → StoreUpdates g represents kept before after r may made touched
   makes_part made touched e is cut spares why =
       subst (λ (r : Result X StoreFault). StoreUpdates g represents kept before after r may made touched) (sym is)
-      (record { represents_updated = λ clean s m shown may. tt; only = λ clean. tt; goes = tt; cut = cut; spares = spares; faults = λ s m shown may kept clean free. why s m shown may kept clean free })
+      (record { represents_updated = λ clean s m shown may. tt; only = λ clean. tt; goes = tt; aborts = cut; spares = spares; faults = λ s m shown may kept clean free. why s m shown may kept clean free })
 
   -- it ends so before it touched any
   pub makes_not : (made : Model → Model) (touched : List ℕ) (e : StoreFault) → r ≡ Err e → IsAborted old new → (HasCleanDisk new → Spares IsSame old new e)
@@ -43,10 +43,10 @@ module _ {S X Stays Model : Type 0} (g : store.Ghosts S) (represents : Database 
 
   -- what it promises of the model alone
   pub as_answers : (answer : Stays → Model → X → Type 0) → StoreAnswers g represents kept before after r may answer → Answers g represents kept before after r may answer
-  as_answers answer it = record { answers = it.answers; looks = it.looks; cut = it.cut; faults = it.faults }
+  as_answers answer it = record { answers = it.answers; looks = it.looks; aborts = it.aborts; faults = it.faults }
 
   pub as_updates : (made : Model → Model) (touched : List ℕ) → StoreUpdates g represents kept before after r may made touched → Updates g represents kept before after r may made touched
-  as_updates made touched it = record { represents_updated = it.represents_updated; only = it.only; goes = it.goes; cut = it.cut; faults = it.faults }
+  as_updates made touched it = record { represents_updated = it.represents_updated; only = it.only; goes = it.goes; aborts = it.aborts; faults = it.faults }
 
 -- ---- a later step fails
 

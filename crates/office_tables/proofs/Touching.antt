@@ -6,7 +6,7 @@ use Rattle.std.proofs.lemmas.Bool.Decides.{nat_tests}
 use Rattle.sqlite.specs.Table.{Table}
 use Rattle.sqlite.specs.Tree.{Trees}
 use Rattle.sqlite.specs.Effect.{Database}
-use Rattle.tree_core.specs.Versions.{Version}
+use Rattle.office_tables.specs.Versions.{Version}
 use Rattle.office_tables.specs.Schema.{schema}
 use Rattle.office_tables.specs.Step.{table_trees, OnlyTouches}
 

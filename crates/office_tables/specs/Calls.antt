@@ -23,19 +23,19 @@ module _ {S X Stays Model : Type 0} (g : store.Ghosts S) (represents : Database 
   new = state g after
 
   -- A call that changes the model if it may, and touches these tables only. If the model is kept, the call fails only
-  -- for want of memory or because of the disk; the transaction then goes on, or was rolled back.
+  -- for want of memory, because of the disk, or outside a transaction. The transaction then goes on, or was rolled back.
   pub record Updates (may : Model → Type 0) (made : Model → Model) (touched : List ℕ) : Type 0 where
     pub represents_updated : HasCleanDisk new → (s : Stays) (m : Model) → represents old.now s m → may m → OnOk r (represents new.now s (made m))
     pub only : HasCleanDisk new → OnOk r (OnlyTouches touched old.now new.now)
     pub goes : OnOk r (Goes old new)
-    pub cut : OnErr r (IsAborted old new)
+    pub aborts : OnErr r (IsAborted old new)
     pub faults : (s : Stays) (m : Model) → represents old.now s m → may m → kept m → FaultsHaveCause old new r
 
   -- A call that reads the model, and changes nothing.
   pub record Answers (may : Model → Type 0) (answer : Stays → Model → X → Type 0) : Type 0 where
     pub answers : HasCleanDisk new → (s : Stays) (m : Model) → represents old.now s m → IfOk r (answer s m)
     pub looks : OnOk r (LeavesUnchanged old new)
-    pub cut : OnErr r (IsAborted old new)
+    pub aborts : OnErr r (IsAborted old new)
     pub faults : (s : Stays) (m : Model) → represents old.now s m → may m → kept m → FaultsHaveCause old new r
 
   -- The same as `Updates`, for a call of a store. If it fails and the transaction goes on, it has touched these tables
@@ -44,7 +44,7 @@ module _ {S X Stays Model : Type 0} (g : store.Ghosts S) (represents : Database 
     pub represents_updated : HasCleanDisk new → (s : Stays) (m : Model) → represents old.now s m → may m → OnOk r (represents new.now s (made m))
     pub only : HasCleanDisk new → OnOk r (OnlyTouches touched old.now new.now)
     pub goes : OnOk r (Goes old new)
-    pub cut : OnErr r (IsAborted old new)
+    pub aborts : OnErr r (IsAborted old new)
     pub spares : HasCleanDisk new → IfErr r (Spares (OnlyTouches touched) old new)
     pub faults : (s : Stays) (m : Model) → represents old.now s m → may m → kept m → FaultsHaveCause old new r
 
@@ -53,6 +53,6 @@ module _ {S X Stays Model : Type 0} (g : store.Ghosts S) (represents : Database 
   pub record StoreAnswers (may : Model → Type 0) (answer : Stays → Model → X → Type 0) : Type 0 where
     pub answers : HasCleanDisk new → (s : Stays) (m : Model) → represents old.now s m → IfOk r (answer s m)
     pub looks : OnOk r (LeavesUnchanged old new)
-    pub cut : OnErr r (IsAborted old new)
+    pub aborts : OnErr r (IsAborted old new)
     pub spares : HasCleanDisk new → IfErr r (Spares IsSame old new)
     pub faults : (s : Stays) (m : Model) → represents old.now s m → may m → kept m → FaultsHaveCause old new r

@@ -38,7 +38,7 @@ pub record IsChange (version : Version) (sql : List ℕ) : Type 0 where
 pub record LeavesOr {X : Type 0} (Left : Database → Database → Type 0) (old new : State) (r : Result X StoreFault) : Type 0 where
   pub crash : Survives old new (λ _. ⊥)
   pub goes : OnOk r (Goes old new)
-  pub cut : OnErr r (IsAborted old new)
+  pub aborts : OnErr r (IsAborted old new)
   pub spares : HasCleanDisk new → IfErr r (Spares Left old new)
 
 -- the same for one statement: if it fails and the transaction goes on, every row is as it was

@@ -99,7 +99,7 @@ IsMaking there after before s = HasCleanDisk s → HasMade there after before s.
 -- memory or because of the disk, which is blamed for its own failures only.
 pub record LeavesMaking {X : Type 0} (old new : State) (r : Result X StoreFault) : Type 0 where
   pub goes : OnOk r (Continues old new)
-  pub cut : OnErr r (IsAborted old new)
+  pub aborts : OnErr r (IsAborted old new)
   pub disk : HasCleanDisk new → IfErr r (BlamesDisk old new)
   pub faults : FaultsHaveCause old new r
 

@@ -1,3 +1,4 @@
+pub mod Versions
 pub mod Schema
 pub mod Step
 pub mod Faults

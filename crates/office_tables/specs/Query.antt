@@ -31,7 +31,7 @@ pub record IsQuery (version : Version) (sql : List ℕ) : Type 0 where
 pub record Reads {X : Type 0} (old new : State) (r : Result X StoreFault) : Type 0 where
   pub crash : Survives old new (λ _. ⊥)
   pub looks : OnOk r (LeavesUnchanged old new)
-  pub cut : OnErr r (IsAborted old new)
+  pub aborts : OnErr r (IsAborted old new)
   pub spares : HasCleanDisk new → IfErr r (Spares IsSame old new)
 
 -- these are the records of the rows that the query shows

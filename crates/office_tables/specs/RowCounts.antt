@@ -2,5 +2,5 @@
 use Rattle.std.specs.Prelude.{ℕ, min}
 
 -- SQL counts up to the greatest i64
-abbrev pub capped : ℕ → ℕ
-capped n = min n 9223372036854775807
+abbrev pub cap : ℕ → ℕ
+cap n = min n 9223372036854775807

@@ -16,7 +16,8 @@ use Rattle.sqlite_schema.specs.declared.schema.Index.{Index}
 use Rattle.sqlite_schema.specs.declared.schema.Reference.{Reference}
 use Rattle.sqlite_schema.specs.declared.schema.Action.TheVariants.{NoAction, Cascade}
 use Rattle.sqlite_catalog.specs.Listing.{automatic}
-pub use Rattle.tree_core.specs.Versions.{Version, Links, Spans}
+use Rattle.tree_core.specs.Encodings.{TreeEncoding, Links, Spans}
+pub use Rattle.office_tables.specs.Versions.{Version, First, Second, encoding}
 
 -- a column in the BINARY collation and with no default
 abbrev pub column : List ℕ → Kind → Bool → Column
@@ -48,8 +49,8 @@ table name tree key columns primary uniques references = record {
 }
 
 -- the first column is the INTEGER PRIMARY KEY
-abbrev pub keyed : List ℕ → ℕ → List Column → List (List ℕ) → Table
-keyed name tree columns uniques = table name tree (Some 0) columns (0 ∷ []) uniques []
+abbrev pub keyed_table : List ℕ → ℕ → List Column → List (List ℕ) → Table
+keyed_table name tree columns uniques = table name tree (Some 0) columns (0 ∷ []) uniques []
 
 -- a plain index on columns of a table
 abbrev pub index : List ℕ → ℕ → Table → List ℕ → Index
@@ -62,10 +63,10 @@ to_unit place = record { columns = place ∷ []; parent = codes "unit"; parent_c
 -- ---- the desk
 
 abbrev pub reader : Table
-reader = keyed (codes "reader") 0 (nullable (codes "ticket") ∷ words (codes "name") ∷ number (codes "until") ∷ []) []
+reader = keyed_table (codes "reader") 0 (nullable (codes "ticket") ∷ words (codes "name") ∷ number (codes "until") ∷ []) []
 
 abbrev pub seat : Table
-seat = keyed (codes "seat") 1 (nullable (codes "seat") ∷ number (codes "ticket") ∷ []) ((2 ∷ []) ∷ [])
+seat = keyed_table (codes "seat") 1 (nullable (codes "seat") ∷ number (codes "ticket") ∷ []) ((2 ∷ []) ∷ [])
 
 -- The orders that wait are few among the past ones. Each of these keys contains the number of the order, so it refuses
 -- no row.
@@ -81,15 +82,15 @@ abbrev pub live_key : List ℕ
 live_key = 2 ∷ 5 ∷ 0 ∷ []
 
 abbrev pub orders : Table
-orders = keyed (codes "orders") 3
+orders = keyed_table (codes "orders") 3
     (nullable (codes "id") ∷ number (codes "ticket") ∷ number (codes "container") ∷ number (codes "day") ∷ number (codes "state") ∷ [])
     (waiting_key ∷ placed_key ∷ live_key ∷ [])
 
 abbrev pub holding : Table
-holding = keyed (codes "holding") 7 (nullable (codes "container") ∷ nullable (codes "held_by") ∷ number (codes "place") ∷ []) []
+holding = keyed_table (codes "holding") 7 (nullable (codes "container") ∷ nullable (codes "held_by") ∷ number (codes "place") ∷ []) []
 
 abbrev pub run : Table
-run = keyed (codes "run") 8 (nullable (codes "id") ∷ number (codes "day") ∷ []) []
+run = keyed_table (codes "run") 8 (nullable (codes "id") ∷ number (codes "day") ∷ []) []
 
 abbrev pub run_line : Table
 run_line = table (codes "run_line") 9 None
@@ -111,13 +112,13 @@ desk_indexes = automatic seat 0 (2 ∷ []) 2 ∷ automatic orders 0 waiting_key 
 -- ---- the catalogue
 
 abbrev pub office : Table
-office = keyed (codes "office") 14
+office = keyed_table (codes "office") 14
     (nullable (codes "one") ∷ number (codes "version") ∷ words (codes "country") ∷ words (codes "repo") ∷ number (codes "seats") ∷ number (codes "daily")
     ∷ number (codes "hands") ∷ number (codes "run_size") ∷ number (codes "day") ∷ number (codes "next_unit") ∷ [])
     []
 
 abbrev pub unit : Table
-unit = keyed (codes "unit") 15
+unit = keyed_table (codes "unit") 15
     (nullable (codes "id") ∷ words (codes "source") ∷ words (codes "legacy") ∷ words (codes "level") ∷ nullable (codes "until") ∷ number (codes "draft") ∷ [])
     ((2 ∷ 3 ∷ []) ∷ [])
 
@@ -126,7 +127,7 @@ element = table (codes "element") 17 None (number (codes "unit") ∷ number (cod
     (1 ∷ 2 ∷ []) ((1 ∷ 2 ∷ []) ∷ []) (to_unit 1 ∷ [])
 
 abbrev pub container : Table
-container = keyed (codes "container") 19
+container = keyed_table (codes "container") 19
     (nullable (codes "id") ∷ words (codes "name") ∷ words (codes "location") ∷ words (codes "kind") ∷ [])
     ((2 ∷ 3 ∷ 4 ∷ []) ∷ [])
 
@@ -138,16 +139,16 @@ housing = table (codes "housing") 21 None (number (codes "unit") ∷ number (cod
 -- ---- the places
 
 -- the table of places stands last in every version, keyed by the unit's number
-abbrev pub place_name : Version → List ℕ
+abbrev pub place_name : TreeEncoding → List ℕ
 place_name Links = codes "link"
 place_name Spans = codes "span"
 
-abbrev pub place_columns : Version → List Column
+abbrev pub place_columns : TreeEncoding → List Column
 place_columns Links = nullable (codes "id") ∷ nullable (codes "parent") ∷ number (codes "ord") ∷ []
 place_columns Spans = nullable (codes "id") ∷ number (codes "lft") ∷ number (codes "rgt") ∷ []
 
-abbrev pub place_table : Version → Table
-place_table version = keyed (place_name version) 24 (place_columns version) []
+abbrev pub place_table : TreeEncoding → Table
+place_table way = keyed_table (place_name way) 24 (place_columns way) []
 
 abbrev pub link : Table
 link = place_table Links
@@ -155,7 +156,7 @@ link = place_table Links
 abbrev pub span : Table
 span = place_table Spans
 
-abbrev pub place_indexes : Version → List Index
+abbrev pub place_indexes : TreeEncoding → List Index
 place_indexes Links = index (codes "link_by_parent") 25 link (2 ∷ 3 ∷ []) ∷ []
 place_indexes Spans = index (codes "span_by_lft") 25 span (2 ∷ []) ∷ index (codes "span_by_rgt") 26 span (3 ∷ []) ∷ []
 
@@ -170,10 +171,10 @@ desk_schema = record { tables = desk_tables; indexes = desk_indexes; views = [] 
 
 abbrev pub schema : Version → Schema
 schema version = record {
-  tables = reader ∷ seat ∷ orders ∷ holding ∷ run ∷ run_line ∷ permit ∷ office ∷ unit ∷ element ∷ container ∷ housing ∷ place_table version ∷ [];
+  tables = reader ∷ seat ∷ orders ∷ holding ∷ run ∷ run_line ∷ permit ∷ office ∷ unit ∷ element ∷ container ∷ housing ∷ place_table (encoding version) ∷ [];
   indexes = automatic seat 0 (2 ∷ []) 2 ∷ automatic orders 0 waiting_key 4 ∷ automatic orders 1 placed_key 5 ∷ automatic orders 2 live_key 6
       ∷ automatic run_line 0 (1 ∷ 2 ∷ []) 10 ∷ automatic permit 0 (1 ∷ 2 ∷ []) 12 ∷ automatic permit 1 (2 ∷ 1 ∷ []) 13
       ∷ automatic unit 0 (2 ∷ 3 ∷ []) 16 ∷ automatic element 0 (1 ∷ 2 ∷ []) 18 ∷ automatic container 0 (2 ∷ 3 ∷ 4 ∷ []) 20
-      ∷ automatic housing 0 (1 ∷ 2 ∷ []) 22 ∷ automatic housing 1 (3 ∷ 1 ∷ []) 23 ∷ place_indexes version;
+      ∷ automatic housing 0 (1 ∷ 2 ∷ []) 22 ∷ automatic housing 1 (3 ∷ 1 ∷ []) 23 ∷ place_indexes (encoding version);
   views = [];
 }

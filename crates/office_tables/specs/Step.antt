@@ -7,7 +7,7 @@ use Rattle.sqlite.specs.Table.{Table}
 use Rattle.sqlite.specs.Tree.{put_row}
 use Rattle.sqlite.specs.Edit.{is_taken}
 use Rattle.sqlite.specs.State.{State, HasCleanDisk, Survives}
-use Rattle.tree_core.specs.Versions.{Version}
+use Rattle.office_tables.specs.Versions.{Version}
 use Rattle.office_tables.specs.Faults.{BlamesDisk}
 use Rattle.office_tables.specs.Schema.{schema}
 use Rattle.office_tables.specs.Schema as tables
@@ -38,7 +38,7 @@ pub record IsBack (old new : State) : Type 0 where
   pub committed : IsTrue new.is_open → new.committed ≡ old.committed
   pub ended : new.in_transaction ≡ false
 
--- The call is inside the transaction, which goes on. A crash finds what the last commit left.
+-- The transaction goes on, if one is open. A crash finds what the last commit left.
 pub record Continues (old new : State) : Type 0 where
   pub crash : Survives old new (λ _. ⊥)
   pub within : HasCleanDisk new → GoesOn old new
@@ -51,7 +51,7 @@ pub record Goes (old new : State) : Type 0 where
 -- What a call that fails leaves: the transaction goes on and can be rolled back, or it has been rolled back.
 pub record IsAborted (old new : State) : Type 0 where
   pub crash : Survives old new (λ _. ⊥)
-  pub cut : HasCleanDisk new → GoesOn old new ⊎ IsBack old new
+  pub aborts : HasCleanDisk new → GoesOn old new ⊎ IsBack old new
 
 -- What a fault spares: the disk is blamed for its own failures only; and the rows are as `Left` says, or the
 -- transaction was rolled back.

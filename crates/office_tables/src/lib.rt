@@ -14,9 +14,9 @@ pub mod value;
 mod versions;
 
 pub use fault::StoreFault;
-pub use streamed_rows::{Gathering, gather};
+pub use streamed_rows::Gathering;
 pub use table_creation::{create_index, create_table};
-pub use table_statements::{change, find, find_number, find_one};
+pub use table_statements::{change, find, find_number, find_one, gather};
 pub use tables::{Closed, Tables};
 pub use transaction::{begin, commit, roll_back};
-pub use versions::Versioned;
+pub use versions::{NEWEST_VERSION, Versioned};

@@ -50,7 +50,7 @@ fn take_rows<G: Gathering + Drop, S: Alter>(
 }
 
 /// Runs one of our queries, which has no parameters, and returns what its rows come to.
-pub fn gather<G: Gathering + Drop, S: Alter>(
+pub(crate) fn gather<G: Gathering + Drop, S: Alter>(
     conn: &mut Connection<S>,
     sql: &str,
     start: G,

@@ -28,7 +28,7 @@ pub fn create_table<S: Alter>(conn: &mut Connection<S>, text: &str) -> Result<()
         → IsMaking there before start (state S.Store conn.old) → DefinesTable there before text.now after
         → HasCleanDisk (state S.Store conn.new)
         → IfErr result (HasCause (state S.Store conn.old) (state S.Store conn.new)) }
-    ensures cut { (there : List Table) (start : Database) (before after : Schema)
+    ensures aborts { (there : List Table) (start : Database) (before after : Schema)
         → IsMaking there before start (state S.Store conn.old) → DefinesTable there before text.now after
         → OnErr result (IsAborted (state S.Store conn.old) (state S.Store conn.new)) }
 {
@@ -50,7 +50,7 @@ pub fn create_index<S: Alter>(conn: &mut Connection<S>, text: &str) -> Result<()
         → IsMaking there before start (state S.Store conn.old) → DefinesIndex there before text.now after
         → HasCleanDisk (state S.Store conn.new)
         → IfErr result (HasCause (state S.Store conn.old) (state S.Store conn.new)) }
-    ensures cut { (there : List Table) (start : Database) (before after : Schema)
+    ensures aborts { (there : List Table) (start : Database) (before after : Schema)
         → IsMaking there before start (state S.Store conn.old) → DefinesIndex there before text.now after
         → OnErr result (IsAborted (state S.Store conn.old) (state S.Store conn.new)) }
 {
@@ -71,7 +71,7 @@ pub fn create_units<S: Alter>(conn: &mut Connection<S>) -> Result<(), StoreFault
     ensures faults { (start : Database) → IsMaking desk_tables desk_schema start (state S.Store conn.old)
         → HasCleanDisk (state S.Store conn.new)
         → IfErr result (HasCause (state S.Store conn.old) (state S.Store conn.new)) }
-    ensures cut { (start : Database) → IsMaking desk_tables desk_schema start (state S.Store conn.old)
+    ensures aborts { (start : Database) → IsMaking desk_tables desk_schema start (state S.Store conn.old)
         → OnErr result (IsAborted (state S.Store conn.old) (state S.Store conn.new)) }
 {
     create_table(
@@ -99,7 +99,7 @@ pub fn create_containers<S: Alter>(conn: &mut Connection<S>) -> Result<(), Store
     ensures faults { (start : Database) → IsMaking desk_tables unit_schema start (state S.Store conn.old)
         → HasCleanDisk (state S.Store conn.new)
         → IfErr result (HasCause (state S.Store conn.old) (state S.Store conn.new)) }
-    ensures cut { (start : Database) → IsMaking desk_tables unit_schema start (state S.Store conn.old)
+    ensures aborts { (start : Database) → IsMaking desk_tables unit_schema start (state S.Store conn.old)
         → OnErr result (IsAborted (state S.Store conn.old) (state S.Store conn.new)) }
 {
     create_table(

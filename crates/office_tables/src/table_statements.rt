@@ -6,13 +6,15 @@ ghost use Rattle.sqlite.specs.State.{HasCleanDisk, IsLive};
 ghost use Rattle.sqlite.specs.Values.{bound};
 ghost use Rattle.sqlite.specs.declared.types.Value.TheVariants.{Int};
 ghost use Rattle.office_tables.specs.ChangeStatement.{IsChange, Leaves, RanInside};
-ghost use Rattle.office_tables.specs.Query.{IsQuery, Reads, Finds, FindsFirst, FoundInside, Misses};
+ghost use Rattle.office_tables.specs.Query.{IsQuery, Reads, Finds, FindsFirst, FoundInside, Gathers, Misses};
+ghost use Rattle.office_tables.specs.Query.{StopsShort};
 
 use crate::fault::StoreFault;
 use crate::from_row::FromRow;
+use crate::streamed_rows::Gathering;
 use crate::tables::Tables;
 use crate::versions::Versioned;
-use crate::{change_statement, query};
+use crate::{change_statement, query, streamed_rows};
 use sqlite::Alter;
 use sqlite::types::ValueRef;
 use std::alloc::Global;
@@ -98,4 +100,27 @@ pub fn find_number<P: Versioned, S: Alter>(
         return Err(StoreFault::Schema);
     }
     query::find_number(&mut tables.conn, sql, params)
+}
+
+/// What the rows of one of our queries come to, taken one by one. The query has no parameters. Outside a transaction it
+/// fails with `StoreFault::Schema`.
+pub fn gather<G: Gathering + Drop, P: Versioned, S: Alter>(
+    tables: &mut Tables<P, S>,
+    sql: &str,
+    start: G,
+) -> Result<G, StoreFault>
+    requires ours { IsQuery P.version sql.now }
+    requires begins { G.holds [] start }
+    ensures reads { Reads (state S.Store tables.old) (state S.Store tables.new) result }
+    ensures ran { HasCleanDisk (state S.Store tables.new) → FoundInside P.version (state S.Store tables.old)
+        (Gathers G.holds sql.now [] (state S.Store tables.old) (state S.Store tables.new))
+        (StopsShort sql.now [] (state S.Store tables.old) (state S.Store tables.new)) result }
+    ensures live { IsLive (state S.Store tables.old) }
+{
+    // An open connection's rows keep the rules of its tables.
+    let _ = tables.conn.schema();
+    if tables.conn.is_autocommit() {
+        return Err(StoreFault::Schema);
+    }
+    streamed_rows::gather(&mut tables.conn, sql, start)
 }

@@ -7,7 +7,7 @@ ghost use Rattle.sqlite.specs.State.{HasCleanDisk, Shows, Survives};
 ghost use Rattle.office_tables.specs.Faults.{HasOuterCause};
 ghost use Rattle.office_tables.specs.Lending.{LendsBegun};
 ghost use Rattle.office_tables.specs.Schema.{schema};
-ghost use Rattle.office_tables.specs.Step.{AreTables};
+ghost use Rattle.office_tables.specs.Step.{AreTables, InTransaction};
 ghost use Rattle.office_tables.specs.Transactions.{Committed, IsEnded, IsStopped};
 
 use crate::fault::StoreFault;
@@ -39,7 +39,7 @@ impl<P: Versioned, S: Alter> Model for Tables<P, S> {
 impl<P: Versioned, S: Alter> Tables<P, S> {
     /// The tables of this connection, in the transaction that is open.
     pub fn inside(conn: Connection<S>) -> Tables<P, S>
-        requires { AreTables P.version (state S.Store conn) }
+        requires { InTransaction P.version (state S.Store conn) }
         ensures { result ≡ conn }
     {
         Tables {

@@ -6,7 +6,7 @@ ghost use Rattle.sqlite.specs.Held.{state};
 ghost use Rattle.sqlite.specs.State.{HasCleanDisk};
 ghost use Rattle.sqlite.specs.Steps.{over_memory};
 
-use crate::calls::{Said, told};
+use crate::calls::{Said, all_rows};
 use crate::offices::{BOXES, in_memory};
 use catalogue_store::{LinkPlaces, Places};
 use integrity_checks::CheckedPlaces;
@@ -137,13 +137,13 @@ const IN_SPANS: [Damage; 4] = [
     ("DELETE FROM span WHERE id = 4", OpenFault::Unsound(3)),
 ];
 
-fn said<P: Places, S: Alter>(
+fn expect_verdict<P: Places, S: Alter>(
     alloc: Global,
     office: &mut Office<P, S>,
     all: &[Said],
 ) -> Result<(), Fail> {
     for each in all {
-        let _ = told(alloc, office, *each)?;
+        let _ = all_rows(alloc, office, *each)?;
     }
     Ok(())
 }
@@ -155,7 +155,7 @@ fn after_a_morning<P: Places>(alloc: Global) -> Result<Connection<MemStore>, Fai
     ensures unlimited { IfOk result (λ conn. (state over_memory conn).step_limit ≡ None) }
 {
     let mut office = in_memory::<P>(alloc)?;
-    let done = said(alloc, &mut office, &MORNING);
+    let done = expect_verdict(alloc, &mut office, &MORNING);
     let conn = office.into_connection();
     done?;
     Ok(conn)
@@ -246,7 +246,7 @@ fn evening_in<P: Places, S: Alter>(
     office: &mut Office<P, S>,
 ) -> Result<(), Fail> {
     for (said, wanted) in EVENING {
-        let text = told(alloc, office, said)?;
+        let text = all_rows(alloc, office, said)?;
         assert_eq!(rt; text.as_slice(), wanted.as_bytes());
     }
     Ok(())

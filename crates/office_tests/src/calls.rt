@@ -141,7 +141,7 @@ fn bytes_of(answer: Answer) -> Result<List<u8>, Fail> {
     }
 }
 
-pub(crate) fn told<P: Places, S: Alter>(
+pub(crate) fn all_rows<P: Places, S: Alter>(
     alloc: Global,
     office: &mut Office<P, S>,
     said: Said,
@@ -163,7 +163,7 @@ pub(crate) fn goes<P: Places, S: Alter>(
     steps: &[Step],
 ) -> Result<(), Fail> {
     for &(said, wanted) in steps {
-        let text = told(alloc, office, said)?;
+        let text = all_rows(alloc, office, said)?;
         assert_eq!(rt; text.as_slice(), wanted.as_bytes());
     }
     Ok(())

@@ -5,7 +5,7 @@ ghost use Rattle.sqlite.specs.Held.{state};
 ghost use Rattle.sqlite.specs.State.{HasCleanDisk};
 ghost use Rattle.sqlite.specs.Steps.{over_memory};
 
-use crate::calls::{Said, told};
+use crate::calls::{Said, all_rows};
 use crate::migration::{has_spans, rows_of};
 use crate::offices::in_memory;
 use catalogue_store::LinkPlaces;
@@ -42,7 +42,7 @@ fn tables(alloc: Global) -> Result<Connection<MemStore>, Fail>
     ensures unlimited { IfOk result (λ conn. (state over_memory conn).step_limit ≡ None) }
 {
     let mut office = in_memory::<LinkPlaces>(alloc)?;
-    let taken = told(alloc, &mut office, Said::Import(FONDS));
+    let taken = all_rows(alloc, &mut office, Said::Import(FONDS));
     let conn = office.into_connection();
     let _ = taken?;
     Ok(conn)
@@ -75,7 +75,7 @@ fn tables_come_to_version_2(rt: HostRuntime) -> Result<(), Fail> {
 }
 
 /// All rows of the office and of its places, as numbers.
-fn shown(alloc: Global, conn: &mut Connection<MemStore>) -> Result<String, Fail> {
+fn listing(alloc: Global, conn: &mut Connection<MemStore>) -> Result<String, Fail> {
     let mut rows = rows_of(alloc, conn, "SELECT version, seats FROM office", 2)?;
     let places = rows_of(alloc, conn, "SELECT id, ord FROM link ORDER BY id", 2)?;
     rows.push_str(places.as_str())?;
@@ -101,10 +101,10 @@ fn damage(alloc: Global, sql: &str) -> Result<Connection<MemStore>, Fail>
 /// They are not migrated, and stay as they are after the statement.
 fn stays(rt: &impl Abort, alloc: Global, sql: &str, fault: OpenFault) -> Result<(), Fail> {
     let mut same = damage(alloc, sql)?;
-    let before = shown(alloc, &mut same)?;
+    let before = listing(alloc, &mut same)?;
     let mut conn = damage(alloc, sql)?;
     assert_eq!(rt; (sql, fault_of(alloc, &mut conn)), (sql, Some(fault)));
-    let after = shown(alloc, &mut conn)?;
+    let after = listing(alloc, &mut conn)?;
     assert_eq!(rt; after.as_str(), before.as_str());
     Ok(())
 }

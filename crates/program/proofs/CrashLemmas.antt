@@ -12,7 +12,7 @@ use Rattle.sqlite_disk.specs.declared.Disk.{Ghosts}
 use Rattle.sqlite_disk.specs.declared.Files.{Files}
 use Rattle.sqlite_store.specs.declared.store.FileStore.{FileStore}
 use Rattle.sqlite_trees.specs.declared.store.Store as trees
-use Rattle.tree_core.specs.Versions.{Spans}
+use Rattle.office_tables.specs.Versions.{Second}
 use Rattle.nested_sets.specs.Representation.{RepresentsSpanRows}
 use Rattle.office_core.specs.Rules.{step}
 use Rattle.office_core.specs.Rules as rules
@@ -53,9 +53,9 @@ left_only g office files Such left honest shut finds =
     let (last, same, only) = left.shut honest shut in
     (last, same, λ db may. finds db (only db may))
 
-module _ {S : Type 0} (g : trees.Ghosts S) (keeps : KeepsCommits g) (a b : Held S) (rested : HasCleanDisk (state g a) → IsAtRest Spans (state g a)) where
+module _ {S : Type 0} (g : trees.Ghosts S) (keeps : KeepsCommits g) (a b : Held S) (rested : HasCleanDisk (state g a) → IsAtRest Second (state g a)) where
   abbrev shown : Held S → State → Type 0
-  shown = is_shown g RepresentsSpanRows Spans
+  shown = is_shown g RepresentsSpanRows Second
 
   -- before the call a crash finds the state, or that after one of these commands
   found_before : HasCleanDisk (state g a) → (s : State) → shown a s → (asked : List Command) → IsRecovered g a asked s → (db : Trees) → (state g a).may_leave db → AreTablesAfter (IsAmong asked) s db
@@ -67,10 +67,10 @@ module _ {S : Type 0} (g : trees.Ghosts S) (keeps : KeepsCommits g) (a b : Held 
     | inr shut ↦ found shut db may
   ]
 
-  module _ (command : Command) (crash : Survives (state g a) (state g b) (MayFind RepresentsSpanRows Spans command (state g a))) where
+  module _ (command : Command) (crash : Survives (state g a) (state g b) (MayFind RepresentsSpanRows Second command (state g a))) where
     -- a command that was answered
     stepped : (s : State) (reply : rules.Reply) → HasCleanDisk (state g b) → (IsOk reply → IsTrue (state g b).is_open)
-        → TakesStep RepresentsSpanRows Spans s command reply (state g b) → shown a s → (asked : List Command) → IsRecovered g a asked s → IsRecovered g b asked (step s command).0
+        → TakesStep RepresentsSpanRows Second s command reply (state g b) → shown a s → (asked : List Command) → IsRecovered g a asked s → IsRecovered g b asked (step s command).0
     stepped s (Ok done) clean opened takes it asked found = λ shut. absurd (both_ways _ shut (opened refl))
     stepped s (Err why) clean opened takes it asked found = λ shut db may. elim (crash.crash clean db may) [
       | inl before ↦
@@ -80,7 +80,7 @@ module _ {S : Type 0} (g : trees.Ghosts S) (keeps : KeepsCommits g) (a b : Held 
     ]
 
     pub command_found : {E : Type 0} (r : Result Reply E) → (HasCleanDisk (state g b) → IfOk r (λ reply. IsOk reply.done → IsTrue (state g b).is_open))
-        → (HasCleanDisk (state g b) → (s : State) → IsSoundOffice s → IsIn RepresentsSpanRows Spans s (state g a) → IfOk r (λ reply. TakesStep RepresentsSpanRows Spans s command reply.done (state g b)))
+        → (HasCleanDisk (state g b) → (s : State) → IsSoundOffice s → IsIn RepresentsSpanRows Second s (state g a) → IfOk r (λ reply. TakesStep RepresentsSpanRows Second s command reply.done (state g b)))
         → IfOk r (λ reply. HasCleanDisk (state g b) → (s : State) → shown a s → (asked : List Command) → IsRecovered g a asked s → IsRecovered g b asked (step s command).0)
     command_found (Ok reply) opened steps = λ clean s it asked found. stepped s reply.done clean (opened clean) (steps clean s it.0 it.1) it asked found
     command_found (Err e) opened steps = tt

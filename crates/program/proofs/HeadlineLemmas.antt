@@ -17,7 +17,7 @@ use Rattle.office.specs.IdleOffice.{is_clean, is_shown, is_still_open}
 use Rattle.office_core.specs.State.{State}
 use Rattle.office_tables.specs.Schema.{schema}
 use Rattle.refinement.specs.Representation.{RepresentsState}
-use Rattle.tree_core.specs.Versions.{Spans}
+use Rattle.office_tables.specs.Versions.{Second}
 use Rattle.program.specs.ClosedFiles.{HasLeft, HaveCleanDisk, HoldState}
 use Rattle.program.specs.Headline.{TheHeadlineInAFile, TheHeadlineInMemory, TheHeadlineOfATrial}
 
@@ -30,28 +30,28 @@ all_intact represents is_intact is_open (visit ∷ later) old new (mid, first, r
 pub in_memory : TheHeadlineInMemory
 in_memory founding visits old new shown are days =
     let (t, after, run, all) =
-    law.the_headline (is_shown over_memory RepresentsSpanRows Spans) (is_clean over_memory) (is_still_open over_memory) visits old new are days (memory_is_clean new) _ shown shown.0.sound in
+    law.the_headline (is_shown over_memory RepresentsSpanRows Second) (is_clean over_memory) (is_still_open over_memory) visits old new are days (memory_is_clean new) _ shown shown.0.sound in
     (t, after, run)
 
 pub of_a_trial : {D : Type 0} (g : Ghosts D) → ((office : Held (FileStore D g)) → HasCleanDisk (file_state office)) → TheHeadlineOfATrial g
 of_a_trial g clean founding visits old new shown are days =
     let (t, after, run, all) =
-    law.the_headline (is_shown (over_files {g = g}) RepresentsSpanRows Spans) (is_clean (over_files {g = g})) (is_still_open (over_files {g = g})) visits old new are days (clean new) _ shown shown.0.sound in
+    law.the_headline (is_shown (over_files {g = g}) RepresentsSpanRows Second) (is_clean (over_files {g = g})) (is_still_open (over_files {g = g})) visits old new are days (clean new) _ shown shown.0.sound in
     (t, after, run, (all.0, λ leaves. after.1 (all.1 leaves)))
 
 -- the tables that show a state are of our schema
-pub shows : (db : Database) (s : State) → RepresentsState RepresentsSpanRows Spans db s → RepresentsState RepresentsSpanRows Spans (record { schema = schema Spans; trees = db.trees }) s
-shows db s it = subst (λ k. RepresentsState RepresentsSpanRows Spans (record { schema = k; trees = db.trees }) s) it.catalogue.catalogue.schema_is it
+pub shows : (db : Database) (s : State) → RepresentsState RepresentsSpanRows Second db s → RepresentsState RepresentsSpanRows Second (record { schema = schema Second; trees = db.trees }) s
+shows db s it = subst (λ k. RepresentsState RepresentsSpanRows Second (record { schema = k; trees = db.trees }) s) it.catalogue.catalogue.schema_is it
 
 module _ {D : Type 0} (g : Ghosts D) (image : Image) where
   pub held_so : (office : Held (FileStore D g)) (files : Files D) (s : State) → HasLeft office files → HaveCleanDisk g files
-      → RepresentsState RepresentsSpanRows Spans (file_state office).now s → IsTrue (file_state office).is_open → HoldState g files s
+      → RepresentsState RepresentsSpanRows Second (file_state office).now s → IsTrue (file_state office).is_open → HoldState g files s
   held_so office files s left honest is opened = ((file_state office).now.trees, left.hold honest opened, shows (file_state office).now s is)
 
   pub in_a_file : TheHeadlineInAFile g image
   in_a_file s visits old new files found holds sound are days left honest =
       let clean = left.clean honest in
-      let shown = is_shown (over_files {g = g}) RepresentsSpanRows Spans in
+      let shown = is_shown (over_files {g = g}) RepresentsSpanRows Second in
       let intact = is_clean (over_files {g = g}) in
       let stays = is_still_open (over_files {g = g}) in
       let first = (found (all_intact shown intact stays visits old new are clean)).left s holds in

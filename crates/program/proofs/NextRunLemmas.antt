@@ -12,7 +12,7 @@ use Rattle.sqlite_disk.specs.declared.Disk.{Ghosts}
 use Rattle.sqlite_disk.specs.declared.Files.{Files}
 use Rattle.sqlite_store.specs.declared.store.FileStore.{FileStore}
 use Rattle.sqlite_trees.specs.Props.{Trees-set}
-use Rattle.tree_core.specs.Versions.{Spans}
+use Rattle.office_tables.specs.Versions.{Second}
 use Rattle.nested_sets.specs.Representation.{RepresentsSpanRows}
 use Rattle.office.specs.IdleOffice.{IsIn}
 use Rattle.office.proofs.NewOffices.{founded_sound}
@@ -43,12 +43,12 @@ one_database : (image : Image) (a b : Trees) → AreHeld image a → ∥ HoldsDa
 one_database image a b held holds = ∥∥₁_elim holds (Trees-set a b) (λ there. held.holds b there)
 
 -- so the office that a run finds is in the state that the runs before it led to
-finds : (image : Image) (at : store.State) (s : State) → IsFound image at → IsAfter image s [] → IsIn RepresentsSpanRows Spans s at
+finds : (image : Image) (at : store.State) (s : State) → IsFound image at → IsAfter image s [] → IsIn RepresentsSpanRows Second s at
 finds image at s found was opened =
     let same = one_database image found.found.trees was.tables found.held was.holds in
-    let there : RepresentsState RepresentsSpanRows Spans found.found s =
-    subst₂ (λ k t. RepresentsState RepresentsSpanRows Spans (record { schema = k; trees = t }) s) (sym found.verdict.0.schema_is) (sym same) was.represents in
-    subst (λ (db : Database). RepresentsState RepresentsSpanRows Spans db s) (sym (found.same opened)) there
+    let there : RepresentsState RepresentsSpanRows Second found.found s =
+    subst₂ (λ k t. RepresentsState RepresentsSpanRows Second (record { schema = k; trees = t }) s) (sym found.verdict.0.schema_is) (sym same) was.represents in
+    subst (λ (db : Database). RepresentsState RepresentsSpanRows Second db s) (sym (found.same opened)) there
 
 -- ---- what is left
 
@@ -62,7 +62,7 @@ module _ {D : Type 0} {g : Ghosts D} (conn : Held (FileStore D g)) (files : File
       subst (λ (db : Database). ∥ HoldsDatabase next db.trees ∥₁) (sym (left.settled copied.was_clean copied.was_open)) there.both
 
   -- the next run finds the office in the state that the connection showed
-  holds_next : (s : State) → RepresentsState RepresentsSpanRows Spans (file_state conn).now s → IsSoundOffice s → IsAfter next s []
+  holds_next : (s : State) → RepresentsState RepresentsSpanRows Second (file_state conn).now s → IsSoundOffice s → IsAfter next s []
   holds_next s is sound = record { tables = (file_state conn).now.trees; holds = is_next; represents = shows (file_state conn).now s is; sound = sound }
 
   -- or as it was, where the connection has the tables that were found
@@ -98,7 +98,7 @@ module _ {D : Type 0} (g : Ghosts D) (image : Image) where
       let before = early (file_state it.office) (file_state it.after) _ it.crash clean in
       let same = it.same clean in
       let there = finds image _ s (it.opened before) was (same.was_open copied.was_open) in
-      ([], s, (refl, refl), refl, holds_next it.after files next it.closed copied found s (subst (λ (db : Database). RepresentsState RepresentsSpanRows Spans db s) (sym (same.now copied.was_open)) there) was.sound)
+      ([], s, (refl, refl), refl, holds_next it.after files next it.closed copied found s (subst (λ (db : Database). RepresentsState RepresentsSpanRows Second db s) (sym (same.now copied.was_open)) there) was.sound)
   goes files next s was (Talks reader reader_after out out_after end it) copied found =
       let clean = copied.was_clean in
       let opened = it.opened (it.intact clean) in

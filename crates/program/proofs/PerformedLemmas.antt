@@ -16,7 +16,7 @@ use Rattle.command_line.specs.CommandLine.{program}
 use Rattle.office.specs.declared.faults.OpenFault.{OpenFault}
 use Rattle.office.specs.declared.faults.OpenFault.TheVariants as opening
 use Rattle.program.specs.Faults.{RefusesFile, fault_of_file, fault_of_opening, fault_of_reading, fault_of_words, message_of, status_of}
-use Rattle.program.specs.CommandEffects.{Channels, ComplaintFails, Fails, FailsWith, ImportFails, InitFails, IsBusy, IsDone, JudgmentFails, LineFails, ListeningFails, MigrateFails, NotOpened, IsPerformed, PreviewFails, Reads, ReadsPart, ReplyFails, ServeFails, TalkFails, Tells, TrialFails, complaint_of, previewed}
+use Rattle.program.specs.CommandEffects.{Channels, ComplaintFails, Fails, FailsWith, ImportFails, InitFails, IsBusy, IsDone, JudgmentFails, LineFails, ListeningFails, MigrateFails, NotOpened, IsPerformed, PreviewFails, Reads, ReadsPart, ReplyFails, ServeFails, TalkFails, Tells, TrialFails, complaint_of, preview_result}
 use Rattle.program.specs.Connections.{History}
 use Rattle.program.specs.FailedOpenings.{reason_of}
 use Rattle.program.specs.Outcomes.{IsClosedAnd, IsUnopened}
@@ -39,7 +39,7 @@ use Rattle.program.specs.declared.tasks.Task.TheVariants.{Preview, Init, Trial, 
 -- a preview that was broken off while it printed
 pub broken_off : {X : Type 0} (country repo : Text) (path : Option Text) (reader reader_after out out_after : Stream) (r : Result X Fault)
     → IsErrAnd r (λ fault. fault ≡ File)
-    → ((file aids : List ℕ) × Reads path reader reader_after file × (previewed country repo file ≡ Ok aids) × PrintsPart aids out out_after)
+    → ((file aids : List ℕ) × Reads path reader reader_after file × (preview_result country repo file ≡ Ok aids) × PrintsPart aids out out_after)
     → IfErr r (PreviewFails country repo path reader reader_after out out_after)
 broken_off country repo path reader reader_after out out_after (Ok x) is why = tt
 broken_off country repo path reader reader_after out out_after (Err fault) is why =
@@ -47,7 +47,7 @@ broken_off country repo path reader reader_after out out_after (Err fault) is wh
 
 -- a file that gives no finding aids ends a preview, and nothing was printed
 pub refused_fails : (country repo : Text) (path : Option Text) (reader reader_after out : Stream) (file : List ℕ) (why : csv.FileFault) (fault : Fault)
-    → RefusesFile why fault → Reads path reader reader_after file → IsBad why (λ row cause. previewed country repo file ≡ Err (row, cause)) → ReadsPart path reader reader_after
+    → RefusesFile why fault → Reads path reader reader_after file → IsBad why (λ row cause. preview_result country repo file ≡ Err (row, cause)) → ReadsPart path reader reader_after
     → PreviewFails country repo path reader reader_after out out fault
 refused_fails country repo path reader reader_after out file (files.Bad row cause) (Refused line) told read refused part =
     (file, row, cause, read, refused, told, refl)

@@ -26,10 +26,10 @@ pub and_one : {M : Type 0} (represents : M → State → Type 0) (is_intact is_o
     → Serves represents is_intact is_open recovers n told told_mid first mid true → (is_intact last → is_intact mid)
     → (it : Connection) → IsHeard it → told_after ≡ after_one told_mid it → Through represents is_intact mid last (λ s t. Keeps (is_open mid) (is_open last) (recovers mid) (recovers last) s it.input it.output it.end t)
     → Serves represents is_intact is_open recovers (n + 1) told told_after first last true
-and_one represents is_intact is_open recovers n told told_mid told_after first mid last so_far back it heard tells through = record {
+and_one represents is_intact is_open recovers n told told_mid told_after first mid last so_far back it heard answers through = record {
   connections = it ∷ so_far.connections;
   heard = (heard, so_far.heard);
-  tells = tells ∙ ap (λ h. after_one h it) so_far.tells;
+  answers = answers ∙ ap (λ h. after_one h it) so_far.answers;
   few = let all = so_far.whole refl in omega arith;
   whole = λ _. let all = so_far.whole refl in omega arith;
   sessions = λ intact s shown.
@@ -56,12 +56,12 @@ and_one represents is_intact is_open recovers n told told_mid told_after first m
 pub and_none : {M : Type 0} (represents : M → State → Type 0) (is_intact is_open : M → Type 0) (recovers : M → List Command → State → Type 0) (n most : ℕ) (told told_mid told_after : Option History) (first mid last : M)
     → Serves represents is_intact is_open recovers n told told_mid first mid true → n ≤ most → told_after ≡ after_failing told_mid → last ≡ mid
     → Serves represents is_intact is_open recovers most told told_after first last false
-and_none {M} represents is_intact is_open recovers n most told told_mid told_after first mid last so_far within tells same =
+and_none {M} represents is_intact is_open recovers n most told told_mid told_after first mid last so_far within answers same =
     let few = so_far.few in
     record {
       connections = so_far.connections;
       heard = so_far.heard;
-      tells = tells ∙ ap after_failing so_far.tells;
+      answers = answers ∙ ap after_failing so_far.answers;
       few = omega (arith, few, within);
       whole = λ all. absurd cc;
       sessions = subst (λ (m : M). Through represents is_intact first m (λ s t. (are : AreSessions so_far.connections s t) × (SessionsLeaveOpen (is_open first) so_far.connections s t are → is_open m)
@@ -77,7 +77,7 @@ pub seen_as : {M N : Type 0} {RM : M → State → Type 0} {IM OM : M → Type 0
 seen_as R I O F a b it sessions = record {
   connections = it.connections;
   heard = it.heard;
-  tells = it.tells;
+  answers = it.answers;
   few = it.few;
   whole = it.whole;
   sessions = sessions;
@@ -89,7 +89,7 @@ pub unserved : {M : Type 0} (represents : M → State → Type 0) (is_intact is_
 unserved represents is_intact is_open recovers told office = record {
   connections = [];
   heard = tt;
-  tells = refl;
+  answers = refl;
   few = omega arith;
   whole = λ _. refl;
   sessions = λ intact s shown. (s, shown, (refl, (λ stays. stays), λ asked found. ([], tt, found)));

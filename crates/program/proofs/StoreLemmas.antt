@@ -15,7 +15,7 @@ use Rattle.isad_core.specs.Texts.{Bytes}
 use Rattle.office_core.specs.Rules.{Reply}
 use Rattle.office.specs.InitialSettings.{Founding}
 use Rattle.nested_sets.specs.Representation.{RepresentsSpanRows}
-use Rattle.tree_core.specs.Versions.{Spans}
+use Rattle.office_tables.specs.Versions.{Second}
 use Rattle.office.specs.IdleOffice.{is_clean, is_shown, is_still_open}
 use Rattle.office.specs.declared.faults.OpenFault.{OpenFault}
 use Rattle.http_desk.specs.Exchanges.{Talks}
@@ -69,7 +69,7 @@ module _ {S D : Type 0} (g : Ghosts D) (image : Image) where
     module _ (reader reader_after out out_after : Stream) (office after : Held (FileStore D g)) (opened : IsOpened g image office)
         (intact : HasCleanDisk (file_state after) → HasCleanDisk (file_state office)) (left_so : HasLeft after files) where
       talked_with : (end : Ended) → AgreesWithCalls reader reader_after out out_after end
-          → Talks (is_shown (over_files {g = g}) RepresentsSpanRows Spans) (is_clean (over_files {g = g})) (is_still_open (over_files {g = g})) (IsRecovered (over_files {g = g})) reader.bytes reader_after.bytes out.bytes out_after.bytes office end after
+          → Talks (is_shown (over_files {g = g}) RepresentsSpanRows Second) (is_clean (over_files {g = g})) (is_still_open (over_files {g = g})) (IsRecovered (over_files {g = g})) reader.bytes reader_after.bytes out.bytes out_after.bytes office end after
           → IsTalkedWith g image reader reader_after out out_after end files
       talked_with end agrees (read, written, gone, told, through) =
           let it : IsTalkedWith g image reader reader_after out out_after end files = record {
@@ -88,13 +88,13 @@ module _ {S D : Type 0} (g : Ghosts D) (image : Image) where
           it
 
       pub talk_done : (r : Result (Unit {0}) Fault)
-          → OnOk r ((end : Ended) × EndsWell end × AgreesWithCalls reader reader_after out out_after end × Talks (is_shown (over_files {g = g}) RepresentsSpanRows Spans) (is_clean (over_files {g = g})) (is_still_open (over_files {g = g})) (IsRecovered (over_files {g = g})) reader.bytes reader_after.bytes out.bytes out_after.bytes office end after)
+          → OnOk r ((end : Ended) × EndsWell end × AgreesWithCalls reader reader_after out out_after end × Talks (is_shown (over_files {g = g}) RepresentsSpanRows Second) (is_clean (over_files {g = g})) (is_still_open (over_files {g = g})) (IsRecovered (over_files {g = g})) reader.bytes reader_after.bytes out.bytes out_after.bytes office end after)
           → OnOk r (TalkDone g image reader reader_after out out_after closed)
       talk_done (Ok u) (end, well, agrees, talks) = (end, well, talked_with end agrees talks)
       talk_done (Err f) done = tt
 
       pub talk_broken : (r : Result (Unit {0}) Fault)
-          → IfErr r (λ f. (broken : Break) × (f ≡ Session broken) × AgreesWithCalls reader reader_after out out_after (ended_by broken) × Talks (is_shown (over_files {g = g}) RepresentsSpanRows Spans) (is_clean (over_files {g = g})) (is_still_open (over_files {g = g})) (IsRecovered (over_files {g = g})) reader.bytes reader_after.bytes out.bytes out_after.bytes office (ended_by broken) after)
+          → IfErr r (λ f. (broken : Break) × (f ≡ Session broken) × AgreesWithCalls reader reader_after out out_after (ended_by broken) × Talks (is_shown (over_files {g = g}) RepresentsSpanRows Second) (is_clean (over_files {g = g})) (is_still_open (over_files {g = g})) (IsRecovered (over_files {g = g})) reader.bytes reader_after.bytes out.bytes out_after.bytes office (ended_by broken) after)
           → IfErr r (TalkFails g image reader reader_after out out_after closed)
       talk_broken (Ok u) why = tt
       talk_broken (Err f) (broken, is_so, agrees, talks) = inr (broken, is_so, talked_with (ended_by broken) agrees talks)
@@ -111,7 +111,7 @@ module _ {S D : Type 0} (g : Ghosts D) (image : Image) where
     module _ (out out_after : Stream) (number connections : ℕ) (told told_after : Option History) (office after : Held (FileStore D g)) (opened : IsOpened g image office)
         (intact : HasCleanDisk (file_state after) → HasCleanDisk (file_state office)) (left_so : HasLeft after files) where
       served : (most : ℕ) (first last : Option History) (all : Bool)
-          → Serves (is_shown (over_files {g = g}) RepresentsSpanRows Spans) (is_clean (over_files {g = g})) (is_still_open (over_files {g = g})) (IsRecovered (over_files {g = g})) most first last office after all
+          → Serves (is_shown (over_files {g = g}) RepresentsSpanRows Second) (is_clean (over_files {g = g})) (is_still_open (over_files {g = g})) (IsRecovered (over_files {g = g})) most first last office after all
           → HasServed g image most all first last files
       served most first last all sessions =
           let it : HasServed g image most all first last files =
@@ -119,14 +119,14 @@ module _ {S D : Type 0} (g : Ghosts D) (image : Image) where
           it
 
       pub serve_done : (r : Result (Unit {0}) Fault)
-          → OnOk r (Listens number out out_after × Serves (is_shown (over_files {g = g}) RepresentsSpanRows Spans) (is_clean (over_files {g = g})) (is_still_open (over_files {g = g})) (IsRecovered (over_files {g = g})) connections (after_listening told number) told_after office after true)
+          → OnOk r (Listens number out out_after × Serves (is_shown (over_files {g = g}) RepresentsSpanRows Second) (is_clean (over_files {g = g})) (is_still_open (over_files {g = g})) (IsRecovered (over_files {g = g})) connections (after_listening told number) told_after office after true)
           → OnOk r (ServeDone g image number connections out out_after told told_after closed)
       serve_done (Ok u) (listens, sessions) = (served connections (after_listening told number) told_after true sessions, listens)
       serve_done (Err f) done = tt
 
       pub serve_failed : (r : Result (Unit {0}) Fault)
-          → IfErr r (λ f. (ListeningFails number out out_after told told_after f × Serves (is_shown (over_files {g = g}) RepresentsSpanRows Spans) (is_clean (over_files {g = g})) (is_still_open (over_files {g = g})) (IsRecovered (over_files {g = g})) 0 told_after told_after office after true)
-          ⊎ ((f ≡ Net) × Listens number out out_after × Serves (is_shown (over_files {g = g}) RepresentsSpanRows Spans) (is_clean (over_files {g = g})) (is_still_open (over_files {g = g})) (IsRecovered (over_files {g = g})) connections (after_listening told number) told_after office after false))
+          → IfErr r (λ f. (ListeningFails number out out_after told told_after f × Serves (is_shown (over_files {g = g}) RepresentsSpanRows Second) (is_clean (over_files {g = g})) (is_still_open (over_files {g = g})) (IsRecovered (over_files {g = g})) 0 told_after told_after office after true)
+          ⊎ ((f ≡ Net) × Listens number out out_after × Serves (is_shown (over_files {g = g}) RepresentsSpanRows Second) (is_clean (over_files {g = g})) (is_still_open (over_files {g = g})) (IsRecovered (over_files {g = g})) connections (after_listening told number) told_after office after false))
           → IfErr r (ServeFails g image number connections out out_after told told_after closed)
       serve_failed (Ok u) why = tt
       serve_failed (Err f) (inl (why, sessions)) = inr (inl (served 0 told_after told_after true sessions, why))

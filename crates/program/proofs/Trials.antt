@@ -11,7 +11,7 @@ use Rattle.sqlite_trees.proofs.Doubt.{no_doubt}
 use Rattle.sqlite_wal.specs.Reads.{AreClean}
 use Rattle.sqlite_store.specs.declared.store.FileStore.{FileStore}
 use Rattle.tree_core.specs.Forest.{Forest}
-use Rattle.tree_core.specs.Versions.{Version}
+use Rattle.office_tables.specs.Versions.{Version}
 use Rattle.office_core.specs.SoundOffice.{IsSoundOffice}
 use Rattle.office.specs.InitialSettings.{Founding, founded}
 use Rattle.office.specs.IdleOffice.{IsIn, is_clean, is_shown, is_still_open}

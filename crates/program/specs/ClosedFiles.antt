@@ -18,7 +18,7 @@ use Rattle.nested_sets.specs.Representation.{RepresentsSpanRows}
 use Rattle.office_core.specs.State.{State}
 use Rattle.office_tables.specs.Schema.{schema}
 use Rattle.refinement.specs.Representation.{RepresentsState}
-use Rattle.tree_core.specs.Versions.{Spans}
+use Rattle.office_tables.specs.Versions.{Second}
 use Rattle.office.specs.Adoption.{HasAdoptCause}
 use Rattle.office.specs.declared.faults.OpenFault.{OpenFault}
 use Rattle.program.specs.OpenedFiles.{AreHeld, IsStore}
@@ -45,7 +45,7 @@ module _ {D : Type 0} (g : Ghosts D) where
   -- the files hold the tables of an office that is in this state
   abbrev pub HoldState : Files D → State → Type 0
   HoldState files s =
-      (tables : Trees) × Hold files tables × RepresentsState RepresentsSpanRows Spans (record { schema = schema Spans; trees = tables }) s
+      (tables : Trees) × Hold files tables × RepresentsState RepresentsSpanRows Second (record { schema = schema Second; trees = tables }) s
 
   -- the files hold the tables that were found in them
   abbrev pub AreAsFound : Image → Files D → Type 0
@@ -70,9 +70,9 @@ module _ {D : Type 0} (g : Ghosts D) (image : Image) where
     pub crash : Survives (file_state found) (file_state after) (λ _. ⊥)
     pub same : HasCleanDisk (file_state after) → IsTrue (file_state after).is_open
         → (file_state after).now ≡ (file_state found).now
-    pub sound : HasCleanDisk (file_state after) → IfNone judged (IsVerdict Spans (file_state found).now verdict.Sound)
+    pub sound : HasCleanDisk (file_state after) → IfNone judged (IsVerdict Second (file_state found).now verdict.Sound)
     pub cause : HasCleanDisk (file_state after)
-        → IfSome judged (HasAdoptCause Spans (file_state found) (file_state after))
+        → IfSome judged (HasAdoptCause Second (file_state found) (file_state after))
     pub left : HasLeft after files
     pub stays : AreAsFound g image files
 

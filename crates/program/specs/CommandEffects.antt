@@ -67,13 +67,13 @@ abbrev pub IsSilent : Stream → Stream → Type 0
 IsSilent out out_after = out_after ≡ out
 
 -- the finding aids of a file, or the row and the cause of its first fault
-abbrev pub previewed : Text → Text → List ℕ → Result Text (ℕ × ℕ)
-previewed country repo file = preview_of (record { country = country; repo = repo }) file
+abbrev pub preview_result : Text → Text → List ℕ → Result Text (ℕ × ℕ)
+preview_result country repo file = preview_of (record { country = country; repo = repo }) file
 
 -- a preview that is done: the finding aids of these bytes were printed
 abbrev pub PreviewDone : Text → Text → Option Text → Stream → Stream → Stream → Stream → Type 0
 PreviewDone country repo path reader reader_after out out_after =
-    (file aids : List ℕ) × Reads path reader reader_after file × (previewed country repo file ≡ Ok aids)
+    (file aids : List ℕ) × Reads path reader reader_after file × (preview_result country repo file ≡ Ok aids)
     × Prints aids out out_after
 
 -- a preview that ended with a fault: the bytes are refused with that line; or the input could not be read, and nothing
@@ -81,10 +81,10 @@ PreviewDone country repo path reader reader_after out out_after =
 abbrev pub PreviewFails : Text → Text → Option Text → Stream → Stream → Stream → Stream → Fault → Type 0
 PreviewFails country repo path reader reader_after out out_after (Refused line) =
     (file : List ℕ) × (row cause : ℕ) × Reads path reader reader_after file
-    × (previewed country repo file ≡ Err (row, cause)) × (line ≡ line_of (BadFile row cause)) × (out_after ≡ out)
+    × (preview_result country repo file ≡ Err (row, cause)) × (line ≡ line_of (BadFile row cause)) × (out_after ≡ out)
 PreviewFails country repo path reader reader_after out out_after File =
     (ReadsPart path reader reader_after × ReadingFails path reader reader_after × (out_after ≡ out))
-    ⊎ ((file aids : List ℕ) × Reads path reader reader_after file × (previewed country repo file ≡ Ok aids)
+    ⊎ ((file aids : List ℕ) × Reads path reader reader_after file × (preview_result country repo file ≡ Ok aids)
     × PrintsPart aids out out_after)
 PreviewFails country repo path reader reader_after out out_after Memory =
     ReadsPart path reader reader_after × (out_after ≡ out)
@@ -188,8 +188,8 @@ abbrev pub JudgmentFails : Option OpenFault → Stream → Stream → Fault → 
 JudgmentFails None out out_after fault = LineFails (codes "sound\n") out out_after fault
 JudgmentFails (Some why) out out_after fault = ComplaintFails why (complaint_of why) out out_after fault
 
-abbrev pub migrated : List ℕ
-migrated = codes "migrated\n"
+abbrev pub migrated_line : List ℕ
+migrated_line = codes "migrated\n"
 
 -- ---- standard input and output, and the port
 
@@ -310,14 +310,14 @@ module _ {S D : Type 0} (g : Ghosts D) (image : Image) where
 
   -- a migration that is done, and that was printed
   abbrev pub MigrateDone : Stream → Stream → StoreOutcome S D g → Type 0
-  MigrateDone out out_after outcome = IsClosedAnd outcome (IsBroughtOver g image) × Prints migrated out out_after
+  MigrateDone out out_after outcome = IsClosedAnd outcome (IsBroughtOver g image) × Prints migrated_line out out_after
 
   -- a migration that ended with a fault: the store could not be opened; or its tables stay as they are; or the
   -- migration was done, but that was not printed whole
   pub record MigrateFails (out out_after : Stream) (outcome : StoreOutcome S D g) (fault : Fault) : Type 0 where
     pub why : NoStore out out_after outcome fault
         ⊎ ((IsClosedAnd outcome (IsNotBroughtOver g image fault) × IsSilent out out_after)
-        ⊎ (IsClosedAnd outcome (IsBroughtOver g image) × LineFails migrated out out_after fault))
+        ⊎ (IsClosedAnd outcome (IsBroughtOver g image) × LineFails migrated_line out out_after fault))
 
   -- a task that is done
   abbrev pub Does : Task → Channels → Channels → StoreOutcome S D g → Type 0

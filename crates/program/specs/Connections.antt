@@ -146,7 +146,7 @@ pub record Serves {M : Type 0} (represents : M → State → Type 0) (is_intact 
     (all : Bool) : Type 0 where
   pub connections : List Connection
   pub heard : AllByRecursion IsHeard connections
-  pub tells : told_after ≡ after_last all (after_all told connections)
+  pub answers : told_after ≡ after_last all (after_all told connections)
   pub few : length connections ≤ most
   pub whole : all ≡ true → length connections ≡ most
   pub sessions : Through represents is_intact old new

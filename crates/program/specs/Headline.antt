@@ -18,7 +18,7 @@ use Rattle.office.specs.IdleOffice.{is_clean, is_shown, is_still_open}
 use Rattle.office_core.specs.SoundOffice.{IsSoundOffice}
 use Rattle.office_core.specs.State.{State}
 use Rattle.refinement.specs.Representation.{RepresentsState}
-use Rattle.tree_core.specs.Versions.{Spans}
+use Rattle.office_tables.specs.Versions.{Second}
 use Rattle.program.specs.ClosedFiles.{HasLeft, HaveCleanDisk, HoldState}
 use Rattle.program.specs.OpenedFiles.{HoldsOffice, IsFound}
 
@@ -27,11 +27,11 @@ use Rattle.program.specs.OpenedFiles.{HoldsOffice, IsFound}
 abbrev pub TheHeadlineInMemory : Type 0
 TheHeadlineInMemory =
     (founding : Founding) (visits : List Visit) (old new : Held MemStore)
-    → is_shown over_memory RepresentsSpanRows Spans old (founded founding)
-    → AreVisits (is_shown over_memory RepresentsSpanRows Spans) (is_clean over_memory) (is_still_open over_memory)
+    → is_shown over_memory RepresentsSpanRows Second old (founded founding)
+    → AreVisits (is_shown over_memory RepresentsSpanRows Second) (is_clean over_memory) (is_still_open over_memory)
     old new visits
     → AllByRecursion CallsNameDays visits
-    → (t : State) × is_shown over_memory RepresentsSpanRows Spans new t × IsOneRun (founded founding) visits t
+    → (t : State) × is_shown over_memory RepresentsSpanRows Second new t × IsOneRun (founded founding) visits t
 
 module _ {D : Type 0} (g : Ghosts D) where
   -- The same for a new office in the store of files. If the last message or call was a command that was accepted, the
@@ -40,14 +40,14 @@ module _ {D : Type 0} (g : Ghosts D) where
   abbrev pub TheHeadlineOfATrial : Type 0
   TheHeadlineOfATrial =
       (founding : Founding) (visits : List Visit) (old new : Held (FileStore D g))
-      → is_shown (over_files {g = g}) RepresentsSpanRows Spans old (founded founding)
-      → AreVisits (is_shown (over_files {g = g}) RepresentsSpanRows Spans) (is_clean (over_files {g = g}))
+      → is_shown (over_files {g = g}) RepresentsSpanRows Second old (founded founding)
+      → AreVisits (is_shown (over_files {g = g}) RepresentsSpanRows Second) (is_clean (over_files {g = g}))
       (is_still_open (over_files {g = g})) old new visits
       → AllByRecursion CallsNameDays visits
-      → (t : State) × is_shown (over_files {g = g}) RepresentsSpanRows Spans new t × IsOneRun (founded founding) visits t
+      → (t : State) × is_shown (over_files {g = g}) RepresentsSpanRows Second new t × IsOneRun (founded founding) visits t
       × ((all : AllHappen (founded founding) visits t)
       × (VisitsLeaveOpen (IsTrue (file_state old).is_open) (founded founding) visits t all
-      → RepresentsState RepresentsSpanRows Spans (file_state new).now t))
+      → RepresentsState RepresentsSpanRows Second (file_state new).now t))
 
 module _ {D : Type 0} (g : Ghosts D) (image : Image) where
   -- The same for an office that a file held when it was opened, and that is closed again. If the last message or call
@@ -57,7 +57,7 @@ module _ {D : Type 0} (g : Ghosts D) (image : Image) where
   TheHeadlineInAFile =
       (s : State) (visits : List Visit) (old new : Held (FileStore D g)) (files : Files D)
       → (HasCleanDisk (file_state old) → IsFound image (file_state old)) → HoldsOffice image s → IsSoundOffice s
-      → AreVisits (is_shown over_files RepresentsSpanRows Spans) (is_clean over_files) (is_still_open over_files)
+      → AreVisits (is_shown over_files RepresentsSpanRows Second) (is_clean over_files) (is_still_open over_files)
       old new visits
       → AllByRecursion CallsNameDays visits
       → HasLeft new files → HaveCleanDisk g files

@@ -3,7 +3,7 @@ use Rattle.std.specs.Prelude.{◌≡◌, ◌⊎◌, IsTrue, false, List, [], ◌
 use Rattle.sqlite.specs.Held.{Held, state}
 use Rattle.sqlite.specs.Tree.{Trees}
 use Rattle.sqlite_trees.specs.declared.store.Store.{Ghosts}
-use Rattle.tree_core.specs.Versions.{Spans}
+use Rattle.office_tables.specs.Versions.{Second}
 use Rattle.nested_sets.specs.Representation.{RepresentsSpanRows}
 use Rattle.office_core.specs.Rules.{step}
 use Rattle.office_core.specs.State.{State}
@@ -13,7 +13,7 @@ use Rattle.refinement.specs.Representation.{RepresentsState}
 
 -- the tables are those of an office that is in this state
 abbrev pub AreTablesOf : State → Trees → Type 0
-AreTablesOf s db = RepresentsState RepresentsSpanRows Spans (record { schema = schema Spans; trees = db }) s
+AreTablesOf s db = RepresentsState RepresentsSpanRows Second (record { schema = schema Second; trees = db }) s
 
 -- They are so of this state, or of the state after one such command.
 abbrev pub AreTablesAfter : (Command → Type 0) → State → Trees → Type 0

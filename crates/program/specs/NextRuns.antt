@@ -11,7 +11,7 @@ use Rattle.sqlite_disk.specs.declared.Files.{Files}
 use Rattle.sqlite_store.specs.declared.store.FileStore.{FileStore}
 use Rattle.sqlite_wal.specs.Files.{outcomes}
 use Rattle.isad_core.specs.Texts.{Bytes}
-use Rattle.tree_core.specs.Versions.{Links, Spans}
+use Rattle.office_tables.specs.Versions.{First, Second}
 use Rattle.nested_sets.specs.Representation.{RepresentsSpanRows}
 use Rattle.office_core.specs.Rules.{Reply, state_after, step}
 use Rattle.office_core.specs.SoundOffice.{IsSoundOffice}
@@ -37,7 +37,7 @@ use Rattle.program.specs.declared.faults.Fault.{Fault}
 pub record IsAfter (image : Image) (start : State) (commands : List Command) : Type 0 where
   pub tables : Trees
   pub holds : ∥ HoldsDatabase image tables ∥₁
-  pub represents : RepresentsState RepresentsSpanRows Spans (record { schema = schema Spans; trees = tables })
+  pub represents : RepresentsState RepresentsSpanRows Second (record { schema = schema Second; trees = tables })
       (state_after start commands)
   pub sound : IsSoundOffice (state_after start commands)
 
@@ -112,7 +112,7 @@ module _ {D : Type 0} (g : Ghosts D) (image : Image) where
   abbrev pub BeginsAsBroughtOver : Type 0
   BeginsAsBroughtOver =
       (files : Files D) (it : IsBroughtOver g image files) → IsCopied it.after files → (next : Image)
-      → IsFoundNext g files next → IsAfter next (state_in Links (file_state it.found).now.trees) []
+      → IsFoundNext g files next → IsAfter next (state_in First (file_state it.found).now.trees) []
 
   -- A run goes on where the runs before it ended, and its commands follow theirs. The next run finds the store in the
   -- state after all of them. That is said where the run, when it closed the store, copied its log into the file.

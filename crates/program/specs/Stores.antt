@@ -13,7 +13,7 @@ use Rattle.sqlite_disk.specs.declared.Disk.{Ghosts}
 use Rattle.sqlite_disk.specs.declared.Files.{Files}
 use Rattle.sqlite_store.specs.declared.store.FileStore.{FileStore}
 use Rattle.isad_core.specs.Texts.{Bytes}
-use Rattle.tree_core.specs.Versions.{Links, Spans}
+use Rattle.office_tables.specs.Versions.{First, Second}
 use Rattle.nested_sets.specs.Representation.{RepresentsSpanRows}
 use Rattle.office_core.specs.Rules.{Reply, step}
 use Rattle.office_core.specs.SoundOffice.{IsSoundOffice}
@@ -53,7 +53,7 @@ module _ {D : Type 0} (g : Ghosts D) (image : Image) where
 
   -- it is in this state, which is sound, unless a failure of the disk has shut it
   abbrev is_kept : Held (FileStore D g) → State → Type 0
-  is_kept = is_shown (over_files {g = g}) RepresentsSpanRows Spans
+  is_kept = is_shown (over_files {g = g}) RepresentsSpanRows Second
 
   -- if that has shut it, a crash finds it in this state, or in that after one of these commands
   abbrev is_recovered : Held (FileStore D g) → List Command → State → Type 0
@@ -63,7 +63,7 @@ module _ {D : Type 0} (g : Ghosts D) (image : Image) where
   pub record IsMade (founding : Founding) (files : Files D) : Type 0 where
     pub office : Held (FileStore D g)
     pub represents : HasCleanDisk (file_state office)
-        → IsIn RepresentsSpanRows Spans (founded founding) (file_state office)
+        → IsIn RepresentsSpanRows Second (founded founding) (file_state office)
     pub kept : HasCleanDisk (file_state office) → IsTrue (file_state office).is_open
     pub left : HasLeft office files
 
@@ -118,11 +118,11 @@ module _ {D : Type 0} (g : Ghosts D) (image : Image) where
     pub opened : IsOpened office
     pub file : Bytes
     pub step : HasCleanDisk (file_state after) → (s : State) → IsSoundOffice s
-        → IsIn RepresentsSpanRows Spans s (file_state office)
-        → TakesStep RepresentsSpanRows Spans s (Import source file) reply (file_state after)
+        → IsIn RepresentsSpanRows Second s (file_state office)
+        → TakesStep RepresentsSpanRows Second s (Import source file) reply (file_state after)
     pub kept : HasCleanDisk (file_state after) → IsOk reply → IsTrue (file_state after).is_open
     pub crash : Survives (file_state office) (file_state after)
-        (MayFind RepresentsSpanRows Spans (Import source file) (file_state office))
+        (MayFind RepresentsSpanRows Second (Import source file) (file_state office))
     pub closed : HasLeft after files
 
   -- An office that was opened was busy when it was to import a file: its tables were as before, and this fault has its
@@ -134,9 +134,9 @@ module _ {D : Type 0} (g : Ghosts D) (image : Image) where
     pub file : Bytes
     pub same : HasCleanDisk (file_state after) → IsAsBefore (file_state office) (file_state after)
     pub cause : HasCleanDisk (file_state after) → (s : State) → IsSoundOffice s
-        → IsIn RepresentsSpanRows Spans s (file_state office) → IsBusyFor (file_state office) (file_state after) fault
+        → IsIn RepresentsSpanRows Second s (file_state office) → IsBusyFor (file_state office) (file_state after) fault
     pub crash : Survives (file_state office) (file_state after)
-        (MayFind RepresentsSpanRows Spans (Import source file) (file_state office))
+        (MayFind RepresentsSpanRows Second (Import source file) (file_state office))
     pub closed : HasLeft after files
 
   -- An office that was opened served this number of connections, one session after the other; or at most this number,
@@ -172,7 +172,7 @@ module _ {D : Type 0} (g : Ghosts D) (image : Image) where
     pub why : OpenFault
     pub told : fault ≡ fault_of_opening why
     pub back : HasCleanDisk (file_state after) → IsAsBefore (file_state found) (file_state after)
-    pub cause : HasCleanDisk (file_state after) → HasAdoptCause Links (file_state found) (file_state after) why
+    pub cause : HasCleanDisk (file_state after) → HasAdoptCause First (file_state found) (file_state after) why
     pub crash : Survives (file_state found) (file_state after) (MayFindMigrated (file_state found))
     pub closed : HasLeft after files
 
@@ -225,4 +225,4 @@ module _ {D : Type 0} (g : Ghosts D) (image : Image) where
   abbrev pub WhatWasBroughtOverIsHeld : Type 0
   WhatWasBroughtOverIsHeld =
       (files : Files D) (it : IsBroughtOver files) → HaveCleanDisk g files
-      → HoldState g files (state_in Links (file_state it.found).now.trees)
+      → HoldState g files (state_in First (file_state it.found).now.trees)

@@ -5,7 +5,7 @@ ghost use Rattle.sqlite.specs.WalFiles.{image_at};
 ghost use Rattle.program.specs.CommandEffects.{CheckDone, CheckFails, Does, Fails, FailsWith, ImportDone, ImportFails};
 ghost use Rattle.program.specs.CommandEffects.{InitFails, IsDone, LineFails, ListeningFails, Listens, MigrateDone};
 ghost use Rattle.program.specs.CommandEffects.{MigrateFails, ServeDone, ServeFails, TalkDone, TalkFails, channels};
-ghost use Rattle.program.specs.CommandEffects.{migrated};
+ghost use Rattle.program.specs.CommandEffects.{migrated_line};
 ghost use Rattle.program.specs.Connections.{Serves, after_listening};
 ghost use Rattle.program.specs.Outcomes.{IsClosedAnd};
 ghost use Rattle.program.specs.Stores.{IsMade};
@@ -205,8 +205,8 @@ fn check<S: Start, W: Write>(
 
 // Prints that an office was migrated.
 fn tell_migration<W: Write>(out: &mut Sink<'_, W>) -> Result<(), Fault>
-    ensures done { OnOk result (Prints migrated out.old out.new) }
-    ensures fault { IfErr result (LineFails migrated out.old out.new) }
+    ensures done { OnOk result (Prints migrated_line out.old out.new) }
+    ensures fault { IfErr result (LineFails migrated_line out.old out.new) }
 {
     write_whole(out, b"migrated\n")?;
     Ok(())

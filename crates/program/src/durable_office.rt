@@ -27,12 +27,12 @@ pub struct DurableOffice<S: Durable> {
 impl<S: Durable> Machine for DurableOffice<S> {
     ghost use Rattle.sqlite.specs.Held.{state};
     ghost use Rattle.sqlite.specs.State.{HasCleanDisk};
-    ghost use Rattle.tree_core.specs.Versions.{Spans};
+    ghost use Rattle.office_tables.specs.Versions.{Second};
     ghost use Rattle.nested_sets.specs.Representation.{RepresentsSpanRows};
     ghost use Rattle.office.specs.IdleOffice.{is_shown, is_still_open};
     ghost use Rattle.program.specs.KeptOffices.{IsRecovered};
 
-    ghost represents = { λ it s. is_shown S.Store RepresentsSpanRows Spans it.office s };
+    ghost represents = { λ it s. is_shown S.Store RepresentsSpanRows Second it.office s };
 
     ghost is_intact = { λ it. HasCleanDisk (state S.Store it.office) };
 

@@ -99,7 +99,7 @@ pub fn refusal_line(alloc: Global, why: Refusal) -> Result<Text, AllocError>
 }
 
 /// The fault of a refusal, with its line; or `Memory` if there is no memory for the line.
-pub fn refused(alloc: Global, why: Refusal) -> Fault
+pub fn refusal_fault(alloc: Global, why: Refusal) -> Fault
     ensures { Refuses why result }
 {
     match refusal_line(alloc, why) {

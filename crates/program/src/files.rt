@@ -27,8 +27,8 @@ pub enum FileFault {
     Unopened,
 }
 
-/// The system did not open the files of a store that `S` was to open, or gave no random number for it. Only the functions
-/// here that open a store make one.
+/// The system did not open the files of a store that `S` was to open, or gave no random number for it. Only the
+/// functions here that open a store make one.
 #[derive(Drop)]
 pub struct NoFiles<S: Drop> {
     why: FileFault,

@@ -10,7 +10,7 @@ ghost use Rattle.office.specs.IdleOffice.{IsAsBefore, IsIn};
 ghost use Rattle.program.specs.Busy.{IsBusyFor};
 ghost use Rattle.program.specs.CommandEffects.{IsBusy, ReplyFails, ReplyPrinted};
 
-use crate::faults::{Fault, refused};
+use crate::faults::{Fault, refusal_fault};
 use crate::streams::write_line;
 use catalogue_store::Places;
 use http_desk::streams::Sink;
@@ -62,6 +62,6 @@ pub fn tell_reply<W: Write>(alloc: Global, reply: Reply, out: &mut Sink<'_, W>) 
             write_line(out, reply.json.as_slice())?;
             Ok(())
         }
-        Err(why) => Err(refused(alloc, why)),
+        Err(why) => Err(refusal_fault(alloc, why)),
     }
 }

@@ -7,7 +7,7 @@ ghost use Rattle.adoption.specs.Verdicts.{IsVerdict};
 ghost use Rattle.adoption.specs.declared.verdict.Verdict.TheVariants as verdict;
 ghost use Rattle.office_tables.specs.Faults.{IsUnlimited};
 ghost use Rattle.office.specs.Adoption.{HasAdoptCause};
-ghost use Rattle.tree_core.specs.Versions.{Spans};
+ghost use Rattle.office_tables.specs.Versions.{Second};
 ghost use Rattle.program.specs.ClosedFiles.{WasJudgedAsFound};
 ghost use Rattle.program.specs.CommandEffects.{JudgmentFails, JudgmentPrinted};
 ghost use Rattle.program.specs.FailedOpenings.{CouldNotOpen};
@@ -29,9 +29,9 @@ pub fn judge<S: Alter>(alloc: Global, conn: Connection<S>) -> (Option<OpenFault>
     requires outside { HasCleanDisk (state S.Store conn) → (state S.Store conn).in_transaction ≡ false }
     requires unlimited { IsUnlimited (state S.Store conn) }
     ensures sound { HasCleanDisk (state S.Store result.1)
-        → IfNone result.0 (IsVerdict Spans (state S.Store conn).now verdict.Sound) }
+        → IfNone result.0 (IsVerdict Second (state S.Store conn).now verdict.Sound) }
     ensures cause { HasCleanDisk (state S.Store result.1)
-        → IfSome result.0 (HasAdoptCause Spans (state S.Store conn) (state S.Store result.1)) }
+        → IfSome result.0 (HasAdoptCause Second (state S.Store conn) (state S.Store result.1)) }
     ensures same { HasCleanDisk (state S.Store result.1) → IsTrue (state S.Store result.1).is_open
         → (state S.Store result.1).now ≡ (state S.Store conn).now }
     ensures ended { HasCleanDisk (state S.Store result.1) → (state S.Store result.1).in_transaction ≡ false }

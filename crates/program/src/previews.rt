@@ -4,7 +4,7 @@ ghost use Rattle.std.specs.Option.{option_copied};
 ghost use Rattle.program.specs.Faults.{RefusesFile};
 ghost use Rattle.program.specs.CommandEffects.{PreviewDone, PreviewFails, ReadingFails, Reads, ReadsPart};
 
-use crate::faults::{Fault, refused};
+use crate::faults::{Fault, refusal_fault};
 use crate::streams::{ReadFault, read_to_end, write_whole};
 use atom_csv::FileFault;
 use http_desk::streams::{Sink, Source};
@@ -48,7 +48,7 @@ fn refused_file(alloc: Global, fault: FileFault) -> Fault
 {
     match fault {
         FileFault::Memory => Fault::Memory,
-        FileFault::Bad { row, cause } => refused(alloc, Refusal::BadFile { row, cause }),
+        FileFault::Bad { row, cause } => refusal_fault(alloc, Refusal::BadFile { row, cause }),
     }
 }
 

@@ -9,7 +9,7 @@ ghost use Rattle.office.specs.InitialSettings.{founded};
 ghost use Rattle.office.specs.IdleOffice.{IsIn};
 ghost use Rattle.office_core.specs.SoundOffice.{IsSoundOffice};
 ghost use Rattle.nested_sets.specs.Representation.{RepresentsSpanRows};
-ghost use Rattle.tree_core.specs.Versions.{Spans};
+ghost use Rattle.office_tables.specs.Versions.{Second};
 ghost use Rattle.program.specs.ClosedFiles.{HasLeft};
 ghost use Rattle.program.specs.OpenedFiles.{IsFound};
 ghost use Rattle.program.specs.FailedOpenings.{CouldNotOpen};
@@ -39,7 +39,7 @@ pub type TrialOffice = Office<SpanPlaces, FileStore<MemoryDisk>>;
 const TRIAL_SEED: u64 = 1;
 
 // The fault of a store that could not be opened.
-fn unopened<S: Start>(failed: FailedOpeningFrom<S>) -> (Fault, Outcome<S>)
+fn open_fault<S: Start>(failed: FailedOpeningFrom<S>) -> (Fault, Outcome<S>)
     requires { CouldNotOpen ⟦<FileFrom<S> as Disk>⟧ (image_at S.Start) failed }
     ensures { IsUnopened (image_at S.Start) result.1 result.0 }
 {
@@ -54,13 +54,13 @@ pub fn make_office<S: Start>(
     start: S,
 ) -> Result<KeptOffice<S>, (Fault, Outcome<S>)>
     ensures founded { IfOk result (λ office. HasCleanDisk (file_state office)
-        → IsIn RepresentsSpanRows Spans (founded settings) (file_state office)) }
+        → IsIn RepresentsSpanRows Second (founded settings) (file_state office)) }
     ensures kept { IfOk result (λ office. HasCleanDisk (file_state office) → IsTrue (file_state office).is_open) }
     ensures fault { IfErr result (λ e. MakesNone ⟦<FileFrom<S> as Disk>⟧ (image_at S.Start) e.1 settings e.0) }
 {
     let conn = match make(rt, store.as_str(), start) {
         Ok(conn) => conn,
-        Err(failed) => return Err(unopened(failed)),
+        Err(failed) => return Err(open_fault(failed)),
     };
     match KeptOffice::<S>::create(conn, settings) {
         Ok(office) => Ok(office),
@@ -86,7 +86,7 @@ pub fn open_office<S: Start>(
 {
     let conn = match find(rt, store.as_str(), start) {
         Ok(conn) => conn,
-        Err(failed) => return Err(unopened(failed)),
+        Err(failed) => return Err(open_fault(failed)),
     };
     match KeptOffice::<S>::adopt(alloc, conn) {
         Ok(office) => Ok(office),
@@ -105,7 +105,7 @@ pub fn close_office<S: Start>(office: KeptOffice<S>) -> ClosedFiles<S>
 /// Makes a new office for a trial. A failure of its disk is want of memory, too.
 pub fn make_trial_office(alloc: Global, settings: Settings) -> Result<TrialOffice, AllocError>
     ensures sound { IfOk result (λ _. IsSoundOffice (founded settings)) }
-    ensures founded { IfOk result (λ office. IsIn RepresentsSpanRows Spans (founded settings) (file_state office)) }
+    ensures founded { IfOk result (λ office. IsIn RepresentsSpanRows Second (founded settings) (file_state office)) }
     ensures kept { IfOk result (λ office. IsTrue (file_state office).is_open) }
 {
     let files = Files {

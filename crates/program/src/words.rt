@@ -13,7 +13,7 @@ ghost use Rattle.program.specs.Tasks.{AreGiven, AreNoCodes, AreRefused, AreRefus
 use crate::tasks::{Task, TaskFault};
 use clap::error::ErrorKind;
 use clap::{ArgMatches, Error};
-use command_line::{connections, day, number, optional_text, port, record_office, said, text};
+use command_line::{connections, day, number, optional_text, port, record_office, text, value_of};
 use isad_core::Text;
 use office::{Settings, is_country, is_repository};
 use std::alloc::{AllocError, Global};
@@ -61,8 +61,8 @@ fn preview(alloc: Global, found: &ArgMatches) -> Result<Task, TaskFault>
     ensures given { IfOk result (IsTask (codes "preview") (rows_of (found_of found.now))) }
     ensures refused { IfErr result (AreNoCodes (rows_of (found_of found.now))) }
 {
-    let country = said(found, "country");
-    let repo = said(found, "repo");
+    let country = value_of(found, "country");
+    let repo = value_of(found, "repo");
     if !(is_country(country) && is_repository(repo)) {
         return Err(TaskFault::Settings);
     }
@@ -110,7 +110,7 @@ fn serve(alloc: Global, found: &ArgMatches) -> Result<Task, AllocError>
 }
 
 // The task that a command and its matches name.
-fn named(alloc: Global, name: &str, found: &ArgMatches) -> Result<Task, TaskFault>
+fn named_task(alloc: Global, name: &str, found: &ArgMatches) -> Result<Task, TaskFault>
     requires { HasNeeds name.now (rows_of (found_of found.now)) }
     ensures named { IfOk result (IsTask name.now (rows_of (found_of found.now))) }
     ensures refused { IfErr result (λ f. AreRefusedFor (Some (name.now, rows_of (found_of found.now))) f) }
@@ -138,7 +138,7 @@ fn named(alloc: Global, name: &str, found: &ArgMatches) -> Result<Task, TaskFaul
 }
 
 // The fault of words that `clap` refused, with its text.
-fn refused(alloc: Global, error: &Error) -> TaskFault
+fn words_fault(alloc: Global, error: &Error) -> TaskFault
     ensures words { IsWords result → kind_of error.now ≡ ErrorKind.OutOfMemory → ⊥ }
     ensures others { (m : Option (Word × List Row)) → AreRefusedFor m result }
 {
@@ -162,17 +162,17 @@ pub fn task(alloc: Global, words: &[String]) -> Result<Task, TaskFault>
 {
     let matches = match record_office(alloc)?.try_get_matches_from(words) {
         Ok(matches) => matches,
-        Err(error) => return Err(refused(alloc, &error)),
+        Err(error) => return Err(words_fault(alloc, &error)),
     };
     match matches.subcommand() {
-        Some((name, found)) => named(alloc, name, found),
+        Some((name, found)) => named_task(alloc, name, found),
         None => unreachable!(),
     }
 }
 
 /// The words after the program's name. Words that are not UTF-8 are refused like any others that the command does
 /// not take.
-pub fn given<R: Env + AllocGlobal>(rt: &R, alloc: Global) -> Result<Vec<String>, TaskFault> {
+pub fn arguments<R: Env + AllocGlobal>(rt: &R, alloc: Global) -> Result<Vec<String>, TaskFault> {
     match env::args(rt) {
         Ok(words) => Ok(words.skip(1).collect(alloc)?),
         Err(error) if error.kind() == io::ErrorKind::OutOfMemory => Err(TaskFault::Memory),

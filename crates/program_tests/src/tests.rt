@@ -4,7 +4,7 @@ use http_desk::streams::{Sink, Source};
 use program::perform::perform;
 use program::ports::{LocalPort, Port};
 use program::tasks::{Task, TaskFault};
-use program::words::{given, task};
+use program::words::{arguments, task};
 use sqlite::Wary;
 use std::alloc::Global;
 use std::process::Abort;
@@ -398,11 +398,11 @@ fn words_are_given(rt: HostRuntime) -> Result<(), Fail> {
         Spoken(&[b"record_office", b"preview", "é".as_bytes()]),
         alloc,
     );
-    let words = given(&spoken, alloc).ok().ok_or("no words")?;
+    let words = arguments(&spoken, alloc).ok().ok_or("no words")?;
     assert_eq!(rt; words.len(), 2);
     assert_eq!(rt; words[1].as_str(), "é");
     let spoken = (Spoken(&[b"record_office", b"\xff"]), alloc);
-    match given(&spoken, alloc) {
+    match arguments(&spoken, alloc) {
         Err(TaskFault::Words(text)) => assert!(rt; text.as_str().starts_with("error: ")),
         other => panic!(rt; "words that are no text gave {other:?}"),
     }

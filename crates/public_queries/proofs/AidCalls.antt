@@ -17,7 +17,7 @@ module _ {S X Stays Model : Type 0} (g : store.Ghosts S) (represents : Database 
   tells_as may more told answer allows means it = record {
     answers = λ clean s m shown. if_ok_then r (told s m) (answer s m) (means s m) (it.answers clean s m shown);
     looks = it.looks;
-    cut = it.cut;
+    aborts = it.aborts;
     faults = λ s m shown allowed within. it.faults s m shown (allows m allowed) within;
   }
 
@@ -41,11 +41,11 @@ module _ {S X Stays Model : Type 0} (g : store.Ghosts S) (represents : Database 
       → (HasCleanDisk b → (s : Stays) (m : Model) → represents a.now s m → (x : X) → told s m x → answer s m x)
       → Answers g represents kept mid after r may told → Answers g represents kept before after r more answer
   tells_then may more told answer looked allows means last =
-      let still = λ (clean : HasCleanDisk c). early b c _ (looked_crash r last.looks last.cut) clean in
+      let still = λ (clean : HasCleanDisk c). early b c _ (looked_crash r last.looks last.aborts) clean in
       let shown = λ (at_b : HasCleanDisk b) (s : Stays) (m : Model) (it : represents a.now s m). subst (λ (db : Database). represents db s m) (sym (looked.same at_b)) it in
       record {
         answers = λ clean s m it. if_ok_then r (told s m) (answer s m) (means (still clean) s m it) (last.answers clean s m (shown (still clean) s m it));
         looks = on_ok_then r (LeavesUnchanged b c) (LeavesUnchanged a c) (λ on. looks_then a b c looked on) last.looks;
-        cut = on_err_then r (IsAborted b c) (IsAborted a c) (λ cut. cut_then a b c looked.goes.on cut) last.cut;
-        faults = λ s m it allowed within. excused_then a b c looked.goes.on r last.cut (λ at_b. last.faults s m (shown at_b s m it) (allows at_b s m it allowed) within);
+        aborts = on_err_then r (IsAborted b c) (IsAborted a c) (λ cut. cut_then a b c looked.goes.on cut) last.aborts;
+        faults = λ s m it allowed within. excused_then a b c looked.goes.on r last.aborts (λ at_b. last.faults s m (shown at_b s m it) (allows at_b s m it allowed) within);
       }

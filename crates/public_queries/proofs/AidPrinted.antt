@@ -11,11 +11,11 @@ use Rattle.isad_core.specs.declared.values.BoxKey.{BoxKey}
 use Rattle.tree_core.specs.Forest.{Forest, Empty, Node, each, walk}
 use Rattle.tree_core.specs.Visibility.{public}
 use Rattle.tree_core.specs.Marks as marks
-use Rattle.tree_core.specs.Marks.{kept}
+use Rattle.tree_core.specs.Marks.{public_walk}
 use Rattle.tree_core.specs.declared.marks.Mark.{Mark}
 use Rattle.tree_core.specs.declared.marks.Kept.{Kept}
 use Rattle.catalogue_core.specs.Aids.{Repository, identifier_of, shown_unit, shown_below}
-use Rattle.catalogue_core.specs.UnitMarks.{mark_of, unnumbered}
+use Rattle.catalogue_core.specs.UnitMarks.{mark_of, without_number}
 use Rattle.catalogue_core.specs.CatalogueMerge.{Catalogue}
 use Rattle.catalogue_core.specs.PublicForest.{Told, public_unit, stub_of}
 use Rattle.catalogue_core.specs.Units.{Unit}
@@ -109,15 +109,15 @@ mark_row x = record { id = x.0.0.id; depth = x.1; stub = x.0.1 }
 abbrev row_by : {A : Type 0} → (A → Mark) → (A × Bool) × ℕ → Kept
 row_by g x = record { id = (g x.0.0).id; depth = x.1; stub = x.0.1 }
 
-kept_by : {A : Type 0} (day : ℤ) (g : A → Mark) (t : Forest A) → kept day (each g t) ≡ map (row_by g) (walk 0 (public (λ a. (g a).draft) (λ a. marks.is_closed day (g a)) t))
+kept_by : {A : Type 0} (day : ℤ) (g : A → Mark) (t : Forest A) → public_walk day (each g t) ≡ map (row_by g) (walk 0 (public (λ a. (g a).draft) (λ a. marks.is_closed day (g a)) t))
 kept_by {A} day g t =
     let p : Forest (A × Bool) = public (λ a. (g a).draft) (λ a. marks.is_closed day (g a)) t in
     ap (λ (p : Forest (Mark × Bool)). map mark_row (walk 0 p)) (public_each g (λ (m : Mark). m.draft) (marks.is_closed day) t)
     ∙ ap (map mark_row) (walk-each (λ (x : A × Bool). (g x.0, x.1)) 0 p)
     ∙ map_both mark_row (λ (x : (A × Bool) × ℕ). ((g x.0.0, x.0.1), x.1)) (walk 0 p)
 
-pub kept_units : (day : ℤ) (m : Forest Mark) (t : Forest Unit) → each unnumbered m ≡ each mark_of t → kept day m ≡ map kept_row (walk 0 (public_units day t))
-kept_units day m t e = sym (kept_by day unnumbered m) ∙ ap (kept day) e ∙ kept_by day mark_of t
+pub kept_units : (day : ℤ) (m : Forest Mark) (t : Forest Unit) → each without_number m ≡ each mark_of t → public_walk day m ≡ map kept_row (walk 0 (public_units day t))
+kept_units day m t e = sym (kept_by day without_number m) ∙ ap (public_walk day) e ∙ kept_by day mark_of t
 
 -- ---- one unit more
 
@@ -176,7 +176,7 @@ abbrev no_row : Kept
 no_row = record { id = 0; depth = 0; stub = false }
 
 -- the unit that the row at an index tells
-pub row_at : (day : ℤ) (c : Catalogue) (kept : List Kept) (rows : List Walked) (i : ℕ) → KeepsUnits day c kept rows → i < length kept → Here kept_row (IsOf day c) rows i (get_or kept i no_row)
-row_at day c kept rows i it low =
+pub row_at : (day : ℤ) (c : Catalogue) (public_walk : List Kept) (rows : List Walked) (i : ℕ) → KeepsUnits day c public_walk rows → i < length public_walk → Here kept_row (IsOf day c) rows i (get_or public_walk i no_row)
+row_at day c public_walk rows i it low =
     let long = ap length it.told ∙ length-map rows kept_row in
-    here_at kept_row (IsOf day c) rows i (get_or kept i no_row) no_row it.each (omega (arith, long, low)) (ap (λ l. get_or l i no_row) it.told)
+    here_at kept_row (IsOf day c) rows i (get_or public_walk i no_row) no_row it.each (omega (arith, long, low)) (ap (λ l. get_or l i no_row) it.told)

@@ -12,7 +12,7 @@ use Rattle.tree_core.proofs.EachLemmas.{nodes-each, size-each}
 use Rattle.tree_core.specs.declared.marks.Mark.{Mark}
 use Rattle.catalogue_core.specs.Aids.{numbered_boxes}
 use Rattle.catalogue_core.specs.Bounds.{IsKept}
-use Rattle.catalogue_core.specs.UnitMarks.{AreWalkMarks, mark_of, unnumbered}
+use Rattle.catalogue_core.specs.UnitMarks.{AreWalkMarks, mark_of, without_number}
 use Rattle.catalogue_core.specs.CatalogueMerge.{Catalogue, box_number}
 use Rattle.catalogue_core.specs.PublicForest.{Told, public_unit, stub_of}
 use Rattle.catalogue_core.specs.Units.{Unit, has_id, is_closed, is_later}
@@ -67,7 +67,7 @@ few_marks c is marks kept it =
     let few = kept.places.few in
     let ids = size-each (λ (u : Unit). u.id) c.forest in
     let branch = tree_small is c.forest in
-    let same = sym (size-each unnumbered it.forest) ∙ ap size it.theirs ∙ size-each mark_of (tree is c.forest) in
+    let same = sym (size-each without_number it.forest) ∙ ap size it.theirs ∙ size-each mark_of (tree is c.forest) in
     let long = ap length it.walked ∙ length-nodes it.forest in
     omega (arith, few, ids, branch, same, long)
 

@@ -16,7 +16,7 @@ use Rattle.catalogue_core.specs.Aids.{Repository, identifier_of, shown_unit}
 use Rattle.catalogue_core.specs.Pages.{Press, side_by_side, number_of}
 use Rattle.catalogue_store.specs.Heads.{head_of}
 use Rattle.tree_core.specs.Tops.{tops}
-use Rattle.public_queries.specs.HeadLines.{bare, bare_body, all_bare, ids_of}
+use Rattle.public_queries.specs.HeadLines.{head_alone, bare_body, all_bare, ids_of}
 use Rattle.catalogue_core.proofs.PublicPaths.{known_of, number_known}
 use Rattle.public_queries.proofs.Standing.{public_draft, public_node}
 use Rattle.public_queries.proofs.HeadLineLemmas.{bare_draft, bare_public}
@@ -35,7 +35,7 @@ module _ (day : ℤ) where
   known_ids (a ∷ w) = ap₂ ◌∷◌ (known_id a) (known_ids w)
 
   -- a head line needs no more than the head
-  pub same_head : (at : Repository) (boxes : List BoxKey) (ids : List Bytes) (a : Unit) → head_line (shown_unit at boxes ids 0 (known_of day a)) ≡ head_line (bare at ids day (head_of a))
+  pub same_head : (at : Repository) (boxes : List BoxKey) (ids : List Bytes) (a : Unit) → head_line (shown_unit at boxes ids 0 (known_of day a)) ≡ head_line (head_alone at ids day (head_of a))
   same_head at boxes ids a = by a.until
     where
       by : (until : Option ℤ) → head_line (shown_unit at boxes ids 0 (cond (is_later day until) (stub_of a until) (Told a.id a.values)))
@@ -70,8 +70,8 @@ module _ (day : ℤ) where
             shown : List Bytes → Shown
             shown ids = shown_unit press.at press.containers ids 0 (known_of day a)
 
-            one : print (number_of (known_of day a), shown (above ++ identifier_of (known_of day a) ∷ [])) ≡ print (a.id, bare press.at (above ++ identifier a.values ∷ []) day (head_of a))
+            one : print (number_of (known_of day a), shown (above ++ identifier_of (known_of day a) ∷ [])) ≡ print (a.id, head_alone press.at (above ++ identifier a.values ∷ []) day (head_of a))
             one =
                 ap (λ n. print (n, shown (above ++ identifier_of (known_of day a) ∷ []))) (number_known day a)
                 ∙ ap (λ n. print (a.id, shown (above ++ n ∷ []))) (known_id a)
-                ∙ alike a.id (shown (above ++ identifier a.values ∷ [])) (bare press.at (above ++ identifier a.values ∷ []) day (head_of a)) (same_head press.at press.containers (above ++ identifier a.values ∷ []) a)
+                ∙ alike a.id (shown (above ++ identifier a.values ∷ [])) (head_alone press.at (above ++ identifier a.values ∷ []) day (head_of a)) (same_head press.at press.containers (above ++ identifier a.values ∷ []) a)

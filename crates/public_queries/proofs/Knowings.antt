@@ -5,7 +5,7 @@ use Rattle.sqlite.specs.State as store
 use Rattle.sqlite.specs.State.{HasCleanDisk}
 use Rattle.sqlite.specs.Tree.{Trees}
 use Rattle.tree_core.specs.Forest.{Forest}
-use Rattle.tree_core.specs.Versions.{Version}
+use Rattle.office_tables.specs.Versions.{Version}
 use Rattle.catalogue_core.specs.Bounds.{IsKept}
 use Rattle.catalogue_core.specs.CatalogueMerge.{Catalogue}
 use Rattle.catalogue_statements.specs.Representation.{Represents}
@@ -34,7 +34,7 @@ module _ (places : Trees → Forest ℕ → Type 0) (version : Version) (known :
       → ((s : State) → IsSoundOffice s → known s → RepresentsState places version a.now s → HasCleanDisk b → IsUnlimited a → HasCause a b e) → AnswersKnowing places version known asked a b r
   knows_not a b r e is cut why =
       subst (λ (r : Result Answer StoreFault). AnswersKnowing places version known asked a b r) (sym is)
-      (record { answers = λ clean s sound so it. tt; looks = tt; cut = cut; faults = λ s sound so it clean free. why s sound so it clean free })
+      (record { answers = λ clean s sound so it. tt; looks = tt; aborts = cut; faults = λ s sound so it clean free. why s sound so it clean free })
 
   -- a later step fails
   pub knows_no_more : (a b c : store.State) (r : Result Answer StoreFault) (e : StoreFault) → r ≡ Err e → LeavesUnchanged a b → IsAborted b c
@@ -51,7 +51,7 @@ module _ (places : Trees → Forest ℕ → Type 0) (version : Version) (known :
   -- it tells what was read
   pub knows_by : (a b : store.State) (told : Answer) → LeavesUnchanged a b
       → (HasCleanDisk b → (s : State) → IsSoundOffice s → known s → RepresentsState places version a.now s → told ≡ answer s asked) → AnswersKnowing places version known asked a b (Ok told)
-  knows_by a b told looked is = record { answers = is; looks = looked; cut = tt; faults = λ s sound so it clean free. tt }
+  knows_by a b told looked is = record { answers = is; looks = looked; aborts = tt; faults = λ s sound so it clean free. tt }
 
 -- ---- it passes the fault of a step on
 

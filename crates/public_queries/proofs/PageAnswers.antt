@@ -21,7 +21,7 @@ use Rattle.catalogue_core.specs.Units.{is_closed, is_later}
 use Rattle.catalogue_store.specs.declared.unit_values.UnitValues.{UnitValues}
 use Rattle.tree_core.specs.Tops.{tops, part_below}
 use Rattle.public_queries.specs.PathValues.{unit_values}
-use Rattle.public_queries.specs.HeadLines.{shows_last, bare, all_bare, repository_of, ids_of}
+use Rattle.public_queries.specs.HeadLines.{shows_last, head_alone, all_bare, repository_of, ids_of}
 use Rattle.public_queries.specs.PathValues.{coded_way}
 use Rattle.public_queries.specs.PageLines.{closed_page, told_page}
 use Rattle.refinement.specs.Representation.{office_of}
@@ -66,21 +66,21 @@ module _ (s : State) (sound : IsSoundOffice s) where
     closes : is_later row.day last.until ≡ is_closed s.day it.node
     closes = ap (λ (o : OfficeRow). is_later o.day last.until) row_is ∙ ap (λ (h : Head). is_later s.day h.until) last_is
 
-    head_is : (ids : List Bytes) → ids ≡ ids_of way → bare (repository_of row) ids row.day last ≡ bare (press s).at (ids_of (map head_of (path (has_id u) s.catalogue.forest))) s.day (head_of it.node)
+    head_is : (ids : List Bytes) → ids ≡ ids_of way → head_alone (repository_of row) ids row.day last ≡ head_alone (press s).at (ids_of (map head_of (path (has_id u) s.catalogue.forest))) s.day (head_of it.node)
     head_is ids e =
-        ap (λ (o : OfficeRow). bare (repository_of o) ids o.day last) row_is ∙ ap (λ l. bare (repository_of (office_of s)) l s.day last) (e ∙ ap ids_of way_is)
-        ∙ ap (λ h. bare (repository_of (office_of s)) (ids_of (map head_of (path (has_id u) s.catalogue.forest))) s.day h) last_is
+        ap (λ (o : OfficeRow). head_alone (repository_of o) ids o.day last) row_is ∙ ap (λ l. head_alone (repository_of (office_of s)) l s.day last) (e ∙ ap ids_of way_is)
+        ∙ ap (λ h. head_alone (repository_of (office_of s)) (ids_of (map head_of (path (has_id u) s.catalogue.forest))) s.day h) last_is
 
-    pub answers_closed : (ids : List Bytes) (head : Shown) (text : Bytes) → ids ≡ ids_of way → head ≡ bare (repository_of row) ids row.day last → is_later row.day last.until ≡ true → text ≡ page (closed_page head) → Text text ≡ answer s (query.Page u)
+    pub answers_closed : (ids : List Bytes) (head : Shown) (text : Bytes) → ids ≡ ids_of way → head ≡ head_alone (repository_of row) ids row.day last → is_later row.day last.until ≡ true → text ≡ page (closed_page head) → Text text ≡ answer s (query.Page u)
     answers_closed ids head text e h c is =
         ap Text (is ∙ ap (λ x. page (closed_page x)) (h ∙ head_is ids e)) ∙ sym (page_closed (press s) s.day u s.catalogue.forest distinct it shown (sym closes ∙ c))
 
-    pub answers_told : (ids : List Bytes) (head : Shown) (units : List UnitValues) (heads : List Head) (text : Bytes) → ids ≡ ids_of way → head ≡ bare (repository_of row) ids row.day last → is_later row.day last.until ≡ false
+    pub answers_told : (ids : List Bytes) (head : Shown) (units : List UnitValues) (heads : List Head) (text : Bytes) → ids ≡ ids_of way → head ≡ head_alone (repository_of row) ids row.day last → is_later row.day last.until ≡ false
         → units ≡ map (unit_values s.catalogue.containers) (path (has_id u) s.catalogue.forest) → heads ≡ map head_of (tops (part_below has_id (Some u) s.catalogue.forest))
         → text ≡ page (told_page head (coded_way (repository_of row) [] [] units) (all_bare (repository_of row) ids row.day heads)) → Text text ≡ answer s (query.Page u)
     answers_told ids head units heads text e h c us hs is =
         let way_ids = ids_of (map head_of (path (has_id u) s.catalogue.forest)) in
-        let H = bare (press s).at way_ids s.day (head_of it.node) in
+        let H = head_alone (press s).at way_ids s.day (head_of it.node) in
         ap Text (is ∙ ap (λ x. page (told_page x (coded_way (repository_of row) [] [] units) (all_bare (repository_of row) ids row.day heads))) (h ∙ head_is ids e)
         ∙ ap (λ (o : OfficeRow). page (told_page H (coded_way (repository_of o) [] [] units) (all_bare (repository_of o) ids o.day heads))) row_is
         ∙ ap (λ x. page (told_page H (coded_way (press s).at [] [] x) (all_bare (press s).at ids s.day heads))) us

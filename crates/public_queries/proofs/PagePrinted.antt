@@ -17,13 +17,13 @@ use Rattle.catalogue_core.specs.CatalogueMerge.{box_number}
 use Rattle.catalogue_core.specs.Units.{Unit, has_id, is_closed, is_later}
 use Rattle.catalogue_core.specs.PublicForest.{PublicUnit, Told, public_of, stub_of}
 use Rattle.catalogue_core.specs.Aids.{Repository, identifier_of, shown_unit}
-use Rattle.catalogue_core.specs.Pages.{Press, PageBox, side_by_side, coded_below, coded, page_line, page_boxes, boxes_or, nearest_boxes, boxes_on_page, page_at, page_of, is_numbered}
+use Rattle.catalogue_core.specs.Pages.{Press, PageBox, side_by_side, coded_below, with_codes, page_line, page_boxes, boxes_or, nearest_boxes, boxes_on_page, page_at, page_of, is_numbered}
 use Rattle.office_core.specs.Queries.{page_answer}
 use Rattle.office_core.specs.declared.query.Answer.TheVariants.{Text, Unknown}
 use Rattle.desk_core.specs.declared.refusal.Refusal.TheVariants.{UnknownUnit}
 use Rattle.catalogue_store.specs.Heads.{head_of}
 use Rattle.tree_core.specs.Tops.{tops, part_below, below_first}
-use Rattle.public_queries.specs.HeadLines.{bare, all_bare, ids_of, shows_last, are_open}
+use Rattle.public_queries.specs.HeadLines.{head_alone, all_bare, ids_of, shows_last, are_open}
 use Rattle.public_queries.specs.PathValues.{coded_way, coded_of}
 use Rattle.public_queries.specs.PageLines.{box_lines, lines_or, nearest_lines, housed_lines, closed_page, told_page}
 use Rattle.public_queries.specs.PathValues.{unit_values}
@@ -142,22 +142,22 @@ module _ (press : Press) (day : ℤ) (u : ℕ) (f : Forest Unit) (distinct : Has
         at None l = absurd (false≢true l)
         at (Some d) l = subst (λ b. page_at press way (Node (cond b (stub_of it.node (Some d)) (Told it.node.id it.node.values)) g Empty) ≡ Some (closed_page (shown_unit press.at press.containers (map identifier_of way) 0 (cond b (stub_of it.node (Some d)) (Told it.node.id it.node.values))))) (sym c) refl
 
-    head_same : head_line (shown_unit press.at press.containers (map identifier_of (map (known_of day) (path (has_id u) f))) 0 (known_of day it.node)) ≡ head_line (bare press.at (ids_of (map head_of (path (has_id u) f))) day (head_of it.node))
+    head_same : head_line (shown_unit press.at press.containers (map identifier_of (map (known_of day) (path (has_id u) f))) 0 (known_of day it.node)) ≡ head_line (head_alone press.at (ids_of (map head_of (path (has_id u) f))) day (head_of it.node))
     head_same =
         ap (λ l. head_line (shown_unit press.at press.containers l 0 (known_of day it.node))) (known_ids day (path (has_id u) f)) ∙ same_head day press.at press.containers (ids_of (map head_of (path (has_id u) f))) it.node
 
     pub page_closed : is_closed day it.node ≡ true
-        → page_answer (page_of press u (public_of day f)) ≡ Text (page (closed_page (bare press.at (ids_of (map head_of (path (has_id u) f))) day (head_of it.node))))
+        → page_answer (page_of press u (public_of day f)) ≡ Text (page (closed_page (head_alone press.at (ids_of (map head_of (path (has_id u) f))) day (head_of it.node))))
     page_closed c =
         ap page_answer (page_found e ∙ ap (page_at press (map (known_of day) (path (has_id u) f))) shown_tree ∙ closed_at (map (known_of day) (path (has_id u) f)) (seen_below day (is_closed day it.node) it.children) c)
-        ∙ ap Text (printed_alike (closed_page (shown_unit press.at press.containers (map identifier_of (map (known_of day) (path (has_id u) f))) 0 (known_of day it.node))) (closed_page (bare press.at (ids_of (map head_of (path (has_id u) f))) day (head_of it.node))) head_same refl refl refl)
+        ∙ ap Text (printed_alike (closed_page (shown_unit press.at press.containers (map identifier_of (map (known_of day) (path (has_id u) f))) 0 (known_of day it.node))) (closed_page (head_alone press.at (ids_of (map head_of (path (has_id u) f))) day (head_of it.node))) head_same refl refl refl)
 
     told_at : (way : List PublicUnit) (g : Forest PublicUnit) → is_closed day it.node ≡ false
         → page_at press way (Node (known_of day it.node) g Empty)
-        ≡ Some (record { head = shown_unit press.at press.containers (map identifier_of way) 0 (known_of day it.node); lines = filter_map (page_line (coded press way)) line_elements; boxes = boxes_on_page press (coded press way); below = side_by_side press (map identifier_of way) g })
+        ≡ Some (record { head = shown_unit press.at press.containers (map identifier_of way) 0 (known_of day it.node); lines = filter_map (page_line (with_codes press way)) line_elements; boxes = boxes_on_page press (with_codes press way); below = side_by_side press (map identifier_of way) g })
     told_at way g c =
         subst (λ b. page_at press way (Node (cond b (stub_of it.node it.node.until) (Told it.node.id it.node.values)) g Empty)
-        ≡ Some (record { head = shown_unit press.at press.containers (map identifier_of way) 0 (cond b (stub_of it.node it.node.until) (Told it.node.id it.node.values)); lines = filter_map (page_line (coded press way)) line_elements; boxes = boxes_on_page press (coded press way); below = side_by_side press (map identifier_of way) g })) (sym c) refl
+        ≡ Some (record { head = shown_unit press.at press.containers (map identifier_of way) 0 (cond b (stub_of it.node it.node.until) (Told it.node.id it.node.values)); lines = filter_map (page_line (with_codes press way)) line_elements; boxes = boxes_on_page press (with_codes press way); below = side_by_side press (map identifier_of way) g })) (sym c) refl
 
     are_open_units : (xs : List Unit) → are_open day (map head_of xs) ≡ true → AreOpen day xs
     are_open_units [] h = tt
@@ -171,18 +171,18 @@ module _ (press : Press) (day : ℤ) (u : ℕ) (f : Forest Unit) (distinct : Has
 
     pub page_told : is_closed day it.node ≡ false
         → page_answer (page_of press u (public_of day f))
-        ≡ Text (page (told_page (bare press.at (ids_of (map head_of (path (has_id u) f))) day (head_of it.node)) (coded_way press.at [] [] (map (unit_values press.containers) (path (has_id u) f))) (all_bare press.at (ids_of (map head_of (path (has_id u) f))) day (map head_of (tops (part_below has_id (Some u) f))))))
+        ≡ Text (page (told_page (head_alone press.at (ids_of (map head_of (path (has_id u) f))) day (head_of it.node)) (coded_way press.at [] [] (map (unit_values press.containers) (path (has_id u) f))) (all_bare press.at (ids_of (map head_of (path (has_id u) f))) day (map head_of (tops (part_below has_id (Some u) f))))))
     page_told c =
         let way = path (has_id u) f in
         let units = coded_way press.at [] [] (map (unit_values press.containers) way) in
         let opened : AreOpen day way = subst (AreOpen day) (sym it.way) (open_push it.above it.node (are_open_units it.above parts_shown.0) c) in
-        let same : coded press (map (known_of day) way) ≡ map coded_of units = same_coded day press [] [] way opened in
+        let same : with_codes press (map (known_of day) way) ≡ map coded_of units = same_coded day press [] [] way opened in
         let lower : side_by_side press (map identifier_of (map (known_of day) way)) (seen_below day (is_closed day it.node) it.children) ≡ side_by_side press (ids_of (map head_of way)) (public_of day it.children) =
         ap (λ l. side_by_side press l (seen_below day (is_closed day it.node) it.children)) (known_ids day way) ∙ ap (λ b. side_by_side press (ids_of (map head_of way)) (seen_below day b it.children)) c
         in
         ap page_answer (page_found e ∙ ap (page_at press (map (known_of day) way)) shown_tree ∙ told_at (map (known_of day) way) (seen_below day (is_closed day it.node) it.children) c)
         ∙ ap Text
-        (printed_alike (record { head = shown_unit press.at press.containers (map identifier_of (map (known_of day) way)) 0 (known_of day it.node); lines = filter_map (page_line (coded press (map (known_of day) way))) line_elements; boxes = boxes_on_page press (coded press (map (known_of day) way)); below = side_by_side press (map identifier_of (map (known_of day) way)) (seen_below day (is_closed day it.node) it.children) }) (told_page (bare press.at (ids_of (map head_of way)) day (head_of it.node)) units (all_bare press.at (ids_of (map head_of way)) day (map head_of (tops (part_below has_id (Some u) f)))))
+        (printed_alike (record { head = shown_unit press.at press.containers (map identifier_of (map (known_of day) way)) 0 (known_of day it.node); lines = filter_map (page_line (with_codes press (map (known_of day) way))) line_elements; boxes = boxes_on_page press (with_codes press (map (known_of day) way)); below = side_by_side press (map identifier_of (map (known_of day) way)) (seen_below day (is_closed day it.node) it.children) }) (told_page (head_alone press.at (ids_of (map head_of way)) day (head_of it.node)) units (all_bare press.at (ids_of (map head_of way)) day (map head_of (tops (part_below has_id (Some u) f)))))
         head_same
         (ap (λ l. filter_map (page_line l) line_elements) same)
         (ap (boxes_on_page press) same ∙ same_housed press units (are_numbered press.at press.containers [] [] way tt))

@@ -38,8 +38,8 @@ bare_body day None = Full [] []
 bare_body day (Some until) = cond (int_lt day until) (Closed until) (Full [] [])
 
 -- a unit with its head line alone; `ids` are the identifiers from the top down to it
-abbrev pub bare : Repository → List Bytes → ℤ → Head → Shown
-bare at ids day head = record {
+abbrev pub head_alone : Repository → List Bytes → ℤ → Head → Shown
+head_alone at ids day head = record {
   depth = 0;
   code = code_of at.country at.repo ids;
   level = head.level;
@@ -50,7 +50,7 @@ bare at ids day head = record {
 -- the same for a unit below others, with its number, unless it is a draft
 abbrev pub bare_below : Repository → List Bytes → ℤ → Head → Option (ℕ × Shown)
 bare_below at above day head =
-    cond head.draft None (Some (head.id, bare at (above ++ head.identifier ∷ []) day head))
+    cond head.draft None (Some (head.id, head_alone at (above ++ head.identifier ∷ []) day head))
 
 abbrev pub all_bare : Repository → List Bytes → ℤ → List Head → List (ℕ × Shown)
 all_bare at above day heads = filter_map (bare_below at above day) heads

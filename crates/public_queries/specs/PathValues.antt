@@ -16,8 +16,8 @@ abbrev pub unit_values : List BoxKey → Unit → UnitValues
 unit_values boxes unit = record { values = unit.values; containers = map (box_number boxes) unit.values.boxes }
 
 -- a unit with the code that it has below units with these identifiers
-abbrev pub placed : Repository → List Bytes → UnitValues → OnPath
-placed at above unit = record {
+abbrev pub on_path : Repository → List Bytes → UnitValues → OnPath
+on_path at above unit = record {
   code = code_of at.country at.repo (above ++ identifier unit.values ∷ []);
   unit = unit;
 }
@@ -27,7 +27,7 @@ placed at above unit = record {
 abbrev pub coded_way : Repository → List Bytes → List OnPath → List UnitValues → List OnPath
 coded_way at above higher [] = higher
 coded_way at above higher (unit ∷ way) =
-    coded_way at (above ++ identifier unit.values ∷ []) (placed at above unit ∷ higher) way
+    coded_way at (above ++ identifier unit.values ∷ []) (on_path at above unit ∷ higher) way
 
 -- the unit's code and values
 abbrev pub coded_of : OnPath → Coded

@@ -39,7 +39,7 @@ fn kept_of<P: Places, S: Alter>(
     today: Day,
 ) -> Result<Vec<Kept>, StoreFault>
     requires small { IsNumber unit }
-    ensures tells { Answers S.Store (Represents P.represents P.version) IsKept tables.old tables.new result (λ _. ⊤)
+    ensures answers { Answers S.Store (Represents P.represents P.version) IsKept tables.old tables.new result (λ _. ⊤)
         (λ _ c kept. kept.items ≡ map kept_row (walk 0 (public_units today (tree (has_id unit) c.forest)))) }
 {
     let marks = branch_marks(alloc, tables, Some(unit))?;
@@ -86,7 +86,7 @@ fn units_text<P: Places, S: Alter>(
     above: Vec<Text>,
     kept: &[Kept],
 ) -> Result<List<u8>, StoreFault>
-    ensures tells { Answers S.Store (Represents P.represents P.version) IsKept tables.old tables.new result
+    ensures answers { Answers S.Store (Represents P.represents P.version) IsKept tables.old tables.new result
         (λ c. IsTellable c × (rows : List Walked) × KeepsUnits known.now.day c kept.now rows)
         (λ _ c text. IsTellable c → (rows : List Walked) → KeepsUnits known.now.day c kept.now rows → text
         ≡ printed (along (repository_of known.now) c.containers (length above.items) above.items rows)) }
@@ -112,7 +112,7 @@ fn branch_text<P: Places, S: Alter>(
     above: Vec<Text>,
 ) -> Result<List<u8>, StoreFault>
     requires small { IsNumber unit }
-    ensures tells { Answers S.Store (Represents P.represents P.version) IsKept tables.old tables.new result
+    ensures answers { Answers S.Store (Represents P.represents P.version) IsKept tables.old tables.new result
         (λ c. IsTellable c × HasDistinctIds (each (λ u. u.id) c.forest))
         (λ _ c text. IsTellable c → HasDistinctIds (each (λ u. u.id) c.forest)
         → text ≡ printed (shown_below (repository_of known.now) c.containers above.items 0

@@ -1,7 +1,7 @@
 //! Units that are printed with their head line alone.
 
 ghost use Rattle.std.specs.Prelude.{◌≡◌, ◌++◌, ◌∷◌, [], IfOk, OnOk};
-ghost use Rattle.public_queries.specs.HeadLines.{all_bare, bare as bare_of, bare_body, repository_of};
+ghost use Rattle.public_queries.specs.HeadLines.{all_bare, head_alone as bare_of, bare_body, repository_of};
 
 use catalogue_store::{Head, OfficeRow};
 use isad_core::{Body, Day, List, Shown, Text, join_code};
@@ -21,7 +21,7 @@ fn body_of(alloc: Global, until: Option<Day>, today: Day) -> Body
 }
 
 /// A unit with its head line alone. `ids` are the identifiers from the top down to it.
-pub(crate) fn bare(
+pub(crate) fn head_alone(
     alloc: Global,
     known: &OfficeRow,
     ids: &[Text],
@@ -50,7 +50,7 @@ fn bare_in(
     ensures ids { OnOk result (ids.new.items ≡ ids.old.items) }
 {
     ids.push(head.identifier.clone()?)?;
-    let shown = bare(alloc, known, ids.as_slice(), head)?;
+    let shown = head_alone(alloc, known, ids.as_slice(), head)?;
     ids.pop();
     Ok(shown)
 }

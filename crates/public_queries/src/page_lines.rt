@@ -108,7 +108,7 @@ fn nearest_boxes(alloc: Global, units: &[OnPath]) -> Result<List<Boxed>, AllocEr
 
 /// The containers of the first of these units, or else those of the nearest unit above it that has
 /// some.
-fn housed(alloc: Global, units: &[OnPath]) -> Result<List<Boxed>, AllocError>
+fn nearest_containers(alloc: Global, units: &[OnPath]) -> Result<List<Boxed>, AllocError>
     ensures { IfOk result (λ boxes. boxes ≡ housed_lines units.now) }
 {
     let Some((unit, higher)) = units.split_first() else {
@@ -145,7 +145,7 @@ pub(crate) fn print_told(
     let page = Page {
         head,
         lines: page_lines(alloc, units, LINE_ELEMENTS.as_slice())?,
-        boxes: housed(alloc, units)?,
+        boxes: nearest_containers(alloc, units)?,
         below,
     };
     Ok(List(page_text(alloc, &page)?))

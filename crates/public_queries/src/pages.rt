@@ -16,10 +16,10 @@ ghost use Rattle.public_queries.specs.KnownPaths.{AreHeadsOf, IsTellable, Repres
 ghost use Rattle.public_queries.specs.PageLines.{told_page};
 ghost use Rattle.public_queries.specs.PathValues.{coded_way, unit_values};
 
-use crate::head_lines::{bare, bare_units};
+use crate::head_lines::{bare_units, head_alone};
 use crate::page_lines::{print_closed, print_told};
 use crate::path_heads::{identifiers, shows_last};
-use crate::path_values::coded;
+use crate::path_values::with_codes;
 use catalogue_store::{Head, OfficeRow, Places, UnitValues, heads_below, path_heads, values};
 use isad_core::{List, Shown, Text};
 use office_core::{Answer, Refusal};
@@ -35,7 +35,7 @@ fn values_there<P: Places, S: Alter>(
     tables: &mut Tables<P, S>,
     unit: u64,
 ) -> Result<UnitValues, StoreFault>
-    ensures tells { Answers S.Store (Represents P.represents P.version) IsKept tables.old tables.new result
+    ensures answers { Answers S.Store (Represents P.represents P.version) IsKept tables.old tables.new result
         (λ c. IsTellable c × (u : Described) × (find (has_id unit) (nodes c.forest) ≡ Some u))
         (λ _ c told. IsTellable c → (u : Described) → find (has_id unit) (nodes c.forest) ≡ Some u
         → told ≡ unit_values c.containers u) }
@@ -55,7 +55,7 @@ fn values_of_all<P: Places, S: Alter>(
     tables: &mut Tables<P, S>,
     way: &[Head],
 ) -> Result<Vec<UnitValues>, StoreFault>
-    ensures tells { Answers S.Store (Represents P.represents P.version) IsKept tables.old tables.new result
+    ensures answers { Answers S.Store (Represents P.represents P.version) IsKept tables.old tables.new result
         (λ c. IsTellable c × AreHeadsOf c way.now)
         (λ _ c units. IsTellable c → (of : AreHeadsOf c way.now)
         → units.items ≡ map (unit_values c.containers) of.units) }
@@ -80,7 +80,7 @@ fn print_way(
         (all_bare (repository_of known.now) ids.items known.now.day heads.now))) }
 {
     let mut ids = ids;
-    let units = coded(alloc, known, way)?;
+    let units = with_codes(alloc, known, way)?;
     let below = bare_units(alloc, known, &mut ids, heads)?;
     print_told(alloc, head, units.as_slice(), below)
 }
@@ -101,7 +101,7 @@ fn shown_page<P: Places, S: Alter>(
         return Err(StoreFault::Schema);
     };
     let ids = identifiers(alloc, way)?;
-    let head = bare(alloc, known, ids.as_slice(), last)?;
+    let head = head_alone(alloc, known, ids.as_slice(), last)?;
     if is_closed(last.until, known.day) {
         let text = print_closed(alloc, head)?;
         return Ok(Answer::Text(text));

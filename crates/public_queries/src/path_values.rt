@@ -26,7 +26,7 @@ pub(crate) fn text_or_empty(alloc: Global, text: Option<&Text>) -> Result<Text, 
 }
 
 /// These units of a path with their codes, the lowest first.
-pub(crate) fn coded(
+pub(crate) fn with_codes(
     alloc: Global,
     known: &OfficeRow,
     way: Vec<UnitValues>,

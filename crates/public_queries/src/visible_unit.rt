@@ -32,7 +32,7 @@ pub struct Seen {
 }
 
 /// The names of these containers, each with its number.
-fn numbered(
+fn with_numbers(
     alloc: Global,
     numbers: &[u64],
     boxes: &[BoxKey],
@@ -47,7 +47,7 @@ fn numbered(
 }
 
 /// What is seen of a unit with these values.
-fn described(alloc: Global, unit: &UnitValues) -> Result<Seen, AllocError>
+fn seen_values(alloc: Global, unit: &UnitValues) -> Result<Seen, AllocError>
     ensures { IfOk result (λ seen. seen ≡ seen_values unit.now) }
 {
     let values = &unit.values;
@@ -57,19 +57,19 @@ fn described(alloc: Global, unit: &UnitValues) -> Result<Seen, AllocError>
         title: text_or_empty(alloc, values.text(Element::Title))?,
         body: Body::Full {
             lines: values.lines(alloc)?,
-            boxes: numbered(alloc, unit.containers.as_slice(), values.boxes.as_slice())?,
+            boxes: with_numbers(alloc, unit.containers.as_slice(), values.boxes.as_slice())?,
         },
     })
 }
 
 /// What is seen of a unit that is not closed.
-fn told<P: Places, S: Alter>(
+fn seen_open<P: Places, S: Alter>(
     alloc: Global,
     tables: &mut Tables<P, S>,
     unit: u64,
 ) -> Result<Seen, StoreFault>
     requires small { IsNumber unit }
-    ensures tells { Answers S.Store (Represents P.represents P.version) IsKept tables.old tables.new result
+    ensures answers { Answers S.Store (Represents P.represents P.version) IsKept tables.old tables.new result
         (λ c. IsTellable c × (u : Described) × (find (has_id unit) (nodes c.forest) ≡ Some u))
         (λ _ c seen. IsTellable c → (u : Described) → find (has_id unit) (nodes c.forest) ≡ Some u
         → seen ≡ seen_of c.containers (IsTold u.id u.values)) }
@@ -77,17 +77,17 @@ fn told<P: Places, S: Alter>(
     let Some(found) = values(alloc, tables, unit)? else {
         return Err(StoreFault::Schema);
     };
-    Ok(described(alloc, &found)?)
+    Ok(seen_values(alloc, &found)?)
 }
 
 /// What is seen of a unit that is closed.
-fn closed<P: Places, S: Alter>(
+fn seen_closed<P: Places, S: Alter>(
     alloc: Global,
     tables: &mut Tables<P, S>,
     unit: u64,
 ) -> Result<Seen, StoreFault>
     requires small { IsNumber unit }
-    ensures tells { Answers S.Store (Represents P.represents P.version) IsKept tables.old tables.new result
+    ensures answers { Answers S.Store (Represents P.represents P.version) IsKept tables.old tables.new result
         (λ c. (u : Described) × (until : ℤ) × (find (has_id unit) (nodes c.forest) ≡ Some u) × (u.until ≡ Some until))
         (λ _ c seen. (u : Described) (until : ℤ) → find (has_id unit) (nodes c.forest) ≡ Some u → u.until ≡ Some until
         → seen ≡ seen_of c.containers (IsClosed u.id (identifier u.values) u.values.level until)) }
@@ -113,7 +113,7 @@ pub(crate) fn seen_unit<P: Places, S: Alter>(
     unit: Kept,
     today: Day,
 ) -> Result<Seen, StoreFault>
-    ensures tells { Answers S.Store (Represents P.represents P.version) IsKept tables.old tables.new result
+    ensures answers { Answers S.Store (Represents P.represents P.version) IsKept tables.old tables.new result
         (λ c. IsTellable c × (row : Walked) × IsOf today c row × (unit ≡ kept_row row))
         (λ _ c seen. IsTellable c → (row : Walked) → IsOf today c row → unit ≡ kept_row row
         → seen ≡ seen_of c.containers (public_unit row.0)) }
@@ -122,8 +122,8 @@ pub(crate) fn seen_unit<P: Places, S: Alter>(
         return Err(StoreFault::Schema);
     }
     if unit.stub {
-        closed(alloc, tables, unit.id)
+        seen_closed(alloc, tables, unit.id)
     } else {
-        told(alloc, tables, unit.id)
+        seen_open(alloc, tables, unit.id)
     }
 }

@@ -10,7 +10,7 @@ use std::process::ExitCode;
 fn main(rt: HostRuntime) -> ExitCode {
     let mut stderr = rt.stderr();
     let mut err = Sink::new(&mut stderr);
-    let status = match words::given(&rt, rt.alloc()) {
+    let status = match words::arguments(&rt, rt.alloc()) {
         Ok(words) => {
             let (status, _outcome) = perform::perform(
                 &rt,

@@ -6,7 +6,7 @@ use Rattle.sqlite.specs.State as store
 use Rattle.sqlite.specs.State.{HasCleanDisk}
 use Rattle.sqlite.specs.Tree.{Trees}
 use Rattle.tree_core.specs.Forest.{Forest}
-use Rattle.tree_core.specs.Versions.{Version}
+use Rattle.office_tables.specs.Versions.{Version}
 use Rattle.desk_core.specs.DeskRows.{Desk}
 use Rattle.desk_core.specs.LegibleDesks.{IsLegible}
 use Rattle.desk_store.specs.Representation.{RepresentsDeskAlone}
@@ -38,7 +38,7 @@ module _ (places : Trees → Forest ℕ → Type 0) (version : Version) where
         → ((s : State) → IsSoundOffice s → RepresentsState places version a.now s → HasCleanDisk b → IsUnlimited a → HasCause a b e) → AnswersQuery places version asked a b r
     answers_not a b r e is cut why =
         subst (λ (r : Result Answer StoreFault). AnswersQuery places version asked a b r) (sym is)
-        (record { answers = λ clean s sound it. tt; looks = tt; cut = cut; faults = λ s sound it clean free. why s sound it clean free })
+        (record { answers = λ clean s sound it. tt; looks = tt; aborts = cut; faults = λ s sound it clean free. why s sound it clean free })
 
     -- a later step fails
     pub stops_later : (a b c : store.State) (r : Result Answer StoreFault) (e : StoreFault) → r ≡ Err e → LeavesUnchanged a b → IsAborted b c
@@ -51,7 +51,7 @@ module _ (places : Trees → Forest ℕ → Type 0) (version : Version) where
     -- it tells what was read
     pub answers_by : (a b : store.State) (told : Answer) → LeavesUnchanged a b
         → (HasCleanDisk b → (s : State) → IsSoundOffice s → RepresentsState places version a.now s → told ≡ answer s asked) → AnswersQuery places version asked a b (Ok told)
-    answers_by a b told looked is = record { answers = is; looks = looked; cut = tt; faults = λ s sound it clean free. tt }
+    answers_by a b told looked is = record { answers = is; looks = looked; aborts = tt; faults = λ s sound it clean free. tt }
 
 -- ---- it passes the fault of a step on
 

@@ -15,7 +15,7 @@ use Rattle.tree_core.proofs.EachLemmas.{cut-each, has-each}
 use Rattle.tree_core.proofs.LinkPaths.{parts}
 use Rattle.tree_core.proofs.MarkWalks.{list_all-append}
 use Rattle.tree_core.proofs.SpanShifts.{cut_none}
-use Rattle.catalogue_core.specs.ContainerContents.{own_or, housed_below, housed, paths_below, is_withheld_from, is_some_there, is_open}
+use Rattle.catalogue_core.specs.ContainerContents.{own_or, housed_below, containers_of, paths_below, is_withheld_from, is_some_there, is_open}
 use Rattle.catalogue_core.specs.Units.{Unit, has_id}
 use Rattle.std.proofs.Math.Bool.{or-false}
 use Rattle.refinement.specs.Gate.{names_some, near}
@@ -44,7 +44,7 @@ module _ (box : BoxKey) where
   names_box unit = in_it unit.values.boxes
 
   abbrev pub lies : List Unit → Bool
-  lies way = in_it (housed way)
+  lies way = in_it (containers_of way)
 
   abbrev pub lying : List Unit → Forest Unit → List (List Unit)
   lying A f = filter lies (paths_below A f)
@@ -53,7 +53,7 @@ module _ (box : BoxKey) where
   lies_no_more : (A : List Unit) (unit : Unit) → lies A ≡ false → names_box unit ≡ false → lies (A ++ unit ∷ []) ≡ false
   lies_no_more A unit above own = ap in_it (housed_more [] A unit) ∙ by_boxes unit.values.boxes own
     where
-      by_boxes : (boxes : List BoxKey) → in_it boxes ≡ false → in_it (own_or boxes (housed A)) ≡ false
+      by_boxes : (boxes : List BoxKey) → in_it boxes ≡ false → in_it (own_or boxes (containers_of A)) ≡ false
       by_boxes [] e = above
       by_boxes (b ∷ boxes) e = e
 
@@ -158,7 +158,7 @@ module _ (box : BoxKey) where
   own_alone : (A : List Unit) (unit : Unit) → lies A ≡ false → lies (A ++ unit ∷ []) ≡ names_box unit
   own_alone A unit above = ap in_it (housed_more [] A unit) ∙ by_boxes unit.values.boxes
     where
-      by_boxes : (boxes : List BoxKey) → in_it (own_or boxes (housed A)) ≡ in_it boxes
+      by_boxes : (boxes : List BoxKey) → in_it (own_or boxes (containers_of A)) ≡ in_it boxes
       by_boxes [] = above
       by_boxes (b ∷ boxes) = refl
 

@@ -8,8 +8,8 @@ use Rattle.desk_store.specs.Readers.{card_of, held_with, live_orders, placed_on,
 use Rattle.desk_store.specs.Readers as store
 use Rattle.desk_store.specs.declared.reader_summary.ReaderCard.{ReaderCard}
 use Rattle.office_core.specs.SoundOffice.{IsSoundOffice}
-use Rattle.office_core.specs.State.{Reader, State, is_ticket, placed}
-use Rattle.office_core.specs.Words.{numbered}
+use Rattle.office_core.specs.State.{Reader, State, is_ticket, orders_placed}
+use Rattle.office_core.specs.Words.{nth}
 use Rattle.state_encoding.specs.DeskEncoding.{order_row, reader_row}
 use Rattle.state_encoding.specs.OfficeRows.{tables}
 use Rattle.state_encoding.proofs.DeskLookups.{flipped, is_some-map}
@@ -19,10 +19,10 @@ use Rattle.refinement.specs.Sitters.{sitter, sitter_of}
 use Rattle.refinement.proofs.HeldShown.{held_shown}
 use Rattle.refinement.proofs.RowsOfLists.{found_row}
 use Rattle.refinement.proofs.SeatsShown.{seat_is}
-use Rattle.tree_core.specs.Versions.{Version}
+use Rattle.office_tables.specs.Versions.{Version}
 
 module _ (version : Version) (s : State) (sound : IsSoundOffice s) (t : ℕ) where
-  pub placed_shown : (day : ℤ) → placed_on t day (tables version s).desk ≡ placed s t day
+  pub placed_shown : (day : ℤ) → placed_on t day (tables version s).desk ≡ orders_placed s t day
   placed_shown day =
       count_rows (order_row s) (λ (row : OrderRow). nat_eq t row.ticket && int_eq row.day day) (λ order. nat_eq order.ticket t && int_eq order.day day)
       (λ n order. ap (λ b. b && int_eq order.day day) (flipped t order.ticket)) 1 s.orders
@@ -32,7 +32,7 @@ module _ (version : Version) (s : State) (sound : IsSoundOffice s) (t : ℕ) whe
     reader = sitter_of s t reader;
     name = reader.name;
     live = live_orders t (tables version s).desk;
-    placed = placed s t day;
+    placed = orders_placed s t day;
     orders = length s.orders;
   }
 
@@ -46,7 +46,7 @@ module _ (version : Version) (s : State) (sound : IsSoundOffice s) (t : ℕ) whe
   card_at day None = refl
   card_at day (Some reader) = rw (seat_is t s.seats, held_shown s sound t version, placed_shown day, length-rows (order_row s) 1 s.orders) refl
 
-  pub card_shown : (day : ℤ) → card_of t day (tables version s).desk ≡ option_map (card day) (numbered s.readers t)
+  pub card_shown : (day : ℤ) → card_of t day (tables version s).desk ≡ option_map (card day) (nth s.readers t)
   card_shown day =
       ap (option_map (λ (r : ReaderRow). (let c : ReaderCard = record {
         reader = record { ticket = t; until = r.until; seat = store.seat_of t (tables version s).desk; held = held_with t (tables version s).desk };
@@ -55,15 +55,15 @@ module _ (version : Version) (s : State) (sound : IsSoundOffice s) (t : ℕ) whe
         placed = placed_on t day (tables version s).desk;
         orders = length (tables version s).desk.orders;
       } in c))) (found_row reader_row (λ (r : ReaderRow). r.ticket) (λ n x. refl) t s.readers)
-      ∙ card_at day (numbered s.readers t)
+      ∙ card_at day (nth s.readers t)
 
   -- who has a card has a ticket
   pub has_card : (day : ℤ) → is_some (card_of t day (tables version s).desk) ≡ is_ticket s t
-  has_card day = ap is_some (card_shown day) ∙ is_some-map (card day) (numbered s.readers t)
+  has_card day = ap is_some (card_shown day) ∙ is_some-map (card day) (nth s.readers t)
 
   -- the tables tell which tickets were given
   pub known_ticket : is_some (reader_with t (tables version s).desk) ≡ is_ticket s t
-  known_ticket = ap is_some (found_row reader_row (λ (r : ReaderRow). r.ticket) (λ n x. refl) t s.readers) ∙ is_some-map (reader_row t) (numbered s.readers t)
+  known_ticket = ap is_some (found_row reader_row (λ (r : ReaderRow). r.ticket) (λ n x. refl) t s.readers) ∙ is_some-map (reader_row t) (nth s.readers t)
 
   -- the tables tell who has a ticket
   abbrev holder_of_row : ReaderRow → Sitter
@@ -74,4 +74,4 @@ module _ (version : Version) (s : State) (sound : IsSoundOffice s) (t : ℕ) whe
   holder_at (Some reader) = rw (seat_is t s.seats, held_shown s sound t version) refl
 
   pub holder_shown : ticket_holder t (tables version s).desk ≡ sitter s t
-  holder_shown = ap (option_map holder_of_row) (found_row reader_row (λ (r : ReaderRow). r.ticket) (λ n x. refl) t s.readers) ∙ holder_at (numbered s.readers t)
+  holder_shown = ap (option_map holder_of_row) (found_row reader_row (λ (r : ReaderRow). r.ticket) (λ n x. refl) t s.readers) ∙ holder_at (nth s.readers t)

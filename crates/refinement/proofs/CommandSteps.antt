@@ -3,12 +3,12 @@ use Rattle.std.proofs.Common.{◌≡◌, ℕ, true, List, [], ◌∷◌, Some, N
 use Rattle.sqlite.specs.Effect.{Database}
 use Rattle.sqlite.specs.Tree.{Trees}
 use Rattle.tree_core.specs.Forest.{Forest}
-use Rattle.tree_core.specs.Versions.{Version}
+use Rattle.office_tables.specs.Versions.{Version}
 use Rattle.catalogue_statements.specs.Representation.{catalogue_trees}
 use Rattle.desk_core.specs.DeskRows.{Desk}
 use Rattle.desk_core.specs.declared.refusal.Refusal.{Refusal}
 use Rattle.desk_store.specs.Representation.{RepresentsDesk}
-use Rattle.office_core.specs.Rules.{Reply, after, refusal, told}
+use Rattle.office_core.specs.Rules.{Reply, after, refusal, result_of}
 use Rattle.office_core.specs.SoundOffice.{AreTexts, NamesTexts}
 use Rattle.office_core.specs.State.{State}
 use Rattle.office_core.specs.declared.command.Command.{Command}
@@ -32,13 +32,13 @@ module _ (places : Trees → Forest ℕ → Type 0) (version : Version) (s : Sta
       → (before now : Database) (touched : List ℕ) → are_apart touched catalogue_trees ≡ true → refusal s asked ≡ None → NamesTexts asked
       → RepresentsState places version before s → now.schema ≡ before.schema → OnlyTouches touched before now
       → (next : State) → after s asked ≡ next → office_of next ≡ office_of s → next.catalogue ≡ s.catalogue → (d : Desk) → RepresentsDesk now.trees d → (rows.tables version next).desk ≡ d
-      → (done : Done) → told s asked ≡ done → CarriesOutStep places version s asked (Ok done) now
-  accepts same before now touched apart why names it schema_is only next is office catalogue d shown desk done tells =
+      → (done : Done) → result_of s asked ≡ done → CarriesOutStep places version s asked (Ok done) now
+  accepts same before now touched apart why names it schema_is only next is office catalogue d shown desk done answers =
       let one = accepted s asked why in
       let texts = always_texts s (asked ∷ []) (names, tt) it.texts in
       let to_next = ap (λ (p : State × Reply). p.0) one ∙ is in
       record {
-        told = sym (ap (λ (p : State × Reply). p.1) one ∙ ap Ok tells);
+        told = sym (ap (λ (p : State × Reply). p.1) one ∙ ap Ok answers);
         represents = λ ok. subst (RepresentsState places version now) (sym to_next)
             (desk_step places same version s next before now touched apart schema_is only it d shown desk office catalogue (subst AreTexts to_next texts));
       }

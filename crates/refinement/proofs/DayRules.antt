@@ -10,10 +10,10 @@ use Rattle.desk_store.specs.Holdings.{issued_by, issued_of}
 use Rattle.desk_store.specs.Seats.{taken_seats}
 use Rattle.desk_store.specs.declared.holdings.Loan.{Loan}
 use Rattle.desk_store.specs.declared.taken_seats.TakenSeat.{TakenSeat}
-use Rattle.tree_core.specs.Versions.{Version}
+use Rattle.office_tables.specs.Versions.{Version}
 use Rattle.tree_core.proofs.Lists.{any_agree, list_any-map}
-use Rattle.office_core.specs.State.{Order, State, containers, held, is_by, is_out_with, is_seated, opens, order_out}
-use Rattle.office_core.specs.Words.{numbered, some_and}
+use Rattle.office_core.specs.State.{Order, State, containers, held_count, is_by, is_out_with, is_seated, opens, order_out}
+use Rattle.office_core.specs.Words.{nth, some_and}
 use Rattle.state_encoding.specs.Causes.{holds_well, is_held_against_rules}
 use Rattle.state_encoding.specs.DeskEncoding.{holding_row, order_rows}
 use Rattle.state_encoding.specs.OfficeRows.{tables}
@@ -76,7 +76,7 @@ any_of_both p q (x ∷ xs) = ap (λ b. (p x || q x) || b) (any_of_both p q xs) �
 module _ (s : State) where
   -- with whom a container is, where it is out
   abbrev lent : ℕ → Option Loan
-  lent c = option_and_then (λ o. option_map (λ (order : Order). record { container = c; order = o; ticket = order.ticket }) (numbered s.orders o)) (order_out (s.place c))
+  lent c = option_and_then (λ o. option_map (λ (order : Order). record { container = c; order = o; ticket = order.ticket }) (nth s.orders o)) (order_out (s.place c))
 
   row_tells : (version : Version) (c : ℕ) → option_and_then (issued_by (order_rows s)) (holding_row c (s.place c)) ≡ lent c
   row_tells version c = at (s.place c)
@@ -86,10 +86,10 @@ module _ (s : State) where
       named o None = refl
       named o (Some order) = refl
 
-      at : (p : Place) → option_and_then (issued_by (order_rows s)) (holding_row c p) ≡ option_and_then (λ o. option_map (λ (order : Order). record { container = c; order = o; ticket = order.ticket }) (numbered s.orders o)) (order_out p)
+      at : (p : Place) → option_and_then (issued_by (order_rows s)) (holding_row c p) ≡ option_and_then (λ o. option_map (λ (order : Order). record { container = c; order = o; ticket = order.ticket }) (nth s.orders o)) (order_out p)
       at Shelf = refl
       at Desk = refl
-      at (Out o) = ap (option_map (λ t. record { container = c; order = o; ticket = t })) (ticket_is version s o) ∙ named o (numbered s.orders o)
+      at (Out o) = ap (option_map (λ t. record { container = c; order = o; ticket = t })) (ticket_is version s o) ∙ named o (nth s.orders o)
 
   -- the rows tell all that are out
   pub loans_are : (version : Version) → issued_of (tables version s).desk ≡ filter_map lent (containers s)
@@ -104,12 +104,12 @@ module _ (s : State) where
       by o None = refl
       by o (Some order) = flipped t order.ticket
 
-      at : (p : Option ℕ) → some_and (λ (loan : Loan). nat_eq t loan.ticket) (option_and_then (λ o. option_map (λ (order : Order). record { container = c; order = o; ticket = order.ticket }) (numbered s.orders o)) p) ≡ some_and (is_by s t) p
+      at : (p : Option ℕ) → some_and (λ (loan : Loan). nat_eq t loan.ticket) (option_and_then (λ o. option_map (λ (order : Order). record { container = c; order = o; ticket = order.ticket }) (nth s.orders o)) p) ≡ some_and (is_by s t) p
       at None = refl
-      at (Some o) = by o (numbered s.orders o)
+      at (Some o) = by o (nth s.orders o)
 
   -- as many of them are with a ticket as it has
-  held_is : (version : Version) (t : ℕ) → count_by (λ (loan : Loan). nat_eq t loan.ticket) (issued_of (tables version s).desk) ≡ held s t
+  held_is : (version : Version) (t : ℕ) → count_by (λ (loan : Loan). nat_eq t loan.ticket) (issued_of (tables version s).desk) ≡ held_count s t
   held_is version t =
       ap (count_by (λ (loan : Loan). nat_eq t loan.ticket)) (loans_are version)
       ∙ count_filtered (λ (loan : Loan). nat_eq t loan.ticket) lent (containers s)
@@ -135,13 +135,13 @@ module _ (s : State) where
       by o None = refl
       by o (Some order) =
           let t = order.ticket in
-          broken (nat_lt s.settings.hands (count_by (λ (other : Loan). nat_eq t other.ticket) (issued_of (tables version s).desk))) (nat_le (held s t) s.settings.hands) (is_seated s t) (opens s t c)
-          (ap (nat_lt s.settings.hands) (held_is version t) ∙ over s.settings.hands (held s t))
+          broken (nat_lt s.settings.hands (count_by (λ (other : Loan). nat_eq t other.ticket) (issued_of (tables version s).desk))) (nat_le (held_count s t) s.settings.hands) (is_seated s t) (opens s t c)
+          (ap (nat_lt s.settings.hands) (held_is version t) ∙ over s.settings.hands (held_count s t))
 
-      at : (p : Option ℕ) → some_and (is_against_rules s (issued_of (tables version s).desk)) (option_and_then (λ o. option_map (λ (order : Order). record { container = c; order = o; ticket = order.ticket }) (numbered s.orders o)) p)
-          ≡ some_and (λ ticket. not (holds_well s c ticket)) (option_and_then (λ o. option_map (λ (order : Order). order.ticket) (numbered s.orders o)) p)
+      at : (p : Option ℕ) → some_and (is_against_rules s (issued_of (tables version s).desk)) (option_and_then (λ o. option_map (λ (order : Order). record { container = c; order = o; ticket = order.ticket }) (nth s.orders o)) p)
+          ≡ some_and (λ ticket. not (holds_well s c ticket)) (option_and_then (λ o. option_map (λ (order : Order). order.ticket) (nth s.orders o)) p)
       at None = refl
-      at (Some o) = by o (numbered s.orders o)
+      at (Some o) = by o (nth s.orders o)
 
   -- a container is out against a rule where one of those that are out is
   pub breaks_is : (version : Version) → breaks_day_rules s ≡ are_against_rules s (issued_of (tables version s).desk)

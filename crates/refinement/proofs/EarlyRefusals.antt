@@ -5,8 +5,8 @@ use Rattle.std.proofs.lemmas.Bool.{and_parts, cases_Bool, false≢true}
 use Rattle.desk_store.specs.Holdings.{issued_of}
 use Rattle.desk_store.specs.declared.holdings.Loan.{Loan}
 use Rattle.tree_core.specs.Marks.{withholds}
-use Rattle.tree_core.specs.Versions.{Version}
-use Rattle.office_core.specs.Rules.{kept}
+use Rattle.office_tables.specs.Versions.{Version}
+use Rattle.office_core.specs.Rules.{lowest_withheld}
 use Rattle.catalogue_core.specs.OpenMarks.{with_permit}
 use Rattle.office_core.specs.State.{State, is_permitted}
 use Rattle.office_core.specs.Words.{first_that, some_and}
@@ -64,13 +64,13 @@ module _ (version : Version) (s : State) (judged : CanBeJudged s) (u : ℕ) (oth
   abbrev test : Loan → Bool
   test loan = near.test loan.container
 
-  kept_is : kept s ≡ first_closed s (filter test loans)
+  kept_is : lowest_withheld s ≡ first_closed s (filter test loans)
   kept_is = enough_of version s judged near.test (λ k far. others k (near.near k far)) (filter test loans) (ap (filter test) are)
 
   found_is : first_closed s before ≡ first_closed s (filter test (take place loans))
   found_is = ap (first_closed s) near.are
 
-  pub refused_before : (c : ℕ) → Some c ≡ first_closed s before → kept s ≡ Some c
+  pub refused_before : (c : ℕ) → Some c ≡ first_closed s before → lowest_withheld s ≡ Some c
   refused_before c found = kept_is ∙ one_before (λ (loan : Loan). loan.container) test (is_closed_to s) place c loans (found ∙ found_is)
 
   withheld_is : (loan : Loan) → is_withheld_in s it loan ≡ true → (test loan ≡ true) × (is_closed_to s loan ≡ true)
@@ -83,6 +83,6 @@ module _ (version : Version) (s : State) (judged : CanBeJudged s) (u : ℕ) (oth
         withheld_closes s judged u it housed loan withheld,
       )
 
-  pub refused_there : IsWithheldAt s it loans place → (d : Loan) → None ≡ first_closed s before → kept s ≡ Some (slice_index_or loans place d).container
+  pub refused_there : IsWithheldAt s it loans place → (d : Loan) → None ≡ first_closed s before → lowest_withheld s ≡ Some (slice_index_or loans place d).container
   refused_there withheld d none =
       kept_is ∙ one_there (λ (loan : Loan). loan.container) test (is_closed_to s) (is_withheld_in s it) withheld_is place d loans (none ∙ found_is) withheld

@@ -7,10 +7,10 @@ use Rattle.desk_core.specs.declared.reader.Place.{Place}
 use Rattle.desk_core.specs.declared.reader.Place.TheVariants.{Shelf, Desk, Out}
 use Rattle.desk_store.specs.Holdings.{issued_by, issued_of, ticket_of}
 use Rattle.desk_store.specs.declared.holdings.Loan.{Loan}
-use Rattle.tree_core.specs.Versions.{Version}
-use Rattle.office_core.specs.Rules.{is_kept_from_holder, kept}
+use Rattle.office_tables.specs.Versions.{Version}
+use Rattle.office_core.specs.Rules.{is_kept_from_holder, lowest_withheld}
 use Rattle.office_core.specs.State.{Order, State, containers, opens, order_out}
-use Rattle.office_core.specs.Words.{first_that, numbered, some_and}
+use Rattle.office_core.specs.Words.{first_that, nth, some_and}
 use Rattle.state_encoding.specs.DeskEncoding.{holding_row, order_row, order_rows}
 use Rattle.state_encoding.specs.OfficeRows.{tables}
 use Rattle.refinement.specs.Gate.{AreEnough, first_closed, is_closed_to}
@@ -42,8 +42,8 @@ module _ (version : Version) (s : State) where
   orders = order_rows s
 
   -- the ticket of an order
-  pub ticket_is : (o : ℕ) → ticket_of orders o ≡ option_map (λ (order : Order). order.ticket) (numbered s.orders o)
-  ticket_is o = ap (option_map (λ (row : OrderRow). row.ticket)) (found_row (order_row s) (λ (row : OrderRow). row.id) (λ n x. refl) o s.orders) ∙ at (numbered s.orders o)
+  pub ticket_is : (o : ℕ) → ticket_of orders o ≡ option_map (λ (order : Order). order.ticket) (nth s.orders o)
+  ticket_is o = ap (option_map (λ (row : OrderRow). row.ticket)) (found_row (order_row s) (λ (row : OrderRow). row.id) (λ n x. refl) o s.orders) ∙ at (nth s.orders o)
     where
       at : (x : Option Order) → option_map (λ (row : OrderRow). row.ticket) (option_map (order_row s o) x) ≡ option_map (λ (order : Order). order.ticket) x
       at None = refl
@@ -53,14 +53,14 @@ module _ (version : Version) (s : State) where
   rows_of cs = filter_map (issued_by orders) (filter_map (λ c. holding_row c (s.place c)) cs)
 
   -- one container after another
-  kept_among : ((c o : ℕ) → order_out (s.place c) ≡ Some o → is_some (numbered s.orders o) ≡ true) → (cs : List ℕ) → first_that (is_kept_from_holder s) cs ≡ first_closed s (rows_of cs)
+  kept_among : ((c o : ℕ) → order_out (s.place c) ≡ Some o → is_some (nth s.orders o) ≡ true) → (cs : List ℕ) → first_that (is_kept_from_holder s) cs ≡ first_closed s (rows_of cs)
   kept_among there [] = refl
   kept_among there (c ∷ cs) = at (s.place c) refl (kept_among there cs)
     where
       rest : List HoldingRow
       rest = filter_map (λ c. holding_row c (s.place c)) cs
 
-      issued_is : (o : ℕ) (order : Order) → numbered s.orders o ≡ Some order → issued_by orders (record { container = c; place = 2; held_by = Some o }) ≡ Some (record { container = c; order = o; ticket = order.ticket })
+      issued_is : (o : ℕ) (order : Order) → nth s.orders o ≡ Some order → issued_by orders (record { container = c; place = 2; held_by = Some o }) ≡ Some (record { container = c; order = o; ticket = order.ticket })
       issued_is o order e = ap (option_map (λ t. record { container = c; order = o; ticket = t })) (ticket_is o ∙ ap (option_map (λ (order : Order). order.ticket)) e)
 
       by_test : (b : Bool) (loan : Loan) → loan.container ≡ c → first_that (is_kept_from_holder s) cs ≡ first_closed s (rows_of cs)
@@ -68,11 +68,11 @@ module _ (version : Version) (s : State) where
       by_test true loan e later = ap Some (sym e)
       by_test false loan e later = later
 
-      out_with : (o : ℕ) → s.place c ≡ Out o → (x : Option Order) → numbered s.orders o ≡ x → is_some x ≡ true → first_that (is_kept_from_holder s) cs ≡ first_closed s (rows_of cs)
+      out_with : (o : ℕ) → s.place c ≡ Out o → (x : Option Order) → nth s.orders o ≡ x → is_some x ≡ true → first_that (is_kept_from_holder s) cs ≡ first_closed s (rows_of cs)
           → first_that (is_kept_from_holder s) (c ∷ cs) ≡ first_closed s (rows_of (c ∷ cs))
       out_with o e None known there later = absurd (cc)
       out_with o e (Some order) known there later =
-          ap (λ p. cond (some_and (λ o. some_and (λ order. not (opens s order.ticket c)) (numbered s.orders o)) (order_out p)) (Some c) (first_that (is_kept_from_holder s) cs)) e
+          ap (λ p. cond (some_and (λ o. some_and (λ order. not (opens s order.ticket c)) (nth s.orders o)) (order_out p)) (Some c) (first_that (is_kept_from_holder s) cs)) e
           ∙ ap (λ x. cond (some_and (λ order. not (opens s order.ticket c)) x) (Some c) (first_that (is_kept_from_holder s) cs)) known
           ∙ by_test (not (opens s order.ticket c)) (record { container = c; order = o; ticket = order.ticket }) refl later
           ∙ sym (ap (λ x. first_closed s (cons_option x (rows_of cs))) (issued_is o order known))
@@ -81,9 +81,9 @@ module _ (version : Version) (s : State) where
       at : (place : Place) → s.place c ≡ place → first_that (is_kept_from_holder s) cs ≡ first_closed s (rows_of cs) → first_that (is_kept_from_holder s) (c ∷ cs) ≡ first_closed s (rows_of (c ∷ cs))
       at Shelf e later = rw e later
       at Desk e later = rw e later
-      at (Out o) e later = out_with o e (numbered s.orders o) refl (there c o (ap order_out e)) later
+      at (Out o) e later = out_with o e (nth s.orders o) refl (there c o (ap order_out e)) later
 
-  pub kept_is : CanBeJudged s → kept s ≡ first_closed s (issued_of (tables version s).desk)
+  pub kept_is : CanBeJudged s → lowest_withheld s ≡ first_closed s (issued_of (tables version s).desk)
   kept_is judged = kept_among judged.orders (containers s)
 
   -- ---- where only some of those that are out can be closed to who has them
@@ -91,7 +91,7 @@ module _ (version : Version) (s : State) where
   abbrev asked : (ℕ → Bool) → Loan → Bool
   asked q loan = q loan.container
 
-  kept_where : (q : ℕ → Bool) → ((c o : ℕ) → order_out (s.place c) ≡ Some o → is_some (numbered s.orders o) ≡ true) → ((c : ℕ) → q c ≡ false → is_kept_from_holder s c ≡ false) → (cs : List ℕ)
+  kept_where : (q : ℕ → Bool) → ((c o : ℕ) → order_out (s.place c) ≡ Some o → is_some (nth s.orders o) ≡ true) → ((c : ℕ) → q c ≡ false → is_kept_from_holder s c ≡ false) → (cs : List ℕ)
       → first_that (is_kept_from_holder s) cs ≡ first_closed s (filter (asked q) (rows_of cs))
   kept_where q there others [] = refl
   kept_where q there others (c ∷ cs) = at (s.place c) refl (kept_where q there others cs)
@@ -99,12 +99,12 @@ module _ (version : Version) (s : State) where
       rest : List HoldingRow
       rest = filter_map (λ c. holding_row c (s.place c)) cs
 
-      issued_is : (o : ℕ) (order : Order) → numbered s.orders o ≡ Some order → issued_by orders (record { container = c; place = 2; held_by = Some o }) ≡ Some (record { container = c; order = o; ticket = order.ticket })
+      issued_is : (o : ℕ) (order : Order) → nth s.orders o ≡ Some order → issued_by orders (record { container = c; place = 2; held_by = Some o }) ≡ Some (record { container = c; order = o; ticket = order.ticket })
       issued_is o order e = ap (option_map (λ t. record { container = c; order = o; ticket = t })) (ticket_is o ∙ ap (option_map (λ (order : Order). order.ticket)) e)
 
-      kept_is_closed : (o : ℕ) (order : Order) → s.place c ≡ Out o → numbered s.orders o ≡ Some order → is_kept_from_holder s c ≡ is_closed_to s (record { container = c; order = o; ticket = order.ticket })
+      kept_is_closed : (o : ℕ) (order : Order) → s.place c ≡ Out o → nth s.orders o ≡ Some order → is_kept_from_holder s c ≡ is_closed_to s (record { container = c; order = o; ticket = order.ticket })
       kept_is_closed o order e known =
-          ap (λ p. some_and (λ o. some_and (λ order. not (opens s order.ticket c)) (numbered s.orders o)) (order_out p)) e
+          ap (λ p. some_and (λ o. some_and (λ order. not (opens s order.ticket c)) (nth s.orders o)) (order_out p)) e
           ∙ ap (some_and (λ order. not (opens s order.ticket c))) known
 
       by_tests : (near closed : Bool) (loan : Loan) → loan.container ≡ c → is_closed_to s loan ≡ closed → (near ≡ false → closed ≡ false) → first_that (is_kept_from_holder s) cs ≡ first_closed s (filter (asked q) (rows_of cs))
@@ -114,7 +114,7 @@ module _ (version : Version) (s : State) where
       by_tests false true loan e is other later = absurd (let bad = other refl in cc)
       by_tests false false loan e is other later = later
 
-      out_with : (o : ℕ) → s.place c ≡ Out o → (x : Option Order) → numbered s.orders o ≡ x → is_some x ≡ true → first_that (is_kept_from_holder s) cs ≡ first_closed s (filter (asked q) (rows_of cs))
+      out_with : (o : ℕ) → s.place c ≡ Out o → (x : Option Order) → nth s.orders o ≡ x → is_some x ≡ true → first_that (is_kept_from_holder s) cs ≡ first_closed s (filter (asked q) (rows_of cs))
           → first_that (is_kept_from_holder s) (c ∷ cs) ≡ first_closed s (filter (asked q) (rows_of (c ∷ cs)))
       out_with o e None known there later = absurd (cc)
       out_with o e (Some order) known there later =
@@ -128,7 +128,7 @@ module _ (version : Version) (s : State) where
       at : (place : Place) → s.place c ≡ place → first_that (is_kept_from_holder s) cs ≡ first_closed s (filter (asked q) (rows_of cs)) → first_that (is_kept_from_holder s) (c ∷ cs) ≡ first_closed s (filter (asked q) (rows_of (c ∷ cs)))
       at Shelf e later = rw e later
       at Desk e later = rw e later
-      at (Out o) e later = out_with o e (numbered s.orders o) refl (there c o (ap order_out e)) later
+      at (Out o) e later = out_with o e (nth s.orders o) refl (there c o (ap order_out e)) later
 
   -- those whose containers pass a test, where all others are open to who has them
   pub enough_of : CanBeJudged s → (test : ℕ → Bool) → ((c : ℕ) → test c ≡ false → is_kept_from_holder s c ≡ false)

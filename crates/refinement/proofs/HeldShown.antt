@@ -10,8 +10,8 @@ use Rattle.desk_store.specs.Readers.{held_with}
 use Rattle.office_core.specs.Laws.{Standing, Waiting, WithItsReader, Ended, numbers_from, standing}
 use Rattle.office_core.specs.SoundDesk.{is_out_for}
 use Rattle.office_core.specs.SoundOffice.{IsSoundOffice}
-use Rattle.office_core.specs.State.{Done, Cancelled, Order, State, container_of, containers, held, is_by, is_container, is_out_with, order_out}
-use Rattle.office_core.specs.Words.{numbered, numbers_to, some_and, stands}
+use Rattle.office_core.specs.State.{Done, Cancelled, Order, State, container_of, containers, held_count, is_by, is_container, is_out_with, order_out}
+use Rattle.office_core.specs.Words.{nth, numbers_to, some_and, stands}
 use Rattle.office_core.proofs.Counts.{numbered_from_one}
 use Rattle.office_core.proofs.Filed.{out_with}
 use Rattle.office_core.proofs.OrderLaws.{out_stands, stands_out}
@@ -22,7 +22,7 @@ use Rattle.state_encoding.specs.DeskEncoding.{order_row, rows_from, state_number
 use Rattle.state_encoding.specs.OfficeRows.{tables}
 use Rattle.state_encoding.proofs.DeskLookups.{flipped}
 use Rattle.state_encoding.proofs.Members.{to_from}
-use Rattle.tree_core.specs.Versions.{Version}
+use Rattle.office_tables.specs.Versions.{Version}
 use Rattle.std.proofs.Math.Bool.{and-false}
 
 abbrev bit : Bool → ℕ
@@ -83,13 +83,13 @@ just_one k (suc n) low high =
 
 module _ {X R : Type 0} (row : ℕ → X → R) (p : R → Bool) (all : List X) where
   abbrev at_number : ℕ → Bool
-  at_number n = some_and (λ x. p (row n x)) (numbered all n)
+  at_number n = some_and (λ x. p (row n x)) (nth all n)
 
-  counted_from : (m : ℕ) (xs : List X) → ((j : ℕ) → numbered all (suc m + j) ≡ slice_get xs j) → count_by p (rows_from row (suc m) xs) ≡ count_by at_number (numbers_from (suc m) (length xs))
+  counted_from : (m : ℕ) (xs : List X) → ((j : ℕ) → nth all (suc m + j) ≡ slice_get xs j) → count_by p (rows_from row (suc m) xs) ≡ count_by at_number (numbers_from (suc m) (length xs))
   counted_from m [] are = refl
   counted_from m (x ∷ xs) are =
-      let first : numbered all (suc m) ≡ Some x = (let e : suc m ≡ suc m + 0 = omega arith in ap (numbered all) e) ∙ are 0 in
-      let rest = counted_from (suc m) xs (λ j. (let e : suc (suc m) + j ≡ suc m + suc j = omega arith in ap (numbered all) e) ∙ are (suc j)) in
+      let first : nth all (suc m) ≡ Some x = (let e : suc m ≡ suc m + 0 = omega arith in ap (nth all) e) ∙ are 0 in
+      let rest = counted_from (suc m) xs (λ j. (let e : suc (suc m) + j ≡ suc m + suc j = omega arith in ap (nth all) e) ∙ are (suc j)) in
       sum_by-cons (λ r. bit (p r)) (row (suc m) x) (rows_from row (suc (suc m)) xs)
       ∙ ap (λ n. bit (p (row (suc m) x)) + n) rest
       ∙ ap (λ o. bit (some_and (λ x. p (row (suc m) x)) o) + count_by at_number (numbers_from (suc (suc m)) (length xs))) (sym first)
@@ -97,7 +97,7 @@ module _ {X R : Type 0} (row : ℕ → X → R) (p : R → Bool) (all : List X) 
 
   pub counted_by_number : count_by p (rows_from row 1 all) ≡ count_by at_number (numbers_to (length all))
   counted_by_number =
-      counted_from 0 all (λ j. let e : 1 + j ≡ suc j = omega arith in ap (numbered all) e)
+      counted_from 0 all (λ j. let e : 1 + j ≡ suc j = omega arith in ap (nth all) e)
       ∙ ap (count_by at_number) (sym (to_from (length all)))
 
 -- ---- containers that are out, and orders that are
@@ -127,8 +127,8 @@ module _ (s : State) (sound : IsSoundOffice s) (t : ℕ) where
   abbrev is_out_now : ℕ → Bool
   is_out_now o = nat_eq (state_number (standing s o)) 2
 
-  by_an_order : (o : ℕ) → is_by s t o ≡ true → is_some (numbered s.orders o) ≡ true
-  by_an_order o h = at (numbered s.orders o) h
+  by_an_order : (o : ℕ) → is_by s t o ≡ true → is_some (nth s.orders o) ≡ true
+  by_an_order o h = at (nth s.orders o) h
     where
       at : (r : Option Order) → some_and (λ (order : Order). nat_eq order.ticket t) r ≡ true → is_some r ≡ true
       at None h = absurd (false≢true h)
@@ -206,10 +206,10 @@ module _ (s : State) (sound : IsSoundOffice s) (t : ℕ) where
       ]
 
   -- the ticket's orders that are out are as many as the containers that are out with it
-  pub held_shown : (version : Version) → held_with t (tables version s).desk ≡ held s t
+  pub held_shown : (version : Version) → held_with t (tables version s).desk ≡ held_count s t
   held_shown version =
       counted_by_number (order_row s) (λ (row : OrderRow). nat_eq t row.ticket && nat_eq row.state 2) s.orders
-      ∙ same_sum (λ o. bit (some_and (λ (order : Order). nat_eq t order.ticket && is_out_now o) (numbered s.orders o))) (λ o. bit (is_out_now o && is_by s t o)) (λ o. ap bit (by_number t (is_out_now o) (numbered s.orders o))) (numbers_to (length s.orders))
+      ∙ same_sum (λ o. bit (some_and (λ (order : Order). nat_eq t order.ticket && is_out_now o) (nth s.orders o))) (λ o. bit (is_out_now o && is_by s t o)) (λ o. ap bit (by_number t (is_out_now o) (nth s.orders o))) (numbers_to (length s.orders))
       ∙ same_sum (λ o. bit (is_out_now o && is_by s t o)) (λ o. sum_by (λ c. bit (holds c o)) (containers s)) (λ o. sym (of_order o)) (numbers_to (length s.orders))
       ∙ sym (swapped (λ c o. bit (holds c o)) (containers s) (numbers_to (length s.orders)))
       ∙ same_sum (λ c. sum_by (λ o. bit (holds c o)) (numbers_to (length s.orders))) (λ c. bit (is_out_with s t c)) of_container (containers s)

@@ -11,7 +11,7 @@ use Rattle.desk_core.specs.declared.reader.Place.TheVariants.{Shelf, Desk, Out}
 use Rattle.desk_store.specs.Holdings.{placed_at, put_down}
 use Rattle.office_core.specs.Laws.{numbers_from}
 use Rattle.office_core.specs.State.{State, is_container}
-use Rattle.office_core.specs.Words.{numbers_to, put}
+use Rattle.office_core.specs.Words.{numbers_to, update_at}
 use Rattle.office_core.proofs.Counts.{numbered_from_one}
 use Rattle.office_core.proofs.Words.{numbered_within, put_here, put_there, same_number}
 use Rattle.state_encoding.specs.DeskEncoding.{holding_row, holding_rows}
@@ -100,34 +100,34 @@ unfolding AreAbove
 rows_above place c m zero less = tt
 rows_above place c m (suc k) less = above_first c m (place m) (rows_of place (numbers_from (suc m) k)) less (rows_above place c (suc m) k (omega (arith, less)))
 
-others_stay : (place : ℕ → Place) (p : Place) (c m k : ℕ) → c < m → rows_of (put place c p) (numbers_from m k) ≡ rows_of place (numbers_from m k)
+others_stay : (place : ℕ → Place) (p : Place) (c m k : ℕ) → c < m → rows_of (update_at place c p) (numbers_from m k) ≡ rows_of place (numbers_from m k)
 others_stay place p c m zero less = refl
 others_stay place p c m (suc k) less =
-    ap (λ (q : Place). cons_option (holding_row m q) (rows_of (put place c p) (numbers_from (suc m) k))) (put_there place c p m (λ e. omega (arith, e, less)))
+    ap (λ (q : Place). cons_option (holding_row m q) (rows_of (update_at place c p) (numbers_from (suc m) k))) (put_there place c p m (λ e. omega (arith, e, less)))
     ∙ ap (cons_option (holding_row m (place m))) (others_stay place p c (suc m) k (omega (arith, less)))
 
-placed_from : (place : ℕ → Place) (p : Place) (c m k : ℕ) → m ≤ c → c < m + k → rows_of (put place c p) (numbers_from m k) ≡ placed_at c p (rows_of place (numbers_from m k))
+placed_from : (place : ℕ → Place) (p : Place) (c m k : ℕ) → m ≤ c → c < m + k → rows_of (update_at place c p) (numbers_from m k) ≡ placed_at c p (rows_of place (numbers_from m k))
 placed_from place p c m zero low high = absurd (omega (arith, low, high))
 placed_from place p c m (suc k) low high =
     elim (cases_eq m c) [
       | inl same ↦
           let rest = rows_of place (numbers_from (suc m) k) in
-          ap (λ (q : Place). cons_option (holding_row m q) (rows_of (put place c p) (numbers_from (suc m) k))) (ap (put place c p) same ∙ put_here place c p)
+          ap (λ (q : Place). cons_option (holding_row m q) (rows_of (update_at place c p) (numbers_from (suc m) k))) (ap (update_at place c p) same ∙ put_here place c p)
           ∙ ap (cons_option (holding_row m p)) (others_stay place p c (suc m) k (omega (arith, same)))
           ∙ sym (ap (λ n. placed_at n p (cons_option (holding_row m (place m)) rest)) (sym same) ∙ placed_here m p (place m) rest (rows_above place m (suc m) k (omega arith)))
       | inr other ↦
           let less : m < c = omega (arith, low, other) in
-          ap (λ (q : Place). cons_option (holding_row m q) (rows_of (put place c p) (numbers_from (suc m) k))) (put_there place c p m other)
+          ap (λ (q : Place). cons_option (holding_row m q) (rows_of (update_at place c p) (numbers_from (suc m) k))) (put_there place c p m other)
           ∙ ap (cons_option (holding_row m (place m))) (placed_from place p c (suc m) k less (omega (arith, high)))
           ∙ sym (placed_behind c m p (place m) (rows_of place (numbers_from (suc m) k)) less)
     ]
 
-pub placed_to : (place : ℕ → Place) (p : Place) (c n : ℕ) → 1 ≤ c → c ≤ n → rows_of (put place c p) (numbers_to n) ≡ placed_at c p (rows_of place (numbers_to n))
+pub placed_to : (place : ℕ → Place) (p : Place) (c n : ℕ) → 1 ≤ c → c ≤ n → rows_of (update_at place c p) (numbers_to n) ≡ placed_at c p (rows_of place (numbers_to n))
 placed_to place p c n low high =
-    ap (rows_of (put place c p)) (to_from n)
+    ap (rows_of (update_at place c p)) (to_from n)
     ∙ placed_from place p c 1 n low (omega (arith, high))
     ∙ sym (ap (λ cs. placed_at c p (rows_of place cs)) (to_from n))
 
 -- a container goes to another place
-pub place_after : (s : State) (c : ℕ) (p : Place) → is_container s c ≡ true → rows_of (put s.place c p) (numbers_to (length s.catalogue.containers)) ≡ placed_at c p (holding_rows s)
+pub place_after : (s : State) (c : ℕ) (p : Place) → is_container s c ≡ true → rows_of (update_at s.place c p) (numbers_to (length s.catalogue.containers)) ≡ placed_at c p (holding_rows s)
 place_after s c p known = placed_to s.place p c (length s.catalogue.containers) (numbered_from_one s.catalogue.containers c known) (numbered_within s.catalogue.containers c known)

@@ -14,16 +14,16 @@ use Rattle.catalogue_core.proofs.KeptUnits.{same_containers}
 use Rattle.office_core.specs.SoundDesk.{AreFiled, IsFiled, is_out_for}
 use Rattle.office_core.specs.SoundOffice.{IsSoundOffice}
 use Rattle.office_core.specs.State.{Order, State, container_of, order_out}
-use Rattle.office_core.specs.Words.{numbered, stands}
+use Rattle.office_core.specs.Words.{nth, stands}
 use Rattle.office_core.proofs.Words.{same_number}
 use Rattle.state_encoding.proofs.LegibleRows.{desk_legible}
 use Rattle.refinement.specs.AccessConditions.{CanBeJudged}
 
 -- what is out is so by an order that is there
-pub orders_there : (s : State) → AreFiled s → (c o : ℕ) → order_out (s.place c) ≡ Some o → is_some (numbered s.orders o) ≡ true
-orders_there s filed c o out = at (numbered s.orders o) refl
+pub orders_there : (s : State) → AreFiled s → (c o : ℕ) → order_out (s.place c) ≡ Some o → is_some (nth s.orders o) ≡ true
+orders_there s filed c o out = at (nth s.orders o) refl
   where
-    at : (x : Option Order) → numbered s.orders o ≡ x → is_some x ≡ true
+    at : (x : Option Order) → nth s.orders o ≡ x → is_some x ≡ true
     at (Some order) e = refl
     at None e =
         let none : container_of s o ≡ None = ap (option_map (λ (order : Order). order.container)) e in

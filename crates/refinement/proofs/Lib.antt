@@ -7,7 +7,7 @@ pub mod DeskSteps
 pub mod DiskBlames
 pub mod Doings
 pub mod EmptySeats
-pub mod StacksShown
+pub mod StorageShown
 pub mod QueuesShown
 pub mod CommandSteps
 pub mod OrderRows

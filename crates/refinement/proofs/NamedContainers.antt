@@ -13,7 +13,7 @@ use Rattle.catalogue_core.specs.CatalogueMerge.{box_number}
 use Rattle.catalogue_core.specs.Units.{Unit}
 use Rattle.catalogue_core.proofs.BoxPlaces.{numbers_are_places}
 use Rattle.catalogue_core.proofs.ImportedAgain.{box_itself, one_text}
-use Rattle.office_core.specs.Words.{numbered, some_and}
+use Rattle.office_core.specs.Words.{nth, some_and}
 
 one_box : (a b : BoxKey) → is_same_box a b ≡ true → a ≡ b
 one_box a b h =
@@ -32,7 +32,7 @@ stands_at b (x ∷ xs) h = elim (cases_Bool (is_same_box b x)) [
 ]
 
 module _ (cs : List BoxKey) (apart : distinct cs ≡ cs) (b : BoxKey) where
-  number_at : (n i : ℕ) → slice_get cs i ≡ Some b → nat_eq n (suc i) ≡ some_and (λ box. is_same_box box b) (numbered cs n)
+  number_at : (n i : ℕ) → slice_get cs i ≡ Some b → nat_eq n (suc i) ≡ some_and (λ box. is_same_box box b) (nth cs n)
   number_at zero i here = grind (arith, nat_tests)
   number_at (suc j) i here = at (slice_get cs j) refl
     where
@@ -59,7 +59,7 @@ module _ (cs : List BoxKey) (apart : distinct cs ≡ cs) (b : BoxKey) where
       ]
 
 -- a container has this number where it is the one that stands there
-has_number : (cs : List BoxKey) → distinct cs ≡ cs → (b : BoxKey) → list_any (is_same_box b) cs ≡ true → (n : ℕ) → nat_eq n (box_number cs b) ≡ some_and (λ box. is_same_box box b) (numbered cs n)
+has_number : (cs : List BoxKey) → distinct cs ≡ cs → (b : BoxKey) → list_any (is_same_box b) cs ≡ true → (n : ℕ) → nat_eq n (box_number cs b) ≡ some_and (λ box. is_same_box box b) (nth cs n)
 has_number cs apart b known n =
     let at = stands_at b cs known in
     ap (nat_eq n) (numbers_are_places cs at.0 b apart at.1) ∙ number_at cs apart b n at.0 at.1
@@ -69,14 +69,14 @@ abbrev pub names_it : Option BoxKey → Unit → Bool
 names_it o unit = list_any (λ b. some_and (λ box. is_same_box box b) o) unit.values.boxes
 
 pub names_one : (cs : List BoxKey) → distinct cs ≡ cs → (n : ℕ) (boxes : List BoxKey) → list_all (λ b. list_any (is_same_box b) cs) boxes ≡ true
-    → list_any (λ b. nat_eq n (box_number cs b)) boxes ≡ list_any (λ b. some_and (λ box. is_same_box box b) (numbered cs n)) boxes
+    → list_any (λ b. nat_eq n (box_number cs b)) boxes ≡ list_any (λ b. some_and (λ box. is_same_box box b) (nth cs n)) boxes
 names_one cs apart n [] known = refl
 names_one cs apart n (b ∷ boxes) known =
     let parts = and_parts (list_any (is_same_box b) cs) (list_all (λ b. list_any (is_same_box b) cs) boxes) known in
     ap₂ ◌||◌ (has_number cs apart b parts.0 n) (names_one cs apart n boxes parts.1)
 
 pub named : (cs : List BoxKey) → distinct cs ≡ cs → (n : ℕ) (units : List Unit) → AllByRecursion (λ (unit : Unit). list_all (λ b. list_any (is_same_box b) cs) unit.values.boxes ≡ true) units
-    → filter (names cs n) units ≡ filter (names_it (numbered cs n)) units
+    → filter (names cs n) units ≡ filter (names_it (nth cs n)) units
 named cs apart n [] known = refl
 named cs apart n (unit ∷ units) known =
     ap₂ (λ b l. cond b (unit ∷ l) l) (names_one cs apart n unit.values.boxes known.0) (named cs apart n units known.1)

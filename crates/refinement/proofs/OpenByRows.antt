@@ -25,7 +25,7 @@ use Rattle.catalogue_core.proofs.UnitsAfter.{each_there}
 use Rattle.catalogue_store.specs.Attachments.{AreAttachedRows}
 use Rattle.office_core.specs.State as office
 use Rattle.office_core.specs.State.{State, is_permitted, opens}
-use Rattle.office_core.specs.Words.{numbered, some_and}
+use Rattle.office_core.specs.Words.{nth, some_and}
 use Rattle.state_encoding.specs.DeskEncoding.{permit_rows}
 use Rattle.state_encoding.proofs.ReadBack.{permits_known}
 use Rattle.refinement.specs.AccessConditions.{CanBeJudged}
@@ -83,7 +83,7 @@ module _ (s : State) (judged : CanBeJudged s) (t n : ℕ) where
 
   pub opens_by : (units : List Unit) → IsPermutation (filter (names s.catalogue.containers n) (nodes forest)) units → opens s t n ≡ (is_some_there units && list_all clean units)
   opens_by units same =
-      by_container units (numbered s.catalogue.containers n)
+      by_container units (nth s.catalogue.containers n)
       (subst (λ l. IsPermutation l units) (named s.catalogue.containers judged.containers.apart n (nodes forest) judged.containers.known) same)
 
   -- a number past the last container's is open to nobody
@@ -95,7 +95,7 @@ module _ (s : State) (judged : CanBeJudged s) (t n : ℕ) where
       past (x ∷ xs) zero low = absurd (omega (arith, low))
       past (x ∷ xs) (suc k) low = past xs k (omega (arith, low))
 
-      past_last : (xs : List BoxKey) (k : ℕ) → length xs < k → numbered xs k ≡ None
+      past_last : (xs : List BoxKey) (k : ℕ) → length xs < k → nth xs k ≡ None
       past_last xs zero low = absurd (omega (arith, low))
       past_last xs (suc k) low = past xs k (omega (arith, low))
 

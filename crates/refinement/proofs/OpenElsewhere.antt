@@ -18,7 +18,7 @@ use Rattle.catalogue_core.proofs.EachOf.{all_append}
 use Rattle.office_core.specs.Rules.{is_kept_from_holder}
 use Rattle.office_core.specs.SoundOffice.{IsSoundOffice}
 use Rattle.office_core.specs.State.{Order, Permit, State, is_permitted, opens, order_out}
-use Rattle.office_core.specs.Words.{numbered, some_and}
+use Rattle.office_core.specs.Words.{nth, some_and}
 use Rattle.refinement.specs.Gate.{OthersAreOpen, is_named_near, names_some, near}
 use Rattle.refinement.specs.AccessConditions.{CanBeJudged}
 use Rattle.refinement.proofs.BranchesApart.{cut_alike, fewer, lying, lying_without, names_box, open_without, some_named}
@@ -39,12 +39,12 @@ StaysOpen u old new = (box : BoxKey) (permitted : ℕ → Bool) (day : ℤ) → 
 abbrev pub IsKnown : List BoxKey → Unit → Type 0
 IsKnown cs unit = list_all (λ b. list_any (is_same_box b) cs) unit.values.boxes ≡ true
 
-pub named_alike : (cs : List BoxKey) → distinct cs ≡ cs → (n : ℕ) (box : BoxKey) → numbered cs n ≡ Some box → (units : List Unit) → AllByRecursion (IsKnown cs) units → list_any (names cs n) units ≡ list_any (names_box box) units
+pub named_alike : (cs : List BoxKey) → distinct cs ≡ cs → (n : ℕ) (box : BoxKey) → nth cs n ≡ Some box → (units : List Unit) → AllByRecursion (IsKnown cs) units → list_any (names cs n) units ≡ list_any (names_box box) units
 named_alike cs apart n box is [] known = refl
 named_alike cs apart n box is (unit ∷ units) known =
     ap₂ ◌||◌ (names_one cs apart n unit.values.boxes known.0 ∙ ap (λ o. list_any (λ b. some_and (λ box. is_same_box box b) o) unit.values.boxes) is) (named_alike cs apart n box is units known.1)
 
-named_near : (s : State) → CanBeJudged s → (u n : ℕ) (box : BoxKey) → numbered s.catalogue.containers n ≡ Some box → is_named_near u s n ≡ list_any (names_box box) (near u s.catalogue.forest)
+named_near : (s : State) → CanBeJudged s → (u n : ℕ) (box : BoxKey) → nth s.catalogue.containers n ≡ Some box → is_named_near u s n ≡ list_any (names_box box) (near u s.catalogue.forest)
 named_near s judged u n box is =
     let f = s.catalogue.forest in
     let P = IsKnown s.catalogue.containers in
@@ -61,23 +61,23 @@ module _ (s : State) (sound : IsSoundOffice s) (f : Forest Unit) (permits : ℕ 
   -- the container, if it is one, stays open to those to whom it is
   abbrev pub StaysOpenTo : ℕ → Type 0
   StaysOpenTo c =
-      (t : ℕ) (box : BoxKey) → numbered s.catalogue.containers c ≡ Some box → is_open s.catalogue.forest box (is_permitted s.day (s.permits t)) s.day ≡ true → is_open f box (is_permitted s.day (permits t)) s.day ≡ true
+      (t : ℕ) (box : BoxKey) → nth s.catalogue.containers c ≡ Some box → is_open s.catalogue.forest box (is_permitted s.day (s.permits t)) s.day ≡ true → is_open f box (is_permitted s.day (permits t)) s.day ≡ true
 
   pub still_open : (c : ℕ) → StaysOpenTo c → is_kept_from_holder changed c ≡ false
   still_open c stays = out (order_out (s.place c)) refl
     where
-      seen : (t : ℕ) (o : Option BoxKey) → numbered s.catalogue.containers c ≡ o → some_and (λ box. is_open s.catalogue.forest box (is_permitted s.day (s.permits t)) s.day) o ≡ true
+      seen : (t : ℕ) (o : Option BoxKey) → nth s.catalogue.containers c ≡ o → some_and (λ box. is_open s.catalogue.forest box (is_permitted s.day (s.permits t)) s.day) o ≡ true
           → some_and (λ box. is_open f box (is_permitted s.day (permits t)) s.day) o ≡ true
       seen t None is was = absurd (false≢true was)
       seen t (Some box) is was = stays t box is was
 
-      ordered : (o : ℕ) → order_out (s.place c) ≡ Some o → (x : Option Order) → numbered s.orders o ≡ x → some_and (λ (order : Order). not (opens changed order.ticket c)) x ≡ false
+      ordered : (o : ℕ) → order_out (s.place c) ≡ Some o → (x : Option Order) → nth s.orders o ≡ x → some_and (λ (order : Order). not (opens changed order.ticket c)) x ≡ false
       ordered o is None known = refl
-      ordered o is (Some order) known = ap not (seen order.ticket (numbered s.catalogue.containers c) refl (sound.sound.desk.places.holders c o order is known).may_see)
+      ordered o is (Some order) known = ap not (seen order.ticket (nth s.catalogue.containers c) refl (sound.sound.desk.places.holders c o order is known).may_see)
 
-      out : (x : Option ℕ) → order_out (s.place c) ≡ x → some_and (λ o. some_and (λ (order : Order). not (opens changed order.ticket c)) (numbered s.orders o)) x ≡ false
+      out : (x : Option ℕ) → order_out (s.place c) ≡ x → some_and (λ o. some_and (λ (order : Order). not (opens changed order.ticket c)) (nth s.orders o)) x ≡ false
       out None is = refl
-      out (Some o) is = ordered o is (numbered s.orders o) refl
+      out (Some o) is = ordered o is (nth s.orders o) refl
 
 -- where only units change
 pub others_open : (s : State) (sound : IsSoundOffice s) (f : Forest Unit) (u : ℕ) → (let new : State = record s { catalogue = record s.catalogue { forest = f } } in CanBeJudged new) → StaysOpen u s.catalogue.forest f
@@ -90,7 +90,7 @@ others_open s sound f u judged stays c far =
 
 -- A container that no unit near this one names stays open where what is left of the permits is the same for all units but
 -- those of the branch.
-pub stays_permitted : (s : State) → IsSoundOffice s → (u c : ℕ) → is_named_near u s c ≡ false → (box : BoxKey) → numbered s.catalogue.containers c ≡ Some box → (permitted left : ℕ → Bool)
+pub stays_permitted : (s : State) → IsSoundOffice s → (u c : ℕ) → is_named_near u s c ≡ false → (box : BoxKey) → nth s.catalogue.containers c ≡ Some box → (permitted left : ℕ → Bool)
     → AllByRecursion (IsAlike permitted left) (nodes (cut (has_id u) s.catalogue.forest)) → is_open s.catalogue.forest box permitted s.day ≡ is_open (cut (has_id u) s.catalogue.forest) box left s.day
 stays_permitted s sound u c far box is permitted left alike =
     let judged = judged_now s sound in

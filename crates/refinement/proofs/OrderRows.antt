@@ -1,14 +1,14 @@
 -- What the row of an order tells of it.
 use Rattle.std.proofs.Common.{◌≡◌, ℕ, Bool, true, false, cond, nat_eq, Option, Some, None, refl, ap, subst}
 use Rattle.std.specs.Prelude.{is_some, option_map}
-use Rattle.tree_core.specs.Versions.{Version}
+use Rattle.office_tables.specs.Versions.{Version}
 use Rattle.desk_core.specs.DeskRows.{OrderRow}
 use Rattle.desk_store.specs.Orders.{IsThere, order_with}
 use Rattle.desk_store.specs.Orders as store
 use Rattle.desk_store.specs.declared.orders.PlacedOrder.{PlacedOrder}
 use Rattle.office_core.specs.Laws.{Waiting, WithItsReader, Ended, stands_as, standing}
 use Rattle.office_core.specs.State.{Cancelled, Done, End, Order, State, container_of, waits}
-use Rattle.office_core.specs.Words.{numbered, some_and}
+use Rattle.office_core.specs.Words.{nth, some_and}
 use Rattle.state_encoding.specs.DeskEncoding.{order_row, state_number}
 use Rattle.state_encoding.specs.OfficeRows.{tables}
 use Rattle.refinement.proofs.RowsOfLists.{found_row}
@@ -32,12 +32,12 @@ module _ (s : State) where
   pub waits_by_row : (o : ℕ) → nat_eq (state_number (standing s o)) 1 ≡ waits s o
   waits_by_row o = waits_as (container_of s o) (λ c. Rattle.office_core.specs.Words.stands o (s.queue c)) (λ c. Rattle.office_core.specs.SoundDesk.is_out_for o (s.place c)) (s.past o)
 
-  pub row_of_order : (version : Version) (o : ℕ) → order_with o (tables version s).desk ≡ option_map (order_row s o) (numbered s.orders o)
+  pub row_of_order : (version : Version) (o : ℕ) → order_with o (tables version s).desk ≡ option_map (order_row s o) (nth s.orders o)
   row_of_order version o = found_row (order_row s) (λ (row : OrderRow). row.id) (λ n x. refl) o s.orders
 
   -- what is told of an order that was not placed, and of one that was
   pub not_placed : (version : Version) (o : ℕ) → IsThere (order_with o (tables version s).desk) None → is_some (container_of s o) ≡ false
-  not_placed version o it = at (numbered s.orders o) (subst (λ (row : Option OrderRow). IsThere row None) (row_of_order version o) it)
+  not_placed version o it = at (nth s.orders o) (subst (λ (row : Option OrderRow). IsThere row None) (row_of_order version o) it)
     where
       at : (order : Option Order) → IsThere (option_map (order_row s o) order) None → is_some (option_map (λ (order : Order). order.container) order) ≡ false
       at None it = refl
@@ -48,8 +48,8 @@ module _ (s : State) where
     pub state : store.state_number placed.state ≡ state_number (standing s o)
 
   pub was_placed : (version : Version) (o : ℕ) (placed : PlacedOrder) → IsThere (order_with o (tables version s).desk) (Some placed) → IsPlaced o placed
-  was_placed version o placed it = at (numbered s.orders o) refl (subst (λ (row : Option OrderRow). IsThere row (Some placed)) (row_of_order version o) it)
+  was_placed version o placed it = at (nth s.orders o) refl (subst (λ (row : Option OrderRow). IsThere row (Some placed)) (row_of_order version o) it)
     where
-      at : (order : Option Order) → numbered s.orders o ≡ order → IsThere (option_map (order_row s o) order) (Some placed) → IsPlaced o placed
+      at : (order : Option Order) → nth s.orders o ≡ order → IsThere (option_map (order_row s o) order) (Some placed) → IsPlaced o placed
       at None is it = absurd (cc)
       at (Some order) is it = record { known = ap (λ (order : Option Order). is_some (option_map (λ (order : Order). order.container) order)) is; state = it.3 }

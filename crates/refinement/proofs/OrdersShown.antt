@@ -5,7 +5,7 @@ use Rattle.std.specs.Cmp.{both_ways}
 use Rattle.std.specs.List.{list_any}
 use Rattle.std.proofs.lemmas.Bool.{and_from, and_parts, eqb-true, false≢true, or_cases}
 use Rattle.tree_core.proofs.Lists.{list_any-map}
-use Rattle.tree_core.specs.Versions.{Version}
+use Rattle.office_tables.specs.Versions.{Version}
 use Rattle.desk_core.specs.DeskRows.{OrderRow}
 use Rattle.desk_store.specs.Readers.{is_live, live_orders}
 use Rattle.desk_store.specs.declared.reader_summary.LiveOrder.{LiveOrder}
@@ -13,7 +13,7 @@ use Rattle.office_core.specs.Laws.{Waiting, WithItsReader, Ended, standing, stan
 use Rattle.office_core.specs.SoundDesk.{ExactlyOne, IsFiled, is_out_for}
 use Rattle.office_core.specs.SoundOffice.{IsSoundOffice}
 use Rattle.office_core.specs.State.{Done, Cancelled, End, Order, State, container_of, has_ordered, is_by, is_out_with, order_out}
-use Rattle.office_core.specs.Words.{numbered, some_and, stands}
+use Rattle.office_core.specs.Words.{nth, some_and, stands}
 use Rattle.office_core.proofs.Filed.{out_with, waiting}
 use Rattle.office_core.proofs.OrderLaws.{stands_out, stands_waiting}
 use Rattle.office_core.proofs.Orders.{is_by_its_ticket, out_is}
@@ -49,7 +49,7 @@ live_is false false (Some Done) one live = absurd (false≢true live)
 live_is false false (Some Cancelled) one live = absurd (false≢true live)
 
 module _ (version : Version) (s : State) (sound : IsSoundOffice s) (t c : ℕ) where
-  row_ordered : (m : ℕ) (order : Order) → numbered s.orders m ≡ Some order → is_theirs t c (order_row s m order) ≡ true → has_ordered s t c ≡ true
+  row_ordered : (m : ℕ) (order : Order) → nth s.orders m ≡ Some order → is_theirs t c (order_row s m order) ≡ true → has_ordered s t c ≡ true
   row_ordered m order is passes =
       let one = and_parts (nat_eq c order.container) (nat_eq t order.ticket && is_live (order_row s m order)) passes in
       let two = and_parts (nat_eq t order.ticket) (is_live (order_row s m order)) one.1 in
@@ -76,7 +76,7 @@ module _ (version : Version) (s : State) (sound : IsSoundOffice s) (t c : ℕ) w
   -- an order that waits for it or is out with it, and is the ticket's, has its row
   has_row : (o : ℕ) → is_by s t o ≡ true → container_of s o ≡ Some c → nat_lt (state_number (standing s o)) 3 ≡ true → list_any (is_theirs t c) (order_rows s) ≡ true
   has_row o mine for_it live =
-      let known = some_is (numbered s.orders o) (by_some (numbered s.orders o) mine) in
+      let known = some_is (nth s.orders o) (by_some (nth s.orders o) mine) in
       let order = known.0 in
       let box : Some order.container ≡ Some c = sym (ap (option_map (λ (order : Order). order.container)) known.1) ∙ for_it in
       let same : order.container ≡ c = cc in

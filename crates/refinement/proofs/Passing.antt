@@ -8,10 +8,10 @@ use Rattle.sqlite.specs.State.{HasCleanDisk}
 use Rattle.sqlite.specs.Tree.{Trees}
 use Rattle.sqlite_trees.specs.declared.store.Store as kept_in
 use Rattle.tree_core.specs.Forest.{Forest}
-use Rattle.tree_core.specs.Versions.{Version}
+use Rattle.office_tables.specs.Versions.{Version}
 use Rattle.desk_core.specs.Refusals.{first_that_holds}
 use Rattle.desk_core.specs.declared.refusal.Refusal.{Refusal}
-use Rattle.office_core.specs.Rules.{Reply, after, decided, gate, refusal, step, told}
+use Rattle.office_core.specs.Rules.{Reply, after, decide, gate, refusal, step, result_of}
 use Rattle.office_core.specs.SoundOffice.{IsSoundOffice}
 use Rattle.office_core.specs.State.{State}
 use Rattle.office_core.specs.declared.command.Command.{Command}
@@ -22,24 +22,24 @@ use Rattle.office_tables.specs.declared.fault.StoreFault.{StoreFault}
 use Rattle.office_tables.proofs.CallEnds.{excused_then}
 use Rattle.office_tables.proofs.Calls.{cut_then, early, goes_then, on_err_then, on_ok_then}
 use Rattle.refinement.specs.CommandSteps.{CarriesOut, CarriesOutStep}
-use Rattle.refinement.specs.Gate.{gated, unless_refused}
+use Rattle.refinement.specs.Gate.{gate_reply, unless_refused}
 use Rattle.refinement.specs.AccessConditions.{CanBeJudged, RepresentsWhole}
 use Rattle.refinement.specs.Representation.{RepresentsState}
 use Rattle.refinement.proofs.Tellings.{looked_crash}
 
 -- the step of a command whose other checks do not hold
-gated_step : (places : Trees → Forest ℕ → Type 0) (version : Version) (s : State) (asked : Command) (db : Database) → refusal s asked ≡ first_that_holds (gate (after s asked) ∷ []) → (reply : Reply) → reply ≡ gated (after s asked) (told s asked)
+gated_step : (places : Trees → Forest ℕ → Type 0) (version : Version) (s : State) (asked : Command) (db : Database) → refusal s asked ≡ first_that_holds (gate (after s asked) ∷ []) → (reply : Reply) → reply ≡ gate_reply (after s asked) (result_of s asked)
     → RepresentsState places version db (after s asked) → CarriesOutStep places version s asked reply db
 gated_step places version s asked db last reply is shown = at (gate (after s asked)) refl
   where
     at : (why : Option Refusal) → gate (after s asked) ≡ why → CarriesOutStep places version s asked reply db
     at None e =
-        let one : step s asked ≡ (after s asked, Ok (told s asked)) = ap (λ why. decided why s (after s asked) (told s asked)) (last ∙ ap (λ why. first_that_holds (why ∷ [])) e) in
-        let so : reply ≡ Ok (told s asked) = is ∙ ap (λ why. unless_refused why (told s asked)) e in
+        let one : step s asked ≡ (after s asked, Ok (result_of s asked)) = ap (λ why. decide why s (after s asked) (result_of s asked)) (last ∙ ap (λ why. first_that_holds (why ∷ [])) e) in
+        let so : reply ≡ Ok (result_of s asked) = is ∙ ap (λ why. unless_refused why (result_of s asked)) e in
         record { told = so ∙ sym (ap (λ (p : State × Reply). p.1) one); represents = λ ok. subst (RepresentsState places version db) (sym (ap (λ (p : State × Reply). p.0) one)) shown }
     at (Some why) e =
-        let one : step s asked ≡ (s, Err why) = ap (λ why. decided why s (after s asked) (told s asked)) (last ∙ ap (λ why. first_that_holds (why ∷ [])) e) in
-        let so : reply ≡ Err why = is ∙ ap (λ why. unless_refused why (told s asked)) e in
+        let one : step s asked ≡ (s, Err why) = ap (λ why. decide why s (after s asked) (result_of s asked)) (last ∙ ap (λ why. first_that_holds (why ∷ [])) e) in
+        let so : reply ≡ Err why = is ∙ ap (λ why. unless_refused why (result_of s asked)) e in
         record { told = so ∙ sym (ap (λ (p : State × Reply). p.1) one); represents = λ ok. absurd (let bad : IsOk (let r : Reply = Err why in r) = subst IsOk so ok in cc) }
 
 pub if_ok_then : {X E : Type 0} (r : Result X E) (P Q : X → Type 0) → ((x : X) → P x → Q x) → IfOk r P → IfOk r Q
@@ -56,7 +56,7 @@ pub record IsChange (places : Trees → Forest ℕ → Type 0) (version : Versio
   pub judged : (s : State) → IsSoundOffice s → known s → CanBeJudged (after s asked)
   pub day : (s : State) → known s → today ≡ (after s asked).day
   pub last : (s : State) → known s → refusal s asked ≡ first_that_holds (gate (after s asked) ∷ [])
-  pub tells : HasCleanDisk new → (s : State) → known s → RepresentsState places version old.now s → done ≡ told s asked
+  pub answers : HasCleanDisk new → (s : State) → known s → RepresentsState places version old.now s → done ≡ result_of s asked
 
 module _ {S : Type 0} (g : kept_in.Ghosts S) (places : Trees → Forest ℕ → Type 0) (version : Version) (known : State → Type 0) (asked : Command) (today : ℤ) (done : Done) (before : store.State) (mid after_it : Held S) (r : Result Reply StoreFault) where
   abbrev b : store.State
@@ -67,24 +67,24 @@ module _ {S : Type 0} (g : kept_in.Ghosts S) (places : Trees → Forest ℕ → 
 
   -- the same of a change that bears only on some containers
   pub passed_where : (OthersStay : State → Type 0) → IsChange places version known asked today done before b → ((s : State) → IsSoundOffice s → known s → OthersStay (after s asked)) → Goes before b
-      → Answers g (RepresentsWhole places version) CanBeJudged mid after_it r (λ _. ⊤) (λ _ s reply. CanBeJudged s → today ≡ s.day → OthersStay s → reply ≡ gated s done)
+      → Answers g (RepresentsWhole places version) CanBeJudged mid after_it r (λ _. ⊤) (λ _ s reply. CanBeJudged s → today ≡ s.day → OthersStay s → reply ≡ gate_reply s done)
       → CarriesOut places version known asked before c r
-  passed_where OthersStay change others goes tells =
-      let still = λ (clean : HasCleanDisk c). early b c _ (looked_crash r b c tells.looks tells.cut) clean in
+  passed_where OthersStay change others goes told =
+      let still = λ (clean : HasCleanDisk c). early b c _ (looked_crash r b c told.looks told.aborts) clean in
       record {
         steps = λ clean s sound so it.
             let at_b = still clean in
             let shown = change.represents at_b s sound so it in
             let judged = change.judged s sound so in
-            let answers = tells.answers clean tt (after s asked) shown in
-            if_ok_with r (LeavesUnchanged b c) (λ reply. CanBeJudged (after s asked) → today ≡ (after s asked).day → OthersStay (after s asked) → reply ≡ gated (after s asked) done) (λ reply. CarriesOutStep places version s asked reply c.now)
+            let answers = told.answers clean tt (after s asked) shown in
+            if_ok_with r (LeavesUnchanged b c) (λ reply. CanBeJudged (after s asked) → today ≡ (after s asked).day → OthersStay (after s asked) → reply ≡ gate_reply (after s asked) done) (λ reply. CarriesOutStep places version s asked reply c.now)
             (λ reply looked is. gated_step places version s asked c.now (change.last s so) reply
-            (is judged (change.day s so) (others s sound so) ∙ ap (gated (after s asked)) (change.tells at_b s so it))
+            (is judged (change.day s so) (others s sound so) ∙ ap (gate_reply (after s asked)) (change.answers at_b s so it))
             (subst (λ (db : Database). RepresentsState places version db (after s asked)) (sym (looked.same clean)) shown))
-            tells.looks answers;
-        goes = on_ok_then r (LeavesUnchanged b c) (Goes before c) (λ looked. goes_then before b c goes looked.goes) tells.looks;
-        cut = on_err_then r (IsAborted b c) (IsAborted before c) (λ cut. cut_then before b c goes.on cut) tells.cut;
-        faults = λ s sound so it. excused_then before b c goes.on r tells.cut (λ at_b. tells.faults tt (after s asked) (change.represents at_b s sound so it) tt (change.judged s sound so));
+            told.looks answers;
+        goes = on_ok_then r (LeavesUnchanged b c) (Goes before c) (λ looked. goes_then before b c goes looked.goes) told.looks;
+        aborts = on_err_then r (IsAborted b c) (IsAborted before c) (λ cut. cut_then before b c goes.on cut) told.aborts;
+        faults = λ s sound so it. excused_then before b c goes.on r told.aborts (λ at_b. told.faults tt (after s asked) (change.represents at_b s sound so it) tt (change.judged s sound so));
       }
 
 -- the same of a change that can withhold nothing
@@ -93,9 +93,9 @@ pub passed_freely : (places : Trees → Forest ℕ → Type 0) (version : Versio
 passed_freely places version known asked today done old new change free goes = record {
   steps = λ clean s sound so it.
       gated_step places version s asked new.now (change.last s so) (Ok done)
-      (ap Ok (change.tells clean s so it) ∙ sym (ap (λ why. unless_refused why (told s asked)) (free s sound so)))
+      (ap Ok (change.answers clean s so it) ∙ sym (ap (λ why. unless_refused why (result_of s asked)) (free s sound so)))
       (change.represents clean s sound so it);
   goes = goes;
-  cut = tt;
+  aborts = tt;
   faults = λ s sound so it clean free. tt;
 }

@@ -15,14 +15,14 @@ use Rattle.desk_store.specs.Representation.{IsNumberOf, RepresentsDesk}
 use Rattle.desk_store.specs.declared.reader_permits.Permit.{Permit as Told}
 use Rattle.office_core.specs.SoundDesk.{AreGoodPermits, ByUnit}
 use Rattle.office_core.specs.State.{Permit, State, granted, granted_until, revoked}
-use Rattle.office_core.specs.Words.{numbers_to, put}
+use Rattle.office_core.specs.Words.{numbers_to, update_at}
 use Rattle.office_core.proofs.Words.{other_number, put_here, put_there, same_number}
 use Rattle.state_encoding.specs.DeskEncoding.{permit_row, permit_rows}
 use Rattle.state_encoding.specs.OfficeRows.{tables}
 use Rattle.state_encoding.proofs.DeskLookups.{flipped}
 use Rattle.state_encoding.proofs.ReadBack.{permits_back}
 use Rattle.office_tables.proofs.Reading.{all_found}
-use Rattle.tree_core.specs.Versions.{Version}
+use Rattle.office_tables.specs.Versions.{Version}
 use Rattle.std.proofs.lemmas.List.Elements.{filter-append}
 use Rattle.std.specs.Cmp.{IsTotalOrder, int_cmp_total, on_total}
 
@@ -75,18 +75,18 @@ module _ (t u : ℕ) where
       at false rest = ap (λ l. permit_row k p ∷ l) rest
   own_revoked k (p ∷ ps) false e = rw e (ap (λ l. permit_row k p ∷ l) (own_revoked k ps false e))
 
-  revoked_at : (permits : ℕ → List Permit) (k : ℕ) → map (permit_row k) (put permits t (revoked u (permits t)) k) ≡ filter (λ row. not (is_permit t u row)) (map (permit_row k) (permits k))
+  revoked_at : (permits : ℕ → List Permit) (k : ℕ) → map (permit_row k) (update_at permits t (revoked u (permits t)) k) ≡ filter (λ row. not (is_permit t u row)) (map (permit_row k) (permits k))
   revoked_at permits k = elim (cases_eq t k) [
-    | inl e ↦ subst (λ n. map (permit_row n) (put permits t (revoked u (permits t)) n) ≡ filter (λ row. not (is_permit t u row)) (map (permit_row n) (permits n))) e
+    | inl e ↦ subst (λ n. map (permit_row n) (update_at permits t (revoked u (permits t)) n) ≡ filter (λ row. not (is_permit t u row)) (map (permit_row n) (permits n))) e
         (ap (map (permit_row t)) (put_here permits t (revoked u (permits t))) ∙ own_revoked t (permits t) true (same_number t))
     | inr ne ↦ ap (map (permit_row k)) (put_there permits t (revoked u (permits t)) k (λ e. ne (sym e)))
         ∙ own_revoked k (permits k) false (other_number t k ne)
   ]
 
   -- the rows are those without it
-  pub revoked_rows : (s : State) → permit_rows (record s { permits = put s.permits t (revoked u (s.permits t)) }) ≡ without_permit t u (permit_rows s)
+  pub revoked_rows : (s : State) → permit_rows (record s { permits = update_at s.permits t (revoked u (s.permits t)) }) ≡ without_permit t u (permit_rows s)
   revoked_rows s =
-      flat_same (λ k. map (permit_row k) (put s.permits t (revoked u (s.permits t)) k)) (λ k. filter (λ row. not (is_permit t u row)) (map (permit_row k) (s.permits k))) (revoked_at s.permits) (numbers_to (length s.readers))
+      flat_same (λ k. map (permit_row k) (update_at s.permits t (revoked u (s.permits t)) k)) (λ k. filter (λ row. not (is_permit t u row)) (map (permit_row k) (s.permits k))) (revoked_at s.permits) (numbers_to (length s.readers))
       ∙ filter_flat (λ row. not (is_permit t u row)) (λ k. map (permit_row k) (s.permits k)) (numbers_to (length s.readers))
 
 -- ---- one that is granted
@@ -176,10 +176,10 @@ module _ (f g : ℕ → List Permit) (t : ℕ) (x : Permit) (one : IsPermutation
 
 -- the rows are those without it, and it
 pub granted_rows : (s : State) (t u : ℕ) (day : ℤ) → AreGoodPermits s → 1 ≤ t → t ≤ length s.readers
-    → IsPermutation (permit_row t (permit_to u (granted_until u day (s.permits t))) ∷ without_permit t u (permit_rows s)) (permit_rows (record s { permits = put s.permits t (granted u day (s.permits t)) }))
+    → IsPermutation (permit_row t (permit_to u (granted_until u day (s.permits t))) ∷ without_permit t u (permit_rows s)) (permit_rows (record s { permits = update_at s.permits t (granted u day (s.permits t)) }))
 granted_rows s t u day good low high =
-    let less = put s.permits t (revoked u (s.permits t)) in
-    let more = put s.permits t (granted u day (s.permits t)) in
+    let less = update_at s.permits t (revoked u (s.permits t)) in
+    let more = update_at s.permits t (granted u day (s.permits t)) in
     let new = permit_to u (granted_until u day (s.permits t)) in
     subst (λ rows. IsPermutation (permit_row t new ∷ rows) (rows_to more (length s.readers))) (revoked_rows t u s)
     (one_row_more less more t new

@@ -9,7 +9,7 @@ use Rattle.desk_core.specs.declared.reader.Place.TheVariants.{Shelf, Desk, Out}
 use Rattle.desk_store.specs.Orders.{IsAt}
 use Rattle.office_core.specs.SoundDesk.{IsSoundDesk}
 use Rattle.office_core.specs.State.{Order, State}
-use Rattle.office_core.specs.Words.{numbered}
+use Rattle.office_core.specs.Words.{nth}
 use Rattle.state_encoding.specs.DeskEncoding.{holding_rows, order_from, order_row, order_rows, place_from, place_in}
 use Rattle.state_encoding.proofs.DeskLookups.{flipped}
 use Rattle.state_encoding.proofs.Members.{in_filter}
@@ -46,25 +46,25 @@ waits_in c row = nat_eq 1 row.state && nat_eq c row.container
 
 module _ {Y : Type 0} (s : State) (tell : ℕ → Order → Y) where
   -- an order that has a row
-  pub told_row : (row : OrderRow) → StandsIn row (order_rows s) → option_map (tell row.id) (numbered s.orders row.id) ≡ Some (tell row.id (order_from row))
+  pub told_row : (row : OrderRow) → StandsIn row (order_rows s) → option_map (tell row.id) (nth s.orders row.id) ≡ Some (tell row.id (order_from row))
   told_row row k =
       let i = in_rows (order_row s) s.orders row k in
-      subst (λ (r : OrderRow). option_map (tell r.id) (numbered s.orders r.id) ≡ Some (tell r.id (order_from r))) (sym i.3) (ap (option_map (tell i.0)) i.2)
+      subst (λ (r : OrderRow). option_map (tell r.id) (nth s.orders r.id) ≡ Some (tell r.id (order_from r))) (sym i.3) (ap (option_map (tell i.0)) i.2)
 
   -- orders that have rows, by their numbers
   pub told_rows : (rows : List OrderRow) → ((row : OrderRow) → StandsIn row rows → StandsIn row (order_rows s))
-      → filter_map (λ o. option_map (tell o) (numbered s.orders o)) (map (λ (row : OrderRow). row.id) rows) ≡ map (λ (row : OrderRow). tell row.id (order_from row)) rows
+      → filter_map (λ o. option_map (tell o) (nth s.orders o)) (map (λ (row : OrderRow). row.id) rows) ≡ map (λ (row : OrderRow). tell row.id (order_from row)) rows
   told_rows [] within = refl
   told_rows (row ∷ rows) within =
-      ap (λ o. cons_option o (filter_map (λ o. option_map (tell o) (numbered s.orders o)) (map (λ (row : OrderRow). row.id) rows))) (told_row row (within row (inl refl)))
+      ap (λ o. cons_option o (filter_map (λ o. option_map (tell o) (nth s.orders o)) (map (λ (row : OrderRow). row.id) rows))) (told_row row (within row (inl refl)))
       ∙ ap (λ l. tell row.id (order_from row) ∷ l) (told_rows rows (λ r k. within r (inr k)))
 
   -- those that wait for a container
   pub told_queue : IsSoundDesk s → (c : ℕ)
-      → filter_map (λ o. option_map (tell o) (numbered s.orders o)) (s.queue c) ≡ map (λ (row : OrderRow). tell row.id (order_from row)) (filter (waits_in c) (order_rows s))
+      → filter_map (λ o. option_map (tell o) (nth s.orders o)) (s.queue c) ≡ map (λ (row : OrderRow). tell row.id (order_from row)) (filter (waits_in c) (order_rows s))
   told_queue sound c =
-      ap (λ (queue : ℕ → List ℕ). filter_map (λ o. option_map (tell o) (numbered s.orders o)) (queue c)) (sym (reads_back s sound).queues)
-      ∙ ap (λ rows. filter_map (λ o. option_map (tell o) (numbered s.orders o)) (map (λ (row : OrderRow). row.id) rows))
+      ap (λ (queue : ℕ → List ℕ). filter_map (λ o. option_map (tell o) (nth s.orders o)) (queue c)) (sym (reads_back s sound).queues)
+      ∙ ap (λ rows. filter_map (λ o. option_map (tell o) (nth s.orders o)) (map (λ (row : OrderRow). row.id) rows))
       (same_test (λ (row : OrderRow). nat_eq row.container c && nat_eq row.state 1) (waits_in c)
       (λ (row : OrderRow). ap (λ b. b && nat_eq row.state 1) (flipped row.container c) ∙ ap (λ b. nat_eq c row.container && b) (flipped row.state 1) ∙ and_comm (nat_eq c row.container) (nat_eq 1 row.state))
       (order_rows s))

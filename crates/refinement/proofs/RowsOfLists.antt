@@ -2,7 +2,7 @@
 use Rattle.std.proofs.Common.{◌≡◌, ℕ, zero, suc, ◌+◌, true, false, nat_eq, List, [], ◌∷◌, Some, None, refl, ap, subst, ◌∙◌, arith}
 use Rattle.std.specs.Prelude.{find, option_map, slice_get}
 use Rattle.std.proofs.lemmas.Bool.Decides.{nat_tests}
-use Rattle.office_core.specs.Words.{numbered}
+use Rattle.office_core.specs.Words.{nth}
 use Rattle.office_core.proofs.Words.{same_number}
 use Rattle.state_encoding.specs.DeskEncoding.{rows_from}
 
@@ -30,6 +30,6 @@ module _ {X R : Type 0} (row : ℕ → X → R) (key : R → ℕ) (numbers : (n 
       let there : nat_eq 0 (key (row (suc n) x)) ≡ false = ap (λ k. nat_eq 0 k) (numbers (suc n) x) ∙ not_zero n in
       rw there (none_at_zero (suc n) xs)
 
-  pub found_row : (t : ℕ) (xs : List X) → find (λ r. nat_eq t (key r)) (rows_from row 1 xs) ≡ option_map (row t) (numbered xs t)
+  pub found_row : (t : ℕ) (xs : List X) → find (λ r. nat_eq t (key r)) (rows_from row 1 xs) ≡ option_map (row t) (nth xs t)
   found_row zero xs = none_at_zero 0 xs
   found_row (suc j) xs = let e : 1 + j ≡ suc j = omega arith in subst (λ k. find (λ r. nat_eq k (key r)) (rows_from row 1 xs) ≡ option_map (row k) (slice_get xs j)) e (found_from 1 j xs)

@@ -30,10 +30,10 @@ module _ {Model : Type 0} (represents : Database → ⊤ → Model → Type 0) {
   pub told_then : (told answer : ⊤ → Model → Y → Type 0) → LeavesUnchanged a b → (HasCleanDisk b → (m : Model) → represents a.now tt m → (y : Y) → told tt m y → answer tt m y)
       → Answers g represents kept mid after r (λ _. ⊤) told → Answers g represents kept before after r (λ _. ⊤) answer
   told_then told answer looked means last =
-      let still = λ (clean : HasCleanDisk c). early b c _ (looked_crash r b c last.looks last.cut) clean in
+      let still = λ (clean : HasCleanDisk c). early b c _ (looked_crash r b c last.looks last.aborts) clean in
       record {
         answers = λ clean beside m shown. IfOk-weaker r (told tt m) (answer tt m) (means (still clean) m shown) (last.answers clean tt m (shown_on represents a b looked (still clean) m shown));
         looks = on_ok_then r (LeavesUnchanged b c) (LeavesUnchanged a c) (λ on. looks_then a b c looked on) last.looks;
-        cut = on_err_then r (IsAborted b c) (IsAborted a c) (λ cut. cut_then a b c looked.goes.on cut) last.cut;
-        faults = λ beside m shown may sound. excused_then a b c looked.goes.on r last.cut (λ at_b. last.faults tt m (shown_on represents a b looked at_b m shown) tt sound);
+        aborts = on_err_then r (IsAborted b c) (IsAborted a c) (λ cut. cut_then a b c looked.goes.on cut) last.aborts;
+        faults = λ beside m shown may sound. excused_then a b c looked.goes.on r last.aborts (λ at_b. last.faults tt m (shown_on represents a b looked at_b m shown) tt sound);
       }

@@ -13,14 +13,14 @@ use Rattle.tree_core.specs.declared.marks.Mark.{Mark}
 use Rattle.tree_core.proofs.EachLemmas.{size-each}
 use Rattle.tree_core.proofs.MarkWalks.{list_all-append}
 use Rattle.catalogue_core.specs.OpenMarks.{is_opened_above, with_permit}
-use Rattle.catalogue_core.specs.UnitMarks.{mark_of, unnumbered}
+use Rattle.catalogue_core.specs.UnitMarks.{mark_of, without_number}
 use Rattle.catalogue_core.specs.Units.{Unit}
-use Rattle.catalogue_store.specs.Attachments.{ArePathMarks, branch_told, is_plain_leaf, unboxed, unboxed_leaf}
+use Rattle.catalogue_store.specs.Attachments.{ArePathMarks, branch_told, is_plain_leaf, without_containers, unboxed_leaf}
 
 -- ---- the marks of a path
 
 abbrev bare : Mark → Mark
-bare mark = unboxed (unnumbered mark)
+bare mark = without_containers (without_number mark)
 
 any_bare : (p : Mark → Bool) → ((mark : Mark) → p (bare mark) ≡ p mark) → (marks : List Mark) → list_any p (map bare marks) ≡ list_any p marks
 any_bare p same [] = refl
@@ -43,11 +43,11 @@ module _ (permitted : ℕ → Bool) where
   abbrev for : Mark → Mark
   for mark = with_permit permitted mark
 
-  bare_marks : (marks : List Mark) → map bare (map for marks) ≡ map for (map unboxed (map unnumbered marks))
+  bare_marks : (marks : List Mark) → map bare (map for marks) ≡ map for (map without_containers (map without_number marks))
   bare_marks [] = refl
   bare_marks (mark ∷ marks) = ap (λ l. bare (for mark) ∷ l) (bare_marks marks)
 
-  bare_units : (units : List Unit) → map bare (map for (map mark_of units)) ≡ map for (map unboxed (map mark_of units))
+  bare_units : (units : List Unit) → map bare (map for (map mark_of units)) ≡ map for (map without_containers (map mark_of units))
   bare_units [] = refl
   bare_units (unit ∷ units) = ap (λ l. bare (for (mark_of unit)) ∷ l) (bare_units units)
 
@@ -62,7 +62,7 @@ module _ (permitted : ℕ → Bool) where
   pub path_opens : (units : List Unit) (marks : List Mark) → ArePathMarks units marks → is_opened_above (map for marks) ≡ is_opened_above (map for (map mark_of units))
   path_opens = told is_opened_above bare_above
 
-pub unnumbered_units : (units : List Unit) → map unnumbered (map mark_of units) ≡ map mark_of units
+pub unnumbered_units : (units : List Unit) → map without_number (map mark_of units) ≡ map mark_of units
 unnumbered_units [] = refl
 unnumbered_units (unit ∷ units) = ap (λ l. mark_of unit ∷ l) (unnumbered_units units)
 
@@ -109,10 +109,10 @@ same_numbers : (x m : Mark) → unboxed_leaf x ≡ unboxed_leaf m → (x.lft ≡
 same_numbers x m same = (sym (low x) ∙ ap (λ (y : Mark). y.lft) same ∙ low m, sym (high x) ∙ ap (λ (y : Mark). y.rgt) same ∙ high m)
   where
     low : (mark : Mark) → (unboxed_leaf mark).lft ≡ mark.lft
-    low mark = elim (is_plain_leaf mark) as (λ b. (cond b (unboxed mark) mark).lft ≡ mark.lft) [ true ↦ refl | false ↦ refl ]
+    low mark = elim (is_plain_leaf mark) as (λ b. (cond b (without_containers mark) mark).lft ≡ mark.lft) [ true ↦ refl | false ↦ refl ]
 
     high : (mark : Mark) → (unboxed_leaf mark).rgt ≡ mark.rgt
-    high mark = elim (is_plain_leaf mark) as (λ b. (cond b (unboxed mark) mark).rgt ≡ mark.rgt) [ true ↦ refl | false ↦ refl ]
+    high mark = elim (is_plain_leaf mark) as (λ b. (cond b (without_containers mark) mark).rgt ≡ mark.rgt) [ true ↦ refl | false ↦ refl ]
 
 same_size : (g f : Forest Mark) → each unboxed_leaf g ≡ each unboxed_leaf f → size g ≡ size f
 same_size g f same = sym (size-each unboxed_leaf g) ∙ ap size same ∙ size-each unboxed_leaf f
@@ -162,7 +162,7 @@ permits_told permitted [] = refl
 permits_told permitted (mark ∷ marks) = ap₂ ◌∷◌ here (permits_told permitted marks)
   where
     here : unboxed_leaf (with_permit permitted mark) ≡ with_permit permitted (unboxed_leaf mark)
-    here = elim (is_plain_leaf mark) as (λ b. cond b (unboxed (with_permit permitted mark)) (with_permit permitted mark) ≡ with_permit permitted (cond b (unboxed mark) mark)) [ true ↦ refl | false ↦ refl ]
+    here = elim (is_plain_leaf mark) as (λ b. cond b (without_containers (with_permit permitted mark)) (with_permit permitted mark) ≡ with_permit permitted (cond b (without_containers mark) mark)) [ true ↦ refl | false ↦ refl ]
 
 module _ (today : ℤ) (above : Bool) where
   abbrev passes : List Mark → Bool
@@ -171,13 +171,13 @@ module _ (today : ℤ) (above : Bool) where
   abbrev pass : List Mark → Forest Mark → Bool
   pass path f = list_all passes (sharing_paths boxed_mark path f)
 
-  closed_same : (mark : Mark) → is_closed today mark ≡ is_closed today (unboxed mark)
-  closed_same mark = elim mark.until as (λ o. is_closed today (record mark { until = o }) ≡ is_closed today (unboxed (record mark { until = o }))) [ None ↦ refl | Some day ↦ refl ]
+  closed_same : (mark : Mark) → is_closed today mark ≡ is_closed today (without_containers mark)
+  closed_same mark = elim mark.until as (λ o. is_closed today (record mark { until = o }) ≡ is_closed today (without_containers (record mark { until = o }))) [ None ↦ refl | Some day ↦ refl ]
 
   never_closed : (mark : Mark) → is_none mark.until ≡ true → is_closed today mark ≡ false
   never_closed mark = elim mark.until as (λ o. is_none o ≡ true → is_closed today (record mark { until = o }) ≡ false) [ None ↦ λ _. refl | Some day ↦ λ e. absurd (false≢true e) ]
 
-  first_same : (mark : Mark) (way : List Mark) → passes (mark ∷ way) ≡ passes (unboxed mark ∷ way)
+  first_same : (mark : Mark) (way : List Mark) → passes (mark ∷ way) ≡ passes (without_containers mark ∷ way)
   first_same mark way =
       ap (λ c. not ((mark.draft || list_any (λ (m : Mark). m.draft) way) || ((c || list_any (is_closed today) way) && not (above || (mark.permit || list_any (λ (m : Mark). m.permit) way))))) (closed_same mark)
 
@@ -210,9 +210,9 @@ module _ (today : ℤ) (above : Bool) where
             let plain = all_three m.draft (is_none m.until) (nat_eq (m.rgt - m.lft) 1) t in
             let narrow : m.rgt - m.lft ≡ 1 = eqb-true (m.rgt - m.lft) 1 plain.2 in
             let none : size c ≡ 0 = omega (arith, narrow, numbered.0, numbered.1) in
-            let is : unboxed_leaf m ≡ unboxed m = rw t refl in
+            let is : unboxed_leaf m ≡ without_containers m = rw t refl in
             leaf_way path m c o none (leaf_passes path m plain.0 plain.1 clean) ∙ beside
-            ∙ sym (leaf_way path (unboxed m) C O (size-each unboxed_leaf c ∙ none) (leaf_passes path (unboxed m) plain.0 plain.1 clean))
+            ∙ sym (leaf_way path (without_containers m) C O (size-each unboxed_leaf c ∙ none) (leaf_passes path (without_containers m) plain.0 plain.1 clean))
             ∙ ap (λ x. pass path (Node x C O)) (sym is)
         | inr n ↦
             let is : unboxed_leaf m ≡ m = rw n refl in
@@ -229,7 +229,7 @@ module _ (today : ℤ) (above : Bool) where
             ]) ∙ ap (λ x. pass path (Node x C O)) (sym is)
       ]
 
-  contents_same : (k : ℕ) (u v : Mark) (f g : Forest Mark) → unboxed u ≡ unboxed v → IsNumbered (k + 1) f → IsNumbered (k + 1) g → each unboxed_leaf f ≡ each unboxed_leaf g → list_all passes (contents_paths u f) ≡ list_all passes (contents_paths v g)
+  contents_same : (k : ℕ) (u v : Mark) (f g : Forest Mark) → without_containers u ≡ without_containers v → IsNumbered (k + 1) f → IsNumbered (k + 1) g → each unboxed_leaf f ≡ each unboxed_leaf g → list_all passes (contents_paths u f) ≡ list_all passes (contents_paths v g)
   contents_same k u v f g own first second same =
       let alike : (way : List Mark) → passes (u ∷ way) ≡ passes (v ∷ way) = λ way. first_same u way ∙ ap (λ x. passes (x ∷ way)) own ∙ sym (first_same v way) in
       elim (cases_Bool (passes (v ∷ []))) [
@@ -243,16 +243,16 @@ module _ (today : ℤ) (above : Bool) where
       → ((k : ℕ) (first : Mark) (below : Forest Mark) → IsNumbered k (Node first below Empty) → map (with_permit permitted) branch ≡ nodes (Node first below Empty) → answer ≡ list_all (λ way. not (withholds today above way)) (contents_paths first below))
       → (k : ℕ) (first : Mark) (below : Forest Mark) → IsNumbered k (Node first below Empty) → map (with_permit permitted) whole ≡ nodes (Node first below Empty) → answer ≡ list_all (λ way. not (withholds today above way)) (contents_paths first below)
   contents_told permitted [] branch answer same says k first below numbered is = absurd (let clash : [] ≡ first ∷ (nodes below ++ []) = is in cc)
-  contents_told permitted (w ∷ ws) [] answer same says k first below numbered is = absurd (let clash : [] ≡ unboxed w ∷ map unboxed_leaf ws = same in cc)
+  contents_told permitted (w ∷ ws) [] answer same says k first below numbered is = absurd (let clash : [] ≡ without_containers w ∷ map unboxed_leaf ws = same in cc)
   contents_told permitted (w ∷ ws) (m ∷ ms) answer same says k first below numbered is =
       let for = with_permit permitted in
-      let both : unboxed m ∷ map unboxed_leaf ms ≡ unboxed w ∷ map unboxed_leaf ws = same in
-      let head : unboxed m ≡ unboxed w = cc in
+      let both : without_containers m ∷ map unboxed_leaf ms ≡ without_containers w ∷ map unboxed_leaf ws = same in
+      let head : without_containers m ≡ without_containers w = cc in
       let rest : map unboxed_leaf ms ≡ map unboxed_leaf ws = cc in
       let all : for w ∷ map for ws ≡ first ∷ (nodes below ++ []) = is in
       let top : for w ≡ first = cc in
       let others : map for ws ≡ nodes below ++ [] = cc in
-      let own : unboxed (for m) ≡ unboxed first = ap for head ∙ ap unboxed top in
+      let own : without_containers (for m) ≡ without_containers first = ap for head ∙ ap without_containers top in
       let fill = refilled (k + 1) below (map for ms) numbered.2 (permits_told permitted ms ∙ ap (map for) rest ∙ sym (permits_told permitted ws) ∙ ap (map unboxed_leaf) (others ∙ append-nil (nodes below))) in
       let low : m.lft ≡ k = ap (λ (x : Mark). x.lft) own ∙ numbered.0 in
       let high : m.rgt ≡ k + 2 * size fill.0 + 1 = ap (λ (x : Mark). x.rgt) own ∙ numbered.1 ∙ ap (λ s. k + 2 * s + 1) (sym (same_size fill.0 below fill.3)) in

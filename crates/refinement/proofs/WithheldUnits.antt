@@ -14,11 +14,11 @@ use Rattle.tree_core.proofs.Lists.{any_agree, list_any-map}
 use Rattle.catalogue_core.specs.ContainerContents.{is_open, is_some_there, is_withheld_from, paths_below}
 use Rattle.catalogue_core.specs.OpenMarks.{with_permit}
 use Rattle.catalogue_core.specs.UnitLookup.{has_unit}
-use Rattle.catalogue_core.specs.UnitMarks.{AreMarks, mark_of, names, unnumbered}
+use Rattle.catalogue_core.specs.UnitMarks.{AreMarks, mark_of, names, without_number}
 use Rattle.catalogue_core.specs.Units.{Unit, has_id, is_closed, is_later}
 use Rattle.catalogue_store.proofs.MarkForests.{path_ids}
 use Rattle.office_core.specs.State.{State, is_permitted, opens}
-use Rattle.office_core.specs.Words.{numbered, some_and}
+use Rattle.office_core.specs.Words.{nth, some_and}
 use Rattle.desk_store.specs.declared.holdings.Loan.{Loan}
 use Rattle.refinement.specs.AccessConditions.{CanBeJudged}
 use Rattle.refinement.specs.Gate.{IsHoused, Withholds, is_one_of, is_withheld_in, names_some, nearest}
@@ -85,12 +85,12 @@ closed_by f u box permitted day there inside withheld was =
     false≢true (ap not (sym withheld) ∙ one_of_all (lies box) seen (path (has_id u) f) (paths_below [] f) (path_there u [] f there) inside all)
 
 module _ (permitted : ℕ → Bool) (day : ℤ) (way : List Unit) (marks : List Mark) (are : AreMarks way marks) where
-  any_mark : (q r : Mark → Bool) (p : Unit → Bool) → ((mark : Mark) → q (with_permit permitted mark) ≡ r (unnumbered mark)) → ((unit : Unit) → r (mark_of unit) ≡ p unit)
+  any_mark : (q r : Mark → Bool) (p : Unit → Bool) → ((mark : Mark) → q (with_permit permitted mark) ≡ r (without_number mark)) → ((unit : Unit) → r (mark_of unit) ≡ p unit)
       → list_any q (map (with_permit permitted) marks) ≡ list_any p way
   any_mark q r p read told =
       list_any-map q (with_permit permitted) marks
-      ∙ any_agree (λ mark. q (with_permit permitted mark)) (λ mark. r (unnumbered mark)) marks read
-      ∙ sym (list_any-map r unnumbered marks)
+      ∙ any_agree (λ mark. q (with_permit permitted mark)) (λ mark. r (without_number mark)) marks read
+      ∙ sym (list_any-map r without_number marks)
       ∙ ap (list_any r) are
       ∙ list_any-map r mark_of way
       ∙ any_agree (λ unit. r (mark_of unit)) p way told
@@ -110,7 +110,7 @@ pub ids_of_marks : (way : List Unit) (marks : List Mark) → AreMarks way marks 
 ids_of_marks way marks are =
     sym (read marks) ∙ ap (map (λ (mark : Mark). mark.id)) are ∙ told_of way
   where
-    read : (marks : List Mark) → map (λ (mark : Mark). mark.id) (map unnumbered marks) ≡ map (λ (mark : Mark). mark.id) marks
+    read : (marks : List Mark) → map (λ (mark : Mark). mark.id) (map without_number marks) ≡ map (λ (mark : Mark). mark.id) marks
     read [] = refl
     read (mark ∷ marks) = ap (λ l. mark.id ∷ l) (read marks)
 
@@ -144,7 +144,7 @@ module _ (s : State) (judged : CanBeJudged s) (u : ℕ) (it : HousedUnit) (read 
   abbrev both : (is_one_of loan.container it.containers.items ≡ true) × (withholds s.day false (map (with_permit permitted) it.path.items) ≡ true)
   both = and_parts (is_one_of loan.container it.containers.items) (withholds s.day false (map (with_permit permitted) it.path.items)) withheld
 
-  never_open : (o : Option BoxKey) → numbered cs loan.container ≡ o → some_and (λ box. is_open f box permitted s.day) o ≡ true → ⊥
+  never_open : (o : Option BoxKey) → nth cs loan.container ≡ o → some_and (λ box. is_open f box permitted s.day) o ≡ true → ⊥
   never_open None is was = false≢true was
   never_open (Some box) is was =
       let units = nearest u f in
@@ -160,4 +160,4 @@ module _ (s : State) (judged : CanBeJudged s) (u : ℕ) (it : HousedUnit) (read 
 -- a unit, and what was read of it
 pub withheld_closes : (s : State) → CanBeJudged s → (u : ℕ) → (it : HousedUnit) → IsHoused u s it → Withholds s it
 withheld_closes s judged u it read loan withheld =
-    opened_not (opens s loan.ticket loan.container) (never_open s judged u it read loan withheld (numbered s.catalogue.containers loan.container) refl)
+    opened_not (opens s loan.ticket loan.container) (never_open s judged u it read loan withheld (nth s.catalogue.containers loan.container) refl)

@@ -4,12 +4,12 @@ use Rattle.std.specs.Prelude.{◌≡◌, ⊤, ℕ, true, false, [], Some, is_som
 use Rattle.sqlite.specs.Effect.{Database}
 use Rattle.sqlite.specs.Tree.{Trees}
 use Rattle.tree_core.specs.Forest.{Forest, HasDistinctIds, each}
-use Rattle.tree_core.specs.Versions.{Version}
+use Rattle.office_tables.specs.Versions.{Version}
 use Rattle.desk_core.specs.LegibleDesks.{IsLegible}
 use Rattle.catalogue_core.specs.Bounds.{IsKept}
 use Rattle.catalogue_core.specs.Descriptions.{KnowsItsContainers}
 use Rattle.office_core.specs.State.{State, is_ticket, order_out}
-use Rattle.office_core.specs.Words.{numbered}
+use Rattle.office_core.specs.Words.{nth}
 use Rattle.state_encoding.specs.OfficeRows.{tables}
 use Rattle.refinement.specs.Representation.{RepresentsState}
 
@@ -21,7 +21,7 @@ pub record CanBeJudged (s : State) : Type 0 where
   pub units : HasDistinctIds (each (λ unit. unit.id) s.catalogue.forest)
   pub desk : (version : Version) → IsLegible (tables version s).desk
   pub permits : (t : ℕ) → is_ticket s t ≡ false → s.permits t ≡ []
-  pub orders : (c o : ℕ) → order_out (s.place c) ≡ Some o → is_some (numbered s.orders o) ≡ true
+  pub orders : (c o : ℕ) → order_out (s.place c) ≡ Some o → is_some (nth s.orders o) ≡ true
 
 -- the tables represent the state, in the form that calls cite
 abbrev pub RepresentsWhole : (Trees → Forest ℕ → Type 0) → Version → Database → ⊤ → State → Type 0

@@ -7,7 +7,7 @@ use Rattle.sqlite.specs.State as store
 use Rattle.sqlite.specs.State.{HasCleanDisk}
 use Rattle.sqlite.specs.Tree.{Trees}
 use Rattle.tree_core.specs.Forest.{Forest}
-use Rattle.tree_core.specs.Versions.{Version}
+use Rattle.office_tables.specs.Versions.{Version}
 use Rattle.office_core.specs.Rules.{Reply, step}
 use Rattle.office_core.specs.SoundOffice.{IsSoundOffice}
 use Rattle.office_core.specs.State.{State}
@@ -24,13 +24,14 @@ pub record CarriesOutStep (places : Trees → Forest ℕ → Type 0) (version : 
   pub represents : IsOk reply → RepresentsState places version now (step s asked).0
 
 -- Over the tables of a sound office for which `known` holds, the call carries out the command's step, and it fails only
--- for want of memory or because of the disk. The transaction goes on if the call succeeds, and is aborted if it fails.
+-- for want of memory, because of the disk, or outside a transaction. The transaction goes on if the call succeeds, and is
+-- aborted if it fails.
 pub record CarriesOut (places : Trees → Forest ℕ → Type 0) (version : Version) (known : State → Type 0) (asked : Command) (old new : store.State) (r : Result Reply StoreFault) : Type 0 where
   pub steps : HasCleanDisk new → (s : State) → IsSoundOffice s → known s → RepresentsState places version old.now s → IfOk r (λ reply. CarriesOutStep places version s asked reply new.now)
   pub goes : OnOk r (Goes old new)
-  pub cut : OnErr r (IsAborted old new)
+  pub aborts : OnErr r (IsAborted old new)
   pub faults : (s : State) → IsSoundOffice s → known s → RepresentsState places version old.now s → FaultsHaveCause old new r
 
--- the same, of a call that has a connection: a command's contract
+-- the same of the tables that a call is lent: a command's contract
 abbrev pub Performs : {S : Type 0} → (Trees → Forest ℕ → Type 0) → Version → trees.Ghosts S → (State → Type 0) → Command → Held S → Held S → Result Reply StoreFault → Type 0
 Performs places version g known asked before after r = CarriesOut places version known asked (state g before) (state g after) r

@@ -10,7 +10,7 @@ use Rattle.catalogue_core.specs.Units.{Unit, has_id}
 use Rattle.catalogue_statements.specs.Rows.{HousingRow}
 use Rattle.desk_core.specs.declared.refusal.Refusal.{Refusal}
 use Rattle.desk_store.specs.declared.holdings.Loan.{Loan}
-use Rattle.office_core.specs.Rules.{Reply, gate, is_kept_from_holder, kept}
+use Rattle.office_core.specs.Rules.{Reply, gate, is_kept_from_holder, lowest_withheld}
 use Rattle.office_core.specs.State.{State, is_permitted, opens}
 use Rattle.office_core.specs.Words.{first_that, some_and}
 use Rattle.office_core.specs.declared.done.Done.{Done}
@@ -30,8 +30,8 @@ unless_refused None done = Ok done
 unless_refused (Some why) done = Err why
 
 -- the outcome of a change that led to this state: what was done, unless the gate refuses it
-abbrev pub gated : State → Done → Reply
-gated s done = unless_refused (gate s) done
+abbrev pub gate_reply : State → Done → Reply
+gate_reply s done = unless_refused (gate s) done
 
 -- ---- a change within a branch
 
@@ -62,7 +62,7 @@ is_one_of n ns = list_any (λ m. nat_eq m n) ns
 
 -- The first of these loans that is not open to its reader is also the first such loan of all: no other need be checked.
 abbrev pub AreEnough : List Loan → State → Type 0
-AreEnough loans s = kept s ≡ first_closed s loans
+AreEnough loans s = lowest_withheld s ≡ first_closed s loans
 
 -- `asked` are the loans whose containers pass some test. Every container in which something of the branch lies passes
 -- that test.

@@ -103,7 +103,7 @@ pub(crate) fn are_clean<P: Places, S: Alter>(
     permits: &[Permit],
     today: Day,
 ) -> Result<bool, StoreFault>
-    ensures tells { StoreAnswers S.Store (Represents P.represents P.version) IsKept tables.old tables.new result
+    ensures answers { StoreAnswers S.Store (Represents P.represents P.version) IsKept tables.old tables.new result
         (λ c. AllByRecursion (P.stands (each (λ (u : Described). u.id) c.forest)) rows.now)
         (λ _ c yes. AreTheirs P.stands c rows.now → yes ≡ are_clean_for today permits.now c rows.now) }
 {
@@ -152,7 +152,7 @@ fn judge_rows<P: Places, S: Alter>(
     today: Day,
     clean: Vec<Span>,
 ) -> Result<Judgement, StoreFault>
-    ensures tells { StoreAnswers S.Store (Represents P.represents P.version) IsKept tables.old tables.new result
+    ensures answers { StoreAnswers S.Store (Represents P.represents P.version) IsKept tables.old tables.new result
         (λ c. AllByRecursion (P.stands (each (λ (u : Described). u.id) c.forest)) rows.items)
         (λ _ c found. AreTheirs P.stands c rows.items → are_clean_for today [] c clean.items ≡ true
         → (found.is_open ≡ are_clean_for today permits.now c rows.items)
@@ -185,7 +185,7 @@ pub(crate) fn judge<P: Places, S: Alter>(
     today: Day,
     clean: Vec<Span>,
 ) -> Result<Judgement, StoreFault>
-    ensures tells { Answers S.Store (RepresentsWhole P.represents P.version) CanBeJudged tables.old tables.new result
+    ensures answers { Answers S.Store (RepresentsWhole P.represents P.version) CanBeJudged tables.old tables.new result
         (λ _. ⊤) (λ _ s found. CanBeJudged s → today ≡ s.day → AreClean s clean.items
         → (found.is_open ≡ opens s ticket container) × AreClean s found.clean.items) }
     ensures disk { HasCleanDisk (state S.Store tables.new)
@@ -218,7 +218,7 @@ pub fn is_open_to<P: Places, S: Alter>(
     ticket: u64,
     today: Day,
 ) -> Result<bool, StoreFault>
-    ensures tells { Answers S.Store (RepresentsWhole P.represents P.version) CanBeJudged tables.old tables.new result
+    ensures answers { Answers S.Store (RepresentsWhole P.represents P.version) CanBeJudged tables.old tables.new result
         (λ _. ⊤) (λ _ s yes. CanBeJudged s → today ≡ s.day → yes ≡ opens s ticket container) }
     ensures disk { HasCleanDisk (state S.Store tables.new)
         → IfErr result (BlamesDisk (state S.Store tables.old) (state S.Store tables.new)) }

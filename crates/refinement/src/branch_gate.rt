@@ -8,9 +8,9 @@ ghost use Rattle.isad_core.specs.Limits.{IsNumber};
 ghost use Rattle.desk_store.specs.Holdings.{issued_of};
 ghost use Rattle.state_encoding.specs.OfficeRows.{tables as tables_of};
 ghost use Rattle.office_tables.specs.Calls.{Answers};
-ghost use Rattle.office_core.specs.Rules.{kept};
+ghost use Rattle.office_core.specs.Rules.{lowest_withheld};
 ghost use Rattle.refinement.specs.Gate.{AreAsked, AreEnough, AreNear, IsHoused, IsWithheldAt, OthersAreOpen};
-ghost use Rattle.refinement.specs.Gate.{gated, is_one_of};
+ghost use Rattle.refinement.specs.Gate.{gate_reply, is_one_of};
 ghost use Rattle.refinement.specs.AccessConditions.{CanBeJudged, RepresentsWhole};
 
 use crate::containers_apart::{containers_apart, loans_without};
@@ -37,7 +37,7 @@ fn containers_near<P: Places, S: Alter>(
     housed: &HousedUnit,
 ) -> Result<Vec<u64>, StoreFault>
     requires small { IsNumber unit }
-    ensures tells { Answers S.Store (RepresentsWhole P.represents P.version) CanBeJudged tables.old tables.new result
+    ensures answers { Answers S.Store (RepresentsWhole P.represents P.version) CanBeJudged tables.old tables.new result
         (λ _. ⊤) (λ _ s found. IsHoused unit s housed.now → AreNear unit s found.items) }
 {
     let branch = P::branch(alloc, tables, unit)?;
@@ -71,7 +71,7 @@ fn loans_in_branch<P: Places, S: Alter>(
     loans: &[Loan],
 ) -> Result<Vec<Loan>, StoreFault>
     requires small { IsNumber unit }
-    ensures tells { Answers S.Store (RepresentsWhole P.represents P.version) CanBeJudged tables.old tables.new result
+    ensures answers { Answers S.Store (RepresentsWhole P.represents P.version) CanBeJudged tables.old tables.new result
         (λ _. ⊤) (λ _ s found. IsHoused unit s housed.now → AreAsked unit s loans.now found.items) }
 {
     let mut containers = containers_near(alloc, tables, unit, housed)?;
@@ -89,7 +89,7 @@ fn loans_to_ask<P: Places, S: Alter>(
     loans: Vec<Loan>,
 ) -> Result<Vec<Loan>, StoreFault>
     requires small { IsNumber unit }
-    ensures tells { Answers S.Store (RepresentsWhole P.represents P.version) CanBeJudged tables.old tables.new result
+    ensures answers { Answers S.Store (RepresentsWhole P.represents P.version) CanBeJudged tables.old tables.new result
         (λ _. ⊤) (λ _ s found. IsHoused unit s housed.now → AreAsked unit s loans.items found.items) }
 {
     if loans.len() <= FEW {
@@ -106,7 +106,7 @@ pub fn loans_near<P: Places, S: Alter>(
     unit: u64,
 ) -> Result<Vec<Loan>, StoreFault>
     requires small { IsNumber unit }
-    ensures tells { Answers S.Store (RepresentsWhole P.represents P.version) CanBeJudged tables.old tables.new result
+    ensures answers { Answers S.Store (RepresentsWhole P.represents P.version) CanBeJudged tables.old tables.new result
         (λ _. ⊤) (λ _ s found. AreAsked unit s (issued_of (tables_of P.version s).desk) found.items) }
 {
     let loans = issued(alloc, tables)?;
@@ -123,8 +123,8 @@ pub fn pass_of<P: Places, S: Alter>(
     loans: &[Loan],
     done: Done,
 ) -> Result<Result<Done, Refusal>, StoreFault>
-    ensures tells { Answers S.Store (RepresentsWhole P.represents P.version) CanBeJudged tables.old tables.new result
-        (λ _. ⊤) (λ _ s reply. CanBeJudged s → today ≡ s.day → AreEnough loans.now s → reply ≡ gated s done) }
+    ensures answers { Answers S.Store (RepresentsWhole P.represents P.version) CanBeJudged tables.old tables.new result
+        (λ _. ⊤) (λ _ s reply. CanBeJudged s → today ≡ s.day → AreEnough loans.now s → reply ≡ gate_reply s done) }
 {
     match first_closed(alloc, tables, loans, today)? {
         Some(container) => Ok(Err(Refusal::WithReader { container })),
@@ -143,7 +143,7 @@ fn lower_loans<P: Places, S: Alter>(
 ) -> Result<Vec<Loan>, StoreFault>
     requires small { IsNumber unit }
     requires rise { IsNonDecreasing housed.now.containers.items }
-    ensures tells { Answers S.Store (RepresentsWhole P.represents P.version) CanBeJudged tables.old tables.new result
+    ensures answers { Answers S.Store (RepresentsWhole P.represents P.version) CanBeJudged tables.old tables.new result
         (λ _. ⊤)
         (λ _ s found. CanBeJudged s → IsHoused unit s housed.now → AreAsked unit s loans.now found.items) }
 {
@@ -153,8 +153,8 @@ fn lower_loans<P: Places, S: Alter>(
     Ok(loans_without(alloc, loans, &apart)?)
 }
 
-/// The lowest container that is closed to the reader who has it, after a change near the unit. The loan at this place is
-/// such a one, since the unit is withheld from its reader; so only those before it are checked.
+/// The lowest container that is closed to the reader who has it, after a change near the unit. The loan at this place
+/// is such a one, since the unit is withheld from its reader; so only those before it are checked.
 fn lowest_closed<P: Places, S: Alter>(
     alloc: Global,
     tables: &mut Tables<P, S>,
@@ -167,10 +167,10 @@ fn lowest_closed<P: Places, S: Alter>(
     requires small { IsNumber unit }
     requires rise { IsNonDecreasing housed.now.containers.items }
     requires there { place < length loans.now }
-    ensures tells { Answers S.Store (RepresentsWhole P.represents P.version) CanBeJudged tables.old tables.new result
+    ensures answers { Answers S.Store (RepresentsWhole P.represents P.version) CanBeJudged tables.old tables.new result
         (λ _. ⊤) (λ _ s container. CanBeJudged s → today ≡ s.day → OthersAreOpen unit s
         → IsHoused unit s housed.now → IsWithheldAt s housed.now loans.now place
-        → loans.now ≡ issued_of (tables_of P.version s).desk → kept s ≡ Some container) }
+        → loans.now ≡ issued_of (tables_of P.version s).desk → lowest_withheld s ≡ Some container) }
 {
     let lower = lower_loans(alloc, tables, unit, housed, &loans[..place])?;
     match first_closed(alloc, tables, &lower, today)? {
@@ -180,8 +180,8 @@ fn lowest_closed<P: Places, S: Alter>(
 }
 
 /// The outcome of a change that the tables already show and that affects only a unit and those below it: what was done,
-/// or a refusal if it would close a container to the reader who has it. If the unit itself is withheld from a reader who
-/// has a container in which it lies, the change is refused, and only lower containers are checked.
+/// or a refusal if it would close a container to the reader who has it. If the unit itself is withheld from a reader
+/// who has a container in which it lies, the change is refused, and only lower containers are checked.
 pub fn pass_near<P: Places, S: Alter>(
     alloc: Global,
     tables: &mut Tables<P, S>,
@@ -190,8 +190,8 @@ pub fn pass_near<P: Places, S: Alter>(
     done: Done,
 ) -> Result<Result<Done, Refusal>, StoreFault>
     requires small { IsNumber unit }
-    ensures tells { Answers S.Store (RepresentsWhole P.represents P.version) CanBeJudged tables.old tables.new result
-        (λ _. ⊤) (λ _ s reply. CanBeJudged s → today ≡ s.day → OthersAreOpen unit s → reply ≡ gated s done) }
+    ensures answers { Answers S.Store (RepresentsWhole P.represents P.version) CanBeJudged tables.old tables.new result
+        (λ _. ⊤) (λ _ s reply. CanBeJudged s → today ≡ s.day → OthersAreOpen unit s → reply ≡ gate_reply s done) }
 {
     let loans = issued(alloc, tables)?;
     if loans.is_empty() {

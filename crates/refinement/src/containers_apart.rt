@@ -17,8 +17,8 @@ use office_tables::{StoreFault, Tables};
 use sqlite::Alter;
 use std::alloc::{AllocError, Global};
 
-/// If more containers than these are asked, or more units name one of them, the units of the branch are read instead. To
-/// ask whether a unit lies in the branch takes two statements or more.
+/// If more containers than these are asked, or more units name one of them, the units of the branch are read instead.
+/// To ask whether a unit lies in the branch takes two statements or more.
 const FEW: usize = 8;
 
 /// Whether one of these units is the other or lies below it. A number that no unit can have counts as one.
@@ -28,7 +28,7 @@ fn is_some_below<P: Places, S: Alter>(
     units: &[u64],
     other: u64,
 ) -> Result<bool, StoreFault>
-    ensures tells { Answers S.Store (RepresentsWhole P.represents P.version) CanBeJudged tables.old tables.new result
+    ensures answers { Answers S.Store (RepresentsWhole P.represents P.version) CanBeJudged tables.old tables.new result
         (λ _. ⊤) (λ _ s found. found ≡ false → list_any (is_on_path other s) units.now ≡ false) }
 {
     for unit in units {
@@ -53,7 +53,7 @@ fn lies_apart<P: Places, S: Alter>(
     container: u64,
 ) -> Result<Option<bool>, StoreFault>
     requires rise { IsNonDecreasing housed.now.containers.items }
-    ensures tells { Answers S.Store (RepresentsWhole P.represents P.version) CanBeJudged tables.old tables.new result
+    ensures answers { Answers S.Store (RepresentsWhole P.represents P.version) CanBeJudged tables.old tables.new result
         (λ _. ⊤) (λ _ s found. CanBeJudged s → IsHoused unit s housed.now → found ≡ Some true
         → is_named_near unit s container ≡ false) }
 {
@@ -82,7 +82,7 @@ pub(crate) fn containers_apart<P: Places, S: Alter>(
     loans: &[Loan],
 ) -> Result<Option<Vec<u64>>, StoreFault>
     requires rise { IsNonDecreasing housed.now.containers.items }
-    ensures tells { Answers S.Store (RepresentsWhole P.represents P.version) CanBeJudged tables.old tables.new result
+    ensures answers { Answers S.Store (RepresentsWhole P.represents P.version) CanBeJudged tables.old tables.new result
         (λ _. ⊤) (λ _ s found. CanBeJudged s → IsHoused unit s housed.now
         → IfSome found (λ apart. AreApart unit s apart.items)) }
 {

@@ -78,7 +78,7 @@ fn is_one_without_seat<P: Versioned, S: Alter>(
     tables: &mut Tables<P, S>,
     loans: &[Loan],
 ) -> Result<bool, StoreFault>
-    ensures tells { Answers S.Store RepresentsDeskAlone IsLegible tables.old tables.new result (λ _. ⊤)
+    ensures answers { Answers S.Store RepresentsDeskAlone IsLegible tables.old tables.new result (λ _. ⊤)
         (λ _ d yes. yes ≡ list_any (has_no_row d) loans.now) }
     ensures disk { HasCleanDisk (state S.Store tables.new)
         → IfErr result (BlamesDisk (state S.Store tables.old) (state S.Store tables.new)) }
@@ -95,7 +95,7 @@ fn are_against_rules<P: Places, S: Alter>(
     hands: u32,
     today: Day,
 ) -> Result<bool, StoreFault>
-    ensures tells { Answers S.Store (RepresentsWhole P.represents P.version) CanBeJudged tables.old tables.new result
+    ensures answers { Answers S.Store (RepresentsWhole P.represents P.version) CanBeJudged tables.old tables.new result
         (λ _. ⊤) (λ _ s broken. CanBeJudged s → today ≡ s.day → hands ≡ s.settings.hands
         → broken ≡ are_against_rules_of s loans.now) }
     ensures disk { HasCleanDisk (state S.Store tables.new)
@@ -118,7 +118,7 @@ pub fn breaks_day_rules<P: Places, S: Alter>(
     hands: u32,
     today: Day,
 ) -> Result<bool, StoreFault>
-    ensures tells { Answers S.Store (RepresentsWhole P.represents P.version) CanBeJudged tables.old tables.new result
+    ensures answers { Answers S.Store (RepresentsWhole P.represents P.version) CanBeJudged tables.old tables.new result
         (λ _. ⊤)
         (λ _ s broken. CanBeJudged s → today ≡ s.day → hands ≡ s.settings.hands → broken ≡ breaks_day_rules s) }
     ensures disk { HasCleanDisk (state S.Store tables.new)

@@ -12,7 +12,7 @@ use Rattle.sqlite_schema.specs.declared.schema.Column.{Column}
 use Rattle.sqlite_schema.specs.declared.schema.Constraint.TheVariants.{Datatype, NotNull}
 use Rattle.sqlite_schema.specs.declared.schema.Schema.{Schema}
 use Rattle.sqlite.specs.Ops.{is_null}
-use Rattle.office_tables.specs.Schema.{Version, Links, Spans, schema}
+use Rattle.office_tables.specs.Schema.{Version, First, Second, schema}
 use Rattle.row_completeness.specs.OrderedRows.{StandsInOrder, StandInOrder}
 use Rattle.row_completeness.specs.WholeRows.{IsWholeTable, AreWholeTables}
 
@@ -72,8 +72,8 @@ each_whole s db (table ∷ tables) firm typed present ordered =
     )
 
 all_firm : (v : Version) → list_all (λ t. ends_firmly t.key 0 t.columns) (schema v).tables ≡ true
-all_firm Links = refl
-all_firm Spans = refl
+all_firm First = refl
+all_firm Second = refl
 
 -- rows of ours that stand in order are whole, where a connection is open
 pub whole_tables : (v : Version) (db : Database) → db.schema ≡ schema v → IsDatabase db → StandInOrder db → AreWholeTables db

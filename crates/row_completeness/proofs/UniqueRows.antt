@@ -74,14 +74,14 @@ module _ (o : Order) (places : List ℕ) where
 -- ---- of what is read
 
 -- what holds of rows, each with all later ones, holds of what is read of them
-module _ {X : Type 0} (read : Row → Option X) (R : Row → Row → Type 0) (S : X → X → Type 0) (tells : (a b : Row) (x y : X) → read a ≡ Some x → read b ≡ Some y → R a b → S x y) where
+module _ {X : Type 0} (read : Row → Option X) (R : Row → Row → Type 0) (S : X → X → Type 0) (answers : (a b : Row) (x y : X) → read a ≡ Some x → read b ≡ Some y → R a b → S x y) where
   read_later : (a : Row) (x : X) → read a ≡ Some x → (rows : List Row) → AllByRecursion (R a) rows → AllByRecursion (S x) (filter_map read rows)
   read_later a x is [] h = tt
   read_later a x is (b ∷ rows) h = at (read_later a x is rows h.1) (read b) refl
     where
       at : AllByRecursion (S x) (filter_map read rows) → (o : Option X) → read b ≡ o → AllByRecursion (S x) (cons_option o (filter_map read rows))
       at more None said = more
-      at more (Some y) said = (tells a b x y is said h.0, more)
+      at more (Some y) said = (answers a b x y is said h.0, more)
 
   pub read_pairs : (rows : List Row) → IsAscending R rows → IsAscending S (filter_map read rows)
   read_pairs [] h = tt

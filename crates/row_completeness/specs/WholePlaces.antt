@@ -5,15 +5,15 @@ use Rattle.sqlite.specs.Order.{Row, column}
 use Rattle.sqlite.specs.Tree.{Trees, IsTable}
 use Rattle.sqlite.specs.declared.types.Value.TheVariants.{Null}
 use Rattle.tree_core.specs.Forest.{Forest}
-use Rattle.tree_core.specs.Versions.{Version}
+use Rattle.tree_core.specs.Encodings.{TreeEncoding}
 use Rattle.catalogue_core.specs.CatalogueCauses.{are_good_places}
 use Rattle.catalogue_core.specs.CatalogueRows.{places_said}
 use Rattle.office_tables.specs.Schema as tables
 use Rattle.row_decoding.specs.TableRows.{places_in, places_are_unread}
 
 -- some row cannot be read, or no office can have those that can be read
-abbrev pub places_are_defective : Version → Trees → Bool
-places_are_defective version db = places_are_unread version db || not (are_good_places version (places_in version db))
+abbrev pub places_are_defective : TreeEncoding → Trees → Bool
+places_are_defective way db = places_are_unread way db || not (are_good_places way (places_in way db))
 
 -- ---- what rows that are not defective represent
 
@@ -24,6 +24,6 @@ pub record AreWholePlaces (rows : List Row) : Type 0 where
   pub keys : AllByRecursion (λ (row : Row). column row 1 ≡ Null) rows
 
 -- whole rows that an office can have represent the forest that they describe
-abbrev pub RepresentsWhatItDescribes : (Trees → Forest ℕ → Type 0) → Version → Trees → Type 0
-RepresentsWhatItDescribes represents version db =
-    AreWholePlaces (db tables.link.tree) → places_are_defective version db ≡ false → represents db (places_said (places_in version db))
+abbrev pub RepresentsWhatItDescribes : (Trees → Forest ℕ → Type 0) → TreeEncoding → Trees → Type 0
+RepresentsWhatItDescribes represents way db =
+    AreWholePlaces (db tables.link.tree) → places_are_defective way db ≡ false → represents db (places_said (places_in way db))

@@ -3,7 +3,7 @@
 ghost use Rattle.catalogue_statements.specs.Representation.{RepresentsLinkRows};
 ghost use Rattle.nested_sets.specs.Representation.{RepresentsSpanRows};
 ghost use Rattle.sqlite.specs.Tree.{Trees};
-ghost use Rattle.tree_core.specs.Versions.{Links, Spans};
+ghost use Rattle.tree_core.specs.Encodings.{Links, Spans};
 ghost use Rattle.row_completeness.specs.WholePlaces.{RepresentsWhatItDescribes};
 
 /// Whole rows of links that an office can have represent the forest that they describe.

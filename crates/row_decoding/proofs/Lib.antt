@@ -2,6 +2,5 @@ pub mod TableReads
 pub mod TableTexts
 pub mod ReadCalls
 pub mod GatheredRows
-pub mod PlaceTexts
 pub mod Alike
 pub mod ToldCells

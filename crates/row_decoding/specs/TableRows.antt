@@ -4,7 +4,8 @@ use Rattle.std.specs.Prelude.{ℕ, Bool, ◌||◌, ◌&&◌, List, filter_map, n
 use Rattle.sqlite.specs.Tree.{Trees}
 use Rattle.tree_core.specs.declared.rows.Link.{Link}
 use Rattle.tree_core.specs.declared.rows.Span.{Span}
-use Rattle.tree_core.specs.Versions.{Version, Links, Spans}
+use Rattle.tree_core.specs.Encodings.{TreeEncoding, Links, Spans}
+use Rattle.office_tables.specs.Versions.{Version, encoding}
 use Rattle.desk_core.specs.DeskRows.{Desk, ReaderRow, SeatRow, OrderRow, HoldingRow, RunRow, RunLineRow, PermitRow}
 use Rattle.desk_core.specs.Orders.{in_order}
 use Rattle.catalogue_core.specs.CatalogueRows.{CatalogueRows, UnitRow, ElementRow, ContainerRow, HousingRow, PlaceRows, LinkRows, SpanRows}
@@ -23,7 +24,7 @@ then_by number second a b = nat_lt (number a) (number b) || (nat_eq (number a) (
 -- ---- the catalogue
 
 -- links by unit, spans by their first number
-abbrev pub places_in : Version → Trees → PlaceRows
+abbrev pub places_in : TreeEncoding → Trees → PlaceRows
 places_in Links db = LinkRows (in_order (by (λ (row : Link). row.id)) (filter_map read_link (db tables.link.tree)))
 places_in Spans db =
     SpanRows (in_order (then_by (λ (row : Span). row.lft) (λ (row : Span). row.id)) (filter_map read_span (db tables.span.tree)))
@@ -35,7 +36,7 @@ abbrev pub catalogue_in : Version → Trees → CatalogueRows
 catalogue_in version db =
     record {
       units = in_order (by (λ (row : UnitRow). row.id)) (filter_map read_unit (db tables.unit.tree));
-      places = places_in version db;
+      places = places_in (encoding version) db;
       elements = in_order (then_by (λ (row : ElementRow). row.unit) (λ (row : ElementRow). row.k)) (filter_map read_element (db tables.element.tree));
       containers = containers_in db;
       housings = in_order (then_by (λ (row : HousingRow). row.unit) (λ (row : HousingRow). row.ord)) (filter_map read_housing (db tables.housing.tree));
@@ -60,7 +61,7 @@ desk_in db =
 
 -- ---- some row cannot be read, for the causes that have several tables
 
-abbrev pub places_are_unread : Version → Trees → Bool
+abbrev pub places_are_unread : TreeEncoding → Trees → Bool
 places_are_unread Links db = has_unread read_link (db tables.link.tree)
 places_are_unread Spans db = has_unread read_span (db tables.span.tree)
 

@@ -1,13 +1,13 @@
 //! Rows of doubtful origin, as far as they can be read.
 
-ghost use Rattle.std.specs.Prelude.{◌≡◌, true, [], IfOk, IfErr};
+ghost use Rattle.std.specs.Prelude.{◌≡◌, true, []};
 ghost use Rattle.sqlite.specs.Held.{state};
 ghost use Rattle.sqlite.specs.State.{HasCleanDisk};
-ghost use Rattle.office_tables.specs.Query.{IsOurQuery, Reads, Gathers, StopsShort};
+ghost use Rattle.office_tables.specs.Query.{IsQuery, Reads, FoundInside, Gathers, StopsShort};
 ghost use Rattle.row_decoding.specs.Readings.{AreGathered};
 
-use office_tables::{Gathering, StoreFault, gather};
-use sqlite::{Alter, Connection, Row};
+use office_tables::{Gathering, StoreFault, Tables, Versioned, gather};
+use sqlite::{Alter, Row};
 use std::alloc::Global;
 
 /// A record that can be read from rows with any cells.
@@ -63,19 +63,19 @@ fn no_rows<R>(alloc: Global) -> Gathered<R>
     }
 }
 
-/// Reads the rows of a query, as far as they can be read. The query must be one with a known meaning.
-pub fn read_rows<R: FromCells + Drop, S: Alter>(
+/// Reads the rows of a query, as far as they can be read. The query must be one with a known meaning. Outside a
+/// transaction it fails with `StoreFault::Schema`.
+pub fn read_rows<R: FromCells + Drop, P: Versioned, S: Alter>(
     alloc: Global,
-    conn: &mut Connection<S>,
+    tables: &mut Tables<P, S>,
     sql: &str,
 ) -> Result<Gathered<R>, StoreFault>
-    requires ours { IsOurQuery sql.now (state S.Store conn.old) }
-    ensures reads { Reads (state S.Store conn.old) (state S.Store conn.new) result }
-    ensures gathers { HasCleanDisk (state S.Store conn.new)
-        → IfOk result (Gathers (λ rows all. AreGathered R.told R.says rows all.rows.items all.are_read) sql.now []
-        (state S.Store conn.old) (state S.Store conn.new)) }
-    ensures stops { HasCleanDisk (state S.Store conn.new)
-        → IfErr result (StopsShort sql.now [] (state S.Store conn.old) (state S.Store conn.new)) }
+    requires ours { IsQuery P.version sql.now }
+    ensures reads { Reads (state S.Store tables.old) (state S.Store tables.new) result }
+    ensures ran { HasCleanDisk (state S.Store tables.new) → FoundInside P.version (state S.Store tables.old)
+        (Gathers (λ rows all. AreGathered R.told R.says rows all.rows.items all.are_read) sql.now []
+        (state S.Store tables.old) (state S.Store tables.new))
+        (StopsShort sql.now [] (state S.Store tables.old) (state S.Store tables.new)) result }
 {
-    gather(conn, sql, no_rows(alloc))
+    gather(tables, sql, no_rows(alloc))
 }

@@ -8,7 +8,6 @@ mod tables;
 
 pub use cells::{cell, number_in, number_or_null_in, whole_in};
 pub use decoded_rows::{FromCells, Gathered, read_rows};
-pub use places::{links, spans};
 pub use tables::{
     container_numbers, holdings, orders, permits, run_lines, runs, seats, unit_numbers,
 };

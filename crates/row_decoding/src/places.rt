@@ -2,21 +2,13 @@
 
 ghost use Rattle.std.specs.Prelude.{◌≡◌, true};
 ghost use Rattle.std.specs.Option.{option_map_or};
-ghost use Rattle.sqlite.specs.Held.{state};
-ghost use Rattle.tree_core.specs.Versions.{Links, Spans};
 ghost use Rattle.catalogue_core.specs.CatalogueCauses as causes;
-ghost use Rattle.office_tables.specs.Schema as tables;
-ghost use Rattle.office_tables.specs.Step.{InTransaction};
-ghost use Rattle.row_decoding.specs.Examinations.{Examines};
-ghost use Rattle.row_decoding.specs.PlaceReadings.{only, good_link, good_span, by_first_number};
-ghost use Rattle.row_decoding.specs.Readings.{IsTable, by_rowid};
+ghost use Rattle.row_decoding.specs.PlaceReadings.{only};
 
 use crate::cells::{cell, number_in, number_or_null_in};
-use crate::decoded_rows::{FromCells, Gathered, read_rows};
+use crate::decoded_rows::FromCells;
 use isad_core::limits::MOST_UNIT_NUMBERS;
-use office_tables::StoreFault;
-use sqlite::{Alter, Connection, Row};
-use std::alloc::Global;
+use sqlite::Row;
 use tree_core::{Link, Span};
 
 /// Whether a unit may have the number.
@@ -107,30 +99,4 @@ impl FromCells for Span {
         let rgt = number_in(cell(row, 2))?;
         span_of(id, lft, rgt)
     }
-}
-
-/// Reads the links, by unit.
-pub fn links<S: Alter>(
-    alloc: Global,
-    conn: &mut Connection<S>,
-) -> Result<Gathered<Link>, StoreFault>
-    requires inside { InTransaction Links (state S.Store conn.old) }
-    ensures { Examines S.Store conn.old conn.new result (IsTable by_rowid good_link tables.link (λ link. link)) }
-{
-    read_rows(alloc, conn, "SELECT id, parent, ord FROM link ORDER BY id")
-}
-
-/// Reads the spans, by their first number and then by unit.
-pub fn spans<S: Alter>(
-    alloc: Global,
-    conn: &mut Connection<S>,
-) -> Result<Gathered<Span>, StoreFault>
-    requires inside { InTransaction Spans (state S.Store conn.old) }
-    ensures { Examines S.Store conn.old conn.new result (IsTable by_first_number good_span tables.span (λ span. span)) }
-{
-    read_rows(
-        alloc,
-        conn,
-        "SELECT id, lft, rgt FROM span ORDER BY lft, id",
-    )
 }

@@ -1,9 +1,7 @@
 //! The rows of each table of the desk except the readers', and the numbers of units and containers.
 
-ghost use Rattle.sqlite.specs.Held.{state};
 ghost use Rattle.office_tables.specs.DeskCells as cells;
-ghost use Rattle.office_tables.specs.Schema as tables;
-ghost use Rattle.office_tables.specs.Step.{InOffice};
+ghost use Rattle.office_tables.specs.Schema as schema;
 ghost use Rattle.row_decoding.specs.Examinations.{Examines};
 ghost use Rattle.row_decoding.specs.Readings.{IsTable, by_rowid, in_any_order, read_number};
 ghost use Rattle.desk_core.specs.RowRecords.{seat_row, order_row, holding_row, run_row, run_line_row, permit_row};
@@ -11,8 +9,8 @@ ghost use Rattle.desk_core.specs.RowRecords.{seat_row, order_row, holding_row, r
 use crate::cells::{cell, number_in, number_or_null_in, whole_in};
 use crate::decoded_rows::{FromCells, Gathered, read_rows};
 use desk_core::consistency::{HoldingRow, OrderRow, PermitRow, RunLineRow, RunRow, SeatRow};
-use office_tables::StoreFault;
-use sqlite::{Alter, Connection, Row};
+use office_tables::{StoreFault, Tables, Versioned};
+use sqlite::{Alter, Row};
 use std::alloc::Global;
 
 impl FromCells for u64 {
@@ -165,100 +163,99 @@ impl FromCells for RunLineRow {
 }
 
 /// Reads the seats, in any order.
-pub fn seats<S: Alter>(
+pub fn seats<P: Versioned, S: Alter>(
     alloc: Global,
-    conn: &mut Connection<S>,
+    tables: &mut Tables<P, S>,
 ) -> Result<Gathered<SeatRow>, StoreFault>
-    requires inside { InOffice (state S.Store conn.old) }
-    ensures { Examines S.Store conn.old conn.new result (IsTable in_any_order cells.read_seat tables.seat seat_row) }
+    ensures { Examines S.Store tables.old tables.new result
+        (IsTable in_any_order cells.read_seat schema.seat seat_row) }
 {
-    read_rows(alloc, conn, "SELECT seat, ticket FROM seat")
+    read_rows(alloc, tables, "SELECT seat, ticket FROM seat")
 }
 
 /// Reads the permits, in any order.
-pub fn permits<S: Alter>(
+pub fn permits<P: Versioned, S: Alter>(
     alloc: Global,
-    conn: &mut Connection<S>,
+    tables: &mut Tables<P, S>,
 ) -> Result<Gathered<PermitRow>, StoreFault>
-    requires inside { InOffice (state S.Store conn.old) }
-    ensures { Examines S.Store conn.old conn.new result
-        (IsTable in_any_order cells.read_permit tables.permit permit_row) }
+    ensures { Examines S.Store tables.old tables.new result
+        (IsTable in_any_order cells.read_permit schema.permit permit_row) }
 {
-    read_rows(alloc, conn, "SELECT ticket, unit, until FROM permit")
+    read_rows(alloc, tables, "SELECT ticket, unit, until FROM permit")
 }
 
 /// Reads the orders, by number.
-pub fn orders<S: Alter>(
+pub fn orders<P: Versioned, S: Alter>(
     alloc: Global,
-    conn: &mut Connection<S>,
+    tables: &mut Tables<P, S>,
 ) -> Result<Gathered<OrderRow>, StoreFault>
-    requires inside { InOffice (state S.Store conn.old) }
-    ensures { Examines S.Store conn.old conn.new result (IsTable by_rowid cells.read_order tables.orders order_row) }
+    ensures { Examines S.Store tables.old tables.new result
+        (IsTable by_rowid cells.read_order schema.orders order_row) }
 {
     read_rows(
         alloc,
-        conn,
+        tables,
         "SELECT id, ticket, container, day, state FROM orders ORDER BY id",
     )
 }
 
 /// Reads the holdings, in any order.
-pub fn holdings<S: Alter>(
+pub fn holdings<P: Versioned, S: Alter>(
     alloc: Global,
-    conn: &mut Connection<S>,
+    tables: &mut Tables<P, S>,
 ) -> Result<Gathered<HoldingRow>, StoreFault>
-    requires inside { InOffice (state S.Store conn.old) }
-    ensures { Examines S.Store conn.old conn.new result
-        (IsTable in_any_order cells.read_holding tables.holding holding_row) }
-{
-    read_rows(alloc, conn, "SELECT container, place, held_by FROM holding")
-}
-
-/// Reads the runs, by number.
-pub fn runs<S: Alter>(
-    alloc: Global,
-    conn: &mut Connection<S>,
-) -> Result<Gathered<RunRow>, StoreFault>
-    requires inside { InOffice (state S.Store conn.old) }
-    ensures { Examines S.Store conn.old conn.new result (IsTable by_rowid cells.read_run tables.run run_row) }
-{
-    read_rows(alloc, conn, "SELECT id, day FROM run ORDER BY id")
-}
-
-/// Reads the lines of the runs, in any order.
-pub fn run_lines<S: Alter>(
-    alloc: Global,
-    conn: &mut Connection<S>,
-) -> Result<Gathered<RunLineRow>, StoreFault>
-    requires inside { InOffice (state S.Store conn.old) }
-    ensures { Examines S.Store conn.old conn.new result
-        (IsTable in_any_order cells.read_run_line tables.run_line run_line_row) }
+    ensures { Examines S.Store tables.old tables.new result
+        (IsTable in_any_order cells.read_holding schema.holding holding_row) }
 {
     read_rows(
         alloc,
-        conn,
+        tables,
+        "SELECT container, place, held_by FROM holding",
+    )
+}
+
+/// Reads the runs, by number.
+pub fn runs<P: Versioned, S: Alter>(
+    alloc: Global,
+    tables: &mut Tables<P, S>,
+) -> Result<Gathered<RunRow>, StoreFault>
+    ensures { Examines S.Store tables.old tables.new result (IsTable by_rowid cells.read_run schema.run run_row) }
+{
+    read_rows(alloc, tables, "SELECT id, day FROM run ORDER BY id")
+}
+
+/// Reads the lines of the runs, in any order.
+pub fn run_lines<P: Versioned, S: Alter>(
+    alloc: Global,
+    tables: &mut Tables<P, S>,
+) -> Result<Gathered<RunLineRow>, StoreFault>
+    ensures { Examines S.Store tables.old tables.new result
+        (IsTable in_any_order cells.read_run_line schema.run_line run_line_row) }
+{
+    read_rows(
+        alloc,
+        tables,
         "SELECT run, container, order_no, ticket FROM run_line",
     )
 }
 
 /// Reads the numbers of the units, in any order.
-pub fn unit_numbers<S: Alter>(
+pub fn unit_numbers<P: Versioned, S: Alter>(
     alloc: Global,
-    conn: &mut Connection<S>,
+    tables: &mut Tables<P, S>,
 ) -> Result<Gathered<u64>, StoreFault>
-    requires inside { InOffice (state S.Store conn.old) }
-    ensures { Examines S.Store conn.old conn.new result (IsTable in_any_order read_number tables.unit (λ n. n)) }
+    ensures { Examines S.Store tables.old tables.new result (IsTable in_any_order read_number schema.unit (λ n. n)) }
 {
-    read_rows(alloc, conn, "SELECT id FROM unit")
+    read_rows(alloc, tables, "SELECT id FROM unit")
 }
 
 /// Reads the numbers of the containers, in any order.
-pub fn container_numbers<S: Alter>(
+pub fn container_numbers<P: Versioned, S: Alter>(
     alloc: Global,
-    conn: &mut Connection<S>,
+    tables: &mut Tables<P, S>,
 ) -> Result<Gathered<u64>, StoreFault>
-    requires inside { InOffice (state S.Store conn.old) }
-    ensures { Examines S.Store conn.old conn.new result (IsTable in_any_order read_number tables.container (λ n. n)) }
+    ensures { Examines S.Store tables.old tables.new result
+        (IsTable in_any_order read_number schema.container (λ n. n)) }
 {
-    read_rows(alloc, conn, "SELECT id FROM container")
+    read_rows(alloc, tables, "SELECT id FROM container")
 }

@@ -7,7 +7,7 @@ use Rattle.sqlite.specs.Order.{Row, column}
 use Rattle.sqlite.specs.Tree.{Trees}
 use Rattle.desk_core.specs.Orders.{put_in_order, in_order}
 use Rattle.desk_core.specs.DeskRows.{ReaderRow}
-use Rattle.tree_core.specs.Versions.{Version}
+use Rattle.office_tables.specs.Versions.{Version}
 use Rattle.catalogue_core.specs.CatalogueRows.{OfficeRow, UnitRow, ElementRow, ContainerRow}
 use Rattle.office_core.specs.Words.{first}
 use Rattle.office_tables.specs.Schema as tables

@@ -12,7 +12,7 @@ use Rattle.catalogue_core.specs.Members.{StandsIn}
 use Rattle.office_core.specs.SoundDesk.{IsAscending, SitOnce, ByContainer, ByUnit, IsSoundDesk}
 use Rattle.desk_core.specs.DeskRows.{ReaderRow, SeatRow, OrderRow, HoldingRow, RunRow, RunLineRow, PermitRow}
 use Rattle.state_encoding.specs.DeskEncoding.{reader_row, seat_rows_from, order_row, holding_row, run_row, run_line_row, lines_from, permit_row}
-use Rattle.tree_core.specs.Versions.{Version}
+use Rattle.office_tables.specs.Versions.{Version}
 use Rattle.state_encoding.specs.OfficeRows.{tables}
 use Rattle.desk_core.specs.DeskCauses.{AreInOrder, MeetsDeskKeys}
 use Rattle.office_core.proofs.Words.{same_number, ascending-push}

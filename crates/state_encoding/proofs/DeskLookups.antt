@@ -7,13 +7,13 @@ use Rattle.std.proofs.lemmas.Bool.{eq-eqb, cases_eq, le-leb, and_from, and_parts
 use Rattle.tree_core.specs.Forest.{nodes}
 use Rattle.tree_core.proofs.Lists.{list_any-map}
 use Rattle.catalogue_core.specs.Units.{Unit}
-use Rattle.office_core.specs.Words.{numbered, some_and}
+use Rattle.office_core.specs.Words.{nth, some_and}
 use Rattle.office_core.specs.State.{State, Order, is_ticket, is_container}
 use Rattle.catalogue_core.specs.UnitLookup.{has_unit}
 use Rattle.catalogue_core.specs.Sources.{is_between}
 use Rattle.desk_core.specs.DeskRows.{ReaderRow, OrderRow, RunRow}
 use Rattle.state_encoding.specs.DeskEncoding.{reader_row, order_row, order_rows, run_row}
-use Rattle.tree_core.specs.Versions.{Version}
+use Rattle.office_tables.specs.Versions.{Version}
 use Rattle.catalogue_core.specs.CatalogueRows.{UnitRow, unit_row, ContainerRow, container_row}
 use Rattle.state_encoding.specs.OfficeRows.{tables}
 use Rattle.desk_core.specs.DeskCauses.{is_registered}
@@ -57,12 +57,12 @@ module _ (version : Version) (s : State) where
   pub registered : (ticket : ℕ) → is_registered (tables version s).desk ticket ≡ is_ticket s ticket
   registered ticket =
       known_numbered (λ (row : ReaderRow). row.ticket) (tables version s).desk.readers ticket (rows_are_numbered reader_row (λ row. row.ticket) (λ n x. refl) 1 s.readers)
-      ∙ (ap is_some (numbered-rows reader_row s.readers ticket) ∙ is_some-map (reader_row ticket) (numbered s.readers ticket))
+      ∙ (ap is_some (numbered-rows reader_row s.readers ticket) ∙ is_some-map (reader_row ticket) (nth s.readers ticket))
 
   pub container_there : (c : ℕ) → is_container_there (tables version s) c ≡ is_container s c
   container_there c =
       known_numbered (λ (row : ContainerRow). row.id) (tables version s).catalogue.containers c (rows_are_numbered container_row (λ row. row.id) (λ n x. refl) 1 s.catalogue.containers)
-      ∙ (ap is_some (numbered-rows container_row s.catalogue.containers c) ∙ is_some-map (container_row c) (numbered s.catalogue.containers c))
+      ∙ (ap is_some (numbered-rows container_row s.catalogue.containers c) ∙ is_some-map (container_row c) (nth s.catalogue.containers c))
 
   pub unit_there : (u : ℕ) → is_unit_there (tables version s) u ≡ has_unit s.catalogue.forest u
   unit_there u =
@@ -70,12 +70,12 @@ module _ (version : Version) (s : State) where
       ∙ any_same (λ (unit : Unit). nat_eq unit.id u) (λ unit. nat_eq u unit.id) (nodes s.catalogue.forest) (λ unit. flipped unit.id u)
 
   -- an order of that number that passes
-  pub order_there : (p : OrderRow → Bool) (o : ℕ) → list_any (λ (row : OrderRow). nat_eq row.id o && p row) (order_rows s) ≡ some_and (λ (order : Order). p (order_row s o order)) (numbered s.orders o)
+  pub order_there : (p : OrderRow → Bool) (o : ℕ) → list_any (λ (row : OrderRow). nat_eq row.id o && p row) (order_rows s) ≡ some_and (λ (order : Order). p (order_row s o order)) (nth s.orders o)
   order_there p o =
       any_numbered (λ (row : OrderRow). row.id) p (order_rows s) o (rows_are_numbered (order_row s) (λ row. row.id) (λ n x. refl) 1 s.orders)
-      ∙ (ap (some_and p) (numbered-rows (order_row s) s.orders o) ∙ some_and-map p (order_row s o) (numbered s.orders o))
+      ∙ (ap (some_and p) (numbered-rows (order_row s) s.orders o) ∙ some_and-map p (order_row s o) (nth s.orders o))
 
-  pub run_there : (n : ℕ) → list_any (λ (row : RunRow). nat_eq row.id n) (tables version s).desk.runs ≡ is_some (numbered s.runs n)
+  pub run_there : (n : ℕ) → list_any (λ (row : RunRow). nat_eq row.id n) (tables version s).desk.runs ≡ is_some (nth s.runs n)
   run_there n =
       known_numbered (λ (row : RunRow). row.id) (tables version s).desk.runs n (rows_are_numbered run_row (λ row. row.id) (λ n x. refl) 1 s.runs)
-      ∙ (ap is_some (numbered-rows run_row s.runs n) ∙ is_some-map (run_row n) (numbered s.runs n))
+      ∙ (ap is_some (numbered-rows run_row s.runs n) ∙ is_some-map (run_row n) (nth s.runs n))

@@ -6,7 +6,7 @@ use Rattle.std.proofs.lemmas.Bool.{and_parts, leb-true, false≢true, not-true}
 use Rattle.isad_core.specs.Days.{IsDayNumber, is_day_number}
 use Rattle.isad_core.proofs.DayLemmas.{is_day_number-so}
 use Rattle.isad_core.specs.Limits.{most_orders, most_tickets, most_permits}
-use Rattle.office_core.specs.Words.{numbered}
+use Rattle.office_core.specs.Words.{nth}
 use Rattle.office_core.specs.State.{is_ticket, is_container}
 use Rattle.catalogue_core.specs.Members.{StandsIn}
 use Rattle.office_core.specs.Rules.{is_name}
@@ -116,17 +116,17 @@ orders_parts t h =
 pub said_ticket : (t : OfficeRows) (ticket : ℕ) → are_numbered_from (λ (row : ReaderRow). row.ticket) 1 t.desk.readers ≡ true → is_ticket (state_of t) ticket ≡ is_registered t.desk ticket
 said_ticket t ticket h =
     ap is_some (numbered-map reader_from t.desk.readers ticket)
-    ∙ (is_some-map reader_from (numbered t.desk.readers ticket) ∙ sym (known_numbered (λ (row : ReaderRow). row.ticket) t.desk.readers ticket h))
+    ∙ (is_some-map reader_from (nth t.desk.readers ticket) ∙ sym (known_numbered (λ (row : ReaderRow). row.ticket) t.desk.readers ticket h))
 
 pub said_container : (t : OfficeRows) (c : ℕ) → are_numbered_from (λ (row : ContainerRow). row.id) 1 t.catalogue.containers ≡ true → is_container (state_of t) c ≡ is_container_there t c
 said_container t c h =
     ap is_some (numbered-map box_from t.catalogue.containers c)
-    ∙ (is_some-map box_from (numbered t.catalogue.containers c) ∙ sym (known_numbered (λ (row : ContainerRow). row.id) t.catalogue.containers c h))
+    ∙ (is_some-map box_from (nth t.catalogue.containers c) ∙ sym (known_numbered (λ (row : ContainerRow). row.id) t.catalogue.containers c h))
 
 -- what is numbered among what rows say is said by the row of that number
-pub said_by : {R X : Type 0} (f : R → X) (rows : List R) (n : ℕ) (x : X) → numbered (map f rows) n ≡ Some x → (row : R) × (numbered rows n ≡ Some row) × (x ≡ f row)
-said_by {R} f rows n x e = at (numbered rows n) refl (sym (numbered-map f rows n) ∙ e)
+pub said_by : {R X : Type 0} (f : R → X) (rows : List R) (n : ℕ) (x : X) → nth (map f rows) n ≡ Some x → (row : R) × (nth rows n ≡ Some row) × (x ≡ f row)
+said_by {R} f rows n x e = at (nth rows n) refl (sym (numbered-map f rows n) ∙ e)
   where
-    at : (r : Option R) → numbered rows n ≡ r → option_map f r ≡ Some x → (row : R) × (numbered rows n ≡ Some row) × (x ≡ f row)
+    at : (r : Option R) → nth rows n ≡ r → option_map f r ≡ Some x → (row : R) × (nth rows n ≡ Some row) × (x ≡ f row)
     at None q h = absurd (cc)
     at (Some row) q h = (row, q, cc)

@@ -2,7 +2,7 @@
 use Rattle.std.proofs.Common.{ap}
 use Rattle.std.specs.Prelude.{not}
 use Rattle.office_core.specs.State.{State}
-use Rattle.tree_core.specs.Versions.{Version}
+use Rattle.office_tables.specs.Versions.{Version}
 use Rattle.state_encoding.specs.DeskSoundness.{SoundTablesPass}
 use Rattle.state_encoding.proofs.DeskKeys.{meets_keys}
 use Rattle.state_encoding.proofs.ReadersPass.{readers_pass}

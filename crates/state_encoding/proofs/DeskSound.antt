@@ -1,5 +1,5 @@
 -- Rows with none of the causes 6 to 10 say a sound desk, which shows just those rows.
-use Rattle.tree_core.specs.Versions.{Version}
+use Rattle.office_tables.specs.Versions.{Version}
 use Rattle.state_encoding.specs.OfficeRows.{OfficeRows}
 use Rattle.desk_core.specs.DeskCauses.{are_good_readers, are_good_orders, are_good_holdings, are_good_runs}
 use Rattle.state_encoding.specs.DeskSoundness.{PassingRowsAreSound}

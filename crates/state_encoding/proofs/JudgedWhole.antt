@@ -5,7 +5,7 @@ use Rattle.std.proofs.lemmas.Bool.{and_parts, or_cases, false≢true, eq-eqb, eq
 use Rattle.tree_core.specs.Forest.{nodes}
 use Rattle.tree_core.proofs.Lists.{In, In-permutation}
 use Rattle.tree_core.proofs.Lookups.{any_passes}
-use Rattle.tree_core.specs.Versions.{Version}
+use Rattle.office_tables.specs.Versions.{Version}
 use Rattle.catalogue_core.specs.Units.{has_id}
 use Rattle.office_core.specs.State.{State}
 use Rattle.office_core.specs.Soundness.{IsSound}

@@ -9,7 +9,7 @@ use Rattle.isad_core.proofs.DayLemmas.{is_day_number-true}
 use Rattle.desk_core.specs.DeskCauses.{Around, are_good_readers, are_good_orders, are_good_holdings, are_good_runs, is_good_holding, is_good_order, is_good_permit, is_good_reader, is_good_run, is_good_seat, is_out_order}
 use Rattle.desk_core.specs.DeskRows.{Desk, PermitRow, RunRow, SeatRow}
 use Rattle.desk_core.specs.LegibleDesks.{IsKnownPlace, IsLegible, IsLegibleHolding, IsLegibleOrder, IsLegibleReader}
-use Rattle.tree_core.specs.Versions.{Version}
+use Rattle.office_tables.specs.Versions.{Version}
 use Rattle.office_core.specs.SoundOffice.{IsSoundOffice}
 use Rattle.office_core.specs.State.{Reader, State}
 use Rattle.office_core.specs.Words.{numbers_to}

@@ -8,7 +8,7 @@ use Rattle.tree_core.specs.Spans.{number}
 use Rattle.tree_core.specs.declared.rows.Span.{Span}
 use Rattle.catalogue_core.proofs.DistinctLists.{all_so}
 use Rattle.catalogue_core.proofs.EachOf.{all_append}
-use Rattle.catalogue_core.specs.CatalogueRows.{nested, places_said, SpanRows}
+use Rattle.catalogue_core.specs.CatalogueRows.{forest_of_spans, places_said, SpanRows}
 use Rattle.std.proofs.lemmas.List.Elements.{filter-append}
 use Rattle.std.proofs.lemmas.List.{append-nil}
 
@@ -56,14 +56,14 @@ module _ (k : ℕ) (c o : Forest ℕ) where
       ∙ (ap (λ l. l ++ filter p (number (k + 2 * size c + 2) o)) (drops p (number (k + 1) c) (all_so (Within (k + 1) (k + 1 + 2 * size c)) (λ row. p row ≡ false) (λ row h. (let u = h.1 in ap not (lt-ltb row.lft (k + 2 * size c + 1) (omega (arith, u))))) (number (k + 1) c) (numbers_within (k + 1) c)))
       ∙ keeps p (number (k + 2 * size c + 2) o) (all_so (Within (k + 2 * size c + 2) (k + 2 * size c + 2 + 2 * size o)) (λ row. p row ≡ true) (λ row h. (let l = h.0 in ap not (le-ltb row.lft (k + 2 * size c + 1) (omega (arith, l))))) (number (k + 2 * size c + 2) o) (numbers_within (k + 2 * size c + 2) o)))
 
-nested_number : (fuel k : ℕ) (f : Forest ℕ) → size f ≤ fuel → nested fuel (number k f) ≡ f
+nested_number : (fuel k : ℕ) (f : Forest ℕ) → size f ≤ fuel → forest_of_spans fuel (number k f) ≡ f
 nested_number zero k Empty h = refl
 nested_number (suc fuel) k Empty h = refl
 nested_number zero k (Node u c o) h = absurd (omega (arith, h))
 nested_number (suc fuel) k (Node u c o) h =
-    ap (λ l. Node u (nested fuel l) (nested fuel (filter (λ (other : Span). not (nat_lt other.lft (k + 2 * size c + 1))) (number (k + 1) c ++ number (k + 2 * size c + 2) o)))) (inside k c o)
-    ∙ (ap (λ l. Node u (nested fuel (number (k + 1) c)) (nested fuel l)) (outside k c o)
-    ∙ (ap (λ below. Node u below (nested fuel (number (k + 2 * size c + 2) o))) (nested_number fuel (k + 1) c (omega (arith, h)))
+    ap (λ l. Node u (forest_of_spans fuel l) (forest_of_spans fuel (filter (λ (other : Span). not (nat_lt other.lft (k + 2 * size c + 1))) (number (k + 1) c ++ number (k + 2 * size c + 2) o)))) (inside k c o)
+    ∙ (ap (λ l. Node u (forest_of_spans fuel (number (k + 1) c)) (forest_of_spans fuel l)) (outside k c o)
+    ∙ (ap (λ below. Node u below (forest_of_spans fuel (number (k + 2 * size c + 2) o))) (nested_number fuel (k + 1) c (omega (arith, h)))
     ∙ ap (λ beside. Node u c beside) (nested_number fuel (k + 2 * size c + 2) o (omega (arith, h)))))
 
 length-number : (k : ℕ) (f : Forest ℕ) → length (number k f) ≡ size f

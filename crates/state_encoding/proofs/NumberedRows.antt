@@ -3,7 +3,7 @@ use Rattle.std.proofs.Common.{◌≡◌, ℕ, zero, suc, ◌+◌, ◌<◌, Bool,
 use Rattle.std.specs.Prelude.{map, nat_eq, slice_get, is_some, option_map}
 use Rattle.std.specs.List.{list_any, AllByRecursion}
 use Rattle.std.proofs.lemmas.Bool.{and_parts, and_from, and_left, or_from, eqb-true}
-use Rattle.office_core.specs.Words.{numbered, some_and}
+use Rattle.office_core.specs.Words.{nth, some_and}
 use Rattle.catalogue_core.specs.Members.{StandsIn}
 use Rattle.state_encoding.specs.DeskEncoding.{rows_from}
 use Rattle.desk_core.specs.DeskCauses.{AreInOrder}
@@ -52,14 +52,14 @@ module _ {R : Type 0} (key : R → ℕ) where
 
   -- rows that begin with 1
 
-  pub any_numbered : (p : R → Bool) (rows : List R) (c : ℕ) → are_numbered_from key 1 rows ≡ true → list_any (λ r. nat_eq (key r) c && p r) rows ≡ some_and p (numbered rows c)
+  pub any_numbered : (p : R → Bool) (rows : List R) (c : ℕ) → are_numbered_from key 1 rows ≡ true → list_any (λ r. nat_eq (key r) c && p r) rows ≡ some_and p (nth rows c)
   any_numbered p rows zero h = none_below p 1 rows 0 h (omega arith)
   any_numbered p rows (suc j) h =
       let z : 1 + j ≡ suc j = omega arith in
       subst (λ m. list_any (λ r. nat_eq (key r) m && p r) rows ≡ some_and p (slice_get rows j)) z (any_from p 1 rows j h)
 
-  pub known_numbered : (rows : List R) (c : ℕ) → are_numbered_from key 1 rows ≡ true → list_any (λ r. nat_eq (key r) c) rows ≡ is_some (numbered rows c)
-  known_numbered rows c h = any_same (λ r. nat_eq (key r) c) (λ r. nat_eq (key r) c && true) rows (λ r. so (nat_eq (key r) c)) ∙ (any_numbered (λ r. true) rows c h ∙ there (numbered rows c))
+  pub known_numbered : (rows : List R) (c : ℕ) → are_numbered_from key 1 rows ≡ true → list_any (λ r. nat_eq (key r) c) rows ≡ is_some (nth rows c)
+  known_numbered rows c h = any_same (λ r. nat_eq (key r) c) (λ r. nat_eq (key r) c && true) rows (λ r. so (nat_eq (key r) c)) ∙ (any_numbered (λ r. true) rows c h ∙ there (nth rows c))
     where
       so : (b : Bool) → b ≡ (b && true)
       so true = refl
@@ -69,7 +69,7 @@ module _ {R : Type 0} (key : R → ℕ) where
       there None = refl
       there (Some x) = refl
 
-  pub has_number : (rows : List R) (m : ℕ) (r : R) → are_numbered_from key 1 rows ≡ true → numbered rows m ≡ Some r → key r ≡ m
+  pub has_number : (rows : List R) (m : ℕ) (r : R) → are_numbered_from key 1 rows ≡ true → nth rows m ≡ Some r → key r ≡ m
   has_number rows zero r h e = absurd (cc)
   has_number rows (suc j) r h e = let k = own_number 1 rows j r h e in omega (arith, k)
 
@@ -77,12 +77,12 @@ module _ {R : Type 0} (key : R → ℕ) where
   in_at [] r k = absurd k
   in_at (x ∷ xs) r k = elim k [ inl e ↦ (0, ap Some (sym e)) | inr l ↦ let i = in_at xs r l in (suc i.0, i.1) ]
 
-  pub by_number : (rows : List R) (r : R) → are_numbered_from key 1 rows ≡ true → StandsIn r rows → numbered rows (key r) ≡ Some r
+  pub by_number : (rows : List R) (r : R) → are_numbered_from key 1 rows ≡ true → StandsIn r rows → nth rows (key r) ≡ Some r
   by_number rows r h k =
       let i = in_at rows r k in
       let e = own_number 1 rows i.0 r h i.1 in
       let s : suc i.0 ≡ key r = omega (arith, e) in
-      subst (λ m. numbered rows m ≡ Some r) s i.1
+      subst (λ m. nth rows m ≡ Some r) s i.1
 
   above_all : (m n : ℕ) (rows : List R) → are_numbered_from key n rows ≡ true → m < n → AllByRecursion (λ r. m < key r) rows
   above_all m n [] h l = tt
@@ -98,24 +98,24 @@ module _ {R : Type 0} (key : R → ℕ) where
       let k = eqb-true (key x) n both.0 in
       (above_all (key x) (suc n) xs both.1 (omega (arith, k)), in_order (suc n) xs both.1)
 
-pub stands_at : {X : Type 0} (xs : List X) (x : X) → StandsIn x xs → (n : ℕ) × (numbered xs n ≡ Some x)
+pub stands_at : {X : Type 0} (xs : List X) (x : X) → StandsIn x xs → (n : ℕ) × (nth xs n ≡ Some x)
 stands_at [] x k = absurd k
 stands_at (y ∷ ys) x k = elim k [ inl e ↦ (1, ap Some (sym e)) | inr l ↦ later (stands_at ys x l) ]
   where
-    later : (n : ℕ) × (numbered ys n ≡ Some x) → (n : ℕ) × (numbered (y ∷ ys) n ≡ Some x)
+    later : (n : ℕ) × (nth ys n ≡ Some x) → (n : ℕ) × (nth (y ∷ ys) n ≡ Some x)
     later i = at i.0 i.1
       where
-        at : (n : ℕ) → numbered ys n ≡ Some x → (n : ℕ) × (numbered (y ∷ ys) n ≡ Some x)
+        at : (n : ℕ) → nth ys n ≡ Some x → (n : ℕ) × (nth (y ∷ ys) n ≡ Some x)
         at zero e = absurd (cc)
         at (suc n) e = (suc (suc n), e)
 
-pub numbered_in : {X : Type 0} (xs : List X) (n : ℕ) (x : X) → numbered xs n ≡ Some x → StandsIn x xs
+pub numbered_in : {X : Type 0} (xs : List X) (n : ℕ) (x : X) → nth xs n ≡ Some x → StandsIn x xs
 numbered_in xs zero x e = absurd (cc)
 numbered_in [] (suc n) x e = absurd (cc)
 numbered_in (y ∷ ys) (suc zero) x e = inl (cc)
 numbered_in (y ∷ ys) (suc (suc n)) x e = inr (numbered_in ys (suc n) x e)
 
-pub numbered-map : {X Y : Type 0} (f : X → Y) (xs : List X) (n : ℕ) → numbered (map f xs) n ≡ option_map f (numbered xs n)
+pub numbered-map : {X Y : Type 0} (f : X → Y) (xs : List X) (n : ℕ) → nth (map f xs) n ≡ option_map f (nth xs n)
 numbered-map f xs zero = refl
 numbered-map f [] (suc n) = refl
 numbered-map f (x ∷ xs) (suc zero) = refl
@@ -137,7 +137,7 @@ module _ {X R : Type 0} (row : ℕ → X → R) where
   get_row n (x ∷ xs) zero = let e : n ≡ n + 0 = omega arith in ap (λ k. Some (row k x)) e
   get_row n (x ∷ xs) (suc j) = let e : suc n + j ≡ n + suc j = omega arith in get_row (suc n) xs j ∙ ap (λ k. option_map (row k) (slice_get xs j)) e
 
-  pub numbered-rows : (xs : List X) (n : ℕ) → numbered (rows_from row 1 xs) n ≡ option_map (row n) (numbered xs n)
+  pub numbered-rows : (xs : List X) (n : ℕ) → nth (rows_from row 1 xs) n ≡ option_map (row n) (nth xs n)
   numbered-rows xs zero = refl
   numbered-rows xs (suc j) = let e : 1 + j ≡ suc j = omega arith in get_row 1 xs j ∙ ap (λ k. option_map (row k) (slice_get xs j)) e
 
@@ -153,7 +153,7 @@ module _ {X R : Type 0} (row : ℕ → X → R) where
       ]
 
   -- a row is that of some number
-  pub in_rows : (xs : List X) (r : R) → StandsIn r (rows_from row 1 xs) → (m : ℕ) × (x : X) × (numbered xs m ≡ Some x) × (r ≡ row m x)
+  pub in_rows : (xs : List X) (r : R) → StandsIn r (rows_from row 1 xs) → (m : ℕ) × (x : X) × (nth xs m ≡ Some x) × (r ≡ row m x)
   in_rows xs r k =
       let i = in_rows_from 1 xs r k in
       let z : 1 + i.0 ≡ suc i.0 = omega arith in

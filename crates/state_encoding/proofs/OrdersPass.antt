@@ -10,7 +10,7 @@ use Rattle.isad_core.proofs.DayLemmas.{is_day_number-true}
 use Rattle.isad_core.specs.Limits.{most_orders}
 use Rattle.desk_core.specs.declared.reader.Place.{Place}
 use Rattle.desk_core.specs.declared.reader.Place.TheVariants.{Shelf, Desk, Out}
-use Rattle.office_core.specs.Words.{numbered, some_and, stands}
+use Rattle.office_core.specs.Words.{nth, some_and, stands}
 use Rattle.office_core.specs.State.{State, Order, End, Done, Cancelled, container_of, containers, is_container, order_out}
 use Rattle.catalogue_core.specs.Members.{StandsIn}
 use Rattle.office_core.specs.Laws.{Standing, Waiting, WithItsReader, Ended, stands_as, standing}
@@ -19,7 +19,7 @@ use Rattle.office_core.specs.Soundness.{IsSound}
 use Rattle.catalogue_core.specs.Sources.{is_between}
 use Rattle.desk_core.specs.DeskRows.{OrderRow, HoldingRow}
 use Rattle.state_encoding.specs.DeskEncoding.{rows_from, order_row, order_rows, state_number, holding_row, holding_rows}
-use Rattle.tree_core.specs.Versions.{Version}
+use Rattle.office_tables.specs.Versions.{Version}
 use Rattle.state_encoding.specs.OfficeRows.{tables}
 use Rattle.isad_core.specs.Words.{are_numbered_from}
 use Rattle.desk_core.specs.DeskCauses.{is_registered, is_live, are_twice, is_of_the_day, is_good_order, are_good_orders, is_out_order, is_good_holding, is_holding_of, has_its_holding, are_good_holdings}
@@ -93,13 +93,13 @@ count_rows row p q e n xs = sym (length-filter p (rows_from row n xs)) ∙ (kept
 -- ---- orders
 
 module _ (version : Version) (s : State) (g : IsSound s) where
-  for_it : (o : ℕ) (order : Order) → numbered s.orders o ≡ Some order → container_of s o ≡ Some order.container
+  for_it : (o : ℕ) (order : Order) → nth s.orders o ≡ Some order → container_of s o ≡ Some order.container
   for_it o order e = ap (option_map (λ order. order.container)) e
 
-  is_past : (o : ℕ) (order : Order) → numbered s.orders o ≡ Some order → is_live (order_row s o order) ≡ true → s.past o ≡ None
+  is_past : (o : ℕ) (order : Order) → nth s.orders o ≡ Some order → is_live (order_row s o order) ≡ true → s.past o ≡ None
   is_past o order e l = is_not_past (container_of s o) (λ c. stands o (s.queue c)) (λ c. is_out_for o (s.place c)) (s.past o) order.container (for_it o order e) (g.desk.filed.each o) l
 
-  not_twice : (o p : ℕ) (order other : Order) → numbered s.orders o ≡ Some order → numbered s.orders p ≡ Some other → are_twice (order_row s o order) (order_row s p other) ≡ false
+  not_twice : (o p : ℕ) (order other : Order) → nth s.orders o ≡ Some order → nth s.orders p ≡ Some other → are_twice (order_row s o order) (order_row s p other) ≡ false
   not_twice o p order other e q =
       let a = order_row s o order in
       let b = order_row s p other in
@@ -111,7 +111,7 @@ module _ (version : Version) (s : State) (g : IsSound s) where
       let same = g.desk.orders.once o p order other e q (is_past o order e h2.0) (is_past p other q h3.0) (eqb-true order.ticket other.ticket h4.0) (eqb-true order.container other.container h4.1) in
       absurd (false≢true (sym (ap not (ap (nat_eq o) (sym same) ∙ same_number o)) ∙ h1.0)))
 
-  good_order_of : (o : ℕ) (order : Order) → numbered s.orders o ≡ Some order → is_good_order (around (tables version s)) (tables version s).desk (order_row s o order) ≡ true
+  good_order_of : (o : ℕ) (order : Order) → nth s.orders o ≡ Some order → is_good_order (around (tables version s)) (tables version s).desk (order_row s o order) ≡ true
   good_order_of o order e =
       let t = tables version s in
       let row = order_row s o order in
@@ -177,7 +177,7 @@ module _ (version : Version) (s : State) (g : IsSound s) where
   out_at o Desk e = absurd (cc)
   out_at o (Out k) e = ap Out (cc)
 
-  holding_of : (o : ℕ) (order : Order) → numbered s.orders o ≡ Some order → nat_eq (state_number (standing s o)) 2 ≡ true → list_any (is_holding_of (order_row s o order)) (holding_rows s) ≡ true
+  holding_of : (o : ℕ) (order : Order) → nth s.orders o ≡ Some order → nat_eq (state_number (standing s o)) 2 ≡ true → list_any (is_holding_of (order_row s o order)) (holding_rows s) ≡ true
   holding_of o order e two =
       let x = out_stands (container_of s o) (λ k. stands o (s.queue k)) (λ k. is_out_for o (s.place k)) (s.past o) (state_two (standing s o) two) in
       let c = x.0 in

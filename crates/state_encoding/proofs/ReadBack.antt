@@ -8,11 +8,11 @@ use Rattle.std.proofs.lemmas.List.Concat.{flat_map-cons}
 use Rattle.std.proofs.lemmas.Grind.{flat_map-append}
 use Rattle.std.proofs.lemmas.Bool.{cases_eq, cases_Bool, false≢true, eq-eqb}
 use Rattle.catalogue_core.proofs.EachOf.{all_append}
-use Rattle.office_core.specs.Words.{numbered, numbers_to, stands}
+use Rattle.office_core.specs.Words.{nth, numbers_to, stands}
 use Rattle.office_core.specs.State.{Line, Run, Permit, State}
 use Rattle.desk_core.specs.DeskRows.{SeatRow, RunLineRow, PermitRow}
 use Rattle.state_encoding.specs.DeskEncoding.{rows_from, seat_rows_from, run_row, run_line_row, lines_from, permit_row, permit_rows}
-use Rattle.tree_core.specs.Versions.{Version}
+use Rattle.office_tables.specs.Versions.{Version}
 use Rattle.catalogue_core.specs.CatalogueRows.{container_row, box_from}
 use Rattle.state_encoding.specs.OfficeRows.{seats_said, line_from, run_from, permits_said, SaysAllButUnits}
 use Rattle.state_encoding.proofs.TableLaws.{rows_back, reads_back}
@@ -167,7 +167,7 @@ permits_all permits (suc n) t =
 stands_there : (n t : ℕ) → 1 ≤ t → t ≤ n → stands t (numbers_to n) ≡ true
 stands_there n t l h = elim (cases_Bool (stands t (numbers_to n))) [ inl e ↦ e | inr e ↦ absurd (false≢true (sym (none_to (nat_eq t) n t e l h) ∙ same_number t)) ]
 
-ticket_permits : (s : State) (t : ℕ) (b : Bool) → is_some (numbered s.readers t) ≡ b → (is_some (numbered s.readers t) ≡ false → s.permits t ≡ []) → cond (stands t (numbers_to (length s.readers))) (s.permits t) [] ≡ s.permits t
+ticket_permits : (s : State) (t : ℕ) (b : Bool) → is_some (nth s.readers t) ≡ b → (is_some (nth s.readers t) ≡ false → s.permits t ≡ []) → cond (stands t (numbers_to (length s.readers))) (s.permits t) [] ≡ s.permits t
 ticket_permits s t true e none = ap (λ b. cond b (s.permits t) []) (stands_there (length s.readers) t (numbered_from_one s.readers t e) (numbered_within s.readers t e))
 ticket_permits s t false e none = none_either (stands t (numbers_to (length s.readers))) (none e)
   where
@@ -176,9 +176,9 @@ ticket_permits s t false e none = none_either (stands t (numbers_to (length s.re
     none_either false n = sym n
 
 -- where only readers have permits
-pub permits_known : (s : State) → ((t : ℕ) → is_some (numbered s.readers t) ≡ false → s.permits t ≡ []) → permits_said (permit_rows s) ≡ s.permits
+pub permits_known : (s : State) → ((t : ℕ) → is_some (nth s.readers t) ≡ false → s.permits t ≡ []) → permits_said (permit_rows s) ≡ s.permits
 unfolding permits_of
-permits_known s none = fun_ext (λ t. permits_all s.permits (length s.readers) t ∙ ticket_permits s t (is_some (numbered s.readers t)) refl (none t))
+permits_known s none = fun_ext (λ t. permits_all s.permits (length s.readers) t ∙ ticket_permits s t (is_some (nth s.readers t)) refl (none t))
 
 pub permits_back : (s : State) → AreGoodPermits s → permits_said (permit_rows s) ≡ s.permits
 permits_back s g = permits_known s g.known

@@ -17,7 +17,7 @@ use Rattle.catalogue_core.specs.Sources.{is_between}
 use Rattle.isad_core.specs.Limits.{most_tickets, most_permits}
 use Rattle.desk_core.specs.DeskRows.{ReaderRow, SeatRow, PermitRow}
 use Rattle.state_encoding.specs.DeskEncoding.{reader_row, reader_rows, seat_rows_from, seat_rows, permit_row, permit_rows}
-use Rattle.tree_core.specs.Versions.{Version}
+use Rattle.office_tables.specs.Versions.{Version}
 use Rattle.state_encoding.specs.OfficeRows.{tables}
 use Rattle.isad_core.specs.Words.{are_numbered_from}
 use Rattle.desk_core.specs.DeskCauses.{is_good_reader, is_good_seat, is_good_permit, are_good_readers, is_registered}

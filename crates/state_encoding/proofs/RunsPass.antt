@@ -7,15 +7,15 @@ use Rattle.std.proofs.lemmas.List.{length-map}
 use Rattle.std.proofs.lemmas.List.Sums.{length-filter}
 use Rattle.isad_core.specs.Days.{IsDayNumber, is_day_number}
 use Rattle.isad_core.proofs.DayLemmas.{is_day_number-true}
-use Rattle.office_core.specs.Words.{numbered, some_and}
-use Rattle.office_core.specs.State.{State, Order, Line, Run, containers, is_seated, held, opens, order_out}
+use Rattle.office_core.specs.Words.{nth, some_and}
+use Rattle.office_core.specs.State.{State, Order, Line, Run, containers, is_seated, held_count, opens, order_out}
 use Rattle.catalogue_core.specs.Members.{StandsIn}
 use Rattle.office_core.specs.SoundDesk.{IsGoodLine}
 use Rattle.office_core.specs.Soundness.{IsSound}
 use Rattle.isad_core.specs.Limits.{most_runs}
 use Rattle.desk_core.specs.DeskRows.{RunRow, RunLineRow, OrderRow}
 use Rattle.state_encoding.specs.DeskEncoding.{run_row, run_rows, run_line_row, lines_from, run_line_rows}
-use Rattle.tree_core.specs.Versions.{Version}
+use Rattle.office_tables.specs.Versions.{Version}
 use Rattle.state_encoding.specs.OfficeRows.{line_from, run_from, tables}
 use Rattle.isad_core.specs.Words.{are_numbered_from}
 use Rattle.desk_core.specs.DeskCauses.{is_good_run, is_order_of_line, is_good_line, are_good_runs}
@@ -42,7 +42,7 @@ in_lines_from n (run ∷ runs) r k =
           (suc i.0, i.1, i.2, i.3, i.4, i.5 ∙ ap (λ m. run_line_row m i.2) z)
     ]
 
-pub in_lines : (runs : List Run) (r : RunLineRow) → StandsIn r (lines_from 1 runs) → (m : ℕ) × (run : Run) × (line : Line) × (numbered runs m ≡ Some run) × StandsIn line run.lines × (r ≡ run_line_row m line)
+pub in_lines : (runs : List Run) (r : RunLineRow) → StandsIn r (lines_from 1 runs) → (m : ℕ) × (run : Run) × (line : Line) × (nth runs m ≡ Some run) × StandsIn line run.lines × (r ≡ run_line_row m line)
 in_lines runs r k =
     let i = in_lines_from 1 runs r k in
     let z : 1 + i.0 ≡ suc i.0 = omega arith in
@@ -57,17 +57,17 @@ both_of None c t a b = a
 both_of (Some order) c t a b = and_from (nat_eq order.container c) (nat_eq order.ticket t) a b
 
 module _ (version : Version) (s : State) (g : IsSound s) where
-  lines_count : (n : ℕ) (run : Run) → numbered s.runs n ≡ Some run → count_by (λ (line : RunLineRow). nat_eq line.run n) (run_line_rows s) ≡ length run.lines
+  lines_count : (n : ℕ) (run : Run) → nth s.runs n ≡ Some run → count_by (λ (line : RunLineRow). nat_eq line.run n) (run_line_rows s) ≡ length run.lines
   lines_count n run e =
       let rows = run_line_rows s in
       let mine = filter (λ (line : RunLineRow). nat_eq line.run n) rows in
-      let a : option_map (λ (r : Run). length r.lines) (numbered (map (run_from rows) (run_rows s)) n) ≡ Some (length run.lines) = ap (λ runs. option_map (λ (r : Run). length r.lines) (numbered runs n)) (runs_back s.runs) ∙ ap (option_map (λ (r : Run). length r.lines)) e in
-      let b : numbered (map (run_from rows) (run_rows s)) n ≡ Some (run_from rows (run_row n run)) = numbered-map (run_from rows) (run_rows s) n ∙ ap (option_map (run_from rows)) (numbered-rows run_row s.runs n ∙ ap (option_map (run_row n)) e) in
+      let a : option_map (λ (r : Run). length r.lines) (nth (map (run_from rows) (run_rows s)) n) ≡ Some (length run.lines) = ap (λ runs. option_map (λ (r : Run). length r.lines) (nth runs n)) (runs_back s.runs) ∙ ap (option_map (λ (r : Run). length r.lines)) e in
+      let b : nth (map (run_from rows) (run_rows s)) n ≡ Some (run_from rows (run_row n run)) = numbered-map (run_from rows) (run_rows s) n ∙ ap (option_map (run_from rows)) (numbered-rows run_row s.runs n ∙ ap (option_map (run_row n)) e) in
       let c : Some (length (map line_from mine)) ≡ Some (length run.lines) = sym (ap (option_map (λ (r : Run). length r.lines)) b) ∙ a in
       let d : length (map line_from mine) ≡ length run.lines = cc in
       sym (length-filter (λ (line : RunLineRow). nat_eq line.run n) rows) ∙ (sym (length-map mine line_from) ∙ d)
 
-  good_run_of : (n : ℕ) (run : Run) → numbered s.runs n ≡ Some run → is_good_run (around (tables version s)) (tables version s).desk (run_row n run) ≡ true
+  good_run_of : (n : ℕ) (run : Run) → nth s.runs n ≡ Some run → is_good_run (around (tables version s)) (tables version s).desk (run_row n run) ≡ true
   good_run_of n run e =
       let t = tables version s in
       let it = g.desk.runs.each n run e in
@@ -83,13 +83,13 @@ module _ (version : Version) (s : State) (g : IsSound s) where
       let i = in_rows run_row s.runs r k in
       ap (is_good_run (around (tables version s)) (tables version s).desk) i.3 ∙ good_run_of i.0 i.1 i.2
 
-  good_line_of : (n : ℕ) (run : Run) (line : Line) → numbered s.runs n ≡ Some run → StandsIn line run.lines → is_good_line (tables version s).desk (run_line_row n line) ≡ true
+  good_line_of : (n : ℕ) (run : Run) (line : Line) → nth s.runs n ≡ Some run → StandsIn line run.lines → is_good_line (tables version s).desk (run_line_row n line) ≡ true
   good_line_of n run line e k =
       let t = tables version s in
       let it = all_in (IsGoodLine s) run.lines line (g.desk.runs.each n run e).lines k in
       and_from (list_any (λ (row : RunRow). nat_eq row.id n) t.desk.runs) (list_any (is_order_of_line (run_line_row n line)) t.desk.orders) (run_there version s n ∙ ap is_some e)
       (order_there version s (λ (row : OrderRow). nat_eq row.container line.container && nat_eq row.ticket line.ticket) line.order
-      ∙ both_of (numbered s.orders line.order) line.container line.ticket (of_container (numbered s.orders line.order) line.container it.order) it.ticket)
+      ∙ both_of (nth s.orders line.order) line.container line.ticket (of_container (nth s.orders line.order) line.container it.order) it.ticket)
 
   good_line : (r : RunLineRow) → StandsIn r (run_line_rows s) → is_good_line (tables version s).desk r ≡ true
   good_line r k =
@@ -107,15 +107,15 @@ module _ (version : Version) (s : State) (g : IsSound s) where
 
   -- ---- the day
 
-  well_held : (c : ℕ) (o : Option ℕ) → order_out (s.place c) ≡ o → some_and (λ ticket. not (holds_well s c ticket)) (option_and_then (λ o. option_map (λ order. order.ticket) (numbered s.orders o)) o) ≡ false
+  well_held : (c : ℕ) (o : Option ℕ) → order_out (s.place c) ≡ o → some_and (λ ticket. not (holds_well s c ticket)) (option_and_then (λ o. option_map (λ order. order.ticket) (nth s.orders o)) o) ≡ false
   well_held c None e = refl
-  well_held c (Some o) e = at (numbered s.orders o) refl
+  well_held c (Some o) e = at (nth s.orders o) refl
     where
-      at : (r : Option Order) → numbered s.orders o ≡ r → some_and (λ ticket. not (holds_well s c ticket)) (option_map (λ order. order.ticket) r) ≡ false
+      at : (r : Option Order) → nth s.orders o ≡ r → some_and (λ ticket. not (holds_well s c ticket)) (option_map (λ order. order.ticket) r) ≡ false
       at None q = refl
       at (Some order) q =
           let it = g.desk.places.holders c o order e q in
-          ap not (and_from (is_seated s order.ticket) _ it.seated (and_from (nat_le (held s order.ticket) s.settings.hands) (opens s order.ticket c) (le-leb (held s order.ticket) s.settings.hands it.few) it.may_see))
+          ap not (and_from (is_seated s order.ticket) _ it.seated (and_from (nat_le (held_count s order.ticket) s.settings.hands) (opens s order.ticket c) (le-leb (held_count s order.ticket) s.settings.hands it.few) it.may_see))
 
   pub day_passes : day_is_broken (tables version s) ≡ false
   day_passes =

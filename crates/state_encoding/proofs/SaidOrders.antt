@@ -5,7 +5,7 @@ use Rattle.std.specs.List.{list_any, list_all}
 use Rattle.std.proofs.lemmas.Bool.{eqb-true, false≢true, false_from_ne_true, cases_eq, and_parts, and_from, and_right, or_cases}
 use Rattle.tree_core.proofs.Lists.{list_any-map}
 use Rattle.desk_core.specs.declared.reader.Place.TheVariants.{Shelf, Desk, Out}
-use Rattle.office_core.specs.Words.{numbered, some_and, stands}
+use Rattle.office_core.specs.Words.{nth, some_and, stands}
 use Rattle.office_core.specs.State.{End, Done, Cancelled, container_of}
 use Rattle.catalogue_core.specs.Members.{StandsIn}
 use Rattle.office_core.specs.Laws.{standing}
@@ -59,7 +59,7 @@ place_cases (x ∷ xs) c = at (nat_eq x.container c) refl (place_cases xs c)
 -- the row of an order that is out, for that container
 pub record OutRow (t : OfficeRows) (o c : ℕ) : Type 0 where
   pub row : OrderRow
-  pub is : numbered t.desk.orders o ≡ Some row
+  pub is : nth t.desk.orders o ≡ Some row
   pub for_it : row.container ≡ c
   pub out : row.state ≡ 2
 
@@ -77,7 +77,7 @@ is_nothing None e = refl
 is_nothing (Some o) e = absurd (false≢true e)
 
 module _ (t : OfficeRows) (k : MeetsDeskKeys t.desk) (p : OrdersParts t) where
-  out_row_at : (o c : ℕ) (r : Option OrderRow) → numbered t.desk.orders o ≡ r → some_and (λ (row : OrderRow). nat_eq row.container c && nat_eq row.state 2) r ≡ true → OutRow t o c
+  out_row_at : (o c : ℕ) (r : Option OrderRow) → nth t.desk.orders o ≡ r → some_and (λ (row : OrderRow). nat_eq row.container c && nat_eq row.state 2) r ≡ true → OutRow t o c
   out_row_at o c None e h = absurd (false≢true h)
   out_row_at o c (Some row) e h =
       let b = and_parts (nat_eq row.container c) (nat_eq row.state 2) h in
@@ -85,7 +85,7 @@ module _ (t : OfficeRows) (k : MeetsDeskKeys t.desk) (p : OrdersParts t) where
 
   out_kind : (row : HoldingRow) (h : Option ℕ) → row.held_by ≡ h → row.place ≡ 2 → some_and (λ o. list_any (is_out_order o row.container) t.desk.orders) h ≡ true → HoldingKind t row
   out_kind row None e q h = absurd (false≢true h)
-  out_kind row (Some o) e q h = OutWith o q e (out_row_at o row.container (numbered t.desk.orders o) refl (sym (any_numbered (λ (row : OrderRow). row.id) (λ (order : OrderRow). nat_eq order.container row.container && nat_eq order.state 2) t.desk.orders o p.numbered) ∙ h))
+  out_kind row (Some o) e q h = OutWith o q e (out_row_at o row.container (nth t.desk.orders o) refl (sym (any_numbered (λ (row : OrderRow). row.id) (λ (order : OrderRow). nat_eq order.container row.container && nat_eq order.state 2) t.desk.orders o p.numbered) ∙ h))
 
   kind_of : (row : HoldingRow) → (is_at_desk row || is_out_well t.desk row) ≡ true → HoldingKind t row
   kind_of row h =
@@ -128,7 +128,7 @@ place_is_desk row e = ap (λ n. cond (nat_eq n 1) Desk (Out (unwrap_or row.held_
 module _ (t : OfficeRows) (k : MeetsDeskKeys t.desk) (p : OrdersParts t) (q : HoldingParts t) where
   -- who waits
 
-  pub waits_so : (o c : ℕ) → stands o ((state_of t).queue c) ≡ some_and (λ (row : OrderRow). nat_eq row.container c && nat_eq row.state 1) (numbered t.desk.orders o)
+  pub waits_so : (o c : ℕ) → stands o ((state_of t).queue c) ≡ some_and (λ (row : OrderRow). nat_eq row.container c && nat_eq row.state 1) (nth t.desk.orders o)
   waits_so o c =
       let w : OrderRow → Bool = λ row. nat_eq row.container c && nat_eq row.state 1 in
       list_any-map (nat_eq o) (λ (row : OrderRow). row.id) (filter w t.desk.orders)
@@ -157,9 +157,9 @@ module _ (t : OfficeRows) (k : MeetsDeskKeys t.desk) (p : OrdersParts t) (q : Ho
       of_kind r (AtDesk e n) = absurd (false≢true (sym (ap (is_out_for o) (r.is ∙ place_is_desk r.row e)) ∙ h))
       of_kind r (OutWith other e n x) =
           let same : o ≡ other = eqb-true o other (sym (ap (is_out_for o) (r.is ∙ place_is_out r.row other e n)) ∙ h) in
-          record { row = x.row; is = ap (numbered t.desk.orders) same ∙ x.is; for_it = x.for_it ∙ r.for_it; out = x.out }
+          record { row = x.row; is = ap (nth t.desk.orders) same ∙ x.is; for_it = x.for_it ∙ r.for_it; out = x.out }
 
-  pub out_of_order : (o : ℕ) (row : OrderRow) → numbered t.desk.orders o ≡ Some row → row.state ≡ 2 → (state_of t).place row.container ≡ Out o
+  pub out_of_order : (o : ℕ) (row : OrderRow) → nth t.desk.orders o ≡ Some row → row.state ≡ 2 → (state_of t).place row.container ≡ Out o
   out_of_order o row e two =
       let h = q.held row (numbered_in t.desk.orders o row e) two in
       ap (place_in t.desk.holdings) (sym h.2)
@@ -168,7 +168,7 @@ module _ (t : OfficeRows) (k : MeetsDeskKeys t.desk) (p : OrdersParts t) (q : Ho
 
   -- one order
 
-  module _ (o : ℕ) (row : OrderRow) (e : numbered t.desk.orders o ≡ Some row) where
+  module _ (o : ℕ) (row : OrderRow) (e : nth t.desk.orders o ≡ Some row) where
     pub for_its : container_of (state_of t) o ≡ Some row.container
     for_its = ap (option_map (λ order. order.container)) (numbered-map order_from t.desk.orders o ∙ ap (option_map order_from) e)
 
@@ -262,7 +262,7 @@ module _ (t : OfficeRows) (k : MeetsDeskKeys t.desk) (p : OrdersParts t) (q : Ho
 
   -- all of them
 
-  filed_at : (o : ℕ) (r : Option OrderRow) → numbered t.desk.orders o ≡ r → IsFiled (container_of (state_of t) o) (λ c. stands o ((state_of t).queue c)) (λ c. is_out_for o ((state_of t).place c)) ((state_of t).past o)
+  filed_at : (o : ℕ) (r : Option OrderRow) → nth t.desk.orders o ≡ r → IsFiled (container_of (state_of t) o) (λ c. stands o ((state_of t).queue c)) (λ c. is_out_for o ((state_of t).place c)) ((state_of t).past o)
   filed_at o (Some row) e = filed_row o row e
   filed_at o None e =
       let none : container_of (state_of t) o ≡ None = ap (option_map (λ order. order.container)) (numbered-map order_from t.desk.orders o ∙ ap (option_map order_from) e) in
@@ -273,7 +273,7 @@ module _ (t : OfficeRows) (k : MeetsDeskKeys t.desk) (p : OrdersParts t) (q : Ho
       )
 
   pub said_filed : AreFiled (state_of t)
-  said_filed = record { each = λ o. filed_at o (numbered t.desk.orders o) refl; queues = queue_order }
+  said_filed = record { each = λ o. filed_at o (nth t.desk.orders o) refl; queues = queue_order }
 
   pub orders_again : order_rows (state_of t) ≡ t.desk.orders
   orders_again =

@@ -10,8 +10,8 @@ use Rattle.std.proofs.lemmas.List.{length-map}
 use Rattle.std.proofs.lemmas.List.Sums.{length-filter}
 use Rattle.isad_core.specs.Days.{IsDayNumber}
 use Rattle.desk_core.specs.declared.reader.Place.TheVariants.{Shelf}
-use Rattle.office_core.specs.Words.{numbered, numbers_to, some_and}
-use Rattle.office_core.specs.State.{Order, State, containers, is_container, order_out, is_seated, held, opens}
+use Rattle.office_core.specs.Words.{nth, numbers_to, some_and}
+use Rattle.office_core.specs.State.{Order, State, containers, is_container, order_out, is_seated, held_count, opens}
 use Rattle.catalogue_core.specs.Members.{StandsIn}
 use Rattle.office_core.specs.SoundDesk.{IsGoodOrder, AreGoodOrders, AreGoodPlaces}
 use Rattle.catalogue_core.specs.Sources.{is_between}
@@ -71,7 +71,7 @@ module _ (t : OfficeRows) (r : ReaderParts t) (p : OrdersParts t) (c : HasGoodCa
       let l = ap length e in
       omega (arith, few3, count, l)
 
-  is_live_row : (o : ℕ) (row : OrderRow) → numbered t.desk.orders o ≡ Some row → (state_of t).past o ≡ None → is_live row ≡ true
+  is_live_row : (o : ℕ) (row : OrderRow) → nth t.desk.orders o ≡ Some row → (state_of t).past o ≡ None → is_live row ≡ true
   is_live_row o row e past =
       let range = (p.orders row (numbered_in t.desk.orders o row e)).state in
       live_still row.state range.0 range.1 (sym (ap (option_and_then (λ (row : OrderRow). end_of row.state)) e) ∙ past)
@@ -147,11 +147,11 @@ module _ (t : OfficeRows) (k : MeetsDeskKeys t.desk) (q : HoldingParts t) (c : H
               | inr h ↦ ap (is_container s) (sym h.for_it) ∙ holding_known h.row h.stands
             ] in
             let none = none_in (is_held_against_rules s) (containers s) n day (numbers_in (length s.catalogue.containers) n (numbered_from_one s.catalogue.containers n there) (numbered_within s.catalogue.containers n there)) in
-            let holder : holder_of s n ≡ Some order.ticket = ap (option_and_then (λ o. option_map (λ (order : Order). order.ticket) (numbered s.orders o))) e ∙ ap (option_map (λ (order : Order). order.ticket)) is in
+            let holder : holder_of s n ≡ Some order.ticket = ap (option_and_then (λ o. option_map (λ (order : Order). order.ticket) (nth s.orders o))) e ∙ ap (option_map (λ (order : Order). order.ticket)) is in
             let well = not_bad (holds_well s n order.ticket) (sym (ap (some_and (λ ticket. not (holds_well s n ticket))) holder) ∙ none) in
-            let a = and_parts (is_seated s order.ticket) (nat_le (held s order.ticket) s.settings.hands && opens s order.ticket n) well in
-            let b = and_parts (nat_le (held s order.ticket) s.settings.hands) (opens s order.ticket n) a.1 in
-            record { seated = a.0; few = leb-true (held s order.ticket) s.settings.hands b.0; may_see = b.1 });
+            let a = and_parts (is_seated s order.ticket) (nat_le (held_count s order.ticket) s.settings.hands && opens s order.ticket n) well in
+            let b = and_parts (nat_le (held_count s order.ticket) s.settings.hands) (opens s order.ticket n) a.1 in
+            record { seated = a.0; few = leb-true (held_count s order.ticket) s.settings.hands b.0; may_see = b.1 });
       }
 
   shown_again : (n : ℕ) (row : HoldingRow) → row.container ≡ n → HoldingKind t row → holding_row n (place_from row) ≡ Some row

@@ -7,7 +7,7 @@ use Rattle.std.proofs.lemmas.List.{length-map}
 use Rattle.std.proofs.lemmas.List.Concat.{flat_map-cons}
 use Rattle.std.proofs.lemmas.List.Sums.{length-filter}
 use Rattle.isad_core.specs.Days.{IsDayNumber, is_day_number}
-use Rattle.office_core.specs.Words.{numbered, some_and}
+use Rattle.office_core.specs.Words.{nth, some_and}
 use Rattle.office_core.specs.State.{Order, Line, Run, State, container_of, is_by}
 use Rattle.catalogue_core.specs.Members.{StandsIn}
 use Rattle.office_core.specs.Laws.{numbers_from}
@@ -56,7 +56,7 @@ run_parts t h =
     }
 
 -- the order of a line, by its number
-line_order : (s : State) (o c ticket : ℕ) (r : Option Order) → numbered s.orders o ≡ r → some_and (λ (order : Order). nat_eq order.container c && nat_eq order.ticket ticket) r ≡ true → (container_of s o ≡ Some c) × (is_by s ticket o ≡ true)
+line_order : (s : State) (o c ticket : ℕ) (r : Option Order) → nth s.orders o ≡ r → some_and (λ (order : Order). nat_eq order.container c && nat_eq order.ticket ticket) r ≡ true → (container_of s o ≡ Some c) × (is_by s ticket o ≡ true)
 line_order s o c ticket None e h = absurd (false≢true h)
 line_order s o c ticket (Some order) e h =
     let b = and_parts (nat_eq order.container c) (nat_eq order.ticket ticket) h in (
@@ -87,8 +87,8 @@ module _ (t : OfficeRows) (k : MeetsDeskKeys t.desk) (o : OrdersParts t) (p : Ru
   good_line line l =
       let known = sym (any_numbered (λ (row : OrderRow). row.id) (λ (row : OrderRow). nat_eq row.container line.container && nat_eq row.ticket line.ticket) t.desk.orders line.order_no o.numbered) ∙ p.orders line l in
       let said = ap (some_and (λ (order : Order). nat_eq order.container line.container && nat_eq order.ticket line.ticket)) (numbered-map order_from t.desk.orders line.order_no)
-      ∙ (some_and-map (λ (order : Order). nat_eq order.container line.container && nat_eq order.ticket line.ticket) order_from (numbered t.desk.orders line.order_no) ∙ known) in
-      let r = line_order (state_of t) line.order_no line.container line.ticket (numbered (state_of t).orders line.order_no) refl said in
+      ∙ (some_and-map (λ (order : Order). nat_eq order.container line.container && nat_eq order.ticket line.ticket) order_from (nth t.desk.orders line.order_no) ∙ known) in
+      let r = line_order (state_of t) line.order_no line.container line.ticket (nth (state_of t).orders line.order_no) refl said in
       record { order = r.0; ticket = r.1 }
 
   good_run : (row : RunRow) → StandsIn row t.desk.runs → IsGoodRun (state_of t) (run_from t.desk.run_lines row)

@@ -12,7 +12,7 @@ use Rattle.tree_core.proofs.EachLemmas.{nodes-each}
 use Rattle.desk_core.specs.DeskRows.{ReaderRow}
 use Rattle.catalogue_core.specs.LegibleCatalogues.{HasLegibleTexts}
 use Rattle.catalogue_core.specs.CatalogueRows.{UnitRow, ElementRow, ContainerRow, HousingRow, box_from, text_said, after_level, housings_of, places_said}
-use Rattle.office_core.specs.Words.{numbered}
+use Rattle.office_core.specs.Words.{nth}
 use Rattle.office_core.specs.Laws.{numbers_from}
 use Rattle.office_core.specs.SoundOffice.{AreTexts}
 use Rattle.state_encoding.specs.DeskEncoding.{reader_from}
@@ -53,7 +53,7 @@ own_boxes_legible boxes mine n (suc more) h = at (find (λ (row : HousingRow). n
 
     at : (r : Option HousingRow) → AllByRecursion IsLegibleBox (boxes_from boxes mine (suc n) more) → AllByRecursion IsLegibleBox (cons_option (box_at boxes r) (boxes_from boxes mine (suc n) more))
     at None all = all
-    at (Some row) all = passes (numbered boxes row.container) (λ b e. numbered_in boxes row.container b e) (boxes_from boxes mine (suc n) more) all
+    at (Some row) all = passes (nth boxes row.container) (λ b e. numbered_in boxes row.container b e) (boxes_from boxes mine (suc n) more) all
 
 module _ (t : OfficeRows) (l : AreLegibleRows t) where
   boxes : AllByRecursion IsLegibleBox (map box_from t.catalogue.containers)

@@ -2,7 +2,7 @@
 use Rattle.std.proofs.Common.{[], ◌∷◌, refl}
 use Rattle.std.specs.List.{list_all}
 use Rattle.std.proofs.lemmas.Bool.{and_from, not_from_true}
-use Rattle.tree_core.specs.Versions.{Version}
+use Rattle.office_tables.specs.Versions.{Version, encoding}
 use Rattle.office_core.specs.State.{State}
 use Rattle.state_encoding.specs.OfficeRows.{OfficeRows, tables}
 use Rattle.state_encoding.specs.Causes.{is_good_office, office_is_bad}
@@ -29,8 +29,8 @@ catalogue_is_shown version s g =
         housings = h.places;
         housed_once = h.once;
       },
-      hold_none (office_is_bad version t) (places_are_bad version t.catalogue ∷ units_are_bad t.office.next_unit t.catalogue ∷ elements_are_bad t.catalogue ∷ containers_are_bad t.catalogue ∷ []) (not_from_true (is_good_office version t.office) (office_shown version s g))
-          (hold_none (places_are_bad version t.catalogue) (units_are_bad t.office.next_unit t.catalogue ∷ elements_are_bad t.catalogue ∷ containers_are_bad t.catalogue ∷ []) (not_from_true (are_good_places version t.catalogue.places) u.places)
+      hold_none (office_is_bad version t) (places_are_bad (encoding version) t.catalogue ∷ units_are_bad t.office.next_unit t.catalogue ∷ elements_are_bad t.catalogue ∷ containers_are_bad t.catalogue ∷ []) (not_from_true (is_good_office version t.office) (office_shown version s g))
+          (hold_none (places_are_bad (encoding version) t.catalogue) (units_are_bad t.office.next_unit t.catalogue ∷ elements_are_bad t.catalogue ∷ containers_are_bad t.catalogue ∷ []) (not_from_true (are_good_places (encoding version) t.catalogue.places) u.places)
           (hold_none (units_are_bad t.office.next_unit t.catalogue) (elements_are_bad t.catalogue ∷ containers_are_bad t.catalogue ∷ []) (not_from_true (are_good_units t.office.next_unit t.catalogue) u.units)
           (hold_none (elements_are_bad t.catalogue) (containers_are_bad t.catalogue ∷ []) (not_from_true (list_all (is_good_element (unit_numbers t.catalogue)) t.catalogue.elements) e.0)
           (hold_none (containers_are_bad t.catalogue) [] (not_from_true _ (and_from (are_good_container_rows t.catalogue.containers) (list_all (is_good_housing t.catalogue) t.catalogue.housings) c.good h.good)) refl)))),

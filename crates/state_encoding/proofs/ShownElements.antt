@@ -8,13 +8,13 @@ use Rattle.isad_core.specs.declared.values.BoxKey.{BoxKey}
 use Rattle.isad_core.specs.Boxes.{is_same as is_same_box}
 use Rattle.tree_core.specs.Forest.{nodes}
 use Rattle.tree_core.proofs.Lists.{In, In-map, any_from_In}
-use Rattle.tree_core.specs.Versions.{Version}
+use Rattle.office_tables.specs.Versions.{Version}
 use Rattle.catalogue_core.specs.Units.{Unit}
 use Rattle.catalogue_core.specs.CatalogueMerge.{box_number}
 use Rattle.isad_core.specs.Limits.{most_containers}
 use Rattle.office_core.specs.Laws.{numbers_from}
 use Rattle.office_core.specs.State.{State}
-use Rattle.office_core.specs.Words.{numbered, stands}
+use Rattle.office_core.specs.Words.{nth, stands}
 use Rattle.state_encoding.specs.DeskEncoding.{rows_from}
 use Rattle.catalogue_core.specs.Sources.{is_between}
 use Rattle.catalogue_core.specs.GoodCatalogues.{is_good_text, IsGoodUnit}
@@ -198,12 +198,12 @@ number_each boxes (b ∷ bs) h d =
     one : (a c : BoxKey) → Some a ≡ Some c → a ≡ c
     one a c e = cc
 
-    others : (xs : List BoxKey) → numbered boxes (box_number boxes b) ≡ Some b → list_all (λ box. list_any (is_same_box box) boxes) xs ≡ true → AllByRecursion (λ x. is_same_box b x ≡ false) xs → AllByRecursion (λ n. nat_eq (box_number boxes b) n ≡ false) (map (box_number boxes) xs)
+    others : (xs : List BoxKey) → nth boxes (box_number boxes b) ≡ Some b → list_all (λ box. list_any (is_same_box box) boxes) xs ≡ true → AllByRecursion (λ x. is_same_box b x ≡ false) xs → AllByRecursion (λ n. nat_eq (box_number boxes b) n ≡ false) (map (box_number boxes) xs)
     others [] e k a = tt
     others (x ∷ xs) e k a =
         let q = and_parts (list_any (is_same_box x) boxes) (list_all (λ box. list_any (is_same_box box) boxes) xs) k in (
           other_number (box_number boxes b) (box_number boxes x) (λ same.
-              let z = one b x (sym e ∙ (ap (numbered boxes) same ∙ number_back boxes x q.0)) in
+              let z = one b x (sym e ∙ (ap (nth boxes) same ∙ number_back boxes x q.0)) in
               false≢true (sym a.0 ∙ (ap (is_same_box b) (sym z) ∙ box_itself b))),
           others xs e q.1 a.1,
         )

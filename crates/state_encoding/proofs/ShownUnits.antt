@@ -19,7 +19,8 @@ use Rattle.tree_core.proofs.NumberingWalk.{ids-number}
 use Rattle.tree_core.proofs.Linking.{link_faultless, no_link_fault}
 use Rattle.tree_core.proofs.Reading.{faultless, no_fault}
 use Rattle.tree_core.proofs.EachLemmas.{nodes-each}
-use Rattle.tree_core.specs.Versions.{Version, Links, Spans, version_number}
+use Rattle.tree_core.specs.Encodings.{TreeEncoding, Links, Spans}
+use Rattle.office_tables.specs.Versions.{Version, version_number, encoding}
 use Rattle.catalogue_core.specs.Units.{Unit}
 use Rattle.catalogue_core.proofs.NodeLemmas.{length-nodes}
 use Rattle.isad_core.specs.Limits.{most_units, most_unit_numbers, most_deep, most_bytes, most_seats, most_daily, most_hands, most_run_size}
@@ -64,7 +65,7 @@ office_shown version s g =
 enough : 1 + 2 * most_units ≤ 2 ^ 32
 enough = leb-true (1 + 2 * most_units) (2 ^ 32) refl
 
-places_shown : (version : Version) (f : Forest ℕ) → IsDistinct nat_eq (nodes f) → ((u : ℕ) → In u (nodes f) → is_unit_number u ≡ true) → size f ≤ most_units → are_good_places version (place_rows version f) ≡ true
+places_shown : (way : TreeEncoding) (f : Forest ℕ) → IsDistinct nat_eq (nodes f) → ((u : ℕ) → In u (nodes f) → is_unit_number u ≡ true) → size f ≤ most_units → are_good_places way (place_rows way f) ≡ true
 places_shown Links f d n few =
     and_from (list_all is_good_link (siblings f)) _ (links_numbered None 1 f refl n (omega (arith, few, enough)))
     (ap (λ fault. not (is_some fault)) (no_link_fault (siblings f) (link_faultless f (siblings f) (record { distinct = d; rows = IsPermutation-refl (siblings f) }))))
@@ -72,7 +73,7 @@ places_shown Spans f d n few =
     and_from (list_all is_good_span (number 1 f)) _ (spans_numbered 1 f n (omega (arith, few, enough)))
     (ap (λ fault. not (is_some fault)) (no_fault (number 1 f) (faultless f (number 1 f) (record { distinct = d; rows = refl }))))
 
-numbers_placed : (version : Version) (f : Forest ℕ) → place_numbers (place_rows version f) ≡ nodes f
+numbers_placed : (way : TreeEncoding) (f : Forest ℕ) → place_numbers (place_rows way f) ≡ nodes f
 numbers_placed Links f = ids-rows_below None 1 f
 numbers_placed Spans f = ids-number 1 f
 
@@ -110,7 +111,7 @@ stand_in_themselves : (ns : List ℕ) → all_stand_in ns ns ≡ true
 stand_in_themselves ns = in_all (λ n. stands n ns) ns (λ n i. any_from_In ns n i)
 
 pub record AreShownUnits (version : Version) (s : State) : Type 0 where
-  pub places : are_good_places version (tables version s).catalogue.places ≡ true
+  pub places : are_good_places (encoding version) (tables version s).catalogue.places ≡ true
   pub units : are_good_units (tables version s).office.next_unit (tables version s).catalogue ≡ true
   pub numbers : IsDistinct nat_eq (unit_numbers (tables version s).catalogue)
   pub names : IsDistinct is_named_alike (tables version s).catalogue.units
@@ -124,7 +125,7 @@ units_shown version s g =
     let ids : nodes f ≡ map number_of us = nodes-each number_of s.catalogue.forest in
     let apart : IsDistinct nat_eq (nodes f) = subst (IsDistinct nat_eq) (sym ids) g.units.ids in
     let told : unit_numbers (tables version s).catalogue ≡ map number_of us = numbers_of_rows us in
-    let placed : place_numbers (tables version s).catalogue.places ≡ map number_of us = numbers_placed version f ∙ ids in
+    let placed : place_numbers (tables version s).catalogue.places ≡ map number_of us = numbers_placed (encoding version) f ∙ ids in
     let rows : list_all (is_good_unit_row s.catalogue.next) (map unit_row us) ≡ true =
     list_all-map (is_good_unit_row s.catalogue.next) unit_row us
     ∙ in_all (λ u. is_good_unit_row s.catalogue.next (unit_row u)) us (λ u i.
@@ -142,7 +143,7 @@ units_shown version s g =
     let same_height : height (places_said t.catalogue.places) ≡ height s.catalogue.forest = sym (height-each (unit_said t.catalogue) (places_said t.catalogue.places)) ∙ ap (λ g. height g) (units_back version s g.units.ids g.units.each) in
     let deep : height (places_said t.catalogue.places) ≤ most_deep = subst (λ n. n ≤ most_deep) (sym same_height) g.units.depth in
     record {
-      places = places_shown version f apart numbers (omega (arith, few, same_count));
+      places = places_shown (encoding version) f apart numbers (omega (arith, few, same_count));
       units = and_from (list_all (is_good_unit_row s.catalogue.next) (map unit_row us)) _ rows
           (and_from (all_stand_in (place_numbers (tables version s).catalogue.places) (unit_numbers (tables version s).catalogue)) _ (ap (λ ns. all_stand_in ns (unit_numbers (tables version s).catalogue)) placed ∙ (ap (all_stand_in (map number_of us)) told ∙ stand_in_themselves (map number_of us)))
           (and_from (all_stand_in (unit_numbers (tables version s).catalogue) (place_numbers (tables version s).catalogue.places)) _ (ap (λ ns. all_stand_in ns (place_numbers (tables version s).catalogue.places)) told ∙ (ap (all_stand_in (map number_of us)) placed ∙ stand_in_themselves (map number_of us)))

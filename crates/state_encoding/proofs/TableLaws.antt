@@ -4,7 +4,7 @@ use Rattle.std.specs.Prelude.{nat_eq, map, filter, is_some, option_map, slice_ge
 use Rattle.std.specs.List.{AllByRecursion, cons_option}
 use Rattle.std.proofs.Math.Path.{fun_ext}
 use Rattle.std.proofs.lemmas.Bool.{eqb-true, cases_eq, cases_Bool, false≢true, and_parts, or_cases}
-use Rattle.office_core.specs.Words.{numbered, numbers_to, stands, first, some_and}
+use Rattle.office_core.specs.Words.{nth, numbers_to, stands, first, some_and}
 use Rattle.desk_core.specs.declared.reader.Place.TheVariants.{Shelf, Desk, Out}
 use Rattle.desk_core.specs.declared.reader.Place.{Place}
 use Rattle.office_core.specs.State.{is_desk, is_by, State, Order, containers, End, Done, Cancelled, container_of}
@@ -150,7 +150,7 @@ both : (a b : Bool) → a ≡ true → b ≡ true → (a && b) ≡ true
 both true b e f = f
 both false b e f = absurd (false≢true e)
 
-queue_row : (s : State) (c k : ℕ) (r : Option Order) → AreFiled s → numbered s.orders k ≡ r → some_and (row_waits s c k) r ≡ stands k (s.queue c)
+queue_row : (s : State) (c k : ℕ) (r : Option Order) → AreFiled s → nth s.orders k ≡ r → some_and (row_waits s c k) r ≡ stands k (s.queue c)
 unfolding row_waits
 queue_row s c k None f e = same_Bool false (stands k (s.queue c)) (λ h. absurd (false≢true h))
     (λ w.
@@ -190,7 +190,7 @@ queue_is s f c =
     at (suc j) =
         let e : 1 + j ≡ suc j = omega arith in
         subst (λ k. stands k (said s c 1 s.orders) ≡ some_and (row_waits s c k) (slice_get s.orders j)) e (said_stands s c 1 s.orders j)
-        ∙ queue_row s c (suc j) (numbered s.orders (suc j)) f refl
+        ∙ queue_row s c (suc j) (nth s.orders (suc j)) f refl
 
 -- The places and the past
 
@@ -224,12 +224,12 @@ place_among place c (n ∷ ns) =
 stands_to : (n c : ℕ) → 1 ≤ c → c ≤ n → stands c (numbers_to n) ≡ true
 stands_to n c l h = elim (cases_Bool (stands c (numbers_to n))) [ inl e ↦ e | inr e ↦ absurd (false≢true (sym (none_to (nat_eq c) n c e l h) ∙ same_number c)) ]
 
-place_there : (s : State) (c : ℕ) (b : Bool) → is_some (numbered s.catalogue.containers c) ≡ b → AreGoodPlaces s → cond (stands c (containers s)) (s.place c) Shelf ≡ s.place c
+place_there : (s : State) (c : ℕ) (b : Bool) → is_some (nth s.catalogue.containers c) ≡ b → AreGoodPlaces s → cond (stands c (containers s)) (s.place c) Shelf ≡ s.place c
 place_there s c true e g = ap (λ b. cond b (s.place c) Shelf) (stands_to (length s.catalogue.containers) c (numbered_from_one s.catalogue.containers c e) (numbered_within s.catalogue.containers c e))
 place_there s c false e g = if_shelf (stands c (containers s)) (s.place c) (g.known c e) ∙ sym (g.known c e)
 
 place_is : (s : State) → AreGoodPlaces s → (c : ℕ) → place_in (holding_rows s) c ≡ s.place c
-place_is s g c = place_among s.place c (containers s) ∙ place_there s c (is_some (numbered s.catalogue.containers c)) refl g
+place_is s g c = place_among s.place c (containers s) ∙ place_there s c (is_some (nth s.catalogue.containers c)) refl g
 
 rows_get : {X Y : Type 0} (row : ℕ → X → Y) (n : ℕ) (xs : List X) (j : ℕ) → slice_get (rows_from row n xs) j ≡ option_map (row (n + j)) (slice_get xs j)
 rows_get row n [] j = refl
@@ -250,7 +250,7 @@ end_at false false None x = absurd x
 end_is : (k : Option ℕ) (w h : ℕ → Bool) (p : Option End) (c : ℕ) → k ≡ Some c → IsFiled k w h p → end_of (state_number (stands_as k w h p)) ≡ p
 end_is k w h p c e f = let g = subst (λ k. IsFiled k w h p) e f in ap (λ k. end_of (state_number (stands_as k w h p))) e ∙ end_at (w c) (h c) p g.0
 
-past_row : (s : State) (o : ℕ) (r : Option Order) → AreFiled s → numbered s.orders o ≡ r → option_and_then (λ row. end_of row.state) (option_map (order_row s o) r) ≡ s.past o
+past_row : (s : State) (o : ℕ) (r : Option Order) → AreFiled s → nth s.orders o ≡ r → option_and_then (λ row. end_of row.state) (option_map (order_row s o) r) ≡ s.past o
 past_row s o None f e =
     let none = ap (option_map (λ order. order.container)) e in
     sym (no_order (container_of s o) (λ c. stands o (s.queue c)) (λ c. is_out_for o (s.place c)) (s.past o) none (f.each o)).2
@@ -261,7 +261,7 @@ past_is s f zero = past_row s zero None f refl
 past_is s f (suc j) =
     let e : 1 + j ≡ suc j = omega arith in
     ap (option_and_then (λ row. end_of row.state)) (rows_get (order_row s) 1 s.orders j ∙ ap (λ k. option_map (order_row s k) (slice_get s.orders j)) e)
-    ∙ past_row s (suc j) (numbered s.orders (suc j)) f refl
+    ∙ past_row s (suc j) (nth s.orders (suc j)) f refl
 
 pub rows_back : {X Y : Type 0} (row : ℕ → X → Y) (back : Y → X) → ((n : ℕ) (x : X) → back (row n x) ≡ x) → (n : ℕ) (xs : List X) → map back (rows_from row n xs) ≡ xs
 rows_back row back h n [] = refl

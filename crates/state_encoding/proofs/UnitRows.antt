@@ -16,10 +16,11 @@ use Rattle.tree_core.specs.Forest.{Forest, Empty, Node, nodes, each}
 use Rattle.tree_core.specs.Links.{siblings}
 use Rattle.office_core.specs.State.{State}
 use Rattle.catalogue_core.specs.GoodCatalogues.{IsGoodUnit}
-use Rattle.office_core.specs.Words.{numbered}
+use Rattle.office_core.specs.Words.{nth}
 use Rattle.office_core.specs.Laws.{numbers_from}
 use Rattle.state_encoding.specs.DeskEncoding.{rows_from}
-use Rattle.tree_core.specs.Versions.{Version, Links, Spans}
+use Rattle.tree_core.specs.Encodings.{TreeEncoding, Links, Spans}
+use Rattle.office_tables.specs.Versions.{Version, encoding}
 use Rattle.catalogue_core.specs.CatalogueRows.{UnitRow, unit_row, ElementRow, after_level, element_rows_from, HousingRow, housing_row, text_said, container_row, box_from, places_said, place_rows}
 use Rattle.state_encoding.specs.OfficeRows.{number_of, box_at, boxes_from, boxes_said, OfficeRows, tables, values_said, unit_from, unit_said, SaysUnits}
 use Rattle.state_encoding.proofs.TableLaws.{rows_back}
@@ -158,8 +159,8 @@ number_there (c ∷ boxes) b h = at (is_same_box c b) refl (number_there boxes b
         ]) in
         (suc r.0, ap (option_map suc) r.1, r.2)
 
-pub number_back : (boxes : List BoxKey) (b : BoxKey) → list_any (is_same_box b) boxes ≡ true → numbered boxes (box_number boxes b) ≡ Some b
-number_back boxes b h = let r = number_there boxes b h in ap (λ n. numbered boxes (unwrap_or n 0)) r.1 ∙ r.2
+pub number_back : (boxes : List BoxKey) (b : BoxKey) → list_any (is_same_box b) boxes ≡ true → nth boxes (box_number boxes b) ≡ Some b
+number_back boxes b h = let r = number_there boxes b h in ap (λ n. nth boxes (unwrap_or n 0)) r.1 ∙ r.2
 
 abbrev box_of : List BoxKey → List HousingRow → ℕ → Option BoxKey
 box_of boxes rows m = box_at boxes (find (λ (row : HousingRow). nat_eq row.ord m) rows)
@@ -245,7 +246,7 @@ each_same g (Node u c o) h =
     let r = split (λ u. g u ≡ u) (nodes c) (nodes o) h.1 in
     ap (λ v. Node v (each g c) (each g o)) h.0 ∙ (ap (λ k. Node u k (each g o)) (each_same g c r.0) ∙ ap (λ k. Node u c k) (each_same g o r.1))
 
-places_back : (version : Version) (f : Forest Unit) → IsDistinct nat_eq (map number_of (nodes f)) → places_said (place_rows version (each number_of f)) ≡ each number_of f
+places_back : (way : TreeEncoding) (f : Forest Unit) → IsDistinct nat_eq (map number_of (nodes f)) → places_said (place_rows way (each number_of f)) ≡ each number_of f
 places_back Links f d = links_say (each number_of f) (siblings (each number_of f)) (record { distinct = subst (IsDistinct nat_eq) (sym (nodes-each number_of f)) d; rows = IsPermutation-refl (siblings (each number_of f)) })
 places_back Spans f d = spans_say (each number_of f)
 
@@ -253,7 +254,7 @@ pub units_back : (version : Version) (s : State) → IsDistinct nat_eq (map numb
 units_back version s d g =
     let t = tables version s in
     let c = rows_back container_row box_from (λ n box. refl) 1 s.catalogue.containers in
-    ap (each (unit_said t.catalogue)) (places_back version s.catalogue.forest d)
+    ap (each (unit_said t.catalogue)) (places_back (encoding version) s.catalogue.forest d)
     ∙ (each_each number_of (unit_said t.catalogue) s.catalogue.forest
     ∙ each_same (λ u. unit_said t.catalogue u.id) s.catalogue.forest
     (all_two (HasRows t s.catalogue.containers) (IsGoodUnit s.catalogue.containers) (λ u. unit_said t.catalogue u.id ≡ u) (λ u h k. unit_back t s.catalogue.containers u c h k) (nodes s.catalogue.forest) (all_rows version s d) g))

@@ -1,7 +1,7 @@
 -- The rows of a sound state say that state.
 use Rattle.std.proofs.Common.{◌≡◌, ap, ◌∙◌}
 use Rattle.office_core.specs.State.{State}
-use Rattle.tree_core.specs.Versions.{Version}
+use Rattle.office_tables.specs.Versions.{Version}
 use Rattle.state_encoding.specs.OfficeRows.{tables, state_of}
 use Rattle.office_core.specs.Soundness.{IsSound}
 use Rattle.state_encoding.proofs.ReadBack.{says_all_but_units}

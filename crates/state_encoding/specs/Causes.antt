@@ -4,12 +4,12 @@ use Rattle.std.specs.List.{list_any}
 use Rattle.isad_core.specs.Days.{is_day_number}
 use Rattle.isad_core.specs.Limits.{most_daily, most_hands, most_run_size, most_seats, most_unit_numbers}
 use Rattle.isad_core.specs.Words.{is_between, some_and}
-use Rattle.tree_core.specs.Versions.{version_number, Version}
+use Rattle.office_tables.specs.Versions.{Version, version_number, encoding}
 use Rattle.desk_core.specs.DeskCauses.{Around, readers_are_bad, orders_are_bad, holdings_are_bad, runs_are_bad, MeetsDeskKeys}
 use Rattle.catalogue_core.specs.CatalogueRows.{OfficeRow, UnitRow, ContainerRow}
 use Rattle.catalogue_core.specs.CatalogueCauses.{places_are_bad, units_are_bad, elements_are_bad, containers_are_bad, MeetsCatalogueKeys}
-use Rattle.office_core.specs.Words.{numbered, place_of}
-use Rattle.office_core.specs.State.{State, containers, is_seated, held, opens, order_out}
+use Rattle.office_core.specs.Words.{nth, place_of}
+use Rattle.office_core.specs.State.{State, containers, is_seated, held_count, opens, order_out}
 use Rattle.office_core.specs.Soundness.{is_country, is_repository}
 use Rattle.state_encoding.specs.OfficeRows.{OfficeRows, state_of}
 
@@ -30,7 +30,7 @@ office_is_bad version t = not (is_good_office version t.office)
 -- the first five
 abbrev pub catalogue_tests : Version → OfficeRows → List Bool
 catalogue_tests version t =
-    office_is_bad version t ∷ places_are_bad version t.catalogue ∷ units_are_bad t.office.next_unit t.catalogue ∷ elements_are_bad t.catalogue
+    office_is_bad version t ∷ places_are_bad (encoding version) t.catalogue ∷ units_are_bad t.office.next_unit t.catalogue ∷ elements_are_bad t.catalogue
     ∷ containers_are_bad t.catalogue ∷ []
 
 -- ---- 6 to 9: the desk, among the office's settings, units and containers
@@ -56,11 +56,11 @@ around t =
 
 -- the ticket of the order that the container is out with
 abbrev pub holder_of : State → ℕ → Option ℕ
-holder_of s c = option_and_then (λ o. option_map (λ order. order.ticket) (numbered s.orders o)) (order_out (s.place c))
+holder_of s c = option_and_then (λ o. option_map (λ order. order.ticket) (nth s.orders o)) (order_out (s.place c))
 
 -- the reader who has the container has a seat, no more containers than are allowed at once, and may see what lies in it
 abbrev pub holds_well : State → ℕ → ℕ → Bool
-holds_well s c ticket = is_seated s ticket && (nat_le (held s ticket) s.settings.hands && opens s ticket c)
+holds_well s c ticket = is_seated s ticket && (nat_le (held_count s ticket) s.settings.hands && opens s ticket c)
 
 abbrev pub is_held_against_rules : State → ℕ → Bool
 is_held_against_rules s c = some_and (λ ticket. not (holds_well s c ticket)) (holder_of s c)
@@ -78,7 +78,7 @@ desk_tests t =
 
 -- the position of the first test that holds, counted from 1
 abbrev pub first_held : List Bool → Option ℕ
-first_held tests = place_of (λ held. held) tests
+first_held tests = place_of (λ held_count. held_count) tests
 
 -- the number of the first cause that holds for rows that must be of this version, 1 to 10
 abbrev pub cause : Version → OfficeRows → Option ℕ

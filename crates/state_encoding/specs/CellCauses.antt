@@ -3,7 +3,7 @@
 -- are judged as usual.
 use Rattle.std.specs.Prelude.{ℕ, pos, Bool, false, ◌||◌, List, [], ◌∷◌, ◌++◌, filter_map, Option, unwrap_or}
 use Rattle.sqlite.specs.Tree.{Trees}
-use Rattle.tree_core.specs.Versions.{Version}
+use Rattle.office_tables.specs.Versions.{Version, encoding}
 use Rattle.catalogue_core.specs.CatalogueRows.{OfficeRow}
 use Rattle.office_core.specs.Words.{first}
 use Rattle.office_tables.specs.Schema as tables
@@ -34,7 +34,7 @@ rows_in version db =
 abbrev pub unread : Version → Trees → List Bool
 unread version db =
     has_unread read_office (db tables.office.tree)
-    ∷ places_are_unread version db
+    ∷ places_are_unread (encoding version) db
     ∷ has_unread read_unit (db tables.unit.tree)
     ∷ has_unread read_element (db tables.element.tree)
     ∷ containers_are_unread db

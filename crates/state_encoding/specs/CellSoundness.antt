@@ -5,7 +5,7 @@ use Rattle.std.specs.List.{AllByRecursion}
 use Rattle.sqlite.specs.declared.types.Value.TheVariants.{Text}
 use Rattle.sqlite.specs.Tree.{Trees}
 use Rattle.isad_core.specs.Texts.{Bytes}
-use Rattle.tree_core.specs.Versions.{Version}
+use Rattle.office_tables.specs.Versions.{Version}
 use Rattle.desk_core.specs.DeskRows.{ReaderRow}
 use Rattle.catalogue_core.specs.CatalogueRows.{UnitRow, ElementRow, ContainerRow}
 use Rattle.office_core.specs.SoundOffice.{IsSoundOffice}

@@ -3,7 +3,7 @@
 use Rattle.std.specs.Prelude.{◌≡◌, List, [], ◌∷◌, None, map, IsPermutation}
 use Rattle.sqlite.specs.Order.{Row}
 use Rattle.sqlite.specs.Tree.{Trees}
-use Rattle.tree_core.specs.Versions.{Version}
+use Rattle.office_tables.specs.Versions.{Version}
 use Rattle.desk_core.specs.DeskRows.{Desk}
 use Rattle.catalogue_core.specs.CatalogueRows.{CatalogueRows, PlaceRows, LinkRows, SpanRows}
 use Rattle.office_core.specs.State.{State}

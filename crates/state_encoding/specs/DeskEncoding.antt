@@ -6,7 +6,7 @@ use Rattle.desk_core.specs.declared.reader.Place.TheVariants.{Shelf, Desk, Out}
 use Rattle.desk_core.specs.DeskRows.{ReaderRow, SeatRow, OrderRow, with_state, waiting_for, HoldingRow, RunRow, RunLineRow, PermitRow}
 use Rattle.office_core.specs.declared.command.Command.TheVariants as command
 use Rattle.office_core.specs.declared.done.Done.TheVariants as done
-use Rattle.office_core.specs.Words.{numbered, numbers_to}
+use Rattle.office_core.specs.Words.{nth, numbers_to}
 use Rattle.office_core.specs.State.{Permit, State, Reader, Order, Line, Run, End, Done, Cancelled, containers}
 use Rattle.office_core.specs.Rules.{step}
 use Rattle.office_core.specs.Laws.{Standing, Waiting, WithItsReader, Ended, standing}
@@ -107,7 +107,7 @@ abbrev pub end_of : ℕ → Option End
 end_of state = cond (nat_eq state 3) (Some Done) (cond (nat_eq state 4) (Some Cancelled) None)
 
 abbrev pub past_in : List OrderRow → ℕ → Option End
-past_in rows o = option_and_then (λ row. end_of row.state) (numbered rows o)
+past_in rows o = option_and_then (λ row. end_of row.state) (nth rows o)
 
 -- The rows contain the readers, the orders, where each container is, who waits for it, and how each order ended.
 pub record ReadsBack (s : State) : Type 0 where

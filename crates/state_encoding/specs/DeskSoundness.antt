@@ -5,7 +5,7 @@ use Rattle.isad_core.specs.Days.{IsDayNumber}
 use Rattle.isad_core.specs.Boxes.{distinct}
 use Rattle.office_core.specs.State.{State}
 use Rattle.catalogue_core.specs.UnitLookup.{has_unit}
-use Rattle.tree_core.specs.Versions.{Version}
+use Rattle.office_tables.specs.Versions.{Version}
 use Rattle.catalogue_core.specs.CatalogueRows.{ContainerRow}
 use Rattle.state_encoding.specs.OfficeRows.{OfficeRows, tables, state_of}
 use Rattle.office_core.specs.SoundDesk.{IsSoundDesk}

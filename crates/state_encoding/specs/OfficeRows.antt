@@ -5,11 +5,11 @@ use Rattle.isad_core.specs.Texts.{Bytes}
 use Rattle.isad_core.specs.declared.values.BoxKey.{BoxKey}
 use Rattle.isad_core.specs.declared.values.Values.{Values}
 use Rattle.tree_core.specs.Forest.{nodes, each}
-use Rattle.tree_core.specs.Versions.{version_number, Version}
+use Rattle.office_tables.specs.Versions.{Version, version_number, encoding}
 use Rattle.desk_core.specs.DeskRows.{Desk, SeatRow, waiting_for, RunRow, RunLineRow, PermitRow}
 use Rattle.catalogue_core.specs.Units.{Unit}
 use Rattle.catalogue_core.specs.CatalogueRows.{CatalogueRows, OfficeRow, UnitRow, unit_row, element_rows_from, container_row, HousingRow, housing_row, place_rows, places_said, box_from, text_said, housings_of}
-use Rattle.office_core.specs.Words.{numbered}
+use Rattle.office_core.specs.Words.{nth}
 use Rattle.office_core.specs.Laws.{numbers_from}
 use Rattle.office_core.specs.State.{Line, Run, Permit, State}
 use Rattle.state_encoding.specs.DeskEncoding.{rows_from, reader_rows, reader_from, seat_rows, order_rows, order_from, past_in, holding_rows, place_in, run_rows, run_line_rows, permit_rows}
@@ -42,7 +42,7 @@ tables version s =
       };
       catalogue = record {
         units = map unit_row (nodes s.catalogue.forest);
-        places = place_rows version (each number_of s.catalogue.forest);
+        places = place_rows (encoding version) (each number_of s.catalogue.forest);
         elements = flat_map (λ (unit : Unit). element_rows_from unit.id 1 unit.values.texts) (nodes s.catalogue.forest);
         containers = rows_from container_row 1 s.catalogue.containers;
         housings = flat_map (λ (unit : Unit). rows_from (housing_row s.catalogue.containers unit.id) 1 unit.values.boxes) (nodes s.catalogue.forest);
@@ -63,7 +63,7 @@ tables version s =
 -- the container of a row
 abbrev pub box_at : List BoxKey → Option HousingRow → Option BoxKey
 box_at boxes None = None
-box_at boxes (Some row) = numbered boxes row.container
+box_at boxes (Some row) = nth boxes row.container
 
 -- the containers at `more` positions from n on
 abbrev pub boxes_from : List BoxKey → List HousingRow → ℕ → ℕ → List BoxKey

@@ -6,7 +6,7 @@ use Rattle.std.specs.List.Sorted.{IsPermutation}
 use Rattle.isad_core.specs.Days.{IsDayNumber}
 use Rattle.isad_core.specs.Boxes.{distinct}
 use Rattle.tree_core.specs.Forest.{nodes}
-use Rattle.tree_core.specs.Versions.{Version}
+use Rattle.office_tables.specs.Versions.{Version}
 use Rattle.office_core.specs.State.{State}
 use Rattle.office_core.specs.Soundness.{AreGoodSettings, IsSound}
 use Rattle.catalogue_core.specs.GoodCatalogues.{AreGoodUnits, AreGoodContainers, IsSomeDay}

@@ -1,7 +1,7 @@
 -- The tables of version 2.
 use Rattle.tree_core.specs.Forest.{each}
 use Rattle.tree_core.specs.Spans.{number}
-use Rattle.tree_core.specs.Versions.{Spans, version_number}
+use Rattle.office_tables.specs.Versions.{Second, version_number}
 use Rattle.catalogue_core.specs.CatalogueRows.{SpanRows}
 use Rattle.office_core.specs.State.{State}
 use Rattle.state_encoding.specs.OfficeRows.{OfficeRows, number_of}
@@ -10,6 +10,6 @@ use Rattle.state_encoding.specs.OfficeRows.{OfficeRows, number_of}
 abbrev pub with_spans : State → OfficeRows → OfficeRows
 with_spans s t =
     record t {
-      office = record t.office { version = version_number Spans };
+      office = record t.office { version = version_number Second };
       catalogue = record t.catalogue { places = SpanRows (number 1 (each number_of s.catalogue.forest)) };
     }

@@ -3,7 +3,7 @@ use Rattle.std.specs.Prelude.{◌≡◌, ℕ, ◌+◌, ◌^◌, zero, suc, List,
 use Rattle.isad_core.specs.Limits.{most_bytes, most_deep, most_seats, most_unit_numbers}
 use Rattle.tree_core.specs.declared.rows.Link.{Link}
 use Rattle.tree_core.specs.WorkedExamples.{link, span}
-use Rattle.tree_core.specs.Versions.{Links, Spans}
+use Rattle.office_tables.specs.Versions.{First, Second}
 use Rattle.catalogue_core.specs.CatalogueRows.{CatalogueRows, LinkRows, SpanRows, ElementRow, ContainerRow, HousingRow}
 use Rattle.state_encoding.specs.OfficeRows.{OfficeRows}
 use Rattle.state_encoding.specs.Causes.{cause}
@@ -32,8 +32,8 @@ abbrev pub sound : OfficeRows
 sound = record office_rows { catalogue = catalogue }
 
 -- the same in version 2
-abbrev pub nested : OfficeRows
-nested =
+abbrev pub nested_rows : OfficeRows
+nested_rows =
     record sound { office = record sound.office { version = 2 }; catalogue = record catalogue { places = SpanRows (span 1 1 2 ∷ []) } }
 
 -- the places of n units one below another: 1 at the top
@@ -51,27 +51,27 @@ deep n =
     }
 
 -- the first cause in rows of version 1
-abbrev pub told : OfficeRows → Option ℕ
-told t = cause Links t
+abbrev pub worked_cause : OfficeRows → Option ℕ
+worked_cause t = cause First t
 
 -- the first cause if the office's catalogue has these rows
 abbrev pub told_with : CatalogueRows → Option ℕ
-told_with rows = told (record sound { catalogue = rows })
+told_with rows = worked_cause (record sound { catalogue = rows })
 
 -- the same in version 2
 abbrev pub told_of_spans : CatalogueRows → Option ℕ
-told_of_spans rows = cause Spans (record nested { catalogue = rows })
+told_of_spans rows = cause Second (record nested_rows { catalogue = rows })
 
 pub record Told : Type 0 where
-  pub nothing : told sound ≡ None
-  pub nothing_nested : cause Spans nested ≡ None
+  pub nothing : worked_cause sound ≡ None
+  pub nothing_nested : cause Second nested_rows ≡ None
   -- the office
-  pub other_version : cause Spans sound ≡ Some 1
-  pub no_seats : told (record sound { office = record sound.office { seats = 0 } }) ≡ Some 1
-  pub a_seat_too_many : told (record sound { office = record sound.office { seats = suc most_seats } }) ≡ Some 1
-  pub small_letters : told (record sound { office = record sound.office { country = codes "gb" } }) ≡ Some 1
-  pub day_after_the_last : told (record sound { office = record sound.office { day = year_10000 } }) ≡ Some 1
-  pub next_past_the_last : told (record sound { office = record sound.office { next_unit = 100000002 } }) ≡ Some 1
+  pub other_version : cause Second sound ≡ Some 1
+  pub no_seats : worked_cause (record sound { office = record sound.office { seats = 0 } }) ≡ Some 1
+  pub a_seat_too_many : worked_cause (record sound { office = record sound.office { seats = suc most_seats } }) ≡ Some 1
+  pub small_letters : worked_cause (record sound { office = record sound.office { country = codes "gb" } }) ≡ Some 1
+  pub day_after_the_last : worked_cause (record sound { office = record sound.office { day = year_10000 } }) ≡ Some 1
+  pub next_past_the_last : worked_cause (record sound { office = record sound.office { next_unit = 100000002 } }) ≡ Some 1
   -- the places
   pub not_from_one : told_with (record catalogue { places = LinkRows (link 1 None 2 ∷ []) }) ≡ Some 2
   pub no_parent : told_with (record catalogue { places = LinkRows (link 1 (Some 9) 1 ∷ []) }) ≡ Some 2
@@ -88,14 +88,14 @@ pub record Told : Type 0 where
   -- the units
   pub unit_without_a_place : told_with (record catalogue { places = LinkRows [] }) ≡ Some 3
   pub place_without_a_unit : told_with (record catalogue { places = LinkRows (link 1 None 1 ∷ link 2 (Some 1) 1 ∷ []) }) ≡ Some 3
-  pub next_is_there : told (record sound { office = record sound.office { next_unit = 1 } }) ≡ Some 3
+  pub next_is_there : worked_cause (record sound { office = record sound.office { next_unit = 1 } }) ≡ Some 3
   pub no_source : told_with (record catalogue { units = record plans { source = codes "a b" } ∷ [] }) ≡ Some 3
   pub blank_number : told_with (record catalogue { units = record plans { legacy = codes " " } ∷ [] }) ≡ Some 3
   pub number_too_long : told_with (record catalogue { units = record plans { legacy = replicate (suc most_bytes) 49 } ∷ [] }) ≡ Some 3
   pub level_too_long : told_with (record catalogue { units = record plans { level = replicate (suc most_bytes) 49 } ∷ [] }) ≡ Some 3
   pub closed_until_no_day : told_with (record catalogue { units = record plans { until = Some year_10000 } ∷ [] }) ≡ Some 3
-  pub as_deep_as_may_be : told (deep most_deep) ≡ None
-  pub too_deep : told (deep (suc most_deep)) ≡ Some 3
+  pub as_deep_as_may_be : worked_cause (deep most_deep) ≡ None
+  pub too_deep : worked_cause (deep (suc most_deep)) ≡ Some 3
   -- the elements
   pub level_as_an_element : told_with (record catalogue { elements = record title { k = 4 } ∷ [] }) ≡ Some 4
   pub after_the_last : told_with (record catalogue { elements = record title { k = 27 } ∷ [] }) ≡ Some 4

@@ -5,8 +5,8 @@ use Rattle.sqlite.specs.declared.types.Value.{Value}
 use Rattle.sqlite.specs.declared.types.Value.TheVariants.{Null, Int, Text}
 use Rattle.sqlite.specs.Order.{Row}
 use Rattle.sqlite.specs.Tree.{Trees}
-use Rattle.tree_core.specs.Versions.{Links, Spans}
-use Rattle.office_core.specs.Words.{numbered}
+use Rattle.office_tables.specs.Versions.{First, Second}
+use Rattle.office_core.specs.Words.{nth}
 use Rattle.office_tables.specs.Schema as tables
 use Rattle.state_encoding.specs.CellCauses.{unread, cell_cause}
 
@@ -18,10 +18,10 @@ only tree row = λ other. cond (nat_eq other tree) (row ∷ []) []
 
 -- whether this cause has a row that cannot be read, in a file with only this row
 abbrev pub is_unread : ℕ → ℕ → Row → Option Bool
-is_unread cause tree row = numbered (unread Links (only tree row)) cause
+is_unread cause tree row = nth (unread First (only tree row)) cause
 
 abbrev pub is_unread_span : Row → Option Bool
-is_unread_span row = numbered (unread Spans (only tables.span.tree row)) 2
+is_unread_span row = nth (unread Second (only tables.span.tree row)) 2
 
 abbrev pub text : Value
 text = Text (codes "a")
@@ -42,10 +42,10 @@ unit draft until = Int (pos 1) ∷ Null ∷ text ∷ text ∷ text ∷ until ∷
 
 pub record Told : Type 0 where
   -- the office
-  pub second_office : cell_cause Links (only tables.office.tree (office (pos 2) (pos 1) (Int (pos 2)) (Int (pos 20000)))) ≡ Some 1
-  pub version_below_0 : cell_cause Links (only tables.office.tree (office (pos 1) (neg_ℤ (pos 7)) (Int (pos 2)) (Int (pos 20000)))) ≡ Some 1
-  pub seats_below_0 : cell_cause Links (only tables.office.tree (office (pos 1) (pos 1) (minus 1) (Int (pos 20000)))) ≡ Some 1
-  pub no_day : cell_cause Spans (only tables.office.tree (office (pos 1) (pos 2) (Int (pos 2)) Null)) ≡ Some 1
+  pub second_office : cell_cause First (only tables.office.tree (office (pos 2) (pos 1) (Int (pos 2)) (Int (pos 20000)))) ≡ Some 1
+  pub version_below_0 : cell_cause First (only tables.office.tree (office (pos 1) (neg_ℤ (pos 7)) (Int (pos 2)) (Int (pos 20000)))) ≡ Some 1
+  pub seats_below_0 : cell_cause First (only tables.office.tree (office (pos 1) (pos 1) (minus 1) (Int (pos 20000)))) ≡ Some 1
+  pub no_day : cell_cause Second (only tables.office.tree (office (pos 1) (pos 2) (Int (pos 2)) Null)) ≡ Some 1
   -- the places
   pub place_below_0 : is_unread 2 tables.link.tree (minus 1 ∷ Null ∷ Null ∷ Int (pos 1) ∷ []) ≡ Some true
   pub parent_below_0 : is_unread 2 tables.link.tree (Int (pos 1) ∷ Null ∷ minus 1 ∷ Int (pos 1) ∷ []) ≡ Some true

@@ -5,7 +5,7 @@ use Rattle.tree_core.specs.Forest.{Empty, Node}
 use Rattle.tree_core.specs.WorkedExamples.{link, span}
 use Rattle.catalogue_core.specs.Units.{Unit}
 use Rattle.office_core.specs.State.{State}
-use Rattle.tree_core.specs.Versions.{Version, Links, Spans}
+use Rattle.office_tables.specs.Versions.{Version, First, Second}
 use Rattle.catalogue_core.specs.CatalogueRows.{LinkRows, SpanRows}
 use Rattle.state_encoding.specs.OfficeRows.{tables, state_of}
 use Rattle.office_core.specs.WorkedExamples.{office, march_1, march_2, year_end}
@@ -50,8 +50,8 @@ pub record SaysAgain (version : Version) : Type 0 where
   pub runs : (state_of (tables version sample)).runs ≡ sample.runs
 
 pub record ReadAgain : Type 0 where
-  pub linked : SaysAgain Links
-  pub nested : SaysAgain Spans
+  pub linked : SaysAgain First
+  pub nested : SaysAgain Second
   -- places follow the order of the units in the tree, not their numbers
-  pub links : (tables Links sample).catalogue.places ≡ LinkRows (link 1 None 1 ∷ link 4 (Some 1) 1 ∷ link 2 (Some 1) 2 ∷ link 3 None 2 ∷ [])
-  pub spans : (tables Spans sample).catalogue.places ≡ SpanRows (span 1 1 6 ∷ span 4 2 3 ∷ span 2 4 5 ∷ span 3 7 8 ∷ [])
+  pub links : (tables First sample).catalogue.places ≡ LinkRows (link 1 None 1 ∷ link 4 (Some 1) 1 ∷ link 2 (Some 1) 2 ∷ link 3 None 2 ∷ [])
+  pub spans : (tables Second sample).catalogue.places ≡ SpanRows (span 1 1 6 ∷ span 4 2 3 ∷ span 2 4 5 ∷ span 3 7 8 ∷ [])

@@ -1,6 +1,6 @@
 //! Laws about the causes 6 to 10 in rows of doubtful origin. Each is the contract of a function that does nothing.
 
-ghost use Rattle.tree_core.specs.Versions.{Version};
+ghost use Rattle.office_tables.specs.Versions.{Version};
 ghost use Rattle.state_encoding.specs.DeskSoundness.{PassingRowsAreSound, SoundTablesPass};
 ghost use Rattle.state_encoding.specs.OfficeRows.{OfficeRows};
 ghost use Rattle.office_core.specs.State.{State};

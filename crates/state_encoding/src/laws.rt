@@ -8,7 +8,7 @@ ghost use Rattle.tree_core.specs.Forest.{Forest};
 ghost use Rattle.tree_core.specs.Spans.{number};
 ghost use Rattle.tree_core.specs.Links.{HoldsLinks};
 ghost use Rattle.tree_core.specs.declared.rows.Link.{Link};
-ghost use Rattle.tree_core.specs.Versions.{Version};
+ghost use Rattle.office_tables.specs.Versions.{Version};
 ghost use Rattle.isad_core.specs.Texts.{Bytes};
 ghost use Rattle.sqlite.specs.Tree.{Trees};
 ghost use Rattle.state_encoding.specs.CellSoundness.{CellsHaveNoCause, CellsDescribeASoundState, SaysUtf8};

@@ -8,7 +8,7 @@ ghost use Rattle.state_encoding.specs.CellsOfOffices.{IsRepresentedByTrees, Soun
 ghost use Rattle.state_encoding.specs.OfficeRows.{tables};
 ghost use Rattle.state_encoding.specs.Versions.{with_spans};
 ghost use Rattle.sqlite.specs.Tree.{Trees};
-ghost use Rattle.tree_core.specs.Versions.{Links, Spans, Version};
+ghost use Rattle.office_tables.specs.Versions.{Version, First, Second};
 
 /// The rows of a sound office's desk meet everything that a store requires of the desk rows that it reads.
 pub fn sound_desks_are_legible()
@@ -17,7 +17,7 @@ pub fn sound_desks_are_legible()
 
 /// The tables of version 2 are those of version 1, except for the version and the places.
 pub fn versions_differ_in_places()
-    ensures { (s : State) → tables Spans s ≡ with_spans s (tables Links s) }
+    ensures { (s : State) → tables Second s ≡ with_spans s (tables First s) }
 {}
 
 /// Each state is represented by some tables, in either version.

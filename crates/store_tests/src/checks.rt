@@ -1,12 +1,7 @@
 //! The check of the desk's tables, in memory and in a file. Rows that no call writes are found, with their cause.
 
-ghost use Rattle.std.specs.Prelude.{IfOk};
-ghost use Rattle.sqlite.specs.Held.{state};
-ghost use Rattle.tree_core.specs.Versions.{Links};
-ghost use Rattle.office_tables.specs.Step.{AreTables};
-
 use crate::desk::{day_after, next_turn};
-use crate::reading_room::furnished;
+use crate::reading_room::furnish;
 use crate::tests::new_office;
 use catalogue_store::{LinkPlaces, StoreFault};
 use desk_core::Limits;
@@ -27,7 +22,7 @@ fn serve_reader<S: Alter>(
     tables: &mut Tables<LinkPlaces, S>,
 ) -> Result<(), StoreFault> {
     let mut text = String::new(alloc);
-    furnished(alloc, tables, &mut text)?;
+    furnish(alloc, tables, &mut text)?;
     grant(tables, 1, 1, day_after(0)?)?;
     set_seat(tables, 1, Some(1))?;
     append_order(tables, 1, 1, 1, day_after(0)?)?;
@@ -122,34 +117,29 @@ fn write_desk<S: Alter>(
     put_all(tables, writes)
 }
 
-/// A sound desk in a new office, with these rows added.
+/// A sound desk in a new office, with these rows added. It is committed, and the next transaction has begun.
 fn desk_with<S: Alter + Drop>(
     alloc: Global,
     conn: Connection<S>,
     writes: &[Write],
-) -> Result<Connection<S>, StoreFault>
-    ensures are { IfOk result (λ conn. AreTables Links (state S.Store conn)) }
-{
+) -> Result<Tables<LinkPlaces, S>, StoreFault> {
     let mut tables = new_office::<LinkPlaces, S>(alloc, conn)?;
     let outcome = write_desk(alloc, &mut tables, writes);
-    let conn = tables.into_connection();
+    let mut conn = tables.into_connection();
     outcome?;
-    Ok(conn)
+    next_turn(&mut conn)?;
+    Ok(Tables::inside(conn))
 }
 
-/// The cause that the check finds in a desk once it is committed, or 0.
-#[tactic(auto, using(office_tables::proofs::Calls::office_of))]
-fn cause_in<S: Alter>(alloc: Global, conn: &mut Connection<S>) -> Result<u8, StoreFault>
-    requires are { AreTables Links (state S.Store conn.old) }
-{
-    next_turn(conn)?;
+/// The cause that the check finds in a desk, or 0.
+fn cause_in<S: Alter>(alloc: Global, tables: &mut Tables<LinkPlaces, S>) -> Result<u8, StoreFault> {
     let limits = Limits {
         seats: 2,
         daily: 3,
         hands: 1,
         run: 2,
     };
-    let defect = load_check_desk(alloc, conn, &limits, day_after(0)?)?;
+    let defect = load_check_desk(alloc, tables, &limits, day_after(0)?)?;
     Ok(match defect {
         Some(defect) => defect.cause(),
         None => 0,
@@ -160,8 +150,10 @@ fn cause_in<S: Alter>(alloc: Global, conn: &mut Connection<S>) -> Result<u8, Sto
 fn causes(alloc: Global, desks: &[&'static [Write]]) -> Result<String, Fail> {
     let mut text = String::new(alloc);
     for &writes in desks {
-        let mut conn = desk_with(alloc, Connection::open_in_memory(alloc)?, writes)?;
-        let cause = cause_in(alloc, &mut conn)?;
+        let mut tables = desk_with(alloc, Connection::open_in_memory(alloc)?, writes)?;
+        let cause = cause_in(alloc, &mut tables);
+        let _ = tables.into_connection();
+        let cause = cause?;
         write!(text, "{cause}")?;
     }
     Ok(text)
@@ -348,10 +340,10 @@ const FILE: &str = "doubtful-desk-of-the-tests.db";
 const LOG: &str = "doubtful-desk-of-the-tests.db-wal";
 
 fn cause_in_file(rt: &HostRuntime, writes: &[Write]) -> Result<u8, Fail> {
-    let mut conn = desk_with(rt.alloc(), Connection::open(rt, FILE)?, writes)?;
-    let cause = cause_in(rt.alloc(), &mut conn)?;
-    conn.close()?;
-    Ok(cause)
+    let mut tables = desk_with(rt.alloc(), Connection::open(rt, FILE)?, writes)?;
+    let cause = cause_in(rt.alloc(), &mut tables);
+    tables.into_connection().close()?;
+    Ok(cause?)
 }
 
 /// The causes of these desks, each in a new file.

@@ -4,7 +4,7 @@
 
 ghost use Rattle.std.specs.Prelude.{OnOk};
 ghost use Rattle.sqlite.specs.Held.{state};
-ghost use Rattle.tree_core.specs.Versions.{Links};
+ghost use Rattle.office_tables.specs.Versions.{First};
 ghost use Rattle.office_tables.specs.Step.{AreTables, InTransaction};
 
 use crate::tests::{Query, make_office, show_rows, two_units};
@@ -114,7 +114,7 @@ fn show_holder<S: Alter>(
 }
 
 /// Ann has container 1 and no seat, Bob has seat 2 and no container, and nobody has ticket 3.
-fn held<S: Alter>(
+fn hold<S: Alter>(
     alloc: Global,
     tables: &mut Tables<LinkPlaces, S>,
     text: &mut String,
@@ -144,7 +144,7 @@ fn end_orders<S: Alter>(
 }
 
 /// Records a run that brought container 2 for order 2, and lists what is out.
-fn brought<S: Alter>(
+fn bring<S: Alter>(
     alloc: Global,
     tables: &mut Tables<LinkPlaces, S>,
     text: &mut String,
@@ -241,9 +241,9 @@ fn carry_out<S: Alter>(
     match done {
         Act::Sit => take_seats(alloc, tables, text),
         Act::Card => read_card(alloc, tables, text),
-        Act::Hold => held(alloc, tables, text),
+        Act::Hold => hold(alloc, tables, text),
         Act::End => end_orders(alloc, tables, text),
-        Act::Run => brought(alloc, tables, text),
+        Act::Run => bring(alloc, tables, text),
         Act::Permit => grant_permits(alloc, tables, text),
         Act::Pick => pick_run(alloc, tables, text),
         Act::Open => open_next_day(alloc, tables, text),
@@ -252,8 +252,8 @@ fn carry_out<S: Alter>(
 
 /// Commits what was done, and begins another transaction.
 pub(crate) fn next_turn<S: Alter>(conn: &mut Connection<S>) -> Result<(), StoreFault>
-    requires are { AreTables Links (state S.Store conn.old) }
-    ensures inside { OnOk result (InTransaction Links (state S.Store conn.new)) }
+    requires are { AreTables First (state S.Store conn.old) }
+    ensures inside { OnOk result (InTransaction First (state S.Store conn.new)) }
 {
     commit(conn)?;
     begin(conn)
@@ -284,7 +284,7 @@ fn taken_back<S: Alter>(
 }
 
 /// The results of the calls in a new office, and then the rows of these queries.
-fn told(alloc: Global, done: Act, queries: &[Query]) -> Result<String, Fail> {
+fn call_results(alloc: Global, done: Act, queries: &[Query]) -> Result<String, Fail> {
     let mut text = String::new(alloc);
     let mut conn = Connection::open_in_memory(alloc)?;
     make_office::<LinkPlaces, _>(alloc, &mut conn)?;
@@ -306,7 +306,7 @@ type Case = (Act, &'static [Query], &'static str);
 
 fn see(rt: &impl Abort, alloc: Global, cases: &[Case]) -> Result<(), Fail> {
     for &(done, queries, wanted) in cases {
-        let text = told(alloc, done, queries)?;
+        let text = call_results(alloc, done, queries)?;
         assert_eq!(rt; text.as_str(), wanted);
     }
     Ok(())

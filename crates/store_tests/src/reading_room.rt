@@ -59,7 +59,7 @@ fn add_boxed<S: Alter>(
 }
 
 /// Containers 1 to 3 in two strongrooms, and Ann, with ticket 1.
-pub(crate) fn furnished<S: Alter>(
+pub(crate) fn furnish<S: Alter>(
     alloc: Global,
     tables: &mut Tables<LinkPlaces, S>,
     text: &mut String,
@@ -196,7 +196,7 @@ fn place_two<S: Alter>(
     tables: &mut Tables<LinkPlaces, S>,
     text: &mut String,
 ) -> Result<(), StoreFault> {
-    furnished(alloc, tables, text)?;
+    furnish(alloc, tables, text)?;
     register(alloc, tables, "Bob", text)?;
     append_order(tables, 1, 1, 1, day_after(0)?)?;
     append_order(tables, 2, 2, 1, day_after(0)?)
@@ -208,7 +208,7 @@ fn place_three<S: Alter>(
     tables: &mut Tables<LinkPlaces, S>,
     text: &mut String,
 ) -> Result<(), StoreFault> {
-    furnished(alloc, tables, text)?;
+    furnish(alloc, tables, text)?;
     append_order(tables, 1, 1, 1, day_after(0)?)?;
     append_order(tables, 2, 1, 2, day_after(0)?)?;
     append_order(tables, 3, 1, 3, day_after(0)?)

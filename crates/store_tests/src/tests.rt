@@ -4,7 +4,7 @@ ghost use Rattle.std.specs.Prelude.{◌≡◌, ◌<◌, ◌^◌, IfOk, IfSome, O
 ghost use Rattle.sqlite.specs.Held.{state};
 ghost use Rattle.sqlite.specs.State.{HasCleanDisk};
 ghost use Rattle.office_tables.specs.Schema.{no_schema};
-ghost use Rattle.office_tables.specs.Step.{AreTables};
+ghost use Rattle.office_tables.specs.Step.{InTransaction};
 
 use crate::mark_lines::{show_branch, show_marks, show_statuses, show_walk};
 use catalogue_store::{
@@ -47,7 +47,7 @@ fn open_office<P: Places, S: Alter>(
     conn: &mut Connection<S>,
 ) -> Result<(), StoreFault>
     requires blank { HasCleanDisk (state S.Store conn.old) → (state S.Store conn.old).now.schema ≡ no_schema }
-    ensures are { OnOk result (AreTables P.version (state S.Store conn.new)) }
+    ensures inside { OnOk result (InTransaction P.version (state S.Store conn.new)) }
 {
     let row = settings(alloc)?;
     begin(conn)?;
@@ -60,7 +60,7 @@ pub(crate) fn make_office<P: Places, S: Alter>(
     alloc: Global,
     conn: &mut Connection<S>,
 ) -> Result<(), StoreFault>
-    ensures are { OnOk result (AreTables P.version (state S.Store conn.new)) }
+    ensures inside { OnOk result (InTransaction P.version (state S.Store conn.new)) }
 {
     if !is_blank(conn) {
         return Err(StoreFault::Schema);
@@ -425,7 +425,7 @@ fn show_row(text: &mut String, row: &Row, width: usize) -> Result<(), Fail> {
 }
 
 /// The results of the calls in a new office, the rows of these queries, and then those of the places.
-fn told<P: Places>(
+fn call_results<P: Places>(
     alloc: Global,
     done: Act,
     queries: &[Query],
@@ -469,7 +469,7 @@ fn see_over<P: Places>(
     places: Query,
     rows: &str,
 ) -> Result<(), Fail> {
-    let told = told::<P>(alloc, case.done, case.queries, places)?;
+    let told = call_results::<P>(alloc, case.done, case.queries, places)?;
     let wanted = format!(in alloc; "{}{rows}", case.told)?;
     assert_eq!(rt; told.as_str(), wanted.as_str());
     Ok(())

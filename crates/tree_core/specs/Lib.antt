@@ -10,7 +10,7 @@ pub mod Marks
 pub mod SpanFaults
 pub mod LinkFaults
 pub mod Steps
-pub mod Versions
+pub mod Encodings
 pub mod Tops
 pub mod Members
 pub mod Arrivals

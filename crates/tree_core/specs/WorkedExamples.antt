@@ -10,8 +10,8 @@ abbrev pub leaf : {A : Type 0} → A → Forest A → Forest A
 leaf a others = Node a Empty others
 
 -- 1 with 2 and 3 below it, and 4
-abbrev pub worked : Forest ℕ
-worked = Node 1 (leaf 2 (leaf 3 Empty)) (leaf 4 Empty)
+abbrev pub example_forest : Forest ℕ
+example_forest = Node 1 (leaf 2 (leaf 3 Empty)) (leaf 4 Empty)
 
 abbrev pub link : ℕ → Option ℕ → ℕ → Link
 link u p k = record { id = u; parent = p; ord = k }
@@ -23,8 +23,8 @@ abbrev pub mark : ℕ → ℕ → ℕ → Bool → Option ℤ → Mark
 mark u l r draft until = record { id = u; lft = l; rgt = r; draft = draft; until = until; boxed = false; permit = false }
 
 -- the worked forest, with 2 a draft and 3 closed until the day 19784
-abbrev pub marked : Forest Mark
-marked = Node (mark 1 1 6 false None) (leaf (mark 2 2 3 true None) (leaf (mark 3 4 5 false (Some (pos 19784))) Empty)) (leaf (mark 4 7 8 false None) Empty)
+abbrev pub example_marks : Forest Mark
+example_marks = Node (mark 1 1 6 false None) (leaf (mark 2 2 3 true None) (leaf (mark 3 4 5 false (Some (pos 19784))) Empty)) (leaf (mark 4 7 8 false None) Empty)
 
 abbrev pub kept_row : ℕ → ℕ → Bool → Kept
 kept_row u depth stub = record { id = u; depth = depth; stub = stub }

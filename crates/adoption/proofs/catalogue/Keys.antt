@@ -13,7 +13,7 @@ use Rattle.sqlite_schema.specs.Rules.{agree, clashes, passes}
 use Rattle.sqlite_schema.specs.declared.schema.Constraint.TheVariants.{Datatype, Unique}
 use Rattle.sqlite_trees.proofs.ListLemmas.{all_weaker}
 use Rattle.sqlite_value.specs.Keys.{plain, first_key}
-use Rattle.tree_core.specs.Versions.{Version, Links, Spans}
+use Rattle.office_tables.specs.Versions.{Version, First, Second, encoding}
 use Rattle.tree_core.specs.declared.rows.Link.{Link}
 use Rattle.tree_core.specs.declared.rows.Span.{Span}
 use Rattle.tree_core.proofs.Lists.{eqb_comm}
@@ -110,20 +110,20 @@ apart read alike places key table rows whole own =
 -- ---- the places
 
 pub whole_places : (v : Version) (db : Database) → AreGoodTables v db → AreWholePlaces (db.trees tables.link.tree)
-whole_places Links db it =
-    let keyed = rows_keyed tables.link (λ b row h. (and_parts (is_null b) _ h).0) 4 (omega arith) (db.trees tables.link.tree) (place_whole Links db it).cells ((live Links db it).obeys.rules Datatype).1.1.1.1.1.1.1.1.1.1.1.1.0 in
-    record { rise = (place_whole Links db it).rise; cells = (place_whole Links db it).cells; keys = all_weaker (IsKeyed 4) (λ row. column row 1 ≡ Null) (λ row h. h.1) (db.trees tables.link.tree) keyed }
-whole_places Spans db it =
-    let keyed = rows_keyed tables.span (λ b row h. (and_parts (is_null b) _ h).0) 4 (omega arith) (db.trees tables.span.tree) (place_whole Spans db it).cells ((live Spans db it).obeys.rules Datatype).1.1.1.1.1.1.1.1.1.1.1.1.0 in
-    record { rise = (place_whole Spans db it).rise; cells = (place_whole Spans db it).cells; keys = all_weaker (IsKeyed 4) (λ row. column row 1 ≡ Null) (λ row h. h.1) (db.trees tables.span.tree) keyed }
+whole_places First db it =
+    let keyed = rows_keyed tables.link (λ b row h. (and_parts (is_null b) _ h).0) 4 (omega arith) (db.trees tables.link.tree) (place_whole First db it).cells ((live First db it).obeys.rules Datatype).1.1.1.1.1.1.1.1.1.1.1.1.0 in
+    record { rise = (place_whole First db it).rise; cells = (place_whole First db it).cells; keys = all_weaker (IsKeyed 4) (λ row. column row 1 ≡ Null) (λ row h. h.1) (db.trees tables.link.tree) keyed }
+whole_places Second db it =
+    let keyed = rows_keyed tables.span (λ b row h. (and_parts (is_null b) _ h).0) 4 (omega arith) (db.trees tables.span.tree) (place_whole Second db it).cells ((live Second db it).obeys.rules Datatype).1.1.1.1.1.1.1.1.1.1.1.1.0 in
+    record { rise = (place_whole Second db it).rise; cells = (place_whole Second db it).cells; keys = all_weaker (IsKeyed 4) (λ row. column row 1 ≡ Null) (λ row h. h.1) (db.trees tables.span.tree) keyed }
 
-places_distinct : (v : Version) (db : Database) → AreWholePlaces (db.trees tables.link.tree) → IsDistinct nat_eq (place_numbers (places_in v db.trees))
-places_distinct Links db whole =
+places_distinct : (v : Version) (db : Database) → AreWholePlaces (db.trees tables.link.tree) → IsDistinct nat_eq (place_numbers (places_in (encoding v) db.trees))
+places_distinct First db whole =
     let links = filter_map read_link (db.trees tables.link.tree) in
     let number : Link → ℕ = λ link. link.id in
     IsDistinct-IsPermutation nat_eq eqb_comm (map number links) (map number (in_order (by number) links)) (IsPermutation-map number links (in_order (by number) links) (in_order-permutation (by number) links))
     (distinct_numbers number links (links_rise (db.trees tables.link.tree) whole))
-places_distinct Spans db whole =
+places_distinct Second db whole =
     let spans = filter_map read_span (db.trees tables.span.tree) in
     let number : Span → ℕ = λ span. span.id in
     let before : Span → Span → Bool = then_by (λ (span : Span). span.lft) number in

@@ -7,7 +7,7 @@ use Rattle.sqlite.specs.Order.{Row, column}
 use Rattle.sqlite.specs.Tree.{IsTable}
 use Rattle.sqlite_value.specs.Order.{value_cmp}
 use Rattle.sqlite_value.proofs.OrderLemmas.{value_cmp-Int}
-use Rattle.tree_core.specs.Versions.{Version, Links, Spans, version_number}
+use Rattle.office_tables.specs.Versions.{Version, First, Second, version_number}
 use Rattle.catalogue_core.specs.CatalogueRows.{OfficeRow}
 use Rattle.office_core.specs.Words.{first}
 use Rattle.office_tables.specs.Cells.{has_unread}
@@ -22,8 +22,8 @@ abbrev said : List Row → OfficeRow
 said rows = unwrap_or (first (filter_map read_office rows)) no_office
 
 some_version : (v : Version) → 0 < version_number v
-some_version Links = omega arith
-some_version Spans = omega arith
+some_version First = omega arith
+some_version Second = omega arith
 
 not_two : (a b : Row) (o p : Option OfficeRow) → read_office a ≡ o → read_office b ≡ p → is_none o ≡ false → is_none p ≡ false → value_cmp (column a 0) (column b 0) ≡ Less → ⊥
 not_two a b None p is too h k less = true≢false h

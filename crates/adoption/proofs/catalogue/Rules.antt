@@ -12,7 +12,7 @@ use Rattle.sqlite_schema.specs.Rules.{are_typed, has_computed}
 use Rattle.sqlite_schema.specs.declared.schema.Constraint.TheVariants.{Datatype}
 use Rattle.sqlite_trees.proofs.ListLemmas.{all_both}
 use Rattle.sqlite_trees.specs.View.{is_int}
-use Rattle.tree_core.specs.Versions.{Version}
+use Rattle.office_tables.specs.Versions.{Version, encoding}
 use Rattle.office_tables.specs.Schema as tables
 use Rattle.office_tables.specs.Schema.{schema}
 use Rattle.row_completeness.proofs.FullRows.{whole_tables}
@@ -75,7 +75,7 @@ module _ (v : Version) (db : Database) (it : AreGoodTables v db) where
   pub housing_whole : IsWholeTable tables.housing (db.trees tables.housing.tree)
   housing_whole = whole.1.1.1.1.1.1.1.1.1.1.1.0
 
-  pub place_whole : IsWholeTable (tables.place_table v) (db.trees (tables.place_table v).tree)
+  pub place_whole : IsWholeTable (tables.place_table (encoding v)) (db.trees (tables.place_table (encoding v)).tree)
   place_whole = whole.1.1.1.1.1.1.1.1.1.1.1.1.0
 
   -- ---- their rows

@@ -9,7 +9,7 @@ use Rattle.sqlite.specs.Tree.{Trees}
 use Rattle.sqlite_trees.proofs.ListLemmas.{all_weaker}
 use Rattle.isad_core.specs.Words.{are_numbered_from}
 use Rattle.tree_core.specs.Forest.{Forest, Empty, Node, nodes, each}
-use Rattle.tree_core.specs.Versions.{Version, Links, Spans, version_number}
+use Rattle.office_tables.specs.Versions.{Version, First, Second, version_number, encoding}
 use Rattle.desk_core.specs.Orders.{in_order}
 use Rattle.desk_core.proofs.OrderLemmas.{in_order-permutation}
 use Rattle.catalogue_core.specs.CatalogueCauses.{are_good_places}
@@ -43,9 +43,9 @@ use Rattle.adoption.proofs.catalogue.Owned.{each_has, all_owned}
 use Rattle.adoption.proofs.catalogue.Told.{element_cell, element_units, elements_told, housing_cell, housing_units, housings_told, containers_told}
 use Rattle.adoption.proofs.catalogue.Units.{units_stored}
 
-no_defect : (v : Version) (db : Trees) → AllByRecursion (λ (b : Bool). b ≡ false) (unread v db) → are_good_places v (rows_in v db).catalogue.places ≡ true → places_are_defective v db ≡ false
-no_defect Links db read good = or_from _ _ read.1.0 (ap not good)
-no_defect Spans db read good = or_from _ _ read.1.0 (ap not good)
+no_defect : (v : Version) (db : Trees) → AllByRecursion (λ (b : Bool). b ≡ false) (unread v db) → are_good_places (encoding v) (rows_in v db).catalogue.places ≡ true → places_are_defective (encoding v) db ≡ false
+no_defect First db read good = or_from _ _ read.1.0 (ap not good)
+no_defect Second db read good = or_from _ _ read.1.0 (ap not good)
 
 -- the numbers of the units that are said
 numbers_back : (t : OfficeRows) (f : Forest ℕ) → each (λ (u : Unit). u.id) (each (unit_said t.catalogue) f) ≡ f
@@ -164,7 +164,7 @@ module _ (v : Version) (db : Database) (it : AreGoodTables v db) where
     housings = housings;
   }
 
-  pub catalogue_shown : (places : Trees → Forest ℕ → Type 0) → ((db : Trees) → RepresentsWhatItDescribes places v db) → RepresentsItsCatalogue places v db
+  pub catalogue_shown : (places : Trees → Forest ℕ → Type 0) → ((db : Trees) → RepresentsWhatItDescribes places (encoding v) db) → RepresentsItsCatalogue places v db
   catalogue_shown places represents = record {
     keys = keys_met v db it;
     represents = record {

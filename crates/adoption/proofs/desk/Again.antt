@@ -4,7 +4,7 @@ use Rattle.std.proofs.lemmas.Bool.{and_parts, eq-eqb, eqb-true, false≢true}
 use Rattle.isad_core.specs.Words.{are_numbered_from}
 use Rattle.sqlite.specs.Tree.{Trees}
 use Rattle.tree_core.specs.Forest.{nodes}
-use Rattle.tree_core.specs.Versions.{Version}
+use Rattle.office_tables.specs.Versions.{Version}
 use Rattle.tree_core.proofs.Lists.{In-permutation}
 use Rattle.tree_core.proofs.Lookups.{any_passes}
 use Rattle.catalogue_core.specs.CatalogueCauses.{MeetsCatalogueKeys}

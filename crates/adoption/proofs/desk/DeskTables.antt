@@ -5,7 +5,7 @@ use Rattle.sqlite.specs.Effect.{Database}
 use Rattle.sqlite.specs.Schema.{Schema}
 use Rattle.sqlite.specs.Table.{Table}
 use Rattle.sqlite_schema.specs.Rules.{Obeys}
-use Rattle.tree_core.specs.Versions.{Version}
+use Rattle.office_tables.specs.Versions.{Version}
 use Rattle.office_tables.specs.Schema.{schema}
 use Rattle.adoption.specs.Desk.{RowsRepresentTheDesk}
 use Rattle.adoption.specs.SoundTables.{AreGoodTables}

@@ -13,7 +13,7 @@ use Rattle.sqlite_schema.specs.declared.schema.Constraint.TheVariants.{Datatype,
 use Rattle.sqlite_schema.specs.declared.schema.Index.{Index}
 use Rattle.sqlite_trees.proofs.ListLemmas.{all_both, all_weaker}
 use Rattle.sqlite_trees.specs.View.{is_int}
-use Rattle.tree_core.specs.Versions.{Version}
+use Rattle.office_tables.specs.Versions.{Version}
 use Rattle.catalogue_core.specs.Members.{StandsIn}
 use Rattle.desk_core.specs.DeskCauses.{AreInOrder, MeetsDeskKeys}
 use Rattle.desk_core.specs.DeskRows.{Desk, ReaderRow, SeatRow, OrderRow, HoldingRow, RunRow, RunLineRow, PermitRow}

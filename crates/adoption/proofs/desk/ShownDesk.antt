@@ -6,7 +6,7 @@ use Rattle.sqlite.specs.Table.{Table}
 use Rattle.sqlite.specs.Tree.{Trees}
 use Rattle.sqlite_schema.specs.Rules.{Obeys}
 use Rattle.isad_core.specs.Words.{are_numbered_from}
-use Rattle.tree_core.specs.Versions.{Version}
+use Rattle.office_tables.specs.Versions.{Version}
 use Rattle.desk_core.specs.DeskCauses.{are_good_readers, are_good_orders, are_good_runs}
 use Rattle.desk_core.specs.DeskRows.{ReaderRow, OrderRow, RunRow, RunLineRow, PermitRow}
 use Rattle.desk_store.specs.Representation.{IsNumberOf, RepresentsDesk}

@@ -3,7 +3,7 @@ use Rattle.std.proofs.Common.{◌≡◌, Bool, true, false, ◌||◌, [], ◌∷
 use Rattle.std.specs.List.{AllByRecursion}
 use Rattle.std.proofs.lemmas.Bool.{or_parts}
 use Rattle.sqlite.specs.Tree.{Trees}
-use Rattle.tree_core.specs.Versions.{Version}
+use Rattle.office_tables.specs.Versions.{Version, encoding}
 use Rattle.catalogue_core.specs.CatalogueCauses.{places_are_bad, units_are_bad, elements_are_bad, containers_are_bad}
 use Rattle.desk_core.specs.DeskCauses.{readers_are_bad, orders_are_bad, holdings_are_bad, runs_are_bad}
 use Rattle.state_encoding.proofs.Judging.{hold_none}
@@ -74,7 +74,7 @@ module _ (version : Version) (db : Trees) where
   none_holds : catalogue_cell_cause version db ≡ None → of_desk (cell_cause version db) ≡ None
       → NoneOfNine
       (has_unread read_office (db tables.office.tree) || office_is_bad version t)
-      (places_are_unread version db || places_are_bad version t.catalogue)
+      (places_are_unread (encoding version) db || places_are_bad (encoding version) t.catalogue)
       (has_unread read_unit (db tables.unit.tree) || units_are_bad t.office.next_unit t.catalogue)
       (has_unread read_element (db tables.element.tree) || elements_are_bad t.catalogue)
       ((has_unread read_container (db tables.container.tree) || has_unread read_housing (db tables.housing.tree)) || containers_are_bad t.catalogue)
@@ -85,7 +85,7 @@ module _ (version : Version) (db : Trees) where
   none_holds first desk =
       none_of_nine
       (has_unread read_office (db tables.office.tree) || office_is_bad version t)
-      (places_are_unread version db || places_are_bad version t.catalogue)
+      (places_are_unread (encoding version) db || places_are_bad (encoding version) t.catalogue)
       (has_unread read_unit (db tables.unit.tree) || units_are_bad t.office.next_unit t.catalogue)
       (has_unread read_element (db tables.element.tree) || elements_are_bad t.catalogue)
       ((has_unread read_container (db tables.container.tree) || has_unread read_housing (db tables.housing.tree)) || containers_are_bad t.catalogue)
@@ -100,7 +100,7 @@ module _ (version : Version) (db : Trees) where
   are_passed first desk =
       let it = none_holds first desk in
       let office = or_parts (has_unread read_office (db tables.office.tree)) (office_is_bad version t) it.one in
-      let places = or_parts (places_are_unread version db) (places_are_bad version t.catalogue) it.two in
+      let places = or_parts (places_are_unread (encoding version) db) (places_are_bad (encoding version) t.catalogue) it.two in
       let units = or_parts (has_unread read_unit (db tables.unit.tree)) (units_are_bad t.office.next_unit t.catalogue) it.three in
       let elements = or_parts (has_unread read_element (db tables.element.tree)) (elements_are_bad t.catalogue) it.four in
       let boxes = or_parts (has_unread read_container (db tables.container.tree) || has_unread read_housing (db tables.housing.tree)) (containers_are_bad t.catalogue) it.five in
@@ -113,7 +113,7 @@ module _ (version : Version) (db : Trees) where
       let brought = or_parts (has_unread read_run (db tables.run.tree)) (has_unread read_run_line (db tables.run_line.tree)) runs.0 in
       record {
         read = (office.0, (places.0, (units.0, (elements.0, (boxes.0, (readers.0, (orders.0, (holdings.0, (runs.0, (refl, tt))))))))));
-        catalogue = none_of_five (office_is_bad version t) (places_are_bad version t.catalogue) (units_are_bad t.office.next_unit t.catalogue) (elements_are_bad t.catalogue) (containers_are_bad t.catalogue) office.1 places.1 units.1 elements.1 boxes.1;
+        catalogue = none_of_five (office_is_bad version t) (places_are_bad (encoding version) t.catalogue) (units_are_bad t.office.next_unit t.catalogue) (elements_are_bad t.catalogue) (containers_are_bad t.catalogue) office.1 places.1 units.1 elements.1 boxes.1;
         desk = record { readers = room.0; seats = others.0; orders = orders.0; holdings = holdings.0; runs = brought.0; run_lines = brought.1; permits = others.1 };
         readers = readers.1;
         orders = orders.1;

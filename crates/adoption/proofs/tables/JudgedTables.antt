@@ -4,7 +4,7 @@ use Rattle.std.specs.Prelude.{IsUtf8}
 use Rattle.sqlite.specs.Tree.{Trees}
 use Rattle.isad_core.proofs.DayLemmas.{is_day_number-true}
 use Rattle.isad_core.specs.Days.{is_day_number}
-use Rattle.tree_core.specs.Versions.{Version}
+use Rattle.office_tables.specs.Versions.{Version}
 use Rattle.catalogue_core.proofs.KeptCatalogues.{kept, knows}
 use Rattle.catalogue_core.specs.CatalogueCauses.{MeetsCatalogueKeys}
 use Rattle.catalogue_core.specs.Members.{StandsIn}

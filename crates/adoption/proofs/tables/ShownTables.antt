@@ -4,7 +4,7 @@ use Rattle.std.specs.Prelude.{drop}
 use Rattle.sqlite.specs.Effect.{Database}
 use Rattle.sqlite.specs.Tree.{Trees}
 use Rattle.tree_core.specs.Forest.{Forest}
-use Rattle.tree_core.specs.Versions.{Version}
+use Rattle.office_tables.specs.Versions.{Version}
 use Rattle.desk_store.specs.Representation.{RepresentsDesk}
 use Rattle.state_encoding.proofs.CellCauses.{cells_are_said}
 use Rattle.state_encoding.proofs.Judging.{none_before}

@@ -25,7 +25,7 @@ pub struct Printer<'a> {
 
 impl<'a> Printer<'a> {
     /// How a unit is shown. `ids` are the identifiers from the top down to it.
-    fn shown(&self, ids: &[Text], depth: u32, values: &'a Values) -> Result<Shown, AllocError>
+    fn show(&self, ids: &[Text], depth: u32, values: &'a Values) -> Result<Shown, AllocError>
         ensures { IfOk result (λ shown. shown
             ≡ shown_told (record { country = self.now.country.now; repo = self.now.repo.now })
             (number_by self.now.numbers) ids.now depth values.now) }
@@ -37,7 +37,7 @@ impl<'a> Printer<'a> {
             title: text_or_empty(self.alloc, values.text(Element::Title))?,
             body: Body::Full {
                 lines: values.lines(self.alloc)?,
-                boxes: self.numbered(values.boxes.as_slice())?,
+                boxes: self.number_containers(values.boxes.as_slice())?,
             },
         })
     }
@@ -77,13 +77,13 @@ impl<'a> Printer<'a> {
             ++ unit_lines (shown_told (record { country = self.now.country.now; repo = self.now.repo.now })
             (number_by self.now.numbers) ids.now depth values.now)) }
     {
-        let shown = self.shown(ids, depth, values)?;
+        let shown = self.show(ids, depth, values)?;
         let text = aid_text(self.alloc, &[shown])?;
         out.extend_from_slice(text.as_slice())
     }
 
     /// The number and the name of each container.
-    fn numbered(&self, boxes: &'a [BoxKey]) -> Result<List<(u64, Text)>, AllocError>
+    fn number_containers(&self, boxes: &'a [BoxKey]) -> Result<List<(u64, Text)>, AllocError>
         ensures { IfOk result (λ numbered. numbered ≡ map (λ b. (number_by self.now.numbers b, b.name)) boxes.now) }
     {
         let mut numbered = List::new(self.alloc);

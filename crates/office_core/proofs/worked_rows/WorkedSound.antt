@@ -12,7 +12,7 @@ use Rattle.isad_core.specs.Texts.{is_blank_text}
 use Rattle.isad_core.specs.Days.{IsDayNumber}
 use Rattle.tree_core.specs.Forest.{nodes, size}
 use Rattle.catalogue_core.specs.Units.{Unit}
-use Rattle.office_core.specs.Words.{numbered}
+use Rattle.office_core.specs.Words.{nth}
 use Rattle.office_core.specs.State.{Reader, Permit, is_ticket}
 use Rattle.catalogue_core.specs.UnitLookup.{has_unit}
 use Rattle.catalogue_core.specs.ContainerContents.{is_open}
@@ -140,7 +140,7 @@ each_ticket P here there = put_each P (λ t. []) 1 (permits_from 1 most_permits)
 
 -- ---- all of it
 
-ann_alone : (t : ℕ) (reader : Reader) → numbered with_most_permits.readers t ≡ Some reader → is_name reader.name ≡ true
+ann_alone : (t : ℕ) (reader : Reader) → nth with_most_permits.readers t ≡ Some reader → is_name reader.name ≡ true
 ann_alone zero reader e = cc
 ann_alone (suc zero) reader e = (let ann : Reader = record { name = codes "Ann"; until = year_end } in let same : ann ≡ reader = cc in subst (λ r. is_name r.name ≡ true) same refl)
 ann_alone (suc (suc t)) reader e = cc

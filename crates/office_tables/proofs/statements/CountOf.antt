@@ -15,7 +15,7 @@ use Rattle.sqlite.proofs.Callers.{reads_as}
 use Rattle.sqlite_schema.specs.declared.program.Program.{Program}
 use Rattle.sqlite_typing.specs.Types.{accepts_program}
 use Rattle.office_tables.specs.Query.{FindsFirst, Misses}
-use Rattle.office_tables.specs.RowCounts.{capped}
+use Rattle.office_tables.specs.RowCounts.{cap}
 use Rattle.office_tables.specs.Faults.{IsUnlimited, HasCause}
 use Rattle.office_tables.specs.StatementMeaning.{Means}
 use Rattle.office_tables.specs.Schema.{Version, schema}
@@ -31,7 +31,7 @@ counting table where_terms = record { lets = []; body = summary_query (inner tab
 abbrev number_cells : ℕ → Row
 number_cells n = Int (pos n) ∷ []
 
-uncapped : (n : ℕ) → n < 2 ^ 32 → capped n ≡ n
+uncapped : (n : ℕ) → n < 2 ^ 32 → cap n ≡ n
 uncapped n few = omega (arith, few)
 
 module _ (v : Version) (table : Table) (sql : List ℕ) (where_terms : List Term) (names : List (List ℕ)) (params : Row) (means : Means v sql (length params) (Select (counting table where_terms) names)) (old new : State) (has : old.now.schema ≡ schema v)
@@ -43,7 +43,7 @@ module _ (v : Version) (table : Table) (sql : List ℕ) (where_terms : List Term
   one_row rows shown =
       let read = reads_as sql params old new (schema v) has (Select (counting table where_terms) names) means.is means.plain means.unlisted rows shown in
       counts table.tree where_terms old.now.trees params row xs keep stored keeps rows (read.answer Null)
-      ∙ ap (λ n. number_cells (capped n) ∷ []) (length-filter keep xs) ∙ ap (λ n. number_cells n ∷ []) (uncapped (count_by keep xs) is_few)
+      ∙ ap (λ n. number_cells (cap n) ∷ []) (length-filter keep xs) ∙ ap (λ n. number_cells n ∷ []) (uncapped (count_by keep xs) is_few)
 
   pub count_finds : (r : Result ℕ StoreFault) → IfOk r (FindsFirst sql params old new) → IfOk r (λ n. n ≡ count_by keep xs)
   count_finds r found = IfOk-weaker r _ _ (λ n it. it.is (count_by keep xs ∷ []) (one_row it.rows it.shown)) found

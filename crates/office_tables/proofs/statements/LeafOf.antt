@@ -3,7 +3,7 @@ use Rattle.std.proofs.Common.{◌≡◌, true, false, refl}
 use Rattle.sqlite_schema.specs.Names.{same_name}
 use Rattle.sqlite_schema.specs.Rules.{references_fit}
 use Rattle.sqlite_value.specs.Keys.{joined}
-use Rattle.office_tables.specs.Schema.{Version, Links, Spans, schema, seat, permit, office}
+use Rattle.office_tables.specs.Schema.{Version, First, Second, schema, seat, permit, office}
 use Rattle.office_tables.proofs.Steps.{is_referred_to}
 use Rattle.office_tables.proofs.UpdateCauses.{KeepsTable}
 
@@ -26,5 +26,5 @@ permit_fits v = refl
 -- an UPDATE of the office's row breaks no key
 pub office_kept : (v : Version) → KeepsTable (λ _. false) (schema v) 7 office
 unfolding joined same_name
-office_kept Links = record { listed = refl; apart = refl; spared = refl; fits = refl }
-office_kept Spans = record { listed = refl; apart = refl; spared = refl; fits = refl }
+office_kept First = record { listed = refl; apart = refl; spared = refl; fits = refl }
+office_kept Second = record { listed = refl; apart = refl; spared = refl; fits = refl }

@@ -11,7 +11,7 @@ use Rattle.sqlite_schema.specs.declared.schema.Constraint.TheVariants.{Datatype,
 use Rattle.sqlite_trees.specs.View.{is_int}
 use Rattle.sqlite_value.specs.Keys.{plain}
 use Rattle.office_tables.specs.RowNumbers.{HasNumbered}
-use Rattle.office_tables.specs.Schema.{Version, Links, Spans, schema}
+use Rattle.office_tables.specs.Schema.{Version, First, Second, schema}
 use Rattle.office_tables.proofs.Fresh.{any_mapped, next_free, not_there}
 use Rattle.office_tables.proofs.InsertCauses.{IsWelcome}
 use Rattle.office_tables.proofs.NumberedKeys.{is_numbered}
@@ -22,9 +22,9 @@ abbrev pub IsAlone : Version → Trees → Table → Row → Type 0
 IsAlone v db table row = list_all (λ i. is_numbered i || not (guards i table && list_any (λ r. agree i.order i.columns r i.columns row) (db table.tree))) (schema v).indexes ≡ true
 
 -- the indexes of the places are not unique, so either version has the same that are
-pub in_either : (v : Version) (db : Trees) (table : Table) (row : Row) → IsAlone Links db table row → IsAlone v db table row
-in_either Links db table row alone = alone
-in_either Spans db table row alone = alone
+pub in_either : (v : Version) (db : Trees) (table : Table) (row : Row) → IsAlone First db table row → IsAlone v db table row
+in_either First db table row alone = alone
+in_either Second db table row alone = alone
 
 -- its values are such as the columns have, and what it refers to is there
 pub record Suits (v : Version) (db : Trees) (table : Table) (row : Row) : Type 0 where
@@ -36,7 +36,7 @@ pub record Suits (v : Version) (db : Trees) (table : Table) (row : Row) : Type 0
 
 -- a row under a number that no other has
 pub number_welcome : {A : Type 0} (v : Version) (table : Table) (cells : A → Row) (number : A → ℕ) (named : (x : A) → rowid (cells x) ≡ Int (pos (number x))) (x : A) (xs : List A) (db : Trees) → db table.tree ≡ map cells xs
-    → list_any (λ y. nat_eq (number x) (number y)) xs ≡ false → IsAlone Links db table (cells x) → Suits v db table (cells x) → IsWelcome (schema v) db table (cells x)
+    → list_any (λ y. nat_eq (number x) (number y)) xs ≡ false → IsAlone First db table (cells x) → Suits v db table (cells x) → IsWelcome (schema v) db table (cells x)
 number_welcome v table cells number named x xs db stored none alone suits = record {
   keyed = ap is_int (named x);
   free = ap (λ rows. is_taken rows (cells x)) stored ∙ not_there cells number named (number x) (cells x) (named x) xs none;
@@ -50,7 +50,7 @@ number_welcome v table cells number named x xs db stored none alone suits = reco
 
 -- a row under the number after the last
 pub next_welcome : {R : Type 0} (v : Version) (table : Table) (cells : ℤ × R → Row) (rest : R → Row) (named : (x : ℤ × R) → cells x ≡ Int x.0 ∷ rest x.1) (r : R) (rs : List R) (db : Trees) → HasNumbered cells (db table.tree) rs
-    → IsAlone Links db table (cells (next_rowid (db table.tree), r)) → Suits v db table (cells (next_rowid (db table.tree), r)) → IsWelcome (schema v) db table (cells (next_rowid (db table.tree), r))
+    → IsAlone First db table (cells (next_rowid (db table.tree), r)) → Suits v db table (cells (next_rowid (db table.tree), r)) → IsWelcome (schema v) db table (cells (next_rowid (db table.tree), r))
 next_welcome {R} v table cells rest named r rs db at alone suits =
     let added : ℤ × R = (next_rowid (db table.tree), r) in
     record {

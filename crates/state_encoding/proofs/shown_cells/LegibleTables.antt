@@ -7,7 +7,7 @@ use Rattle.isad_core.specs.LegibleValues.{IsLegibleBox}
 use Rattle.isad_core.specs.Texts.{Bytes}
 use Rattle.isad_core.specs.declared.values.BoxKey.{BoxKey}
 use Rattle.tree_core.specs.Forest.{nodes}
-use Rattle.tree_core.specs.Versions.{Version}
+use Rattle.office_tables.specs.Versions.{Version}
 use Rattle.desk_core.specs.DeskRows.{ReaderRow}
 use Rattle.catalogue_core.specs.Units.{Unit}
 use Rattle.catalogue_core.specs.LegibleCatalogues.{HasLegibleTexts}

@@ -3,7 +3,7 @@ use Rattle.std.proofs.Common.{◌≡◌, Bool, true, false, List, [], ◌∷◌,
 use Rattle.std.specs.List.{list_all, list_any}
 use Rattle.std.proofs.Math.Path.{fun_ext}
 use Rattle.std.proofs.lemmas.Bool.{and_from, not_from_true}
-use Rattle.tree_core.specs.Versions.{Version}
+use Rattle.office_tables.specs.Versions.{Version, encoding}
 use Rattle.desk_core.specs.DeskCauses.{readers_are_bad, orders_are_bad, holdings_are_bad, runs_are_bad}
 use Rattle.catalogue_core.specs.CatalogueCauses.{MeetsCatalogueKeys, are_good_places, are_good_units, unit_numbers, is_good_element, are_good_container_rows, is_good_housing}
 use Rattle.catalogue_core.specs.CatalogueRows.{CatalogueRows, UnitRow, ContainerRow, box_from}
@@ -21,7 +21,7 @@ use Rattle.state_encoding.proofs.shown_cells.OtherOrders.{IsReordered, any_too, 
 pub five_none : {a b c d e : Bool} → a ≡ false → b ≡ false → c ≡ false → d ≡ false → e ≡ false → first_held (a ∷ b ∷ c ∷ d ∷ e ∷ []) ≡ None
 five_none p q r s t = rw (p, q, r, s, t) refl
 
-module _ (version : Version) (s : State) (g : IsSound s) (c : CatalogueRows) (r : IsReordered (tables version s).catalogue c) (placed : are_good_places version c.places ≡ true) where
+module _ (version : Version) (s : State) (g : IsSound s) (c : CatalogueRows) (r : IsReordered (tables version s).catalogue c) (placed : are_good_places (encoding version) c.places ≡ true) where
   abbrev t : OfficeRows
   t = tables version s
 
@@ -53,7 +53,7 @@ module _ (version : Version) (s : State) (g : IsSound s) (c : CatalogueRows) (r 
       let sound = sound_catalogue s g in
       let units = units_shown version s sound in
       let boxes = containers_shown version s sound in
-      five_none (not_from_true (is_good_office version t.office) (office_shown version s sound)) (not_from_true (are_good_places version c.places) placed)
+      five_none (not_from_true (is_good_office version t.office) (office_shown version s sound)) (not_from_true (are_good_places (encoding version) c.places) placed)
       (not_from_true (are_good_units t.office.next_unit c) (units_too t.catalogue c r t.office.next_unit units.units))
       (not_from_true (list_all (is_good_element (unit_numbers c)) c.elements) (elements_too t.catalogue c r (elements_shown version s sound units.told).0))
       (not_from_true _ (and_from (are_good_container_rows c.containers) (list_all (is_good_housing c) c.housings)

@@ -11,7 +11,7 @@ use Rattle.tree_core.specs.declared.rows.Span.{Span}
 use Rattle.tree_core.specs.Forest.{Forest, nodes}
 use Rattle.tree_core.specs.Links.{siblings, HoldsLinks}
 use Rattle.tree_core.specs.Spans.{number}
-use Rattle.tree_core.specs.Versions.{Version, Links, Spans}
+use Rattle.tree_core.specs.Encodings.{TreeEncoding, Links, Spans}
 use Rattle.tree_core.proofs.Linking.{link_faultless, no_link_fault}
 use Rattle.desk_core.specs.Orders.{in_order}
 use Rattle.desk_core.proofs.OrderLemmas.{in_order-permutation}
@@ -28,9 +28,9 @@ use Rattle.state_encoding.proofs.shown_cells.OtherOrders.{all_too}
 use Rattle.state_encoding.proofs.shown_cells.ReadCells.{AreRead, keyed_read, link_back, span_back}
 
 -- the same places: of links in whatever order
-pub record AreSamePlaces (version : Version) (these those : PlaceRows) : Type 0 where
+pub record AreSamePlaces (way : TreeEncoding) (these those : PlaceRows) : Type 0 where
   pub rows : ArePlacesOf these those
-  pub good : are_good_places version these ≡ true → are_good_places version those ≡ true
+  pub good : are_good_places way these ≡ true → are_good_places way those ≡ true
   pub numbers : IsPermutation (place_numbers these) (place_numbers those)
   pub said : places_said those ≡ places_said these
 
@@ -50,11 +50,11 @@ spans_too f spans e =
     subst (λ l. AreSamePlaces Spans (SpanRows (number 1 f)) (SpanRows l)) (sym e)
     (record { rows = IsPermutation-refl (number 1 f); good = λ g. g; numbers = IsPermutation-refl (place_numbers (SpanRows (number 1 f))); said = refl })
 
-pub record ArePlacesRead (version : Version) (db : Trees) (f : Forest ℕ) : Type 0 where
-  pub all : places_are_unread version db ≡ false
-  pub same : AreSamePlaces version (place_rows version f) (places_in version db)
+pub record ArePlacesRead (way : TreeEncoding) (db : Trees) (f : Forest ℕ) : Type 0 where
+  pub all : places_are_unread way db ≡ false
+  pub same : AreSamePlaces way (place_rows way f) (places_in way db)
 
-pub places_read : (version : Version) (db : Trees) (f : Forest ℕ) → IsDistinct nat_eq (nodes f) → HasPlaces db (place_rows version f) → ArePlacesRead version db f
+pub places_read : (way : TreeEncoding) (db : Trees) (f : Forest ℕ) → IsDistinct nat_eq (nodes f) → HasPlaces db (place_rows way f) → ArePlacesRead way db f
 places_read Links db f d has =
     let it : AreRead read_link (db tables.link.tree) (siblings f) = keyed_read read_link link_cells (λ _. ⊤) (λ row h. link_back row) (db tables.link.tree) (siblings f) has (λ row i. tt) in
     let rows = filter_map read_link (db tables.link.tree) in

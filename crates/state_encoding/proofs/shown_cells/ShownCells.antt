@@ -7,7 +7,7 @@ use Rattle.std.proofs.lemmas.Bool.{or_from}
 use Rattle.std.proofs.lemmas.List.Sorted.{IsPermutation-trans}
 use Rattle.sqlite.specs.Tree.{Trees}
 use Rattle.tree_core.specs.Forest.{each}
-use Rattle.tree_core.specs.Versions.{Version}
+use Rattle.office_tables.specs.Versions.{Version, encoding}
 use Rattle.tree_core.proofs.EachLemmas.{nodes-each}
 use Rattle.desk_core.specs.DeskCauses.{MeetsDeskKeys}
 use Rattle.desk_core.specs.DeskRows.{Desk, ReaderRow, SeatRow, OrderRow, HoldingRow, RunRow, RunLineRow, PermitRow}
@@ -85,9 +85,9 @@ module _ (version : Version) (db : Trees) (s : State) (has : HasTables db (table
   housings : AreRead read_housing (db tables.housing.tree) t.catalogue.housings
   housings = numbered_read read_housing housing_cells (λ _. ⊤) (λ row h. housing_back row) (db tables.housing.tree) t.catalogue.housings has.catalogue.housings (λ row i. tt)
 
-  places : ArePlacesRead version db (each number_of s.catalogue.forest)
+  places : ArePlacesRead (encoding version) db (each number_of s.catalogue.forest)
   places =
-      places_read version db (each number_of s.catalogue.forest)
+      places_read (encoding version) db (each number_of s.catalogue.forest)
       (subst (IsDistinct nat_eq) (sym (nodes-each number_of s.catalogue.forest)) g.sound.units.ids) has.catalogue.places
 
   readers : AreRead read_reader (db tables.reader.tree) t.desk.readers

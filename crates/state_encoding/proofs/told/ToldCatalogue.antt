@@ -17,7 +17,7 @@ use Rattle.isad_core.specs.Boxes.{distinct, is_same as is_same_box}
 use Rattle.tree_core.specs.Forest.{Forest, Empty, Node, nodes, each, size}
 use Rattle.tree_core.proofs.Lists.{In, In-map}
 use Rattle.tree_core.proofs.EachLemmas.{nodes-each}
-use Rattle.tree_core.specs.Versions.{Version, version_number}
+use Rattle.office_tables.specs.Versions.{Version, version_number, encoding}
 use Rattle.catalogue_core.specs.Units.{Unit}
 use Rattle.catalogue_core.proofs.NodeLemmas.{length-nodes}
 use Rattle.isad_core.specs.Limits.{most_units, most_unit_numbers, most_containers, most_deep, most_bytes, most_seats, most_daily, most_hands, most_run_size}
@@ -46,7 +46,7 @@ use Rattle.state_encoding.proofs.told.ToldHousings.{IsGoodHousing, said_apart, s
 
 pub record HasNoCause (version : Version) (t : OfficeRows) : Type 0 where
   pub office : is_good_office version t.office ≡ true
-  pub places : are_good_places version t.catalogue.places ≡ true
+  pub places : are_good_places (encoding version) t.catalogue.places ≡ true
   pub units : are_good_units t.office.next_unit t.catalogue ≡ true
   pub elements : list_all (is_good_element (unit_numbers t.catalogue)) t.catalogue.elements ≡ true
   pub containers : are_good_container_rows t.catalogue.containers ≡ true
@@ -54,15 +54,15 @@ pub record HasNoCause (version : Version) (t : OfficeRows) : Type 0 where
 
 pub no_cause : (version : Version) (t : OfficeRows) → catalogue_cause version t ≡ None → HasNoCause version t
 no_cause version t h =
-    let a = none_held (office_is_bad version t) (places_are_bad version t.catalogue ∷ units_are_bad t.office.next_unit t.catalogue ∷ elements_are_bad t.catalogue ∷ containers_are_bad t.catalogue ∷ []) h in
-    let b = none_held (places_are_bad version t.catalogue) (units_are_bad t.office.next_unit t.catalogue ∷ elements_are_bad t.catalogue ∷ containers_are_bad t.catalogue ∷ []) a.1 in
+    let a = none_held (office_is_bad version t) (places_are_bad (encoding version) t.catalogue ∷ units_are_bad t.office.next_unit t.catalogue ∷ elements_are_bad t.catalogue ∷ containers_are_bad t.catalogue ∷ []) h in
+    let b = none_held (places_are_bad (encoding version) t.catalogue) (units_are_bad t.office.next_unit t.catalogue ∷ elements_are_bad t.catalogue ∷ containers_are_bad t.catalogue ∷ []) a.1 in
     let c = none_held (units_are_bad t.office.next_unit t.catalogue) (elements_are_bad t.catalogue ∷ containers_are_bad t.catalogue ∷ []) b.1 in
     let d = none_held (elements_are_bad t.catalogue) (containers_are_bad t.catalogue ∷ []) c.1 in
     let e = none_held (containers_are_bad t.catalogue) [] d.1 in
     let f = and_parts (are_good_container_rows t.catalogue.containers) (list_all (is_good_housing t.catalogue) t.catalogue.housings) (not-false _ e.0) in
     record {
       office = not-false (is_good_office version t.office) a.0;
-      places = not-false (are_good_places version t.catalogue.places) b.0;
+      places = not-false (are_good_places (encoding version) t.catalogue.places) b.0;
       units = not-false (are_good_units t.office.next_unit t.catalogue) c.0;
       elements = not-false (list_all (is_good_element (unit_numbers t.catalogue)) t.catalogue.elements) d.0;
       containers = f.0;
@@ -135,14 +135,14 @@ record AreGoodRows (t : OfficeRows) : Type 0 where
   few : length t.catalogue.units ≤ most_units
   depth : height (state_of t).catalogue.forest ≤ most_deep
 
-good_rows : (version : Version) (t : OfficeRows) → are_good_places version t.catalogue.places ≡ true → are_good_units t.office.next_unit t.catalogue ≡ true → AreGoodRows t
+good_rows : (version : Version) (t : OfficeRows) → are_good_places (encoding version) t.catalogue.places ≡ true → are_good_units t.office.next_unit t.catalogue ≡ true → AreGoodRows t
 good_rows version t p h =
     let a = and_parts (list_all (is_good_unit_row t.office.next_unit) t.catalogue.units) _ h in
     let b = and_parts (all_stand_in (place_numbers t.catalogue.places) (unit_numbers t.catalogue)) _ a.1 in
     let c = and_parts (all_stand_in (unit_numbers t.catalogue) (place_numbers t.catalogue.places)) _ b.1 in
     let d = and_parts (nat_le (length t.catalogue.units) most_units) (nat_le (height (places_said t.catalogue.places)) most_deep) c.1 in
     let number : (row : UnitRow) → In row t.catalogue.units → is_unit_number row.id ≡ true = λ row i.
-    numbers_given version t.catalogue.places row.id p (stands_in row.id (place_numbers t.catalogue.places) (all_in (λ n. stands n (place_numbers t.catalogue.places)) (unit_numbers t.catalogue) row.id b.0 (In-map (λ (row : UnitRow). row.id) t.catalogue.units row i))) in
+    numbers_given (encoding version) t.catalogue.places row.id p (stands_in row.id (place_numbers t.catalogue.places) (all_in (λ n. stands n (place_numbers t.catalogue.places)) (unit_numbers t.catalogue) row.id b.0 (In-map (λ (row : UnitRow). row.id) t.catalogue.units row i))) in
     record {
       each = λ row i. good_row t.office.next_unit row (number row i) (all_in (is_good_unit_row t.office.next_unit) t.catalogue.units row a.0 i);
       placed = b.0;
@@ -151,7 +151,7 @@ good_rows version t p h =
       depth = subst (λ n. n ≤ most_deep) (sym (height-each (unit_said t.catalogue) (places_said t.catalogue.places))) (leb-true (height (places_said t.catalogue.places)) most_deep d.1);
     }
 
-units_of : (version : Version) (t : OfficeRows) → ArePlaced version t.catalogue.places (places_said t.catalogue.places) → AreGoodRows t → AreUnitsOf t (places_said t.catalogue.places)
+units_of : (version : Version) (t : OfficeRows) → ArePlaced (encoding version) t.catalogue.places (places_said t.catalogue.places) → AreGoodRows t → AreUnitsOf t (places_said t.catalogue.places)
 units_of version t p g =
     record {
       apart = p.apart;
@@ -219,8 +219,8 @@ module _ (version : Version) (t : OfficeRows) (k : MeetsCatalogueKeys t.catalogu
   boxes : List BoxKey
   boxes = map box_from t.catalogue.containers
 
-  placed : ArePlaced version t.catalogue.places (places_said t.catalogue.places)
-  placed = good_places version t.catalogue.places n.places
+  placed : ArePlaced (encoding version) t.catalogue.places (places_said t.catalogue.places)
+  placed = good_places (encoding version) t.catalogue.places n.places
 
   rows : AreGoodRows t
   rows = good_rows version t n.places n.units
@@ -289,7 +289,7 @@ module _ (version : Version) (t : OfficeRows) (k : MeetsCatalogueKeys t.catalogu
       record {
         office = ap (λ v. record t.office { version = v }) office.of_version;
         units = reordered;
-        places = subst (λ g. ArePlacesOf (place_rows version g) t.catalogue.places) (sym (numbers_back f)) placed.rows;
+        places = subst (λ g. ArePlacesOf (place_rows (encoding version) g) t.catalogue.places) (sym (numbers_back f)) placed.rows;
         elements = elements_are_said t f placed.apart k.elements (λ row i. let e = element row i in (e.number, there row.unit (stands_in row.unit (unit_numbers t.catalogue) e.unit)));
         containers = subst (λ l. IsPermutation l t.catalogue.containers) (sym (containers_are_said 1 t.catalogue.containers c.0)) (IsPermutation-refl t.catalogue.containers);
         housings = housings_are_said t f placed.apart boxes_differ k.housings housing;

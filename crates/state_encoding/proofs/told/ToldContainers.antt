@@ -7,7 +7,7 @@ use Rattle.isad_core.specs.declared.values.BoxKey.{BoxKey}
 use Rattle.isad_core.specs.Boxes.{distinct, is_same as is_same_box}
 use Rattle.catalogue_core.specs.CatalogueMerge.{box_number, number_in}
 use Rattle.tree_core.proofs.Lists.{In}
-use Rattle.office_core.specs.Words.{numbered}
+use Rattle.office_core.specs.Words.{nth}
 use Rattle.state_encoding.specs.DeskEncoding.{rows_from}
 use Rattle.catalogue_core.specs.CatalogueRows.{ContainerRow, container_row, box_from}
 use Rattle.isad_core.specs.Words.{are_numbered_from}
@@ -79,11 +79,11 @@ numbered_back (c ∷ boxes) (suc i) b d e =
     ap (λ x. cond x (Some 1) (option_map suc (number_in boxes b))) (each_in (λ x. is_same_box c x ≡ false) boxes b d.0 (in_get boxes i b e))
     ∙ ap (option_map suc) (numbered_back boxes i b d.1 e)
 
-pub back_to_number : (boxes : List BoxKey) (n : ℕ) (b : BoxKey) → IsDistinct is_same_box boxes → numbered boxes n ≡ Some b → box_number boxes b ≡ n
+pub back_to_number : (boxes : List BoxKey) (n : ℕ) (b : BoxKey) → IsDistinct is_same_box boxes → nth boxes n ≡ Some b → box_number boxes b ≡ n
 back_to_number boxes zero b d e = cc
 back_to_number boxes (suc i) b d e = ap (λ r. unwrap_or r 0) (numbered_back boxes i b d e)
 
-pub one_numbered : (boxes : List BoxKey) (n : ℕ) → 1 ≤ n → n ≤ length boxes → (b : BoxKey) × (numbered boxes n ≡ Some b)
+pub one_numbered : (boxes : List BoxKey) (n : ℕ) → 1 ≤ n → n ≤ length boxes → (b : BoxKey) × (nth boxes n ≡ Some b)
 one_numbered boxes zero l h = absurd (omega (arith, l))
 one_numbered [] (suc i) l h = absurd (omega (arith, h))
 one_numbered (b ∷ boxes) (suc zero) l h = (b, refl)

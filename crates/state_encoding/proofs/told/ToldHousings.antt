@@ -19,7 +19,7 @@ use Rattle.tree_core.proofs.Reading.{fills}
 use Rattle.catalogue_core.specs.Units.{Unit}
 use Rattle.catalogue_core.specs.CatalogueMerge.{box_number}
 use Rattle.office_core.specs.Laws.{numbers_from}
-use Rattle.office_core.specs.Words.{numbered}
+use Rattle.office_core.specs.Words.{nth}
 use Rattle.state_encoding.specs.DeskEncoding.{rows_from}
 use Rattle.catalogue_core.specs.CatalogueRows.{HousingRow, housing_row, box_from, housings_of}
 use Rattle.state_encoding.specs.OfficeRows.{OfficeRows, box_at, boxes_from, boxes_said, unit_said}
@@ -39,7 +39,7 @@ record IsHoused (boxes : List BoxKey) (u : ℕ) (rows : List HousingRow) (m : �
   pub unit : row.unit ≡ u
   pub ord : row.ord ≡ m
   pub box : BoxKey
-  pub is : numbered boxes row.container ≡ Some box
+  pub is : nth boxes row.container ≡ Some box
   pub number : box_number boxes box ≡ row.container
 
 -- what a good row of a housing is
@@ -139,7 +139,7 @@ said_known boxes mine n (suc more) = at (at_place n mine) (said_known boxes mine
 
     at : (r : Option HousingRow) → list_all (λ box. list_any (is_same_box box) boxes) (boxes_from boxes mine (suc n) more) ≡ true → list_all (λ box. list_any (is_same_box box) boxes) (cons_option (box_at boxes r) (boxes_from boxes mine (suc n) more)) ≡ true
     at None h = h
-    at (Some row) h = passes (numbered boxes row.container) (λ b e. numbered_in boxes row.container b e) (boxes_from boxes mine (suc n) more) h
+    at (Some row) h = passes (nth boxes row.container) (λ b e. numbered_in boxes row.container b e) (boxes_from boxes mine (suc n) more) h
 
 -- ---- of all units
 

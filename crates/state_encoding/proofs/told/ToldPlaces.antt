@@ -16,7 +16,7 @@ use Rattle.tree_core.proofs.LinkPaths.{ids-rows_below}
 use Rattle.tree_core.proofs.NumberingWalk.{ids-number}
 use Rattle.tree_core.proofs.Linking.{held_without_fault}
 use Rattle.tree_core.proofs.Reading.{shown_without_fault}
-use Rattle.tree_core.specs.Versions.{Version, Links, Spans}
+use Rattle.tree_core.specs.Encodings.{TreeEncoding, Links, Spans}
 use Rattle.catalogue_core.specs.CatalogueRows.{PlaceRows, LinkRows, SpanRows, place_rows, places_said}
 use Rattle.catalogue_core.specs.CatalogueCauses.{is_unit_number, is_good_link, is_good_span, are_good_places, place_numbers, ArePlacesOf}
 use Rattle.state_encoding.proofs.Judging.{nothing_there}
@@ -24,11 +24,11 @@ use Rattle.state_encoding.proofs.RowsByNumber.{in_map, all_in}
 use Rattle.state_encoding.proofs.Nested.{spans_say}
 use Rattle.state_encoding.proofs.Linked.{links_say}
 
-pub record ArePlaced (version : Version) (places : PlaceRows) (f : Forest ℕ) : Type 0 where
+pub record ArePlaced (way : TreeEncoding) (places : PlaceRows) (f : Forest ℕ) : Type 0 where
   pub apart : IsDistinct nat_eq (nodes f)
   pub numbered : (u : ℕ) → In u (nodes f) → In u (place_numbers places)
   pub placed : (u : ℕ) → In u (place_numbers places) → In u (nodes f)
-  pub rows : ArePlacesOf (place_rows version f) places
+  pub rows : ArePlacesOf (place_rows way f) places
 
 links_placed : (links : List Link) → link_fault links ≡ None → ArePlaced Links (LinkRows links) (places_said (LinkRows links))
 links_placed links e =
@@ -59,8 +59,8 @@ spans_placed spans e =
     } in
     subst (ArePlaced Spans (SpanRows spans)) (sym (ap (λ rows. places_said (SpanRows rows)) h.rows ∙ spans_say f)) placed
 
--- places of the version without a fault
-pub good_places : (version : Version) (places : PlaceRows) → are_good_places version places ≡ true → ArePlaced version places (places_said places)
+-- places that are stored in this way, without a fault
+pub good_places : (way : TreeEncoding) (places : PlaceRows) → are_good_places way places ≡ true → ArePlaced way places (places_said places)
 good_places Links (LinkRows links) h =
     links_placed links (nothing_there (link_fault links) (and_parts (list_all is_good_link links) _ h).1)
 good_places Spans (SpanRows spans) h =
@@ -69,7 +69,7 @@ good_places Links (SpanRows spans) h = absurd (false≢true h)
 good_places Spans (LinkRows links) h = absurd (false≢true h)
 
 -- a place has a number that a unit may have
-pub numbers_given : (version : Version) (places : PlaceRows) (u : ℕ) → are_good_places version places ≡ true → In u (place_numbers places) → is_unit_number u ≡ true
+pub numbers_given : (way : TreeEncoding) (places : PlaceRows) (u : ℕ) → are_good_places way places ≡ true → In u (place_numbers places) → is_unit_number u ≡ true
 numbers_given Links (LinkRows links) u h i =
     let at = in_map (λ (link : Link). link.id) links u i in
     let good = all_in is_good_link links at.it (and_parts (list_all is_good_link links) _ h).0 at.there in

@@ -3,56 +3,52 @@ use Rattle.sqlite.specs.Effect.{Database}
 use Rattle.sqlite.specs.Held.{state}
 use Rattle.state_encoding.specs.Causes.{day_is_broken}
 use Rattle.state_encoding.specs.CellCauses.{rows_in}
-use Rattle.office_tables.proofs.Calls.{office_of, looks_then}
+use Rattle.office_tables.proofs.Calls.{looks_then}
 use Rattle.row_decoding.proofs.ReadCalls.{before}
-use Rattle.adoption.proofs.CauseLemmas.{told_desk, fine_desk, broken_day, kept_day}
-use Rattle.adoption.proofs.JudgmentEnds.{as_judged, judged, passes, passes_later, still_before_the_day, still_good}
+use Rattle.adoption.specs.OwnRows.{own_row_of}
+use Rattle.adoption.specs.SoundTables.{AreGoodTables}
+use Rattle.adoption.proofs.CauseLemmas.{told_desk, good_tables, broken_day, kept_day}
+use Rattle.adoption.proofs.JudgmentEnds.{as_judged, judged, passes, passes_later, still_known}
 use Rattle.adoption.proofs.verdicts.desk_cause.Goals as goal
-
-pub load_check_desk-requires : goal.load_check_desk-requires
-load_check_desk-requires g c = record { inside = office_of g.P.Versioned.version (state g.S.Store c.args.conn.now) c.requires.inside }
 
 pub returns-in_err-defect : goal.returns-in_err-defect
 returns-in_err-defect g c = passes c.from_residual.ensures (as_judged c.in_err-defect.ensures) (λ _. tt)
 
 pub returns-in-Some : goal.returns-in-Some
 returns-in-Some g c = judged c.in_ok-defect.ensures.reads.looks (λ clean known.
-    let db = (state g.S.Store c.args.conn.now).now.trees in
+    let db = (state g.S.Store c.args.tables.now).now.trees in
     ap Some c.cause.ensures
     ∙ sym (told_desk g.P.Versioned.version db c.args.own.now (sym known.own_row) known.catalogue c.in-Some.defect (sym c.in-Some.is ∙ c.in_ok-defect.ensures.answers clean)))
 
 pub returns-in_err-breaks_day_rules : goal.returns-in_err-breaks_day_rules
 returns-in_err-breaks_day_rules g c =
+    let v = g.P.Versioned.version in
     let one = c.in_ok-defect.ensures in
     passes_later c.from_residual-in_err-breaks_day_rules.ensures one.reads.looks c.in_err-breaks_day_rules.ensures (λ clean known.
-    still_before_the_day one.reads.looks clean (record {
-      opened = known.opened;
-      ordered = known.ordered;
-      none = fine_desk g.P.Versioned.version (state g.S.Store c.args.conn.now).now.trees c.args.own.now (sym known.own_row) known.catalogue (sym c.in_default.is ∙ one.answers clean);
-    }))
+    still_known (AreGoodTables v) one.reads.looks clean (good_tables v (state g.S.Store c.args.tables.now).now c.args.own.now known (sym c.in_default.is ∙ one.answers clean)))
 
 pub returns-then-branch : goal.returns-then-branch
 returns-then-branch g c =
     let v = g.P.Versioned.version in
-    let old = state g.S.Store c.args.conn.now in
+    let db = (state g.S.Store c.args.tables.now).now in
+    let own = c.args.own.now in
     let one = c.in_ok-defect.ensures in
     let two = c.in_ok-breaks_day_rules.ensures in
     judged (looks_then _ _ _ one.reads.looks two.reads.looks) (λ clean known.
     let clean_mid = before _ _ two.reads.looks clean in
-    let none = fine_desk v old.now.trees c.args.own.now (sym known.own_row) known.catalogue (sym c.in_default.is ∙ one.answers clean_mid) in
-    let told = two.answers clean (still_good one.reads.looks clean_mid known).own_row (still_before_the_day one.reads.looks clean_mid (record { opened = known.opened; ordered = known.ordered; none = none })) in
-    let same = subst (λ (db : Database). c.in_ok-breaks_day_rules.field-0 ≡ day_is_broken (rows_in v db.trees)) (one.reads.looks.same clean_mid) told in
-    sym (broken_day v old.now.trees none (sym same ∙ c.if-branch.true)))
+    let good = good_tables v db own known (sym c.in_default.is ∙ one.answers clean_mid) in
+    let told = subst (λ (db : Database). own_row_of v db.trees ≡ Some own → AreGoodTables v db → c.in_ok-breaks_day_rules.field-0 ≡ day_is_broken (rows_in v db.trees)) (one.reads.looks.same clean_mid) (two.answers clean) in
+    sym (broken_day v db.trees good.catalogue good.desk (sym (told known.own_row good) ∙ c.if-branch.true)))
 
 pub returns : goal.returns
 returns g c =
     let v = g.P.Versioned.version in
-    let old = state g.S.Store c.args.conn.now in
+    let db = (state g.S.Store c.args.tables.now).now in
+    let own = c.args.own.now in
     let one = c.in_ok-defect.ensures in
     let two = c.in_ok-breaks_day_rules.ensures in
     judged (looks_then _ _ _ one.reads.looks two.reads.looks) (λ clean known.
     let clean_mid = before _ _ two.reads.looks clean in
-    let none = fine_desk v old.now.trees c.args.own.now (sym known.own_row) known.catalogue (sym c.in_default.is ∙ one.answers clean_mid) in
-    let told = two.answers clean (still_good one.reads.looks clean_mid known).own_row (still_before_the_day one.reads.looks clean_mid (record { opened = known.opened; ordered = known.ordered; none = none })) in
-    let same = subst (λ (db : Database). c.in_ok-breaks_day_rules.field-0 ≡ day_is_broken (rows_in v db.trees)) (one.reads.looks.same clean_mid) told in
-    sym (kept_day v old.now.trees none (sym same ∙ c.if-branch.false)))
+    let good = good_tables v db own known (sym c.in_default.is ∙ one.answers clean_mid) in
+    let told = subst (λ (db : Database). own_row_of v db.trees ≡ Some own → AreGoodTables v db → c.in_ok-breaks_day_rules.field-0 ≡ day_is_broken (rows_in v db.trees)) (one.reads.looks.same clean_mid) (two.answers clean) in
+    sym (kept_day v db.trees good.catalogue good.desk (sym (told known.own_row good) ∙ c.if-branch.false)))

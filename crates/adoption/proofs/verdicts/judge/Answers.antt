@@ -6,7 +6,7 @@ use Rattle.office_tables.proofs.Calls.{looks_then}
 use Rattle.row_decoding.proofs.ReadCalls.{before}
 use Rattle.adoption.specs.Verdicts.{IsVersionVerdict}
 use Rattle.adoption.specs.OrderedTables.{StandInOrder}
-use Rattle.adoption.proofs.JudgmentEnds.{is_full, judged, passes, passes_later, still_in_order}
+use Rattle.adoption.proofs.JudgmentEnds.{is_full, judged, passes, passes_later, still_known}
 use Rattle.adoption.proofs.verdicts.judge.Goals as goal
 
 pub returns-in_err-verdict : goal.returns-in_err-verdict
@@ -28,7 +28,7 @@ returns-then-not-branch g c =
     judged one.reads.looks (λ clean. record {
       version_is = subst (IsVersionVerdict v (state g.S.Store c.args.conn.now).now) c.in_default.is (one.answers clean);
       schema_is_not = λ is.
-          let yes = c.in_ok-are_ours.ensures.tells.1 (ap (λ (db : Database). db.schema) (one.reads.looks.same clean) ∙ is) in
+          let yes = c.in_ok-are_ours.ensures.answers.1 (ap (λ (db : Database). db.schema) (one.reads.looks.same clean) ∙ is) in
           let no = c.if-not-branch.true in
           absurd (cc);
     })
@@ -36,7 +36,7 @@ returns-then-not-branch g c =
 pub returns-in_err-cause : goal.returns-in_err-cause
 returns-in_err-cause g c =
     let looked = c.in_ok-verdict.ensures.reads.looks in
-    passes_later c.from_residual-in_err-cause.ensures looked c.in_err-cause.ensures (still_in_order looked)
+    passes_later c.from_residual-in_err-cause.ensures looked c.in_err-cause.ensures (still_known StandInOrder looked)
 
 pub returns-in-Some-2 : goal.returns-in-Some-2
 returns-in-Some-2 g c =
@@ -50,7 +50,7 @@ returns-in-Some-2 g c =
     let told = subst (λ (db : Database). StandInOrder db → c.in_ok-cause.field-0 ≡ cell_cause v db.trees) same (two.answers clean) in (
       record {
         version_is = subst (IsVersionVerdict v old.now) c.in_default.is (one.answers clean_mid);
-        schema_is = ap (λ (db : Database). db.schema) (sym same) ∙ c.in_ok-are_ours.ensures.tells.0 c.if-not-branch.false;
+        schema_is = ap (λ (db : Database). db.schema) (sym same) ∙ c.in_ok-are_ours.ensures.answers.0 c.if-not-branch.false;
       },
       λ ordered. sym (told ordered) ∙ c.in-Some-2.is,
     ))
@@ -67,7 +67,7 @@ returns-in-None g c =
     let told = subst (λ (db : Database). StandInOrder db → c.in_ok-cause.field-0 ≡ cell_cause v db.trees) same (two.answers clean) in (
       record {
         version_is = subst (IsVersionVerdict v old.now) c.in_default.is (one.answers clean_mid);
-        schema_is = ap (λ (db : Database). db.schema) (sym same) ∙ c.in_ok-are_ours.ensures.tells.0 c.if-not-branch.false;
+        schema_is = ap (λ (db : Database). db.schema) (sym same) ∙ c.in_ok-are_ours.ensures.answers.0 c.if-not-branch.false;
       },
       λ ordered. sym (told ordered) ∙ c.in-None.is,
     ))

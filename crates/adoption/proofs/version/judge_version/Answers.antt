@@ -1,7 +1,7 @@
 use Rattle.std.proofs.Common.{◌≡◌, inl, inr, rules, length, slice_index_or, sym, ap, ap₂, subst, ◌∙◌}
 use Rattle.sqlite.specs.Held.{state}
 use Rattle.sqlite.specs.Order.{column}
-use Rattle.tree_core.specs.Versions.{version_number}
+use Rattle.office_tables.specs.Versions.{version_number}
 use Rattle.office_tables.specs.Cells.{number_in}
 use Rattle.adoption.specs.Verdicts.{IsVersionVerdict, verdict_of_version}
 use Rattle.adoption.specs.Versions.{AreVersions, ShowsVersions}

@@ -29,7 +29,7 @@ returns-in_default g c =
     let why = λ (clean : HasCleanDisk new). subst (HasCause old new) (sym c.from.ensures)
     (versions_cause old new c.in-Err.error c.requires.unlimited (c.in-Err.ensures.err clean) (λ is. c.in_default.not-Schema (c.from.ensures ∙ is))) in
     record {
-      reads = record { crash = cut.crash; looks = tt; cut = cut };
+      reads = record { crash = cut.crash; looks = tt; aborts = cut };
       answers = λ clean. tt;
       disk = λ clean. blames_caused old new _ (why clean);
       faults = λ known clean free. why clean;

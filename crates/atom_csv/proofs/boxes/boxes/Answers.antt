@@ -4,7 +4,7 @@ use Rattle.std.proofs.Math.Seq.{take-length}
 use Rattle.isad_core.specs.Texts.{Bytes}
 use Rattle.isad_core.specs.declared.values.BoxKey.{BoxKey}
 use Rattle.atom_csv.specs.Entries.{entries}
-use Rattle.atom_csv.specs.Fields.{seen}
+use Rattle.atom_csv.specs.Fields.{borrowed_fields}
 use Rattle.isad_core.specs.Boxes.{distinct, is_same}
 use Rattle.atom_csv.specs.Values.{entry_at, is_named_box, triples}
 use Rattle.atom_csv.proofs.BoxLemmas.{Told, holds_more, key_of, length-triples}
@@ -18,22 +18,22 @@ loop-i-init c = record {
 
 pub loop-i-preserved : goal.loop-i-preserved
 loop-i-preserved c =
-    let place : c.entry_at-location.result.now ≡ entry_at (seen c.in_ok-locations.locations.items) c.loop-i.i =
-    c.entry_at-location.ensures ∙ ap (λ (xs : List (Bor Bytes)). entry_at (seen xs) c.loop-i.i) c.as_slice.ensures.value in
-    let sort : c.entry_at.result.now ≡ entry_at (seen c.in_ok-kinds.kinds.items) c.loop-i.i =
-    c.entry_at.ensures ∙ ap (λ (xs : List (Bor Bytes)). entry_at (seen xs) c.loop-i.i) c.as_slice-in-loop-i.ensures.value in
-    holds_more c.as_slice-name-items.result.now (seen c.in_ok-locations.locations.items) (seen c.in_ok-kinds.kinds.items) c.loop-i.i _ c.add.new.self.known c.add.new.self.boxes
+    let place : c.entry_at-location.result.now ≡ entry_at (borrowed_fields c.in_ok-locations.locations.items) c.loop-i.i =
+    c.entry_at-location.ensures ∙ ap (λ (xs : List (Bor Bytes)). entry_at (borrowed_fields xs) c.loop-i.i) c.as_slice.ensures.value in
+    let sort : c.entry_at.result.now ≡ entry_at (borrowed_fields c.in_ok-kinds.kinds.items) c.loop-i.i =
+    c.entry_at.ensures ∙ ap (λ (xs : List (Bor Bytes)). entry_at (borrowed_fields xs) c.loop-i.i) c.as_slice-in-loop-i.ensures.value in
+    holds_more c.as_slice-name-items.result.now (borrowed_fields c.in_ok-locations.locations.items) (borrowed_fields c.in_ok-kinds.kinds.items) c.loop-i.i _ c.add.new.self.known c.add.new.self.boxes
     c.entry_at-location.result.now c.entry_at.result.now c.loop-i-test.true place sort (c.in_ok-add.ensures _ c.loop-i.invariant)
 
 pub returns : goal.returns
 returns c =
     let names = c.as_slice-name-items.result.now in
-    let locations = seen c.in_ok-locations.locations.items in
-    let kinds = seen c.in_ok-kinds.kinds.items in
-    let full : c.loop-i.i ≡ length (triples (seen names) locations kinds) = omega (arith, length-triples names locations kinds) in
-    let named = ap seen c.as_slice-name-items.ensures.value ∙ c.in_ok-names.ensures in
+    let locations = borrowed_fields c.in_ok-locations.locations.items in
+    let kinds = borrowed_fields c.in_ok-kinds.kinds.items in
+    let full : c.loop-i.i ≡ length (triples (borrowed_fields names) locations kinds) = omega (arith, length-triples names locations kinds) in
+    let named = ap borrowed_fields c.as_slice-name-items.ensures.value ∙ c.in_ok-names.ensures in
     c.loop-i.invariant.kept
-    ∙ (ap (λ (n : ℕ). distinct (filter is_named_box (take n (triples (seen names) locations kinds)))) full
-    ∙ (ap (λ (bs : List BoxKey). distinct (filter is_named_box bs)) (take-length (triples (seen names) locations kinds))
+    ∙ (ap (λ (n : ℕ). distinct (filter is_named_box (take n (triples (borrowed_fields names) locations kinds)))) full
+    ∙ (ap (λ (bs : List BoxKey). distinct (filter is_named_box bs)) (take-length (triples (borrowed_fields names) locations kinds))
     ∙ (ap (λ (ns : List Bytes). distinct (filter is_named_box (triples ns locations kinds))) named
     ∙ ap₂ (λ (ls ks : List Bytes). distinct (filter is_named_box (triples (entries c.args.names.now) ls ks))) c.in_ok-locations.ensures c.in_ok-kinds.ensures)))

@@ -1,9 +1,9 @@
 use Rattle.std.proofs.Common.{take, filter}
-use Rattle.atom_csv.specs.Fields.{seen}
+use Rattle.atom_csv.specs.Fields.{borrowed_fields}
 use Rattle.atom_csv.specs.Values.{is_named_box, triples}
 use Rattle.atom_csv.specs.KnownContainers.{Holds}
 use Rattle.atom_csv.proofs.boxes.boxes.Given as goal
 
 abbrev pub invariant-loop-i : goal.invariant-loop-i
 invariant-loop-i l = Holds l.kept.known l.kept.boxes
-    (filter is_named_box (take l.i (triples (seen l.name-items) (seen l.locations.items) (seen l.kinds.items))))
+    (filter is_named_box (take l.i (triples (borrowed_fields l.name-items) (borrowed_fields l.locations.items) (borrowed_fields l.kinds.items))))

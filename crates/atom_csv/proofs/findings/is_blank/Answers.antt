@@ -9,14 +9,14 @@ pub returns-then-not-is_empty : goal.returns-then-not-is_empty
 returns-then-not-is_empty c =
     let (row, found, at) = c.in-Some.ensures.steps in
     let here = sym (found ∙ ap (λ (r : Row). field_at (fields_of r) c.loop-field.field-iterator.at) c.loop-field.invariant.same) in
-    let there : is_empty (trimmed c.in-Some.field.now) ≡ false = ap is_empty (sym c.trimmed.ensures) ∙ (sym c.is_empty.ensures ∙ c.if-not-is_empty.true) in
+    let there : is_empty (trimmed c.in-Some.field.now) ≡ false = ap is_empty (sym c.trim.ensures) ∙ (sym c.is_empty.ensures ∙ c.if-not-is_empty.true) in
     sym (blank_not (fields_of c.args.row.now) c.loop-field.field-iterator.at c.in-Some.field.now here there)
 
 pub loop-field-preserved : goal.loop-field-preserved
 loop-field-preserved c =
     let (row, found, at) = c.in-Some.ensures.steps in
     let here = sym (found ∙ ap (λ (r : Row). field_at (fields_of r) c.loop-field.field-iterator.at) c.loop-field.invariant.same) in
-    let blank : is_empty (trimmed c.in-Some.field.now) ≡ true = ap is_empty (sym c.trimmed.ensures) ∙ (sym c.is_empty.ensures ∙ c.if-not-is_empty.false) in
+    let blank : is_empty (trimmed c.in-Some.field.now) ≡ true = ap is_empty (sym c.trim.ensures) ∙ (sym c.is_empty.ensures ∙ c.if-not-is_empty.false) in
     record {
       same = ap (λ b. b.now) row ∙ c.loop-field.invariant.same;
       blank = ap (λ (n : ℕ). is_blank (map trimmed (take n (fields_of c.args.row.now)))) at

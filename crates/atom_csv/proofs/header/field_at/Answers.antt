@@ -14,4 +14,4 @@ pub returns-in-Some : goal.returns-in-Some
 returns-in-Some c =
     let fields = fields_of c.args.row.now in
     let got = ap (λ (b : Bor Bytes). b.now) c.unwrap_or.ensures ∙ now_or c.get.result _ refl ∙ ap (λ o. unwrap_or o []) c.get.ensures.value in
-    rw c.in-Some.is (c.trimmed.ensures ∙ ap trimmed got ∙ sym (trimmed_at fields c.in-Some.i))
+    rw c.in-Some.is (c.trim.ensures ∙ ap trimmed got ∙ sym (trimmed_at fields c.in-Some.i))

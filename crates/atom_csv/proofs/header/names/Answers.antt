@@ -2,7 +2,7 @@ use Rattle.std.proofs.Common.{◌∙◌, ◌++◌, ◌∷◌, [], ap, sym, map, 
 use Rattle.std.proofs.lemmas.List.{map-append}
 use Rattle.csv.specs.Records.{Row, field_at, fields_of}
 use Rattle.isad_core.specs.Texts.{Bytes}
-use Rattle.atom_csv.specs.Fields.{seen, trimmed}
+use Rattle.atom_csv.specs.Fields.{borrowed_fields, trimmed}
 use Rattle.atom_csv.proofs.FieldLemmas.{take_field, take_fields}
 use Rattle.atom_csv.proofs.header.names.Goals as goal
 
@@ -17,8 +17,8 @@ loop-field-preserved c =
     let next = take_field fields i c.in-Some.field.now here in
     record {
       same = ap (λ b. b.now) row ∙ same;
-      done = ap seen c.in_ok-push.ensures.items ∙ (map-append (λ (f : Bor Bytes). f.now) c.loop-field.names.items (c.trimmed.result ∷ [])
-          ∙ (ap (λ fs. fs ++ c.trimmed.result.now ∷ []) done ∙ (ap (λ f. map trimmed (take i fields) ++ f ∷ []) c.trimmed.ensures
+      done = ap borrowed_fields c.in_ok-push.ensures.items ∙ (map-append (λ (f : Bor Bytes). f.now) c.loop-field.names.items (c.trim.result ∷ [])
+          ∙ (ap (λ fs. fs ++ c.trim.result.now ∷ []) done ∙ (ap (λ f. map trimmed (take i fields) ++ f ∷ []) c.trim.ensures
           ∙ (sym (map-append trimmed (take i fields) (c.in-Some.field.now ∷ [])) ∙ (ap (map trimmed) (sym next) ∙ ap (λ n. map trimmed (take n fields)) (sym at))))));
     }
 

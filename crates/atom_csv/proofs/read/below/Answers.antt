@@ -3,7 +3,7 @@ use Rattle.std.specs.Prelude.{if◌then◌else◌}
 use Rattle.csv.specs.Records.{fields_of}
 use Rattle.isad_core.specs.Texts.{Bytes}
 use Rattle.atom_csv.specs.Fields.{fields_in, trimmed}
-use Rattle.atom_csv.specs.Source.{left}
+use Rattle.atom_csv.specs.Source.{rows_left}
 use Rattle.atom_csv.proofs.read.below.Goals as goal
 
 pub loop-row-init : goal.loop-row-init
@@ -18,12 +18,12 @@ loop-row-init c =
 
 pub loop-row-preserved : goal.loop-row-preserved
 loop-row-preserved c =
-    let (above, at, tells, split) = c.loop-row.invariant.told in
+    let (above, at, answers, split) = c.loop-row.invariant.told in
     let x = fields_in c.take_record.new.row in
     let long = length-append above (x ∷ []) in
     let early = c.in_ok-add.ensures.early in
     let fits = c.in_ok-add.ensures.fits in
-    let later = left c.take_record.new.reader in
+    let later = rows_left c.take_record.new.reader in
     let taken = c.in_ok-take_record.ensures.taken ∙ ap (λ (b : Bool). if b then fields_of c.take_record.new.row ∷ later else []) c.if-branch.true in
     record {
       reading = c.in_ok-take_record.ensures.reading c.if-branch.true;
@@ -32,7 +32,7 @@ loop-row-preserved c =
       told = (
         above ++ x ∷ [],
         omega arith,
-        c.in_ok-add.ensures.told above at tells,
+        c.in_ok-add.ensures.told above at answers,
         split ∙ (ap (λ (rs : List (List Bytes)). above ++ map (map trimmed) rs) taken ∙ sym (append_assoc above (x ∷ []) (map (map trimmed) later))),
       );
     }

@@ -2,7 +2,7 @@ use Rattle.std.proofs.Common.{◌≡◌, ◌+◌, ◌-◌, ◌<◌, ◌≤◌, �
 use Rattle.isad_core.specs.Limits.{most_rows}
 use Rattle.atom_csv.specs.Fields.{Fields, trimmed}
 use Rattle.atom_csv.specs.ReadProgress.{Tells}
-use Rattle.atom_csv.specs.Source.{IsReading, left}
+use Rattle.atom_csv.specs.Source.{IsReading, rows_left}
 use Rattle.atom_csv.proofs.read.below.Given as goal
 
 abbrev pub invariant-loop-row : goal.invariant-loop-row
@@ -11,7 +11,7 @@ invariant-loop-row l = record {
   few : l.number ≤ most_rows + 2;
   fits : l.rows.translations < l.number;
   told : (above : List Fields) × (l.number ≡ length above + 2) × Tells l.header above l.rows
-      × (map (map trimmed) (left l.fn.reader) ≡ above ++ map (map trimmed) (left l.reader));
+      × (map (map trimmed) (rows_left l.fn.reader) ≡ above ++ map (map trimmed) (rows_left l.reader));
 }
 
 abbrev pub decreases-loop-row : goal.decreases-loop-row

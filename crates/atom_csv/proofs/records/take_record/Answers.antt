@@ -3,7 +3,7 @@ use Rattle.std.specs.Prelude.{if◌then◌else◌}
 use Rattle.csv.specs.Reading.{ReadRecord, error_kind}
 use Rattle.csv.specs.Records.{fields_of}
 use Rattle.isad_core.specs.Texts.{Bytes}
-use Rattle.atom_csv.specs.Source.{Source, left}
+use Rattle.atom_csv.specs.Source.{Source, rows_left}
 use Rattle.atom_csv.proofs.SourceLemmas.{fails_outside, read_more, read_none}
 use Rattle.atom_csv.proofs.records.take_record.Goals as goal
 
@@ -24,7 +24,7 @@ returns-in-Ok-clause-reading c = λ found.
     let fields = fields_of c.read_record.new.row in
     (read_more a b fields c.requires (subst (λ (f : Bool). ReadRecord known a b f fields) found read) (c.in-Ok.ensures.ready c.requires.trim) c.in-Ok.ensures.flexible).0
 
-chosen : (a b : Source) (fields : List Bytes) (found : Bool) → (found ≡ true → left a ≡ fields ∷ left b) → (found ≡ false → left a ≡ []) → left a ≡ (if found then fields ∷ left b else [])
+chosen : (a b : Source) (fields : List Bytes) (found : Bool) → (found ≡ true → rows_left a ≡ fields ∷ rows_left b) → (found ≡ false → rows_left a ≡ []) → rows_left a ≡ (if found then fields ∷ rows_left b else [])
 chosen a b fields true more none = more refl
 chosen a b fields false more none = none refl
 

@@ -11,14 +11,14 @@ use Rattle.catalogue_commands.proofs.Closed.{closes, closes_near, ends}
 use Rattle.catalogue_commands.proofs.closure.close_known.Goals as goal
 
 pub returns-in_err-set_closure : goal.returns-in_err-set_closure
-returns-in_err-set_closure g c = let made = c.in_err-set_closure.ensures.makes in catalogue_passed _ c.from_residual.ensures made.cut made.faults
+returns-in_err-set_closure g c = let made = c.in_err-set_closure.ensures.updates in catalogue_passed _ c.from_residual.ensures made.aborts made.faults
 
 pub returns-then-not-is_in_force : goal.returns-then-not-is_in_force
 returns-then-not-is_in_force g c =
     let a = state g.S.Store c.args.tables.now in
     let b = state g.S.Store c.set_closure.new.tables in
     let u = c.args.unit in
-    let made = c.in_ok-set_closure.ensures.makes in
+    let made = c.in_ok-set_closure.ensures.updates in
     let past : is_later c.args.today c.args.until ≡ false = sym c.requires.lasts ∙ c.if-not-is_in_force.true in
     passed_freely g.P.Places.represents g.P.Versioned.version (λ s. (c.args.today ≡ s.day) × (has_unit s.catalogue.forest u ≡ true)) (command.SetClosure u c.args.until) c.args.today (done.SetClosure u) a b
     (closes u c.args.until g.P.Places.represents g.P.Versioned.version a b c.args.today c.requires.calendar made.represents_updated made.only)
@@ -29,7 +29,7 @@ returns g c =
     let a = state g.S.Store c.args.tables.now in
     let b = state g.S.Store c.set_closure.new.tables in
     let u = c.args.unit in
-    let made = c.in_ok-set_closure.ensures.makes in
+    let made = c.in_ok-set_closure.ensures.updates in
     passed_where g.S.Store g.P.Places.represents g.P.Versioned.version (λ s. (c.args.today ≡ s.day) × (has_unit s.catalogue.forest u ≡ true)) (command.SetClosure u c.args.until) c.args.today (done.SetClosure u) a c.set_closure.new.tables c.pass_near.new.tables c.pass_near.result (OthersAreOpen u)
     (closes u c.args.until g.P.Places.represents g.P.Versioned.version a b c.args.today c.requires.calendar made.represents_updated made.only)
-    (λ s sound so. closes_near u c.args.until s sound c.requires.calendar) made.goes c.pass_near.ensures.tells
+    (λ s sound so. closes_near u c.args.until s sound c.requires.calendar) made.goes c.pass_near.ensures.answers

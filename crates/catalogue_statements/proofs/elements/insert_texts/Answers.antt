@@ -54,7 +54,7 @@ returns-in_err-insert_text-clause-faults g c known xs at none long clean free =
     let i = c.loop-text.text-index in
     let invariant = c.loop-text.invariant in
     let so_far = invariant.1.0 in
-    let before = early b d _ c.in_err-insert_text.ensures.cut.crash clean in
+    let before = early b d _ c.in_err-insert_text.ensures.aborts.crash clean in
     let told = invariant.1.1.1 before xs at in
     let here = unit_still a.now.trees b.now.trees unit ((invariant.1.1.0 before) tables.unit.tree refl refl) known in
     let low : i < length texts = subst (λ (l : List (Option Bytes)). i < length l) c.as_slice-text-items.ensures c.loop-text-test.true in
@@ -83,7 +83,7 @@ returns-in_err-insert_text-clause-spares g c clean =
     let d = state g.S.Store c.insert_text.new.tables in
     let so_far = c.loop-text.invariant.1 in
     let last = c.in_err-insert_text.ensures in
-    let before = early b d _ last.cut.crash clean in
+    let before = early b d _ last.aborts.crash clean in
     let touched = tables.element.tree ∷ [] in
     let all : Spares (OnlyTouches touched) a d c.in_err-insert_text.field-0.0 = touched_spares touched a b d so_far.0.on before (so_far.1.0 before) _ (untouched touched b d _ (last.spares clean)) in
     search (rules, all)

@@ -30,7 +30,7 @@ returns-in_err-insert_container-clause-faults g c boxes at new clean free =
     let d = state g.S.Store c.insert_container.new.tables in
     let n = c.in_ok-number.number in
     let looked = c.in_ok-number.ensures.looks in
-    let before = early b d _ c.in_err-insert_container.ensures.leaves.cut.crash clean in
+    let before = early b d _ c.in_err-insert_container.ensures.leaves.aborts.crash clean in
     let is : n ≡ length boxes + 1 = c.in_ok-number.ensures.next before boxes at in
     let there : RepresentsContainers b.now.trees boxes = ap (λ (db : Database). db.trees tables.container.tree) (looked.same before) ∙ at in
     let why = c.in_err-insert_container.ensures.faults (counted_from 1 boxes) there (next_free 1 n boxes (omega (arith, is)), none_alike 1 boxes c.args.key.now new) clean (still_unlimited a b looked.goes.on free) in
@@ -43,5 +43,5 @@ returns-in_err-insert_container-clause-spares g c clean =
     let b = state g.S.Store c.next_number.new.tables in
     let d = state g.S.Store c.insert_container.new.tables in
     let last = c.in_err-insert_container.ensures.leaves in
-    let all : Spares IsSame a d c.in_err-insert_container.field-0.0 = looked_spares a b d c.in_ok-number.ensures.looks (early b d _ last.cut.crash clean) _ (last.spares clean) in
+    let all : Spares IsSame a d c.in_err-insert_container.field-0.0 = looked_spares a b d c.in_ok-number.ensures.looks (early b d _ last.aborts.crash clean) _ (last.spares clean) in
     search (rules, all)

@@ -40,7 +40,7 @@ returns-clause-faults g c known boxes xs at small place_free number_free clean f
     let d = state g.S.Store c.insert_housing.new.tables in
     let unit = c.args.unit in
     let went = c.in_ok-number.ensures.goes in
-    last_cause a b d went.on c.insert_housing.result c.insert_housing.ensures.leaves.cut clean (λ before.
+    last_cause a b d went.on c.insert_housing.result c.insert_housing.ensures.leaves.aborts clean (λ before.
     let is = c.in_ok-number.ensures.numbers before boxes at.containers at.apart in
     let kept = c.in_ok-number.ensures.only before in
     let here = unit_still a.now.trees b.now.trees unit (kept tables.unit.tree refl refl) known in
@@ -63,4 +63,4 @@ returns-clause-spares g c clean =
     let touched = tables.container.tree ∷ tables.housing.tree ∷ [] in
     let last = c.insert_housing.ensures.leaves in
     last_touched touched a b d c.in_ok-number.ensures.goes.on (λ before. touched_wider (tables.container.tree ∷ []) touched a.now b.now refl (c.in_ok-number.ensures.only before))
-    c.insert_housing.result last.cut clean (untouched_last touched b d c.insert_housing.result (last.spares clean))
+    c.insert_housing.result last.aborts clean (untouched_last touched b d c.insert_housing.result (last.spares clean))

@@ -66,7 +66,7 @@ returns-in_err-house-clause-faults g c known boxes xs at small once none clean f
     let seen = take i told in
     let invariant = c.loop-key.invariant in
     let so_far = invariant.1.0 in
-    let before = early b d _ c.in_err-house.ensures.cut.crash clean in
+    let before = early b d _ c.in_err-house.ensures.aborts.crash clean in
     let housed = invariant.1.1.1 before boxes xs at in
     let here = unit_still a.now.trees b.now.trees unit ((invariant.1.1.0 before) tables.unit.tree refl refl) known in
     let low : i < length told = subst (λ (l : List BoxKey). i < length l) c.as_slice-key-items.ensures c.loop-key-test.true in
@@ -110,7 +110,7 @@ returns-in_err-house-clause-spares g c clean =
     let d = state g.S.Store c.house.new.tables in
     let so_far = c.loop-key.invariant.1 in
     let last = c.in_err-house.ensures in
-    let before = early b d _ last.cut.crash clean in
+    let before = early b d _ last.aborts.crash clean in
     let touched = tables.container.tree ∷ tables.housing.tree ∷ [] in
     let all : Spares (OnlyTouches touched) a d c.in_err-house.field-0.0 = touched_spares touched a b d so_far.0.on before (so_far.1.0 before) _ (last.spares clean) in
     search (rules, all)

@@ -55,7 +55,7 @@ returns-in_default-clause-faults g c boxes at small clean free =
     let d = state g.S.Store c.add_container.new.tables in
     let key = c.args.key.now in
     let looked = c.in_ok-number.ensures.reads.looks in
-    last_cause a b d looked.goes.on c.add_container.result c.add_container.ensures.cut clean (λ before.
+    last_cause a b d looked.goes.on c.add_container.result c.add_container.ensures.aborts clean (λ before.
     let got = c.in_ok-number.ensures.answers before (counted_from 1 boxes) at tt in
     let none : number_in boxes key ≡ None =
     sym (number_read boxes key got.0 got.1) ∙ sym got.2 ∙ c.in_default.is in
@@ -75,7 +75,7 @@ returns-in_default-clause-spares g c clean =
     let a = state g.S.Store c.args.tables.now in
     let b = state g.S.Store c.container_number.new.tables in
     let d = state g.S.Store c.add_container.new.tables in
-    last_spares a b d c.in_ok-number.ensures.reads.looks c.add_container.result c.add_container.ensures.cut clean (c.add_container.ensures.spares clean)
+    last_spares a b d c.in_ok-number.ensures.reads.looks c.add_container.result c.add_container.ensures.aborts clean (c.add_container.ensures.spares clean)
 
 pub returns-then-number-ge-NO_NUMBER-clause-spares : goal.returns-then-number-ge-NO_NUMBER-clause-spares
 returns-then-number-ge-NO_NUMBER-clause-spares g c clean = spares_known (state g.S.Store c.args.tables.now) (state g.S.Store c.container_number.new.tables) c.in_ok-number.ensures.reads.looks clean

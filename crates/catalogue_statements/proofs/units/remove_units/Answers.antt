@@ -23,16 +23,16 @@ loop-id-init g c =
     let a = state g.S.Store c.args.tables.now in
     (goes_nowhere a, ((λ clean. nothing_touched those a.now), λ clean xs stored up listed. removed_none a.now))
 
-pub returns-in_err-remove_unit-clause-cut : goal.returns-in_err-remove_unit-clause-cut
-returns-in_err-remove_unit-clause-cut g c =
+pub returns-in_err-remove_unit-clause-aborts : goal.returns-in_err-remove_unit-clause-aborts
+returns-in_err-remove_unit-clause-aborts g c =
     let a = state g.S.Store c.args.tables.now in
     let b = state g.S.Store c.loop-id.tables in
     let d = state g.S.Store c.remove_unit.new.tables in
-    let all : IsAborted a d = cut_then a b d c.loop-id.invariant.0.on c.in_err-remove_unit.ensures.leaves.cut in
+    let all : IsAborted a d = cut_then a b d c.loop-id.invariant.0.on c.in_err-remove_unit.ensures.leaves.aborts in
     search (rules, all)
 
-pub returns-then-id-ge-NO_NUMBER-clause-cut : goal.returns-then-id-ge-NO_NUMBER-clause-cut
-returns-then-id-ge-NO_NUMBER-clause-cut g c =
+pub returns-then-id-ge-NO_NUMBER-clause-aborts : goal.returns-then-id-ge-NO_NUMBER-clause-aborts
+returns-then-id-ge-NO_NUMBER-clause-aborts g c =
     let a = state g.S.Store c.args.tables.now in
     let b = state g.S.Store c.loop-id.tables in
     let all : IsAborted a b = cut_after a b c.loop-id.invariant.0.on in
@@ -44,7 +44,7 @@ returns-in_err-remove_unit-clause-spares g c clean =
     let b = state g.S.Store c.loop-id.tables in
     let d = state g.S.Store c.remove_unit.new.tables in
     let last = c.in_err-remove_unit.ensures.leaves in
-    let before = early b d _ last.cut.crash clean in
+    let before = early b d _ last.aborts.crash clean in
     let all : Spares (OnlyTouches those) a d c.in_err-remove_unit.field-0.0 = touched_spares those a b d c.loop-id.invariant.0.on before (c.loop-id.invariant.1.0 before) _ (untouched those b d _ (last.spares clean)) in
     search (rules, all)
 
@@ -83,7 +83,7 @@ returns-in_err-remove_unit-clause-faults g c told listed low clean free =
     let b = state g.S.Store c.loop-id.tables in
     let d = state g.S.Store c.remove_unit.new.tables in
     let invariant = c.loop-id.invariant in
-    let before = early b d _ c.in_err-remove_unit.ensures.leaves.cut.crash clean in
+    let before = early b d _ c.in_err-remove_unit.ensures.leaves.aborts.crash clean in
     let free_b : IsUnlimited b = still_unlimited a b invariant.0.on free in
     let why = c.in_err-remove_unit.ensures.faults (told_after (take c.loop-id.id-index c.args.ids.now) a.now b.now told (invariant.1.1 before told.units told.unit_rows told.units_rise listed)) clean free_b in
     let whole = cause_then a b d invariant.0.on before _ why in

@@ -19,7 +19,7 @@ returns-in_err-create_units-clause-leaves g c start making =
     let e = c.in_err-create_units.field-0.0 in
     let handed = c.from_residual.ensures in
     let step = c.in_err-create_units.ensures in
-    making_not (state g.S.Store c.args.conn.now) (state g.S.Store c.create_units.new.conn) c.from_residual.result e (same_fault c.from_residual.result e handed.0 handed.1) (step.cut start making) (step.disk start making) (λ clean free. step.faults start making clean)
+    making_not (state g.S.Store c.args.conn.now) (state g.S.Store c.create_units.new.conn) c.from_residual.result e (same_fault c.from_residual.result e handed.0 handed.1) (step.aborts start making) (step.disk start making) (λ clean free. step.faults start making clean)
 
 pub returns-in_err-create_containers-clause-leaves : goal.returns-in_err-create_containers-clause-leaves
 returns-in_err-create_containers-clause-leaves g c start making =
@@ -30,7 +30,7 @@ returns-in_err-create_containers-clause-leaves g c start making =
     let e = c.in_err-create_containers.field-0.0 in
     let handed = c.from_residual-in_err-create_containers.ensures in
     let step = c.in_err-create_containers.ensures in
-    making_then a0 a1 a2 step1.0 c.from_residual-in_err-create_containers.result e (same_fault c.from_residual-in_err-create_containers.result e handed.0 handed.1) (step.cut start step1.1) (step.disk start step1.1) (λ clean free. step.faults start step1.1 clean)
+    making_then a0 a1 a2 step1.0 c.from_residual-in_err-create_containers.result e (same_fault c.from_residual-in_err-create_containers.result e handed.0 handed.1) (step.aborts start step1.1) (step.disk start step1.1) (λ clean free. step.faults start step1.1 clean)
 
 pub returns-in_err-create-clause-leaves : goal.returns-in_err-create-clause-leaves
 returns-in_err-create-clause-leaves g c start making =
@@ -44,7 +44,7 @@ returns-in_err-create-clause-leaves g c start making =
     let e = c.in_err-create.field-0.0 in
     let handed = c.from_residual-in_err-create.ensures in
     let left = c.in_err-create.ensures.leaves start step2.1 in
-    making_then a0 a2 a3 on2 c.from_residual-in_err-create.result e (same_fault c.from_residual-in_err-create.result e handed.0 handed.1) left.cut left.disk left.faults
+    making_then a0 a2 a3 on2 c.from_residual-in_err-create.result e (same_fault c.from_residual-in_err-create.result e handed.0 handed.1) left.aborts left.disk left.faults
 
 pub returns-clause-leaves : goal.returns-clause-leaves
 returns-clause-leaves g c start making =
@@ -61,7 +61,7 @@ returns-clause-leaves g c start making =
     let a4 = state g.S.Store c.insert_office.new.conn in
     let left = c.insert_office.ensures.leaves inside in
     let r = c.insert_office.result in
-    making_last a0 a3 a4 on3 r (on_ok_then r (Goes a3 a4) (Continues a3 a4) (λ last. last.on) left.goes) left.cut (λ clean. if_err_then r (Spares IsSame a3 a4) (BlamesDisk a3 a4) (λ e it. it.disk) (left.spares clean)) (λ before. c.insert_office.ensures.faults inside (step3 before).0.empty.0)
+    making_last a0 a3 a4 on3 r (on_ok_then r (Goes a3 a4) (Continues a3 a4) (λ last. last.on) left.goes) left.aborts (λ clean. if_err_then r (Spares IsSame a3 a4) (BlamesDisk a3 a4) (λ e it. it.disk) (left.spares clean)) (λ before. c.insert_office.ensures.faults inside (step3 before).0.empty.0)
 
 pub returns-clause-represents : goal.returns-clause-represents
 returns-clause-represents g c start making clean =

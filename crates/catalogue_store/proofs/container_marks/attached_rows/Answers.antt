@@ -18,8 +18,8 @@ returns-in_err-units g c =
     let handed = c.from_residual.ensures in
     let e = c.in_err-units.field-0.0 in
     record {
-      tells = tells_not g.S.Store (Represents g.P.Places.represents g.P.Versioned.version) IsKept (λ _. ⊤) c.args.tables.now c.attached_units.new.tables c.from_residual.result (λ _ k rows. AreAttachedRows g.P.Places.stands k c.args.container rows.items) e
-          (same_fault c.from_residual.result e handed.0 handed.1) c.in_err-units.ensures.reads.cut c.in_err-units.ensures.reads.spares
+      answers = tells_not g.S.Store (Represents g.P.Places.represents g.P.Versioned.version) IsKept (λ _. ⊤) c.args.tables.now c.attached_units.new.tables c.from_residual.result (λ _ k rows. AreAttachedRows g.P.Places.stands k c.args.container rows.items) e
+          (same_fault c.from_residual.result e handed.0 handed.1) c.in_err-units.ensures.reads.aborts c.in_err-units.ensures.reads.spares
           (λ o k it may kept clean free. c.in_err-units.ensures.faults k it.catalogue.housings clean free);
     }
 
@@ -30,7 +30,7 @@ returns g c =
     let stands = g.P.Places.stands in
     let represents = Represents g.P.Places.represents g.P.Versioned.version in
     record {
-      tells = answers_later g.S.Store represents IsKept (λ _. ⊤) (RepresentsAlone g.P.Places.represents) IsBounded (AreThere ids) c.args.tables.now c.attached_units.new.tables c.walk.new.tables c.walk.result
+      answers = answers_later g.S.Store represents IsKept (λ _. ⊤) (RepresentsAlone g.P.Places.represents) IsBounded (AreThere ids) c.args.tables.now c.attached_units.new.tables c.walk.new.tables c.walk.result
           (λ _ k rows. AreAttachedRows stands k c.args.container rows.items) (λ _ f rows. AreThere ids f → AreRowsOf stands f ids rows.items) looked
           (λ o k it before.
           let got = c.in_ok-units.ensures.units before k it.catalogue.units it.catalogue.housings in
@@ -43,5 +43,5 @@ returns g c =
             turn = λ rows walked. attached_rows stands k c.args.container got.0 ids rows.items got.1 is (walked there);
             allowed = λ may kept. (there, kept.places);
           })
-          c.walk.ensures.tells;
+          c.walk.ensures.answers;
     }

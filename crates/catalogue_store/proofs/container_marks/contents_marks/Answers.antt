@@ -17,21 +17,21 @@ pub returns-in_err-rows : goal.returns-in_err-rows
 returns-in_err-rows g c =
     let handed = c.from_residual.ensures in
     let e = c.in_err-rows.field-0.0 in
-    let why = c.in_err-rows.ensures.tells in
+    let why = c.in_err-rows.ensures.answers in
     record {
-      tells = tells_not g.S.Store (Represents g.P.Places.represents g.P.Versioned.version) IsKept (λ _. ⊤) c.args.tables.now c.attached_rows.new.tables c.from_residual.result (λ _ k found. AreMarksOfContents k c.args.container found.items) e
-          (same_fault c.from_residual.result e handed.0 handed.1) why.cut why.spares
+      answers = tells_not g.S.Store (Represents g.P.Places.represents g.P.Versioned.version) IsKept (λ _. ⊤) c.args.tables.now c.attached_rows.new.tables c.from_residual.result (λ _ k found. AreMarksOfContents k c.args.container found.items) e
+          (same_fault c.from_residual.result e handed.0 handed.1) why.aborts why.spares
           (λ o k it may kept clean free. why.faults o k it may kept clean free);
     }
 
 pub returns : goal.returns
 returns g c =
-    let told = c.in_ok-rows.ensures.tells in
+    let told = c.in_ok-rows.ensures.answers in
     let rows = c.deref.result.now in
     let stands = g.P.Places.stands in
     let represents = Represents g.P.Places.represents g.P.Versioned.version in
     record {
-      tells = answers_later g.S.Store represents IsKept (λ _. ⊤) represents IsKept (λ k. AllByRecursion (stands (each (λ (u : Unit). u.id) k.forest)) rows) c.args.tables.now c.attached_rows.new.tables c.marks_of_each.new.tables c.marks_of_each.result
+      answers = answers_later g.S.Store represents IsKept (λ _. ⊤) represents IsKept (λ k. AllByRecursion (stands (each (λ (u : Unit). u.id) k.forest)) rows) c.args.tables.now c.attached_rows.new.tables c.marks_of_each.new.tables c.marks_of_each.result
           (λ _ k found. AreMarksOfContents k c.args.container found.items)
           (λ _ k found. AllByRecursion (stands (each (λ (u : Unit). u.id) k.forest)) rows → AreMarksOfEach k.forest (map (λ (row : Span). row.id) rows) found.items) told.looks
           (λ o k it before.
@@ -43,5 +43,5 @@ returns g c =
             turn = λ found each_one. (map (λ (row : Span). row.id) rows, got.0, each_one got.1);
             allowed = λ may kept. (got.1, kept);
           })
-          c.marks_of_each.ensures.tells;
+          c.marks_of_each.ensures.answers;
     }

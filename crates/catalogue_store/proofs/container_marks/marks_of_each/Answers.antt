@@ -35,7 +35,7 @@ loop-row-preserved g c =
     let rows = c.args.rows.now in
     let i = c.loop-row.row-index in
     let before = c.loop-row.invariant in
-    let told = c.in_ok-one.ensures.tells in
+    let told = c.in_ok-one.ensures.answers in
     let one = c.in_ok-one.one in
     record {
       looks = looks_then a b d before.looks told.looks;
@@ -58,12 +58,12 @@ returns-in_err-one g c =
     let handed = c.from_residual.ensures in
     let e = c.in_err-one.field-0.0 in
     let looked = c.loop-row.invariant.looks in
-    let why = c.in_err-one.ensures.tells in
+    let why = c.in_err-one.ensures.answers in
     let represents = Represents g.P.Places.represents g.P.Versioned.version in
     record {
-      tells = tells_cut g.S.Store represents IsKept (λ k. AllByRecursion (g.P.Places.stands (each (λ (u : Unit). u.id) k.forest)) c.args.rows.now) c.args.tables.now c.loop-row.tables c.marks_after.new.tables c.from_residual.result
+      answers = tells_cut g.S.Store represents IsKept (λ k. AllByRecursion (g.P.Places.stands (each (λ (u : Unit). u.id) k.forest)) c.args.rows.now) c.args.tables.now c.loop-row.tables c.marks_after.new.tables c.from_residual.result
           (λ _ k found. AllByRecursion (g.P.Places.stands (each (λ (u : Unit). u.id) k.forest)) c.args.rows.now → AreMarksOfEach k.forest (map (λ (row : Span). row.id) c.args.rows.now) found.items) e
-          (same_fault c.from_residual.result e handed.0 handed.1) looked why.cut why.spares
+          (same_fault c.from_residual.result e handed.0 handed.1) looked why.aborts why.spares
           (λ o k it all kept at_b clean free.
           why.faults o k (subst (λ (db : Database). represents db o k) (sym (looked.same at_b)) it)
           (all-get_or (g.P.Places.stands (each (λ (u : Unit). u.id) k.forest)) c.args.rows.now c.loop-row.row-index _ all c.loop-row-test.true, subst (g.P.Places.knows k) (sym c.deref.ensures.value) (c.loop-row.invariant.known at_b o k it all)) kept clean free);
@@ -74,9 +74,9 @@ returns-in_err-known g c =
     let a = state g.S.Store c.args.tables.now in
     let d = state g.S.Store c.marks_after.new.tables in
     let handed = c.from_residual-in_err-known.ensures in
-    let looked = looks_then a (state g.S.Store c.loop-row.tables) d c.loop-row.invariant.looks c.in_ok-one.ensures.tells.looks in
+    let looked = looks_then a (state g.S.Store c.loop-row.tables) d c.loop-row.invariant.looks c.in_ok-one.ensures.answers.looks in
     record {
-      tells = tells_not g.S.Store (Represents g.P.Places.represents g.P.Versioned.version) IsKept (λ k. AllByRecursion (g.P.Places.stands (each (λ (u : Unit). u.id) k.forest)) c.args.rows.now) c.args.tables.now c.marks_after.new.tables c.from_residual-in_err-known.result
+      answers = tells_not g.S.Store (Represents g.P.Places.represents g.P.Versioned.version) IsKept (λ k. AllByRecursion (g.P.Places.stands (each (λ (u : Unit). u.id) k.forest)) c.args.rows.now) c.args.tables.now c.marks_after.new.tables c.from_residual-in_err-known.result
           (λ _ k found. AllByRecursion (g.P.Places.stands (each (λ (u : Unit). u.id) k.forest)) c.args.rows.now → AreMarksOfEach k.forest (map (λ (row : Span). row.id) c.args.rows.now) found.items) fault.Memory
           (same_fault c.from_residual-in_err-known.result fault.Memory handed.0 handed.1) (cut_after a d looked.goes.on) (spares_full a d looked) (λ o k it all kept clean free. tt);
     }
@@ -86,9 +86,9 @@ returns-in_err-push g c =
     let a = state g.S.Store c.args.tables.now in
     let d = state g.S.Store c.marks_after.new.tables in
     let handed = c.from_residual-in_err-push.ensures in
-    let looked = looks_then a (state g.S.Store c.loop-row.tables) d c.loop-row.invariant.looks c.in_ok-one.ensures.tells.looks in
+    let looked = looks_then a (state g.S.Store c.loop-row.tables) d c.loop-row.invariant.looks c.in_ok-one.ensures.answers.looks in
     record {
-      tells = tells_not g.S.Store (Represents g.P.Places.represents g.P.Versioned.version) IsKept (λ k. AllByRecursion (g.P.Places.stands (each (λ (u : Unit). u.id) k.forest)) c.args.rows.now) c.args.tables.now c.marks_after.new.tables c.from_residual-in_err-push.result
+      answers = tells_not g.S.Store (Represents g.P.Places.represents g.P.Versioned.version) IsKept (λ k. AllByRecursion (g.P.Places.stands (each (λ (u : Unit). u.id) k.forest)) c.args.rows.now) c.args.tables.now c.marks_after.new.tables c.from_residual-in_err-push.result
           (λ _ k found. AllByRecursion (g.P.Places.stands (each (λ (u : Unit). u.id) k.forest)) c.args.rows.now → AreMarksOfEach k.forest (map (λ (row : Span). row.id) c.args.rows.now) found.items) fault.Memory
           (same_fault c.from_residual-in_err-push.result fault.Memory handed.0 handed.1) (cut_after a d looked.goes.on) (spares_full a d looked) (λ o k it all kept clean free. tt);
     }
@@ -96,12 +96,12 @@ returns-in_err-push g c =
 pub returns : goal.returns
 returns g c =
     record {
-      tells = record {
+      answers = record {
         answers = λ clean o k it all.
             subst (λ (rows : List Span). AreMarksOfEach k.forest (map (λ (row : Span). row.id) rows) c.loop-row.found.items) (take_all c.loop-row.row-index c.args.rows.now (omega (arith, c.loop-row-test.false)))
             (c.loop-row.invariant.so_far clean o k it all);
         looks = c.loop-row.invariant.looks;
-        cut = tt;
+        aborts = tt;
         spares = λ clean. tt;
         faults = λ o k it all kept clean free. tt;
       };

@@ -28,8 +28,8 @@ returns-in_err-insert_unit g c =
     let handed = c.from_residual.ensures in
     let e = c.in_err-insert_unit.field-0.0 in
     record {
-      makes = makes_not g.S.Store (RepresentsNumbered g.P.Places.represents g.P.Versioned.version) (λ k. IsKept k × IsNew (unit_of c.args.unit.now) k) (HasPlaceFor c.args.parent) c.args.tables.now c.insert_unit.new.tables c.from_residual.result (with_numbered c.args.parent (unit_of c.args.unit.now)) catalogue_trees e
-          (same_fault c.from_residual.result e handed.0 handed.1) c.in_err-insert_unit.ensures.leaves.cut c.in_err-insert_unit.ensures.leaves.spares
+      updates = makes_not g.S.Store (RepresentsNumbered g.P.Places.represents g.P.Versioned.version) (λ k. IsKept k × IsNew (unit_of c.args.unit.now) k) (HasPlaceFor c.args.parent) c.args.tables.now c.insert_unit.new.tables c.from_residual.result (with_numbered c.args.parent (unit_of c.args.unit.now)) catalogue_trees e
+          (same_fault c.from_residual.result e handed.0 handed.1) c.in_err-insert_unit.ensures.leaves.aborts c.in_err-insert_unit.ensures.leaves.spares
           (λ o k it may kept clean free.
           let at = it.catalogue.units in
           c.in_err-insert_unit.ensures.faults at.units at.rows (
@@ -46,15 +46,15 @@ returns-in_err-add g c =
     let handed = c.from_residual-in_err-add.ensures in
     let e = c.in_err-add.field-0.0 in
     record {
-      makes = makes_cut g.S.Store (RepresentsNumbered g.P.Places.represents g.P.Versioned.version) (λ k. IsKept k × IsNew (unit_of c.args.unit.now) k) (HasPlaceFor c.args.parent) c.args.tables.now c.insert_unit.new.tables c.add.new.tables c.from_residual-in_err-add.result (with_numbered c.args.parent (unit_of c.args.unit.now)) catalogue_trees e
+      updates = makes_cut g.S.Store (RepresentsNumbered g.P.Places.represents g.P.Versioned.version) (λ k. IsKept k × IsNew (unit_of c.args.unit.now) k) (HasPlaceFor c.args.parent) c.args.tables.now c.insert_unit.new.tables c.add.new.tables c.from_residual-in_err-add.result (with_numbered c.args.parent (unit_of c.args.unit.now)) catalogue_trees e
           (same_fault c.from_residual-in_err-add.result e handed.0 handed.1) c.in_ok-insert_unit.ensures.leaves.goes.on
-          (λ at_b. touched_wider (tables.unit.tree ∷ []) catalogue_trees a.now b.now refl (c.in_ok-insert_unit.ensures.puts at_b).only) c.in_err-add.ensures.makes.cut
-          (λ clean. wider_spares (tables.link.tree ∷ []) catalogue_trees b (state g.S.Store c.add.new.tables) e refl (c.in_err-add.ensures.makes.spares clean))
+          (λ at_b. touched_wider (tables.unit.tree ∷ []) catalogue_trees a.now b.now refl (c.in_ok-insert_unit.ensures.puts at_b).only) c.in_err-add.ensures.updates.aborts
+          (λ clean. wider_spares (tables.link.tree ∷ []) catalogue_trees b (state g.S.Store c.add.new.tables) e refl (c.in_err-add.ensures.updates.spares clean))
           (λ o k it may kept at_b clean free.
           let ids = each (λ (x : Unit). x.id) k.forest in
           let only = (c.in_ok-insert_unit.ensures.puts at_b).only in
           let shown = g.met.P.Places.shows_same a.now.trees b.now.trees ids (only tables.link.tree refl refl) it.shown in
-          c.in_err-add.ensures.makes.faults tt ids shown
+          c.in_err-add.ensures.updates.faults tt ids shown
           (has_place-each nat_eq (λ (x : Unit). x.id) c.args.parent k.forest ∙ may.place, has-each (nat_eq u.id) (λ (x : Unit). x.id) k.forest ∙ kept.1.number) kept.0.places clean free);
     }
 
@@ -66,13 +66,13 @@ returns-in_err-describe g c =
     let u = unit_of c.args.unit.now in
     let handed = c.from_residual-in_err-describe.ensures in
     let e = c.in_err-describe.field-0.0 in
-    let went = goes_then a b d c.in_ok-insert_unit.ensures.leaves.goes c.in_ok-add.ensures.makes.goes in
+    let went = goes_then a b d c.in_ok-insert_unit.ensures.leaves.goes c.in_ok-add.ensures.updates.goes in
     record {
-      makes = makes_cut g.S.Store (RepresentsNumbered g.P.Places.represents g.P.Versioned.version) (λ k. IsKept k × IsNew (unit_of c.args.unit.now) k) (HasPlaceFor c.args.parent) c.args.tables.now c.add.new.tables c.describe.new.tables c.from_residual-in_err-describe.result (with_numbered c.args.parent (unit_of c.args.unit.now)) catalogue_trees e
+      updates = makes_cut g.S.Store (RepresentsNumbered g.P.Places.represents g.P.Versioned.version) (λ k. IsKept k × IsNew (unit_of c.args.unit.now) k) (HasPlaceFor c.args.parent) c.args.tables.now c.add.new.tables c.describe.new.tables c.from_residual-in_err-describe.result (with_numbered c.args.parent (unit_of c.args.unit.now)) catalogue_trees e
           (same_fault c.from_residual-in_err-describe.result e handed.0 handed.1) went.on
           (λ at_d. touched_wider (tables.unit.tree ∷ tables.link.tree ∷ []) catalogue_trees a.now d.now refl
-          (touched_then (tables.unit.tree ∷ []) (tables.link.tree ∷ []) a.now b.now d.now (c.in_ok-insert_unit.ensures.puts (early b d _ c.in_ok-add.ensures.makes.goes.on.crash at_d)).only (c.in_ok-add.ensures.makes.only at_d)))
-          c.in_err-describe.ensures.cut
+          (touched_then (tables.unit.tree ∷ []) (tables.link.tree ∷ []) a.now b.now d.now (c.in_ok-insert_unit.ensures.puts (early b d _ c.in_ok-add.ensures.updates.goes.on.crash at_d)).only (c.in_ok-add.ensures.updates.only at_d)))
+          c.in_err-describe.ensures.aborts
           (λ clean. wider_spares (tables.element.tree ∷ tables.container.tree ∷ tables.housing.tree ∷ []) catalogue_trees d (state g.S.Store c.describe.new.tables) e refl (c.in_err-describe.ensures.spares clean))
           (λ o k it may kept at_d clean free.
           let v = g.P.Versioned.version in
@@ -80,10 +80,10 @@ returns-in_err-describe g c =
           let at = it.catalogue in
           let xs = at.elements.elements in
           let hs = at.housings.housings in
-          let at_b = early b d _ c.in_ok-add.ensures.makes.goes.on.crash at_d in
+          let at_b = early b d _ c.in_ok-add.ensures.updates.goes.on.crash at_d in
           let put = c.in_ok-insert_unit.ensures.puts at_b in
           let only = put.only in
-          let aside = c.in_ok-add.ensures.makes.only at_d in
+          let aside = c.in_ok-add.ensures.updates.only at_d in
           let unit = unit_added a.now.trees d.now.trees u at.units.units at.units.rows (aside tables.unit.tree refl refl ∙ put.rows) in
           let texts = same_elements a.now.trees d.now.trees xs (aside tables.element.tree refl refl ∙ only tables.element.tree refl refl) (elements_shown v a.now shown k at) in
           let housed = same_housed a.now.trees d.now.trees k.containers hs (aside tables.container.tree refl refl ∙ only tables.container.tree refl refl) (aside tables.housing.tree refl refl ∙ only tables.housing.tree refl refl) (housed_shown v a.now shown k at may.knows) in
@@ -104,12 +104,12 @@ returns g c =
     let u = unit_of c.args.unit.now in
     let parent = c.args.parent in
     let r = c.set_next_unit.result in
-    let added = c.in_ok-add.ensures.makes in
+    let added = c.in_ok-add.ensures.updates in
     let described = c.in_ok-describe.ensures in
     let numbered = c.set_next_unit.ensures in
     let went = goes_then a d e (goes_then a b d c.in_ok-insert_unit.ensures.leaves.goes added.goes) described.goes in
     record {
-      makes = record {
+      updates = record {
         represents_updated = λ clean o k it may.
             let before = record o { next_unit = k.next } in
             let at = it.catalogue in
@@ -131,7 +131,7 @@ returns g c =
             let aside = added.only at_d in
             let texts = same_elements a.now.trees d.now.trees xs (aside tables.element.tree refl refl ∙ kept tables.element.tree refl refl) (elements_shown v a.now before k at) in
             let housed = same_housed a.now.trees d.now.trees k.containers hs (aside tables.container.tree refl refl ∙ kept tables.container.tree refl refl) (aside tables.housing.tree refl refl ∙ kept tables.housing.tree refl refl) (housed_shown v a.now before k at may.knows) in
-            let made = described.tells at_e k.containers xs hs texts housed in
+            let made = described.answers at_e k.containers xs hs texts housed in
             let told = described.only at_e in
             let office = told tables.office.tree refl refl ∙ aside tables.office.tree refl refl ∙ kept tables.office.tree refl refl ∙ at.office in
             on_ok_then r (HasRows tables.office.tree (office_row v (record before { next_unit = u.id + 1 }) ∷ []) e.now h.now) shown
@@ -164,7 +164,7 @@ returns g c =
             (numbered.only clean))
             numbered.leaves.goes;
         goes = on_ok_then r (Goes e h) (Goes a h) (goes_then a e h went) numbered.leaves.goes;
-        cut = on_err_then r (IsAborted e h) (IsAborted a h) (cut_then a e h went.on) numbered.leaves.cut;
+        aborts = on_err_then r (IsAborted e h) (IsAborted a h) (cut_then a e h went.on) numbered.leaves.aborts;
         spares = λ clean. last_touched catalogue_trees a e h went.on
             (λ at_e.
             let unit = tables.unit.tree ∷ [] in
@@ -174,8 +174,8 @@ returns g c =
             let at_b = early b d _ added.goes.on.crash at_d in
             let two = touched_then unit link a.now b.now d.now (c.in_ok-insert_unit.ensures.puts at_b).only (added.only at_d) in
             touched_wider (tables.unit.tree ∷ tables.link.tree ∷ told) catalogue_trees a.now e.now refl (touched_then (tables.unit.tree ∷ link) told a.now d.now e.now two (described.only at_e)))
-            r numbered.leaves.cut clean (untouched_last catalogue_trees e h r (numbered.leaves.spares clean));
-        faults = λ o k it may kept. excused_then a e h went.on r numbered.leaves.cut (λ at_e.
+            r numbered.leaves.aborts clean (untouched_last catalogue_trees e h r (numbered.leaves.spares clean));
+        faults = λ o k it may kept. excused_then a e h went.on r numbered.leaves.aborts (λ at_e.
             let before = record o { next_unit = k.next } in
             let at_d = early d e _ described.goes.on.crash at_e in
             let at_b = early b d _ added.goes.on.crash at_d in

@@ -20,19 +20,19 @@ add_placed-requires g c =
     let b = state g.S.Store c.is_place.new.tables in
     record { small = c.requires.small; low = c.requires.low }
 
-pub returns-in_err-is_place-clause-makes : goal.returns-in_err-is_place-clause-makes
-returns-in_err-is_place-clause-makes g c =
+pub returns-in_err-is_place-clause-updates : goal.returns-in_err-is_place-clause-updates
+returns-in_err-is_place-clause-updates g c =
     let handed = c.from_residual.ensures in
     let e = c.in_err-is_place.field-0.0 in
-    let told = c.in_err-is_place.ensures.tells in
+    let told = c.in_err-is_place.ensures.answers in
     makes_not g.S.Store (RepresentsNumbered g.P.Places.represents g.P.Versioned.version) (λ k. IsKept k × IsNew (unit_of c.args.unit.now) k) (HasPlaceFor c.args.parent) c.args.tables.now c.is_place.new.tables c.from_residual.result (with_numbered c.args.parent (unit_of c.args.unit.now)) catalogue_trees e
-    (same_fault c.from_residual.result e handed.0 handed.1) told.cut told.spares (λ o k shown may kept clean free. told.faults (record o { next_unit = k.next }) k shown tt kept.0 clean free)
+    (same_fault c.from_residual.result e handed.0 handed.1) told.aborts told.spares (λ o k shown may kept clean free. told.faults (record o { next_unit = k.next }) k shown tt kept.0 clean free)
 
 pub returns-then-not-branch : goal.returns-then-not-branch
 returns-then-not-branch g c =
-    let told = c.in_ok-is_place.ensures.tells in
+    let told = c.in_ok-is_place.ensures.answers in
     record {
-      makes = makes_refused g.S.Store (RepresentsNumbered g.P.Places.represents g.P.Versioned.version) (λ k. IsKept k × IsNew (unit_of c.args.unit.now) k) (HasPlaceFor c.args.parent) (with_numbered c.args.parent (unit_of c.args.unit.now)) catalogue_trees c.args.tables.now c.is_place.new.tables told.looks
+      updates = makes_refused g.S.Store (RepresentsNumbered g.P.Places.represents g.P.Versioned.version) (λ k. IsKept k × IsNew (unit_of c.args.unit.now) k) (HasPlaceFor c.args.parent) (with_numbered c.args.parent (unit_of c.args.unit.now)) catalogue_trees c.args.tables.now c.is_place.new.tables told.looks
           (λ clean o k shown may. false≢true (sym c.if-not-branch.true ∙ told.answers clean (record o { next_unit = k.next }) k shown ∙ may.place));
       accepts = λ clean o k shown. tt;
     }
@@ -41,10 +41,10 @@ pub returns : goal.returns
 returns g c =
     let a = state g.S.Store c.is_place.new.tables in
     let b = state g.S.Store c.add_placed.new.tables in
-    let told = c.in_ok-is_place.ensures.tells in
-    let added = c.add_placed.ensures.makes in
+    let told = c.in_ok-is_place.ensures.answers in
+    let added = c.add_placed.ensures.updates in
     record {
-      makes = makes_after g.S.Store (RepresentsNumbered g.P.Places.represents g.P.Versioned.version) (λ k. IsKept k × IsNew (unit_of c.args.unit.now) k) (HasPlaceFor c.args.parent) (with_numbered c.args.parent (unit_of c.args.unit.now)) catalogue_trees c.args.tables.now c.is_place.new.tables told.looks c.add_placed.new.tables c.add_placed.result added;
+      updates = makes_after g.S.Store (RepresentsNumbered g.P.Places.represents g.P.Versioned.version) (λ k. IsKept k × IsNew (unit_of c.args.unit.now) k) (HasPlaceFor c.args.parent) (with_numbered c.args.parent (unit_of c.args.unit.now)) catalogue_trees c.args.tables.now c.is_place.new.tables told.looks c.add_placed.new.tables c.add_placed.result added;
       accepts = λ clean o k shown.
           on_ok_then c.add_placed.result (Goes a b) (has_place has_id c.args.parent k.forest ≡ true)
           (λ went. sym (told.answers (early a b _ went.on.crash clean) (record o { next_unit = k.next }) k shown) ∙ c.if-not-branch.false) added.goes;

@@ -30,7 +30,7 @@ returns-in_err-clear_elements-clause-leaves g c =
     let handed = c.from_residual.ensures in
     let left = c.in_err-clear_elements.ensures.leaves in
     let gone = tables.element.tree ∷ tables.housing.tree ∷ [] in
-    left_by gone a b c.from_residual.result e (same_fault c.from_residual.result e handed.0 handed.1) left.cut (λ clean. untouched gone a b e (left.spares clean))
+    left_by gone a b c.from_residual.result e (same_fault c.from_residual.result e handed.0 handed.1) left.aborts (λ clean. untouched gone a b e (left.spares clean))
 
 pub returns-clause-only : goal.returns-clause-only
 returns-clause-only g c clean =

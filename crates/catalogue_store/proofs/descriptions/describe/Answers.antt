@@ -16,8 +16,8 @@ use Rattle.office_tables.proofs.Sparing.{wider_spares, wider_last, last_touched}
 use Rattle.office_tables.proofs.Touching.{touched_wider}
 use Rattle.catalogue_store.proofs.descriptions.describe.Goals as goal
 
-pub returns-clause-tells : goal.returns-clause-tells
-returns-clause-tells g c clean boxes xs hs texts housed =
+pub returns-clause-answers : goal.returns-clause-answers
+returns-clause-answers g c clean boxes xs hs texts housed =
     let a = state g.S.Store c.args.tables.now in
     let b = state g.S.Store c.insert_texts.new.tables in
     let d = state g.S.Store c.insert_housings.new.tables in
@@ -53,7 +53,7 @@ returns-clause-faults g c known whole boxes xs hs texts housed small none other 
     let b = state g.S.Store c.insert_texts.new.tables in
     let d = state g.S.Store c.insert_housings.new.tables in
     let went = c.in_ok-insert_texts.ensures.goes in
-    last_cause a b d went.on c.insert_housings.result c.insert_housings.ensures.cut clean (λ before.
+    last_cause a b d went.on c.insert_housings.result c.insert_housings.ensures.aborts clean (λ before.
     let kept = c.in_ok-insert_texts.ensures.only before in
     let unit_there = unit_still a.now.trees b.now.trees c.args.unit (kept tables.unit.tree refl refl) known in
     let here = same_housed a.now.trees b.now.trees boxes hs (kept tables.container.tree refl refl) (kept tables.housing.tree refl refl) housed in
@@ -74,4 +74,4 @@ returns-clause-spares g c clean =
     let d = state g.S.Store c.insert_housings.new.tables in
     let told = tables.element.tree ∷ tables.container.tree ∷ tables.housing.tree ∷ [] in
     last_touched told a b d c.in_ok-insert_texts.ensures.goes.on (λ before. touched_wider (tables.element.tree ∷ []) told a.now b.now refl (c.in_ok-insert_texts.ensures.only before))
-    c.insert_housings.result c.insert_housings.ensures.cut clean (wider_last (tables.container.tree ∷ tables.housing.tree ∷ []) told b d c.insert_housings.result refl (c.insert_housings.ensures.spares clean))
+    c.insert_housings.result c.insert_housings.ensures.aborts clean (wider_last (tables.container.tree ∷ tables.housing.tree ∷ []) told b d c.insert_housings.result refl (c.insert_housings.ensures.spares clean))

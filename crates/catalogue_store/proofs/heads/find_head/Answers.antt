@@ -34,8 +34,8 @@ returns-in_err-found g c =
     let handed = c.from_residual.ensures in
     let e = c.in_err-found.field-0.0 in
     record {
-      tells = tells_not g.S.Store (Represents g.P.Places.represents g.P.Versioned.version) IsKept (λ _. ⊤) c.args.tables.now c.standings_of.new.tables c.from_residual.result (λ _ k head. head ≡ option_map head_of (find (has_id c.args.unit) (nodes k.forest))) e
-          (same_fault c.from_residual.result e handed.0 handed.1) c.in_err-found.ensures.reads.cut c.in_err-found.ensures.reads.spares
+      answers = tells_not g.S.Store (Represents g.P.Places.represents g.P.Versioned.version) IsKept (λ _. ⊤) c.args.tables.now c.standings_of.new.tables c.from_residual.result (λ _ k head. head ≡ option_map head_of (find (has_id c.args.unit) (nodes k.forest))) e
+          (same_fault c.from_residual.result e handed.0 handed.1) c.in_err-found.ensures.reads.aborts c.in_err-found.ensures.reads.spares
           (λ o k it may kept clean free. let at = it.catalogue.units in c.in_err-found.ensures.faults at.units at.rows (legible_units a.now.trees k at kept) clean free);
     }
 
@@ -43,7 +43,7 @@ pub returns-in_default : goal.returns-in_default
 returns-in_default g c =
     let a = state g.S.Store c.args.tables.now in
     record {
-      tells = record {
+      answers = record {
         answers = λ clean o k it.
             let at = it.catalogue.units in
             let rows = filter (has_id c.args.unit) at.units in
@@ -51,7 +51,7 @@ returns-in_default g c =
             let few : length rows ≡ 0 = omega (arith, c.in_default.ensures.cases.0, c.in_ok-found.found.ok.0, ap length got, length-map rows standing_of) in
             sym (ap (option_map head_of) (none_found a.now.trees k.forest at c.args.unit rows (IsPermutation-refl rows) few));
         looks = c.in_ok-found.ensures.reads.looks;
-        cut = tt;
+        aborts = tt;
         spares = λ clean. tt;
         faults = λ o k it may kept clean free. tt;
       };
@@ -64,8 +64,8 @@ returns-in_err-elements g c =
     let e = c.in_err-elements.field-0.0 in
     let looked = c.in_ok-found.ensures.reads.looks in
     record {
-      tells = tells_cut g.S.Store (Represents g.P.Places.represents g.P.Versioned.version) IsKept (λ _. ⊤) c.args.tables.now c.standings_of.new.tables c.first_elements.new.tables c.from_residual-in_err-elements.result (λ _ k head. head ≡ option_map head_of (find (has_id c.args.unit) (nodes k.forest))) e
-          (same_fault c.from_residual-in_err-elements.result e handed.0 handed.1) looked c.in_err-elements.ensures.reads.cut c.in_err-elements.ensures.reads.spares
+      answers = tells_cut g.S.Store (Represents g.P.Places.represents g.P.Versioned.version) IsKept (λ _. ⊤) c.args.tables.now c.standings_of.new.tables c.first_elements.new.tables c.from_residual-in_err-elements.result (λ _ k head. head ≡ option_map head_of (find (has_id c.args.unit) (nodes k.forest))) e
+          (same_fault c.from_residual-in_err-elements.result e handed.0 handed.1) looked c.in_err-elements.ensures.reads.aborts c.in_err-elements.ensures.reads.spares
           (λ o k it may kept at_b clean free.
           let at = it.catalogue.elements in
           c.in_err-elements.ensures.faults at.elements (still_numbered element_row _ _ at.elements (ap (λ (db : Database). db.trees tables.element.tree) (looked.same at_b)) at.rows) (legible_elements a.now.trees k.forest at kept.units) clean free);
@@ -79,7 +79,7 @@ returns-in_err-identifier g c =
     let handed = c.from_residual-in_err-identifier.ensures in
     let looked = looks_then a b d c.in_ok-found.ensures.reads.looks c.in_ok-elements.ensures.reads.looks in
     record {
-      tells = tells_not g.S.Store (Represents g.P.Places.represents g.P.Versioned.version) IsKept (λ _. ⊤) c.args.tables.now c.first_elements.new.tables c.from_residual-in_err-identifier.result (λ _ k head. head ≡ option_map head_of (find (has_id c.args.unit) (nodes k.forest))) fault.Memory
+      answers = tells_not g.S.Store (Represents g.P.Places.represents g.P.Versioned.version) IsKept (λ _. ⊤) c.args.tables.now c.first_elements.new.tables c.from_residual-in_err-identifier.result (λ _ k head. head ≡ option_map head_of (find (has_id c.args.unit) (nodes k.forest))) fault.Memory
           (same_fault c.from_residual-in_err-identifier.result fault.Memory handed.0 handed.1) (cut_after a d looked.goes.on) (spares_full a d looked) (λ o k it may kept clean free. tt);
     }
 
@@ -91,7 +91,7 @@ returns-in_err-title g c =
     let handed = c.from_residual-in_err-title.ensures in
     let looked = looks_then a b d c.in_ok-found.ensures.reads.looks c.in_ok-elements.ensures.reads.looks in
     record {
-      tells = tells_not g.S.Store (Represents g.P.Places.represents g.P.Versioned.version) IsKept (λ _. ⊤) c.args.tables.now c.first_elements.new.tables c.from_residual-in_err-title.result (λ _ k head. head ≡ option_map head_of (find (has_id c.args.unit) (nodes k.forest))) fault.Memory
+      answers = tells_not g.S.Store (Represents g.P.Places.represents g.P.Versioned.version) IsKept (λ _. ⊤) c.args.tables.now c.first_elements.new.tables c.from_residual-in_err-title.result (λ _ k head. head ≡ option_map head_of (find (has_id c.args.unit) (nodes k.forest))) fault.Memory
           (same_fault c.from_residual-in_err-title.result fault.Memory handed.0 handed.1) (cut_after a d looked.goes.on) (spares_full a d looked) (λ o k it may kept clean free. tt);
     }
 
@@ -103,7 +103,7 @@ returns g c =
     let looked = c.in_ok-found.ensures.reads.looks in
     let among = λ (n : ℕ) (elements : List Element). unwrap_or (option_map (λ (e : Element). e.value) (find (λ (e : Element). nat_eq e.k n) elements)) [] in
     record {
-      tells = record {
+      answers = record {
         answers = λ clean o k it.
             let at = it.catalogue.units in
             let texts = it.catalogue.elements in
@@ -119,7 +119,7 @@ returns g c =
             let title = c.in_ok-title.ensures ∙ ap (among 2) (c.deref-2.ensures.value ∙ read.2) ∙ ap (λ t. unwrap_or t []) (text_among_first c.args.unit 1 2 u.values texts.elements read.0 (omega arith) told read.1.0) in
             head_told k.forest c.args.unit u c.in-Some.standing c.in_ok-identifier.identifier c.in_ok-title.title found.2 found.3 found.4 identifier title;
         looks = looks_then a b d looked c.in_ok-elements.ensures.reads.looks;
-        cut = tt;
+        aborts = tt;
         spares = λ clean. tt;
         faults = λ o k it may kept clean free. tt;
       };

@@ -31,11 +31,11 @@ loop-unit-preserved g c =
     let units = c.args.units.now in
     let i = c.loop-unit.unit-index in
     record {
-      looks = looks_then a b d c.loop-unit.invariant.looks c.in_ok-found.ensures.tells.looks;
+      looks = looks_then a b d c.loop-unit.invariant.looks c.in_ok-found.ensures.answers.looks;
       so_far = λ clean o k it.
-          let at_b = early b d _ c.in_ok-found.ensures.tells.looks.goes.on.crash clean in
+          let at_b = early b d _ c.in_ok-found.ensures.answers.looks.goes.on.crash clean in
           let same = c.loop-unit.invariant.looks.same at_b in
-          let this = sym c.in-Some.is ∙ c.in_ok-found.ensures.tells.answers clean o k (subst (λ (db : Database). Represents g.P.Places.represents g.P.Versioned.version db o k) (sym same) it) in
+          let this = sym c.in-Some.is ∙ c.in_ok-found.ensures.answers.answers clean o k (subst (λ (db : Database). Represents g.P.Places.represents g.P.Versioned.version db o k) (sym same) it) in
           ap (map Some) c.in_ok-push.ensures.items ∙ map-append Some c.loop-unit.heads.items (c.in-Some.head ∷ [])
           ∙ ap₂ ◌++◌ (c.loop-unit.invariant.so_far at_b o k it) (ap (λ h. h ∷ []) this)
           ∙ sym (ap (map (head_at k.forest)) (take_more units i 0 c.loop-unit-test.true) ∙ map-append (head_at k.forest) (take i units) (get_or units i 0 ∷ []));
@@ -46,7 +46,7 @@ returns-then-unit-ge-NO_NUMBER g c =
     let a = state g.S.Store c.args.tables.now in
     let b = state g.S.Store c.loop-unit.tables in
     record {
-      tells = tells_not g.S.Store (Represents g.P.Places.represents g.P.Versioned.version) IsKept (λ k. AllByRecursion (λ unit. has_unit k.forest unit ≡ true) c.args.units.now) c.args.tables.now c.loop-unit.tables _ (λ _ k heads. map Some heads.items ≡ map (head_at k.forest) c.args.units.now) fault.Schema refl (cut_after a b c.loop-unit.invariant.looks.goes.on) (spares_known a b c.loop-unit.invariant.looks)
+      answers = tells_not g.S.Store (Represents g.P.Places.represents g.P.Versioned.version) IsKept (λ k. AllByRecursion (λ unit. has_unit k.forest unit ≡ true) c.args.units.now) c.args.tables.now c.loop-unit.tables _ (λ _ k heads. map Some heads.items ≡ map (head_at k.forest) c.args.units.now) fault.Schema refl (cut_after a b c.loop-unit.invariant.looks.goes.on) (spares_known a b c.loop-unit.invariant.looks)
           (λ o k it there kept clean free.
           let here = all-get_or (λ unit. has_unit k.forest unit ≡ true) c.args.units.now c.loop-unit.unit-index 0 there c.loop-unit-test.true in
           absurd (false≢true (no_unit k (get_or c.args.units.now c.loop-unit.unit-index 0) c.if-unit-ge-NO_NUMBER.true kept ∙ here)));
@@ -58,9 +58,9 @@ returns-in_err-found g c =
     let e = c.in_err-found.field-0.0 in
     let looked = c.loop-unit.invariant.looks in
     record {
-      tells = tells_cut g.S.Store (Represents g.P.Places.represents g.P.Versioned.version) IsKept (λ k. AllByRecursion (λ unit. has_unit k.forest unit ≡ true) c.args.units.now) c.args.tables.now c.loop-unit.tables c.find_head.new.tables c.from_residual.result (λ _ k heads. map Some heads.items ≡ map (head_at k.forest) c.args.units.now) e
-          (same_fault c.from_residual.result e handed.0 handed.1) looked c.in_err-found.ensures.tells.cut c.in_err-found.ensures.tells.spares
-          (λ o k it there kept at_b clean free. c.in_err-found.ensures.tells.faults o k (subst (λ (db : Database). Represents g.P.Places.represents g.P.Versioned.version db o k) (sym (looked.same at_b)) it) tt kept clean free);
+      answers = tells_cut g.S.Store (Represents g.P.Places.represents g.P.Versioned.version) IsKept (λ k. AllByRecursion (λ unit. has_unit k.forest unit ≡ true) c.args.units.now) c.args.tables.now c.loop-unit.tables c.find_head.new.tables c.from_residual.result (λ _ k heads. map Some heads.items ≡ map (head_at k.forest) c.args.units.now) e
+          (same_fault c.from_residual.result e handed.0 handed.1) looked c.in_err-found.ensures.answers.aborts c.in_err-found.ensures.answers.spares
+          (λ o k it there kept at_b clean free. c.in_err-found.ensures.answers.faults o k (subst (λ (db : Database). Represents g.P.Places.represents g.P.Versioned.version db o k) (sym (looked.same at_b)) it) tt kept clean free);
     }
 
 pub returns-in_default : goal.returns-in_default
@@ -68,14 +68,14 @@ returns-in_default g c =
     let a = state g.S.Store c.args.tables.now in
     let b = state g.S.Store c.loop-unit.tables in
     let d = state g.S.Store c.find_head.new.tables in
-    let looked = looks_then a b d c.loop-unit.invariant.looks c.in_ok-found.ensures.tells.looks in
+    let looked = looks_then a b d c.loop-unit.invariant.looks c.in_ok-found.ensures.answers.looks in
     record {
-      tells = tells_not g.S.Store (Represents g.P.Places.represents g.P.Versioned.version) IsKept (λ k. AllByRecursion (λ unit. has_unit k.forest unit ≡ true) c.args.units.now) c.args.tables.now c.find_head.new.tables _ (λ _ k heads. map Some heads.items ≡ map (head_at k.forest) c.args.units.now) fault.Schema refl (cut_after a d looked.goes.on) (spares_known a d looked)
+      answers = tells_not g.S.Store (Represents g.P.Places.represents g.P.Versioned.version) IsKept (λ k. AllByRecursion (λ unit. has_unit k.forest unit ≡ true) c.args.units.now) c.args.tables.now c.find_head.new.tables _ (λ _ k heads. map Some heads.items ≡ map (head_at k.forest) c.args.units.now) fault.Schema refl (cut_after a d looked.goes.on) (spares_known a d looked)
           (λ o k it there kept clean free.
           let here = all-get_or (λ unit. has_unit k.forest unit ≡ true) c.args.units.now c.loop-unit.unit-index 0 there c.loop-unit-test.true in
-          let at_b = early b d _ c.in_ok-found.ensures.tells.looks.goes.on.crash clean in
+          let at_b = early b d _ c.in_ok-found.ensures.answers.looks.goes.on.crash clean in
           let shown = subst (λ (db : Database). Represents g.P.Places.represents g.P.Versioned.version db o k) (sym (c.loop-unit.invariant.looks.same at_b)) it in
-          absurd (some_head k.forest (get_or c.args.units.now c.loop-unit.unit-index 0) here (sym c.in_default.is ∙ c.in_ok-found.ensures.tells.answers clean o k shown)));
+          absurd (some_head k.forest (get_or c.args.units.now c.loop-unit.unit-index 0) here (sym c.in_default.is ∙ c.in_ok-found.ensures.answers.answers clean o k shown)));
     }
 
 pub returns-in_err-push : goal.returns-in_err-push
@@ -84,19 +84,19 @@ returns-in_err-push g c =
     let b = state g.S.Store c.loop-unit.tables in
     let d = state g.S.Store c.find_head.new.tables in
     let handed = c.from_residual-in_err-push.ensures in
-    let looked = looks_then a b d c.loop-unit.invariant.looks c.in_ok-found.ensures.tells.looks in
+    let looked = looks_then a b d c.loop-unit.invariant.looks c.in_ok-found.ensures.answers.looks in
     record {
-      tells = tells_not g.S.Store (Represents g.P.Places.represents g.P.Versioned.version) IsKept (λ k. AllByRecursion (λ unit. has_unit k.forest unit ≡ true) c.args.units.now) c.args.tables.now c.find_head.new.tables c.from_residual-in_err-push.result (λ _ k heads. map Some heads.items ≡ map (head_at k.forest) c.args.units.now) fault.Memory
+      answers = tells_not g.S.Store (Represents g.P.Places.represents g.P.Versioned.version) IsKept (λ k. AllByRecursion (λ unit. has_unit k.forest unit ≡ true) c.args.units.now) c.args.tables.now c.find_head.new.tables c.from_residual-in_err-push.result (λ _ k heads. map Some heads.items ≡ map (head_at k.forest) c.args.units.now) fault.Memory
           (same_fault c.from_residual-in_err-push.result fault.Memory handed.0 handed.1) (cut_after a d looked.goes.on) (spares_full a d looked) (λ o k it there kept clean free. tt);
     }
 
 pub returns : goal.returns
 returns g c =
     record {
-      tells = record {
+      answers = record {
         answers = λ clean o k it. c.loop-unit.invariant.so_far clean o k it ∙ ap (map (head_at k.forest)) (take_all c.loop-unit.unit-index c.args.units.now (omega (arith, c.loop-unit-test.false)));
         looks = c.loop-unit.invariant.looks;
-        cut = tt;
+        aborts = tt;
         spares = λ clean. tt;
         faults = λ o k it there kept clean free. tt;
       };

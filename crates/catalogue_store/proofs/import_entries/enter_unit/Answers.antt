@@ -29,8 +29,8 @@ returns-in_err-insert_unit g c =
     let handed = c.from_residual.ensures in
     let e = c.in_err-insert_unit.field-0.0 in
     record {
-      makes = λ v parent. makes_not g.S.Store (RepresentsCatalogue v) (λ k. IsKept k × IsNew u k) (HasPlaceFor parent) c.args.tables.now c.insert_unit.new.tables c.from_residual.result (with_entered parent u) described_trees e
-          (same_fault c.from_residual.result e handed.0 handed.1) c.in_err-insert_unit.ensures.leaves.cut c.in_err-insert_unit.ensures.leaves.spares
+      updates = λ v parent. makes_not g.S.Store (RepresentsCatalogue v) (λ k. IsKept k × IsNew u k) (HasPlaceFor parent) c.args.tables.now c.insert_unit.new.tables c.from_residual.result (with_entered parent u) described_trees e
+          (same_fault c.from_residual.result e handed.0 handed.1) c.in_err-insert_unit.ensures.leaves.aborts c.in_err-insert_unit.ensures.leaves.spares
           (λ o k it may kept clean free.
           let at = it.units in
           c.in_err-insert_unit.ensures.faults at.units at.rows (
@@ -49,7 +49,7 @@ returns g c =
     let told = tables.element.tree ∷ tables.container.tree ∷ tables.housing.tree ∷ [] in
     let first = c.in_ok-insert_unit.ensures.leaves.goes in
     record {
-      makes = λ v parent. record {
+      updates = λ v parent. record {
         represents_updated = λ clean o k it may.
             let xs = it.elements.elements in
             let hs = it.housings.housings in
@@ -69,7 +69,7 @@ returns g c =
               fresh = put.fresh;
               described = made;
             }))
-            (c.describe.ensures.tells clean k.containers xs hs texts housed) (c.describe.ensures.only clean))
+            (c.describe.ensures.answers clean k.containers xs hs texts housed) (c.describe.ensures.only clean))
             c.describe.ensures.goes;
         only = λ clean.
             let touched = OnlyTouches described_trees a.now d.now in
@@ -81,10 +81,10 @@ returns g c =
             (c.describe.ensures.only clean))
             c.describe.ensures.goes;
         goes = on_ok_then r (Goes b d) (Goes a d) (goes_then a b d first) c.describe.ensures.goes;
-        cut = on_err_then r (IsAborted b d) (IsAborted a d) (cut_then a b d first.on) c.describe.ensures.cut;
-        spares = λ clean. last_touched described_trees a b d first.on (λ at_b. touched_wider (tables.unit.tree ∷ []) described_trees a.now b.now refl (c.in_ok-insert_unit.ensures.puts at_b).only) r c.describe.ensures.cut clean
+        aborts = on_err_then r (IsAborted b d) (IsAborted a d) (cut_then a b d first.on) c.describe.ensures.aborts;
+        spares = λ clean. last_touched described_trees a b d first.on (λ at_b. touched_wider (tables.unit.tree ∷ []) described_trees a.now b.now refl (c.in_ok-insert_unit.ensures.puts at_b).only) r c.describe.ensures.aborts clean
             (wider_last told described_trees b d r refl (c.describe.ensures.spares clean));
-        faults = λ o k it may kept. excused_then a b d first.on r c.describe.ensures.cut (λ at_b.
+        faults = λ o k it may kept. excused_then a b d first.on r c.describe.ensures.aborts (λ at_b.
             let xs = it.elements.elements in
             let hs = it.housings.housings in
             let put = c.in_ok-insert_unit.ensures.puts at_b in

@@ -27,8 +27,8 @@ returns-in_err-set_level g c =
     let handed = c.from_residual.ensures in
     let e = c.in_err-set_level.field-0.0 in
     record {
-      makes = λ v. makes_not g.S.Store (RepresentsCatalogue v) (λ k. IsKept k × AreWhole c.args.values.now) (MayDescribe c.args.unit) c.args.tables.now c.set_level.new.tables c.from_residual.result (with_values c.args.unit c.args.values.now) described_trees e
-          (same_fault c.from_residual.result e handed.0 handed.1) c.in_err-set_level.ensures.leaves.cut c.in_err-set_level.ensures.leaves.spares
+      updates = λ v. makes_not g.S.Store (RepresentsCatalogue v) (λ k. IsKept k × AreWhole c.args.values.now) (MayDescribe c.args.unit) c.args.tables.now c.set_level.new.tables c.from_residual.result (with_values c.args.unit c.args.values.now) described_trees e
+          (same_fault c.from_residual.result e handed.0 handed.1) c.in_err-set_level.ensures.leaves.aborts c.in_err-set_level.ensures.leaves.spares
           (λ o k it may kept clean free. let at = it.units in c.in_err-set_level.ensures.faults at.units at.rows at.rise clean free);
     }
 
@@ -39,9 +39,9 @@ returns-in_err-clear g c =
     let handed = c.from_residual-in_err-clear.ensures in
     let e = c.in_err-clear.field-0.0 in
     record {
-      makes = λ v. makes_cut g.S.Store (RepresentsCatalogue v) (λ k. IsKept k × AreWhole c.args.values.now) (MayDescribe c.args.unit) c.args.tables.now c.set_level.new.tables c.clear.new.tables c.from_residual-in_err-clear.result (with_values c.args.unit c.args.values.now) described_trees e
+      updates = λ v. makes_cut g.S.Store (RepresentsCatalogue v) (λ k. IsKept k × AreWhole c.args.values.now) (MayDescribe c.args.unit) c.args.tables.now c.set_level.new.tables c.clear.new.tables c.from_residual-in_err-clear.result (with_values c.args.unit c.args.values.now) described_trees e
           (same_fault c.from_residual-in_err-clear.result e handed.0 handed.1) c.in_ok-set_level.ensures.leaves.goes.on
-          (λ at_b. touched_wider (tables.unit.tree ∷ []) described_trees a.now b.now refl (c.in_ok-set_level.ensures.only at_b)) c.in_err-clear.ensures.leaves.cut
+          (λ at_b. touched_wider (tables.unit.tree ∷ []) described_trees a.now b.now refl (c.in_ok-set_level.ensures.only at_b)) c.in_err-clear.ensures.leaves.aborts
           (λ clean. wider_spares (tables.element.tree ∷ tables.housing.tree ∷ []) described_trees b (state g.S.Store c.clear.new.tables) e refl (c.in_err-clear.ensures.leaves.spares clean))
           (λ o k it may kept at_b clean free.
           let at = it in
@@ -66,7 +66,7 @@ returns g c =
     let cleared = c.in_ok-clear.ensures in
     let went = goes_then a b d leveled.leaves.goes cleared.leaves.goes in
     record {
-      makes = λ v. record {
+      updates = λ v. record {
         represents_updated = λ clean o k it may.
             let at = it in
             let xs = at.elements.elements in
@@ -92,7 +92,7 @@ returns g c =
               units_are = only tables.unit.tree refl refl ∙ still tables.unit.tree refl refl ∙ level.are;
               described = made;
             })).catalogue)
-            (c.describe.ensures.tells clean k.containers elements housings none.0 none.1) (c.describe.ensures.only clean))
+            (c.describe.ensures.answers clean k.containers elements housings none.0 none.1) (c.describe.ensures.only clean))
             c.describe.ensures.goes;
         only = λ clean.
             let touched = OnlyTouches described_trees a.now e.now in
@@ -109,12 +109,12 @@ returns g c =
             (c.describe.ensures.only clean))
             c.describe.ensures.goes;
         goes = on_ok_then r (Goes d e) (Goes a e) (goes_then a d e went) c.describe.ensures.goes;
-        cut = on_err_then r (IsAborted d e) (IsAborted a e) (cut_then a d e went.on) c.describe.ensures.cut;
+        aborts = on_err_then r (IsAborted d e) (IsAborted a e) (cut_then a d e went.on) c.describe.ensures.aborts;
         spares = λ clean. last_touched described_trees a d e went.on
             (λ at_d. touched_wider (tables.unit.tree ∷ tables.element.tree ∷ tables.housing.tree ∷ []) described_trees a.now d.now refl
             (touched_then (tables.unit.tree ∷ []) (tables.element.tree ∷ tables.housing.tree ∷ []) a.now b.now d.now (leveled.only (early b d _ cleared.leaves.goes.on.crash at_d)) (cleared.only at_d)))
-            r c.describe.ensures.cut clean (wider_last (tables.element.tree ∷ tables.container.tree ∷ tables.housing.tree ∷ []) described_trees d e r refl (c.describe.ensures.spares clean));
-        faults = λ o k it may kept. excused_then a d e went.on r c.describe.ensures.cut (λ before_d.
+            r c.describe.ensures.aborts clean (wider_last (tables.element.tree ∷ tables.container.tree ∷ tables.housing.tree ∷ []) described_trees d e r refl (c.describe.ensures.spares clean));
+        faults = λ o k it may kept. excused_then a d e went.on r c.describe.ensures.aborts (λ before_d.
             let at = it in
             let xs = at.elements.elements in
             let hs = at.housings.housings in

@@ -18,7 +18,7 @@ returns-in_err-execute-clause-leaves g c inside =
     let cut = write_cut insert_office_text _ old new insert_office_command refl known c.in_err-execute.field-0.0 c.in_err-execute.ensures.runs c.execute.ensures.survives in
     let disk = λ (clean : HasCleanDisk new). write_disk insert_office_text _ old new insert_office_command refl (known (early old new _ c.execute.ensures.survives clean)) c.in_err-execute.field-0.0 (c.in_err-execute.ensures.runs clean) in
     let spared = λ (clean : HasCleanDisk new). spares_stopped old new (fault_of c.in_err-execute.field-0.0) (disk clean) (stops insert_office_text _ old new c.in_err-execute.field-0.0 (c.in_err-execute.ensures.runs clean)) in
-    record { crash = cut.crash; goes = search rules; cut = search (rules, cut); spares = λ clean. let it = spared clean in search (rules, it) }
+    record { crash = cut.crash; goes = search rules; aborts = search (rules, cut); spares = λ clean. let it = spared clean in search (rules, it) }
 
 pub returns-clause-leaves : goal.returns-clause-leaves
 returns-clause-leaves g c inside =
@@ -29,7 +29,7 @@ returns-clause-leaves g c inside =
     let done = λ (clean : HasCleanDisk new). insert_office_done old new g.P.Versioned.version c.args.row.now c.in_ok-execute.field-0 (at clean).0 (at clean).1 (ran clean) in
     let known = in_office insert_office_text insert_office_command old (office_of g.P.Versioned.version old inside) insert_office_is insert_office_plain in
     let went = write_went insert_office_text _ old new insert_office_command refl known (λ clean. ((at clean).0, (at clean).1, (done clean).0, (done clean).1)) c.execute.ensures.survives in
-    record { crash = went.on.crash; goes = went; cut = tt; spares = λ _. tt }
+    record { crash = went.on.crash; goes = went; aborts = tt; spares = λ _. tt }
 
 pub returns-clause-puts : goal.returns-clause-puts
 returns-clause-puts g c inside clean =

@@ -5,7 +5,7 @@ use Rattle.sqlite.specs.Effect.{Database}
 use Rattle.sqlite.specs.Held.{state}
 use Rattle.tree_core.specs.Forest.{nodes}
 use Rattle.catalogue_core.proofs.NodeLemmas.{length-nodes}
-use Rattle.office_tables.specs.RowCounts.{capped}
+use Rattle.office_tables.specs.RowCounts.{cap}
 use Rattle.office_tables.specs.Schema as tables
 use Rattle.office_tables.specs.declared.fault.StoreFault.TheVariants as fault
 use Rattle.catalogue_statements.specs.Rows.{counted_from}
@@ -28,8 +28,8 @@ returns-in_err-containers g c =
     let e = c.in_err-containers.field-0.0 in
     let looked = looks_then a b d c.in_ok-rows.ensures.reads.looks c.in_ok-units.ensures.reads.looks in
     record {
-      tells = tells_cut g.S.Store (RepresentsSettings g.P.Places.represents g.P.Versioned.version) AreLegibleSettings (λ _. ⊤) c.args.tables.now c.count_units.new.tables c.count_containers.new.tables c.from_residual-in_err-containers.result (λ k o office. office ≡ told_office k o) e
-          (same_fault c.from_residual-in_err-containers.result e handed.0 handed.1) looked c.in_err-containers.ensures.reads.cut c.in_err-containers.ensures.reads.spares
+      answers = tells_cut g.S.Store (RepresentsSettings g.P.Places.represents g.P.Versioned.version) AreLegibleSettings (λ _. ⊤) c.args.tables.now c.count_units.new.tables c.count_containers.new.tables c.from_residual-in_err-containers.result (λ k o office. office ≡ told_office k o) e
+          (same_fault c.from_residual-in_err-containers.result e handed.0 handed.1) looked c.in_err-containers.ensures.reads.aborts c.in_err-containers.ensures.reads.spares
           (λ k o it may legible at_d clean free.
           c.in_err-containers.ensures.faults (counted_from 1 k.containers) (ap (λ (db : Database). db.trees tables.container.tree) (looked.same at_d) ∙ it.catalogue.containers) tt clean free);
     }
@@ -42,7 +42,7 @@ returns-in_default g c =
     let e = state g.S.Store c.count_containers.new.tables in
     let looked = looks_then a d e (looks_then a b d c.in_ok-rows.ensures.reads.looks c.in_ok-units.ensures.reads.looks) c.in_ok-containers.ensures.reads.looks in
     record {
-      tells = tells_not g.S.Store (RepresentsSettings g.P.Places.represents g.P.Versioned.version) AreLegibleSettings (λ _. ⊤) c.args.tables.now c.count_containers.new.tables _ (λ k o office. office ≡ told_office k o) fault.Schema
+      answers = tells_not g.S.Store (RepresentsSettings g.P.Places.represents g.P.Versioned.version) AreLegibleSettings (λ _. ⊤) c.args.tables.now c.count_containers.new.tables _ (λ k o office. office ≡ told_office k o) fault.Schema
           refl (cut_after a e looked.goes.on) (spares_known a e looked)
           (λ k o it may legible clean free.
           let at_d = early d e _ c.in_ok-containers.ensures.reads.looks.goes.on.crash clean in
@@ -60,14 +60,14 @@ returns-in_err-only_number g c =
     let fault = c.in_err-only_number.field-0.0 in
     let looked = looks_then a d e (looks_then a b d c.in_ok-rows.ensures.reads.looks c.in_ok-units.ensures.reads.looks) c.in_ok-containers.ensures.reads.looks in
     record {
-      tells = tells_not g.S.Store (RepresentsSettings g.P.Places.represents g.P.Versioned.version) AreLegibleSettings (λ _. ⊤) c.args.tables.now c.count_containers.new.tables c.from_residual-in_err-only_number.result (λ k o office. office ≡ told_office k o) fault
+      answers = tells_not g.S.Store (RepresentsSettings g.P.Places.represents g.P.Versioned.version) AreLegibleSettings (λ _. ⊤) c.args.tables.now c.count_containers.new.tables c.from_residual-in_err-only_number.result (λ k o office. office ≡ told_office k o) fault
           (same_fault c.from_residual-in_err-only_number.result fault handed.0 handed.1) (cut_after a e looked.goes.on) (λ clean. spares_own a e looked clean fault c.in_err-only_number.ensures.fair)
           (λ k o it may legible clean free.
           let at_d = early d e _ c.in_ok-containers.ensures.reads.looks.goes.on.crash clean in
           let at_b = early b d _ c.in_ok-units.ensures.reads.looks.goes.on.crash at_d in
           let at = it.catalogue.units in
           let counted = c.in_ok-units.ensures.answers at_d at.units (ap (λ (db : Database). db.trees tables.unit.tree) (c.in_ok-rows.ensures.reads.looks.same at_b) ∙ at.rows) tt in
-          absurd (not_refused (c.in_err-only_number.ensures.value (capped (length at.units)) (c.deref.ensures.value ∙ counted))));
+          absurd (not_refused (c.in_err-only_number.ensures.value (cap (length at.units)) (c.deref.ensures.value ∙ counted))));
     }
 
 pub returns-in_err-only_number-2 : goal.returns-in_err-only_number-2
@@ -81,12 +81,12 @@ returns-in_err-only_number-2 g c =
     let looked_d = looks_then a b d c.in_ok-rows.ensures.reads.looks c.in_ok-units.ensures.reads.looks in
     let looked = looks_then a d e looked_d c.in_ok-containers.ensures.reads.looks in
     record {
-      tells = tells_not g.S.Store (RepresentsSettings g.P.Places.represents g.P.Versioned.version) AreLegibleSettings (λ _. ⊤) c.args.tables.now c.count_containers.new.tables c.from_residual-in_err-only_number-2.result (λ k o office. office ≡ told_office k o) fault
+      answers = tells_not g.S.Store (RepresentsSettings g.P.Places.represents g.P.Versioned.version) AreLegibleSettings (λ _. ⊤) c.args.tables.now c.count_containers.new.tables c.from_residual-in_err-only_number-2.result (λ k o office. office ≡ told_office k o) fault
           (same_fault c.from_residual-in_err-only_number-2.result fault handed.0 handed.1) (cut_after a e looked.goes.on) (λ clean. spares_own a e looked clean fault c.in_err-only_number-2.ensures.fair)
           (λ k o it may legible clean free.
           let at_d = early d e _ c.in_ok-containers.ensures.reads.looks.goes.on.crash clean in
           let boxes = c.in_ok-containers.ensures.answers clean (counted_from 1 k.containers) (ap (λ (db : Database). db.trees tables.container.tree) (looked_d.same at_d) ∙ it.catalogue.containers) tt in
-          absurd (not_refused (c.in_err-only_number-2.ensures.value (capped (length (counted_from 1 k.containers))) (c.deref-2.ensures.value ∙ boxes))));
+          absurd (not_refused (c.in_err-only_number-2.ensures.value (cap (length (counted_from 1 k.containers))) (c.deref-2.ensures.value ∙ boxes))));
     }
 
 pub returns : goal.returns
@@ -98,20 +98,20 @@ returns g c =
     let looked_b = c.in_ok-rows.ensures.reads.looks in
     let looked_d = looks_then a b d looked_b c.in_ok-units.ensures.reads.looks in
     record {
-      tells = record {
+      answers = record {
         answers = λ clean k o it.
             let at = it.catalogue in
             let at_d = early d e _ c.in_ok-containers.ensures.reads.looks.goes.on.crash clean in
             let at_b = early b d _ c.in_ok-units.ensures.reads.looks.goes.on.crash at_d in
             let row = last_of c.pop.new.self.items c.in-Some.row o (sym (c.in_ok-rows.ensures.rows at_b g.P.Versioned.version o at.office) ∙ c.in-Some.ensures.items) in
             let counted = c.in_ok-units.ensures.answers at_d at.units.units (ap (λ (db : Database). db.trees tables.unit.tree) (looked_b.same at_b) ∙ at.units.rows) tt in
-            let units = same_number (c.in_ok-only_number.ensures.value (capped (length at.units.units)) (c.deref.ensures.value ∙ counted))
-            ∙ ap capped (length_permutation (nodes k.forest) at.units.units at.units.are ∙ length-nodes k.forest) in
+            let units = same_number (c.in_ok-only_number.ensures.value (cap (length at.units.units)) (c.deref.ensures.value ∙ counted))
+            ∙ ap cap (length_permutation (nodes k.forest) at.units.units at.units.are ∙ length-nodes k.forest) in
             let boxes = c.in_ok-containers.ensures.answers clean (counted_from 1 k.containers) (ap (λ (db : Database). db.trees tables.container.tree) (looked_d.same at_d) ∙ at.containers) tt in
-            let containers = same_number (c.in_ok-only_number-2.ensures.value (capped (length (counted_from 1 k.containers))) (c.deref-2.ensures.value ∙ boxes)) ∙ ap capped (length-counted 1 k.containers) in
+            let containers = same_number (c.in_ok-only_number-2.ensures.value (cap (length (counted_from 1 k.containers))) (c.deref-2.ensures.value ∙ boxes)) ∙ ap cap (length-counted 1 k.containers) in
             rw (row, units, containers) refl;
         looks = looks_then a d e looked_d c.in_ok-containers.ensures.reads.looks;
-        cut = tt;
+        aborts = tt;
         spares = λ clean. tt;
         faults = λ k o it may legible clean free. tt;
       };

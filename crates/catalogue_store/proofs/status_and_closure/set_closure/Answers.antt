@@ -11,8 +11,8 @@ use Rattle.catalogue_statements.proofs.Statuses.{shows_changed, kept_by}
 use Rattle.office_tables.proofs.Sparing.{untouched_last}
 use Rattle.catalogue_store.proofs.status_and_closure.set_closure.Goals as goal
 
-pub returns-clause-makes : goal.returns-clause-makes
-returns-clause-makes g c =
+pub returns-clause-updates : goal.returns-clause-updates
+returns-clause-updates g c =
     let a = state g.S.Store c.args.tables.now in
     let b = state g.S.Store c.set_until.new.tables in
     let left = c.set_until.ensures.leaves in
@@ -27,7 +27,7 @@ returns-clause-makes g c =
           left.goes (c.set_until.ensures.rows clean at.units at.rows at.rise);
       only = c.set_until.ensures.only;
       goes = left.goes;
-      cut = left.cut;
+      aborts = left.aborts;
       spares = λ clean. untouched_last (tables.unit.tree ∷ []) a b c.set_until.result (left.spares clean);
       faults = λ o k it may kept. let at = it.catalogue.units in c.set_until.ensures.faults at.units at.rows at.rise;
     }

@@ -50,7 +50,7 @@ returns-in_err-set_draft-clause-leaves g c =
     let b = state g.S.Store c.loop-unit.tables in
     let d = state g.S.Store c.set_draft.new.tables in
     let e = c.from_residual.ensures in
-    left_fault (tables.unit.tree ∷ []) a b d c.loop-unit.invariant.goes c.loop-unit.invariant.only c.from_residual.result c.in_err-set_draft.field-0.0 (same_fault c.from_residual.result c.in_err-set_draft.field-0.0 e.0 e.1) c.in_err-set_draft.ensures.leaves.cut
+    left_fault (tables.unit.tree ∷ []) a b d c.loop-unit.invariant.goes c.loop-unit.invariant.only c.from_residual.result c.in_err-set_draft.field-0.0 (same_fault c.from_residual.result c.in_err-set_draft.field-0.0 e.0 e.1) c.in_err-set_draft.ensures.leaves.aborts
     (λ clean. untouched (tables.unit.tree ∷ []) b d c.in_err-set_draft.field-0.0 (c.in_err-set_draft.ensures.leaves.spares clean))
 
 pub returns-clause-leaves : goal.returns-clause-leaves
@@ -71,7 +71,7 @@ returns-in_err-set_draft-clause-faults g c o k it low clean free =
     let b = state g.S.Store c.loop-unit.tables in
     let d = state g.S.Store c.set_draft.new.tables in
     let so_far = c.loop-unit.invariant in
-    let before = early b d _ c.in_err-set_draft.ensures.leaves.cut.crash clean in
+    let before = early b d _ c.in_err-set_draft.ensures.leaves.aborts.crash clean in
     let at = (so_far.represents before o k it).catalogue.units in
     let why = c.in_err-set_draft.ensures.faults at.units at.rows at.rise clean (still_unlimited a b so_far.goes.on free) in
     let whole = cause_then a b d so_far.goes.on before _ why in

@@ -20,20 +20,20 @@ use Rattle.catalogue_statements.proofs.Statuses.{low_chosen}
 use Rattle.office_tables.proofs.Sparing.{looked_spares}
 use Rattle.catalogue_store.proofs.status_and_closure.set_status.Goals as goal
 
-pub returns-in_err-units-clause-makes : goal.returns-in_err-units-clause-makes
-returns-in_err-units-clause-makes g c =
+pub returns-in_err-units-clause-updates : goal.returns-in_err-units-clause-updates
+returns-in_err-units-clause-updates g c =
     let e = c.from_residual.ensures in
-    let why = c.in_err-units.ensures.tells in
+    let why = c.in_err-units.ensures.answers in
     makes_not g.S.Store (Represents g.P.Places.represents g.P.Versioned.version) IsKept (λ _. ⊤) c.args.tables.now c.units_under.new.tables c.from_residual.result (λ k. with_status (chosen c.args.whole c.args.unit k) c.args.draft k) (tables.unit.tree ∷ []) c.in_err-units.field-0.0
-    (same_fault c.from_residual.result c.in_err-units.field-0.0 e.0 e.1) why.cut why.spares (λ o k it may kept. why.faults tt (each (λ (u : Unit). u.id) k.forest) it.shown tt kept.places)
+    (same_fault c.from_residual.result c.in_err-units.field-0.0 e.0 e.1) why.aborts why.spares (λ o k it may kept. why.faults tt (each (λ (u : Unit). u.id) k.forest) it.shown tt kept.places)
 
-pub returns-in_err-set_drafts-clause-makes : goal.returns-in_err-set_drafts-clause-makes
-returns-in_err-set_drafts-clause-makes g c =
+pub returns-in_err-set_drafts-clause-updates : goal.returns-in_err-set_drafts-clause-updates
+returns-in_err-set_drafts-clause-updates g c =
     let a = state g.S.Store c.args.tables.now in
     let b = state g.S.Store c.units_under.new.tables in
     let d = state g.S.Store c.set_drafts.new.tables in
-    let told = c.in_ok-units.ensures.tells in
-    let cut = c.in_err-set_drafts.ensures.leaves.cut in
+    let told = c.in_ok-units.ensures.answers in
+    let cut = c.in_err-set_drafts.ensures.leaves.aborts in
     let spares = c.in_err-set_drafts.ensures.leaves.spares in
     let last = c.from_residual-in_err-set_drafts.ensures in
     let e = c.in_err-set_drafts.field-0.0 in
@@ -47,12 +47,12 @@ returns-in_err-set_drafts-clause-makes g c =
     let shown = subst (λ (db : Database). Represents g.P.Places.represents g.P.Versioned.version db o k) (sym (told.looks.same before)) it in
     c.in_err-set_drafts.ensures.faults o k shown low clean (still_unlimited a b told.looks.goes.on free)))
 
-pub returns-clause-makes : goal.returns-clause-makes
-returns-clause-makes g c =
+pub returns-clause-updates : goal.returns-clause-updates
+returns-clause-updates g c =
     let a = state g.S.Store c.args.tables.now in
     let b = state g.S.Store c.units_under.new.tables in
     let d = state g.S.Store c.set_drafts.new.tables in
-    let told = c.in_ok-units.ensures.tells in
+    let told = c.in_ok-units.ensures.answers in
     let went = c.in_ok-set_drafts.ensures.leaves.goes in
     record {
       represents_updated = λ clean o k it may.
@@ -63,7 +63,7 @@ returns-clause-makes g c =
           (c.in_ok-set_drafts.ensures.represents clean o k (subst (λ (db : Database). represents db k) (sym (told.looks.same before)) it));
       only = λ clean. subst (λ (db : Database). OnlyTouches (tables.unit.tree ∷ []) db d.now) (told.looks.same (early b d _ went.on.crash clean)) (c.in_ok-set_drafts.ensures.only clean);
       goes = goes_then a b d told.looks.goes went;
-      cut = tt;
+      aborts = tt;
       spares = λ clean. tt;
       faults = λ o k it may kept clean free. tt;
     }
@@ -74,4 +74,4 @@ returns-clause-count g c clean f it =
     let d = state g.S.Store c.set_drafts.new.tables in
     let before = early b d _ c.in_ok-set_drafts.ensures.leaves.goes.on.crash clean in
     let long : c.len.result ≡ length c.in_ok-units.units.items = omega arith in
-    long ∙ ap length (c.in_ok-units.ensures.tells.answers before tt f it)
+    long ∙ ap length (c.in_ok-units.ensures.answers.answers before tt f it)

@@ -41,7 +41,7 @@ returns-in_err-container_of-clause-reads g c =
     let d = state g.S.Store c.container_of.new.tables in
     let handed = c.from_residual.ensures in
     read_cut a b d c.from_residual.result c.in_err-container_of.field-0.0 (same_fault c.from_residual.result c.in_err-container_of.field-0.0 handed.0 handed.1)
-    c.loop-number.invariant.0 c.in_err-container_of.ensures.reads.cut c.in_err-container_of.ensures.reads.spares
+    c.loop-number.invariant.0 c.in_err-container_of.ensures.reads.aborts c.in_err-container_of.ensures.reads.spares
 
 pub returns-in_err-push-clause-reads : goal.returns-in_err-push-clause-reads
 returns-in_err-push-clause-reads g c =
@@ -58,7 +58,7 @@ returns-in_err-container_of-clause-faults g c boxes at legible few bs known is c
     let b = state g.S.Store c.loop-number.tables in
     let d = state g.S.Store c.container_of.new.tables in
     let looked = c.loop-number.invariant.0 in
-    let before = early b d _ c.in_err-container_of.ensures.reads.cut.crash clean in
+    let before = early b d _ c.in_err-container_of.ensures.reads.aborts.crash clean in
     let free_b : IsUnlimited b = still_unlimited a b looked.goes.on free in
     let there : RepresentsContainers b.now.trees boxes = ap (λ (db : Database). db.trees tables.container.tree) (looked.same before) ∙ at in
     let box = box_at boxes bs c.args.numbers.now c.loop-number.number-index known is c.loop-number-test.true in

@@ -25,8 +25,8 @@ pub returns-in_err-found : goal.returns-in_err-found
 returns-in_err-found g c =
     let handed = c.from_residual.ensures in
     record {
-      tells = tells_not g.S.Store (TellsTexts c.args.unit) (AllByRecursion (λ (e : ElementRow). IsUtf8 e.value)) (λ _. ⊤) c.args.tables.now c.elements_of.new.tables c.from_residual.result _ c.in_err-found.field-0.0
-          (same_fault c.from_residual.result c.in_err-found.field-0.0 handed.0 handed.1) c.in_err-found.ensures.reads.cut c.in_err-found.ensures.reads.spares
+      answers = tells_not g.S.Store (TellsTexts c.args.unit) (AllByRecursion (λ (e : ElementRow). IsUtf8 e.value)) (λ _. ⊤) c.args.tables.now c.elements_of.new.tables c.from_residual.result _ c.in_err-found.field-0.0
+          (same_fault c.from_residual.result c.in_err-found.field-0.0 handed.0 handed.1) c.in_err-found.ensures.reads.aborts c.in_err-found.ensures.reads.spares
           (λ values xs it may legible clean free. c.in_err-found.ensures.faults xs it.rows legible clean free);
     }
 
@@ -43,11 +43,11 @@ returns g c =
     let cells = cells_read (λ (e : ElementRow). e.unit) cell_of c.args.unit (element_cells values) xs got.0 (elements_in_order values) it.are got.1.0 got.1.1 in
     ap (map told_of) got.2 ∙ map-map told_of read got.0 ∙ cells in
     record {
-      tells = record {
-        answers = λ clean values xs it. c.placed.ensures.value values it.places (are clean values xs it);
-        looks = on_ok_from c.placed.result _ looked;
-        cut = cut_looks c.placed.result old new looked;
-        spares = λ clean. if_err_then c.placed.result _ (Spares IsSame old new) (λ e is. subst (Spares IsSame old new) (sym is) (spares_known old new looked clean)) c.placed.ensures.fair;
-        faults = λ values xs it may legible clean free. never_fails c.placed.result (HasCause old new) (c.placed.ensures.places values it.places (are clean values xs it));
+      answers = record {
+        answers = λ clean values xs it. c.texts_by_element.ensures.value values it.places (are clean values xs it);
+        looks = on_ok_from c.texts_by_element.result _ looked;
+        aborts = cut_looks c.texts_by_element.result old new looked;
+        spares = λ clean. if_err_then c.texts_by_element.result _ (Spares IsSame old new) (λ e is. subst (Spares IsSame old new) (sym is) (spares_known old new looked clean)) c.texts_by_element.ensures.fair;
+        faults = λ values xs it may legible clean free. never_fails c.texts_by_element.result (HasCause old new) (c.texts_by_element.ensures.places values it.places (are clean values xs it));
       };
     }

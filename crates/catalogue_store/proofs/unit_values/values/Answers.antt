@@ -29,8 +29,8 @@ returns-in_err-levels g c =
     let handed = c.from_residual.ensures in
     let e = c.in_err-levels.field-0.0 in
     record {
-      tells = tells_not g.S.Store RepresentsValues IsKept KnowsItsContainers c.args.tables.now c.levels_of.new.tables c.from_residual.result (λ _ k found. found ≡ values_of c.args.unit k) e
-          (same_fault c.from_residual.result e handed.0 handed.1) c.in_err-levels.ensures.reads.cut c.in_err-levels.ensures.reads.spares
+      answers = tells_not g.S.Store RepresentsValues IsKept KnowsItsContainers c.args.tables.now c.levels_of.new.tables c.from_residual.result (λ _ k found. found ≡ values_of c.args.unit k) e
+          (same_fault c.from_residual.result e handed.0 handed.1) c.in_err-levels.ensures.reads.aborts c.in_err-levels.ensures.reads.spares
           (λ o k it knows kept clean free. let at = it.catalogue.units in c.in_err-levels.ensures.faults at.units at.rows (legible_units a.now.trees k at kept) clean free);
     }
 
@@ -38,7 +38,7 @@ pub returns-in_default : goal.returns-in_default
 returns-in_default g c =
     let a = state g.S.Store c.args.tables.now in
     record {
-      tells = record {
+      answers = record {
         answers = λ clean o k it.
             let at = it.catalogue.units in
             let got = c.in_ok-levels.ensures.answers clean at.units at.rows tt in
@@ -46,7 +46,7 @@ returns-in_default g c =
             let told = λ (u : Unit). (let x : UnitValues = record { values = u.values; containers = map (box_number k.containers) u.values.boxes } in x) in
             sym (ap (option_map told) (none_found a.now.trees k.forest at c.args.unit got.0 got.1.0 few));
         looks = c.in_ok-levels.ensures.reads.looks;
-        cut = tt;
+        aborts = tt;
         spares = λ clean. tt;
         faults = λ o k it knows kept clean free. tt;
       };
@@ -59,14 +59,14 @@ returns-in_err-texts g c =
     let e = c.in_err-texts.field-0.0 in
     let looked = c.in_ok-levels.ensures.reads.looks in
     record {
-      tells = tells_cut g.S.Store RepresentsValues IsKept KnowsItsContainers c.args.tables.now c.levels_of.new.tables c.texts_of.new.tables c.from_residual-in_err-texts.result (λ _ k found. found ≡ values_of c.args.unit k) e
-          (same_fault c.from_residual-in_err-texts.result e handed.0 handed.1) looked c.in_err-texts.ensures.tells.cut c.in_err-texts.ensures.tells.spares
+      answers = tells_cut g.S.Store RepresentsValues IsKept KnowsItsContainers c.args.tables.now c.levels_of.new.tables c.texts_of.new.tables c.from_residual-in_err-texts.result (λ _ k found. found ≡ values_of c.args.unit k) e
+          (same_fault c.from_residual-in_err-texts.result e handed.0 handed.1) looked c.in_err-texts.ensures.answers.aborts c.in_err-texts.ensures.answers.spares
           (λ o k it knows kept at_b clean free.
           let at = it.catalogue in
           let got = c.in_ok-levels.ensures.answers at_b at.units.units at.units.rows tt in
           let found = one_found a.now.trees k.forest at.units c.args.unit got.0 got.1.0 c.pop.new.self.items c.in-Some.level (sym got.2 ∙ c.in-Some.ensures.items) in
           let texts = subst (λ (db : Database). TellsTexts c.args.unit db found.0.values at.elements.elements) (sym (looked.same at_b)) (texts_told a.now o k it c.args.unit found.0 found.1 found.2) in
-          c.in_err-texts.ensures.tells.faults found.0.values at.elements.elements texts tt (legible_elements a.now.trees k.forest at.elements kept.units) clean free);
+          c.in_err-texts.ensures.answers.faults found.0.values at.elements.elements texts tt (legible_elements a.now.trees k.forest at.elements kept.units) clean free);
     }
 
 pub returns-in_err-containers : goal.returns-in_err-containers
@@ -76,10 +76,10 @@ returns-in_err-containers g c =
     let d = state g.S.Store c.texts_of.new.tables in
     let handed = c.from_residual-in_err-containers.ensures in
     let e = c.in_err-containers.field-0.0 in
-    let looked = looks_then a b d c.in_ok-levels.ensures.reads.looks c.in_ok-texts.ensures.tells.looks in
+    let looked = looks_then a b d c.in_ok-levels.ensures.reads.looks c.in_ok-texts.ensures.answers.looks in
     record {
-      tells = tells_cut g.S.Store RepresentsValues IsKept KnowsItsContainers c.args.tables.now c.texts_of.new.tables c.containers_of.new.tables c.from_residual-in_err-containers.result (λ _ k found. found ≡ values_of c.args.unit k) e
-          (same_fault c.from_residual-in_err-containers.result e handed.0 handed.1) looked c.in_err-containers.ensures.reads.cut c.in_err-containers.ensures.reads.spares
+      answers = tells_cut g.S.Store RepresentsValues IsKept KnowsItsContainers c.args.tables.now c.texts_of.new.tables c.containers_of.new.tables c.from_residual-in_err-containers.result (λ _ k found. found ≡ values_of c.args.unit k) e
+          (same_fault c.from_residual-in_err-containers.result e handed.0 handed.1) looked c.in_err-containers.ensures.reads.aborts c.in_err-containers.ensures.reads.spares
           (λ o k it knows kept at_d clean free.
           let at = it.catalogue.housings in
           c.in_err-containers.ensures.faults at.housings (still_numbered housing_row _ _ at.housings (ap (λ (db : Database). db.trees tables.housing.tree) (looked.same at_d)) at.rows) clean free);
@@ -93,15 +93,15 @@ returns-in_err-boxes g c =
     let e = state g.S.Store c.containers_of.new.tables in
     let handed = c.from_residual-in_err-boxes.ensures in
     let fault = c.in_err-boxes.field-0.0 in
-    let looked_d = looks_then a b d c.in_ok-levels.ensures.reads.looks c.in_ok-texts.ensures.tells.looks in
+    let looked_d = looks_then a b d c.in_ok-levels.ensures.reads.looks c.in_ok-texts.ensures.answers.looks in
     let looked = looks_then a d e looked_d c.in_ok-containers.ensures.reads.looks in
     record {
-      tells = tells_cut g.S.Store RepresentsValues IsKept KnowsItsContainers c.args.tables.now c.containers_of.new.tables c.boxes_of.new.tables c.from_residual-in_err-boxes.result (λ _ k found. found ≡ values_of c.args.unit k) fault
-          (same_fault c.from_residual-in_err-boxes.result fault handed.0 handed.1) looked c.in_err-boxes.ensures.reads.cut c.in_err-boxes.ensures.reads.spares
+      answers = tells_cut g.S.Store RepresentsValues IsKept KnowsItsContainers c.args.tables.now c.containers_of.new.tables c.boxes_of.new.tables c.from_residual-in_err-boxes.result (λ _ k found. found ≡ values_of c.args.unit k) fault
+          (same_fault c.from_residual-in_err-boxes.result fault handed.0 handed.1) looked c.in_err-boxes.ensures.reads.aborts c.in_err-boxes.ensures.reads.spares
           (λ o k it knows kept at_e clean free.
           let at = it.catalogue in
           let at_d = early d e _ c.in_ok-containers.ensures.reads.looks.goes.on.crash at_e in
-          let at_b = early b d _ c.in_ok-texts.ensures.tells.looks.goes.on.crash at_d in
+          let at_b = early b d _ c.in_ok-texts.ensures.answers.looks.goes.on.crash at_d in
           let got = c.in_ok-levels.ensures.answers at_b at.units.units at.units.rows tt in
           let found = one_found a.now.trees k.forest at.units c.args.unit got.0 got.1.0 c.pop.new.self.items c.in-Some.level (sym got.2 ∙ c.in-Some.ensures.items) in
           let u = found.0 in
@@ -119,27 +119,27 @@ returns g c =
     let e = state g.S.Store c.containers_of.new.tables in
     let h = state g.S.Store c.boxes_of.new.tables in
     let looked_b = c.in_ok-levels.ensures.reads.looks in
-    let looked_d = looks_then a b d looked_b c.in_ok-texts.ensures.tells.looks in
+    let looked_d = looks_then a b d looked_b c.in_ok-texts.ensures.answers.looks in
     let looked_e = looks_then a d e looked_d c.in_ok-containers.ensures.reads.looks in
     record {
-      tells = record {
+      answers = record {
         answers = λ clean o k it.
             let at = it.catalogue in
             let at_e = early e h _ c.in_ok-boxes.ensures.reads.looks.goes.on.crash clean in
             let at_d = early d e _ c.in_ok-containers.ensures.reads.looks.goes.on.crash at_e in
-            let at_b = early b d _ c.in_ok-texts.ensures.tells.looks.goes.on.crash at_d in
+            let at_b = early b d _ c.in_ok-texts.ensures.answers.looks.goes.on.crash at_d in
             let got = c.in_ok-levels.ensures.answers at_b at.units.units at.units.rows tt in
             let found = one_found a.now.trees k.forest at.units c.args.unit got.0 got.1.0 c.pop.new.self.items c.in-Some.level (sym got.2 ∙ c.in-Some.ensures.items) in
             let u = found.0 in
             let told = subst (λ (db : Database). TellsTexts c.args.unit db u.values at.elements.elements) (sym (looked_b.same at_b)) (texts_told a.now o k it c.args.unit u found.1 found.2) in
-            let texts = c.in_ok-texts.ensures.tells.answers at_d u.values at.elements.elements told in
+            let texts = c.in_ok-texts.ensures.answers.answers at_d u.values at.elements.elements told in
             let housed = containers_told a.now o k it c.args.unit u found.1 found.2 in
             let numbers = c.in_ok-containers.ensures.numbers at_e at.housings.housings (still_numbered housing_row _ _ at.housings.housings (ap (λ (db : Database). db.trees tables.housing.tree) (looked_d.same at_d)) at.housings.rows) k.containers u.values housed in
             let there : RepresentsContainers e.now.trees k.containers = ap (λ (db : Database). db.trees tables.container.tree) (looked_e.same at_e) ∙ at.containers in
             let boxes = c.in_ok-boxes.ensures.boxes clean k.containers there u.values.boxes (c.as_slice.ensures ∙ numbers) in
             rw (found.4, texts, boxes, numbers, found.3) refl;
         looks = looks_then a e h looked_e c.in_ok-boxes.ensures.reads.looks;
-        cut = tt;
+        aborts = tt;
         spares = λ clean. tt;
         faults = λ o k it knows kept clean free. tt;
       };

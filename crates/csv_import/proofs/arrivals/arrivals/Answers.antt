@@ -56,7 +56,7 @@ loop-row-preserved c =
           let before = subst (AreTold k.forest source next numbers items rows) rest (invariant.so_far k source knows) in
           let own = told_at k source rows known i item c.loop-row-test.true (sym c.row-item.is) knows.each in
           let parent = parent_at k source rows known i item c.loop-row-test.true (sym c.row-item.is) knows.parents in
-          let is = at_number k.forest source next (next + c.len.result) numbers items rows (drop (i + 1) rows) item c.arrival_of-brought.result unit before (made.tells k source own parent) in
+          let is = at_number k.forest source next (next + c.len.result) numbers items rows (drop (i + 1) rows) item c.arrival_of-brought.result unit before (made.answers k source own parent) in
           elim c.match-brought.branch [
             | in-Some+in_ok-remember+in_ok-push w ↦
                 rw (w.numbers-is, w.arrivals-is)
@@ -67,8 +67,8 @@ loop-row-preserved c =
           ];
     }
 
-pub returns-clause-tells : goal.returns-clause-tells
-returns-clause-tells c k knows =
+pub returns-clause-answers : goal.returns-clause-answers
+returns-clause-answers c k knows =
     let source = c.args.import.now.source.now in
     let rows = c.args.import.now.rows.now in
     let last = c.loop-row-test.false in

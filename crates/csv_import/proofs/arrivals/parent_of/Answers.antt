@@ -7,8 +7,8 @@ use Rattle.catalogue_core.specs.EntryByRow.{number_there}
 use Rattle.csv_import.specs.RowPlan.{or_there}
 use Rattle.csv_import.proofs.arrivals.parent_of.Goals as goal
 
-pub returns-clause-tells : goal.returns-clause-tells
-returns-clause-tells c k source told next above knows =
+pub returns-clause-answers : goal.returns-clause-answers
+returns-clause-answers c k source told next above knows =
     let p = c.in-Some.parent in
     let none : get_by_text c.args.numbers.now p ≡ None = ap (get_by_text c.args.numbers.now) (sym c.as_str.ensures) ∙ sym c.in_default-get.ensures.value in
     let there : get_by_text c.args.catalogued.now p ≡ number_there k source p = subst (λ o. IfSome o (λ parent. get_by_text c.args.catalogued.now parent ≡ number_there k source parent)) c.in-Some.is told in

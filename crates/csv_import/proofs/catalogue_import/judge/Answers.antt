@@ -12,7 +12,7 @@ use Rattle.office_core.specs.State.{State}
 use Rattle.office_core.specs.declared.done.Done.TheVariants as done
 use Rattle.office_core.specs.declared.done.Remark.{Remark}
 use Rattle.office_tables.proofs.Calls.{early, looks_then, still}
-use Rattle.refinement.specs.Gate.{gated}
+use Rattle.refinement.specs.Gate.{gate_reply}
 use Rattle.refinement.specs.Representation.{RepresentsState, office_of}
 use Rattle.refinement.proofs.Doings.{tells_passed}
 use Rattle.csv_import.specs.CatalogueImport.{told_of}
@@ -22,18 +22,18 @@ use Rattle.csv_import.proofs.catalogue_import.judge.Goals as goal
 
 pub returns-in_err-has_many_containers : goal.returns-in_err-has_many_containers
 returns-in_err-has_many_containers g c =
-    let told = c.in_err-has_many_containers.ensures.tells in
+    let told = c.in_err-has_many_containers.ensures.answers in
     record {
-      tells = λ source. tells_passed _ c.from_residual.ensures told.cut (λ beside s it may has. told.faults s.catalogue (office_of s) it.catalogue tt (settings_shown s has.imported.settings));
+      answers = λ source. tells_passed _ c.from_residual.ensures told.aborts (λ beside s it may has. told.faults s.catalogue (office_of s) it.catalogue tt (settings_shown s has.imported.settings));
     }
 
 pub returns-then-branch : goal.returns-then-branch
 returns-then-branch g c =
-    let told = c.in_ok-has_many_containers.ensures.tells in
+    let told = c.in_ok-has_many_containers.ensures.answers in
     record {
-      tells = λ source. tells_so told.looks (λ clean beside s it has day.
+      answers = λ source. tells_so told.looks (λ clean beside s it has day.
           let many : nat_lt most_containers (length s.catalogue.containers) ≡ true = sym (told.answers clean s.catalogue (office_of s) it.catalogue) ∙ c.if-branch.true in
-          sym (ap (λ (b : Bool). cond b (Err Full) (gated s (told_of source c.args.file.now c.args.outcome.now.counts s))) many));
+          sym (ap (λ (b : Bool). cond b (Err Full) (gate_reply s (told_of source c.args.file.now c.args.outcome.now.counts s))) many));
     }
 
 pub remarks-requires : goal.remarks-requires
@@ -41,11 +41,11 @@ remarks-requires g c = record { small = subst (AllByRecursion IsNumber) (sym c.d
 
 pub returns-in_err-remarks : goal.returns-in_err-remarks
 returns-in_err-remarks g c =
-    let counted = c.in_ok-has_many_containers.ensures.tells in
+    let counted = c.in_ok-has_many_containers.ensures.answers in
     record {
-      tells = λ source.
-          let told = c.in_err-remarks.ensures.tells source in
-          tells_cut_later c.has_many_containers.new.tables _ c.from_residual-in_err-remarks.ensures counted.looks told.cut (λ beside s it may has at_b clean free.
+      answers = λ source.
+          let told = c.in_err-remarks.ensures.answers source in
+          tells_cut_later c.has_many_containers.new.tables _ c.from_residual-in_err-remarks.ensures counted.looks told.aborts (λ beside s it may has at_b clean free.
           let within = few_containers s (counted.answers at_b s.catalogue (office_of s) it.catalogue) c.if-branch.false in
           let still = subst (λ (db : Database). RepresentsState g.P.Places.represents g.P.Versioned.version db s) (sym (counted.looks.same at_b)) it in
           told.faults (office_of s) s.catalogue still.catalogue (have_units source c.args.file.now c.args.outcome.now.units.items s within has _ c.as_slice.ensures _ c.deref.ensures.value) (has.imported.judged within).catalogue clean free);
@@ -56,14 +56,14 @@ returns g c =
     let v = g.P.Versioned.version in
     let b = state g.S.Store c.has_many_containers.new.tables in
     let d = state g.S.Store c.remarks.new.tables in
-    let counted = c.in_ok-has_many_containers.ensures.tells in
-    let looks = looks_then _ b d counted.looks (c.in_ok-remarks.ensures.tells []).looks in
+    let counted = c.in_ok-has_many_containers.ensures.answers in
+    let looks = looks_then _ b d counted.looks (c.in_ok-remarks.ensures.answers []).looks in
     let n = c.args.outcome.now.counts in
     record {
-      tells = λ source.
-          let told = c.in_ok-remarks.ensures.tells source in
+      answers = λ source.
+          let told = c.in_ok-remarks.ensures.answers source in
           let within = λ (clean : HasCleanDisk d) (s : State) (it : Represents g.P.Places.represents v (state g.S.Store c.args.tables.now).now (office_of s) s.catalogue). few_containers s (counted.answers (early b d _ told.looks.goes.on.crash clean) s.catalogue (office_of s) it) c.if-branch.false in
-          told_last (λ beside s. beside) (λ beside s. s) c.pass.ensures.tells looks
+          told_last (λ beside s. beside) (λ beside s. s) c.pass.ensures.answers looks
           (record {
             shown = λ clean beside s it. subst (λ (db : Database). RepresentsState g.P.Places.represents v db s) (sym (looks.same clean)) it;
             allowed = λ clean beside s it may has. (tt, has.imported.judged (within clean s it.catalogue));
@@ -74,7 +74,7 @@ returns g c =
           let still = subst (λ (db : Database). RepresentsState g.P.Places.represents v db s) (sym (counted.looks.same at_b)) it in
           let remarked = told.answers clean (office_of s) s.catalogue still.catalogue (have_units source c.args.file.now c.args.outcome.now.units.items s few has _ c.as_slice.ensures _ c.deref.ensures.value) ∙ ap (reply.remarks s.catalogue.forest source) c.as_slice.ensures in
           is (has.imported.judged few) day
-          ∙ (ap (λ (marks : List Remark). gated s (done.Import n.changed n.new marks n.same c.from.result)) remarked
-          ∙ ap (λ k. gated s (done.Import n.changed n.new (reply.remarks s.catalogue.forest source c.args.file.now.rows) n.same k)) c.from.ensures
+          ∙ (ap (λ (marks : List Remark). gate_reply s (done.Import n.changed n.new marks n.same c.from.result)) remarked
+          ∙ ap (λ k. gate_reply s (done.Import n.changed n.new (reply.remarks s.catalogue.forest source c.args.file.now.rows) n.same k)) c.from.ensures
           ∙ sym (judged_few s (told_of source c.args.file.now n s) few)));
     }

@@ -25,11 +25,11 @@ loop-row-init g c =
           (asked_nothing k c.args.source.now (contains_text c.new-asked.result) (get_by_text c.new-numbers.result) (λ q. rw (c.new-asked.ensures.empty) refl) (λ q. rw (c.new-numbers.ensures.empty) refl), tt);
     }
 
-pub returns-in_err-look_up_row-clause-tells : goal.returns-in_err-look_up_row-clause-tells
-returns-in_err-look_up_row-clause-tells g c =
+pub returns-in_err-look_up_row-clause-answers : goal.returns-in_err-look_up_row-clause-answers
+returns-in_err-look_up_row-clause-answers g c =
     let looks = c.loop-row.invariant.looks in
-    let told = c.in_err-look_up_row.ensures.tells in
-    tells_passed_later _ c.from_residual.ensures looks told.cut (λ o k it good kept. told.faults o k it good tt)
+    let told = c.in_err-look_up_row.ensures.answers in
+    tells_passed_later _ c.from_residual.ensures looks told.aborts (λ o k it good kept. told.faults o k it good tt)
 
 pub loop-row-preserved : goal.loop-row-preserved
 loop-row-preserved g c =
@@ -47,18 +47,18 @@ loop-row-preserved g c =
     let later = contains_text c.look_up_row.new.asked in
     let so : take (i + 1) rows ≡ take i rows ++ item ∷ [] = take_more rows i item c.loop-row-test.true ∙ ap (λ (r : RowTold). take i rows ++ r ∷ []) (sym c.row-item.is) in
     record {
-      looks = looks_then a b d invariant.looks row.tells.looks;
+      looks = looks_then a b d invariant.looks row.answers.looks;
       low = row.small;
       so_far = λ clean o k it good.
-          let at_b = early b d _ row.tells.looks.goes.on.crash clean in
+          let at_b = early b d _ row.answers.looks.goes.on.crash clean in
           let before = invariant.so_far at_b o k it good in
           let shown = subst (λ (db : Database). RepresentsEntering v db o k) (sym (invariant.looks.same at_b)) it in
-          let now = row.tells.answers clean o k shown good before.0 in
+          let now = row.answers.answers clean o k shown good before.0 in
           (now.0, subst (AllByRecursion (IsAsked k source later)) (sym so) (all_append (IsAsked k source later) (take i rows) (item ∷ []) (still_asked k source asked later row.more (take i rows) before.1) (now.1, tt)));
     }
 
-pub returns-clause-tells : goal.returns-clause-tells
-returns-clause-tells g c =
+pub returns-clause-answers : goal.returns-clause-answers
+returns-clause-answers g c =
     let rows = c.args.rows.now in
     let source = c.args.source.now in
     let asked = contains_text c.loop-row.asked in

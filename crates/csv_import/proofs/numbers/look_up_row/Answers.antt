@@ -11,9 +11,9 @@ use Rattle.csv_import.proofs.Noted.{noted_itself, still_noted}
 use Rattle.csv_import.proofs.Tellings.{tells_so}
 use Rattle.csv_import.proofs.numbers.look_up_row.Goals as goal
 
-pub returns-then-is_some-clause-tells : goal.returns-then-is_some-clause-tells
-returns-then-is_some-clause-tells g c =
-    let told = c.in_ok-look_up.ensures.tells in
+pub returns-then-is_some-clause-answers : goal.returns-then-is_some-clause-answers
+returns-then-is_some-clause-answers g c =
+    let told = c.in_ok-look_up.ensures.answers in
     let source = c.args.source.now in
     let legacy = c.args.row.now.legacy in
     tells_so told.looks (λ clean o k it good knows.
@@ -26,9 +26,9 @@ returns-then-is_some-clause-tells g c =
       },
     ))
 
-pub returns-in_default-clause-tells : goal.returns-in_default-clause-tells
-returns-in_default-clause-tells g c =
-    let told = c.in_ok-look_up.ensures.tells in
+pub returns-in_default-clause-answers : goal.returns-in_default-clause-answers
+returns-in_default-clause-answers g c =
+    let told = c.in_ok-look_up.ensures.answers in
     let legacy = c.args.row.now.legacy in
     tells_so told.looks (λ clean o k it good knows. (
       told.answers clean o k it good knows,
@@ -38,14 +38,14 @@ returns-in_default-clause-tells g c =
       },
     ))
 
-pub returns-in_err-look_up-2-clause-tells : goal.returns-in_err-look_up-2-clause-tells
-returns-in_err-look_up-2-clause-tells g c =
-    let looks = c.in_ok-look_up.ensures.tells.looks in
-    let told = c.in_err-look_up-2.ensures.tells in
-    tells_passed_later _ c.from_residual-in_err-look_up-2.ensures looks told.cut (λ o k it good kept. told.faults o k it good tt)
+pub returns-in_err-look_up-2-clause-answers : goal.returns-in_err-look_up-2-clause-answers
+returns-in_err-look_up-2-clause-answers g c =
+    let looks = c.in_ok-look_up.ensures.answers.looks in
+    let told = c.in_err-look_up-2.ensures.answers in
+    tells_passed_later _ c.from_residual-in_err-look_up-2.ensures looks told.aborts (λ o k it good kept. told.faults o k it good tt)
 
-pub returns-clause-tells : goal.returns-clause-tells
-returns-clause-tells g c =
+pub returns-clause-answers : goal.returns-clause-answers
+returns-clause-answers g c =
     let v = g.P.Versioned.version in
     let a = state g.S.Store c.args.tables.now in
     let b = state g.S.Store c.look_up.new.tables in
@@ -56,10 +56,10 @@ returns-clause-tells g c =
     let asked = contains_text c.args.asked.now in
     let mid = contains_text c.look_up.new.asked in
     let later = contains_text c.look_up-2.new.asked in
-    tells_so (looks_then a b d first.tells.looks second.tells.looks) (λ clean o k it good knows.
-    let at_b = early b d _ second.tells.looks.goes.on.crash clean in
-    let shown = subst (λ (db : Database). RepresentsEntering v db o k) (sym (first.tells.looks.same at_b)) it in
-    let now = second.tells.answers clean o k shown good (first.tells.answers at_b o k it good knows) in (
+    tells_so (looks_then a b d first.answers.looks second.answers.looks) (λ clean o k it good knows.
+    let at_b = early b d _ second.answers.looks.goes.on.crash clean in
+    let shown = subst (λ (db : Database). RepresentsEntering v db o k) (sym (first.answers.looks.same at_b)) it in
+    let now = second.answers.answers clean o k shown good (first.answers.answers at_b o k it good knows) in (
       now,
       record {
         unit = still_noted mid later c.in-Some.parent second.asked legacy (noted_itself asked mid legacy first.asked);

@@ -16,7 +16,7 @@ pub returns-in_default : goal.returns-in_default
 returns-in_default g c =
     let a = state g.S.Store c.args.tables.now in
     record {
-      tells = tells_so (looks_nowhere a) (λ clean o k it good source legacy is.
+      answers = tells_so (looks_nowhere a) (λ clean o k it good source legacy is.
           c.new.ensures.items
           ∙ sym (ap (map (λ (unit : Unit). unit.id)) (none_path (is_from source legacy) k.forest (none_found (is_from source legacy) (nodes k.forest) (none_there k source legacy (sym is ∙ c.in_default.is))))));
     }
@@ -28,7 +28,7 @@ pub returns : goal.returns
 returns g c =
     let a = state g.S.Store c.args.tables.now in
     record {
-      tells = told_last (λ _ _. tt) (λ _ k. each (λ (unit : Unit). unit.id) k.forest) (as_answers _ _ _ _ _ _ _ _ c.path.ensures.tells) (looks_nowhere a)
+      answers = told_last (λ _ _. tt) (λ _ k. each (λ (unit : Unit). unit.id) k.forest) (as_answers _ _ _ _ _ _ _ _ c.path.ensures.answers) (looks_nowhere a)
           (record {
             shown = λ clean o k it. it.shown;
             allowed = λ clean o k it may kept. (tt, kept.places);

@@ -12,12 +12,12 @@ returns-in-Some g c =
     let a = state g.S.Store c.args.tables.now in
     let it = subst (λ o. IfSome o (λ (r : Ranked). (c.args.last.now ≡ Some r) × (r.unit ≡ c.args.unit))) c.in-Some.is c.kept_of.ensures in
     record {
-      tells = tells_so (looks_nowhere a) (λ clean o k shown ranked. (subst (λ n. IsRankOf k n c.in-Some.ranked.rank) it.1 (subst (IsRanked k) it.0 ranked), ranked));
+      answers = tells_so (looks_nowhere a) (λ clean o k shown ranked. (subst (λ n. IsRankOf k n c.in-Some.ranked.rank) it.1 (subst (IsRanked k) it.0 ranked), ranked));
     }
 
 pub returns : goal.returns
 returns g c =
-    let told = c.in_ok-rank.ensures.tells in
+    let told = c.in_ok-rank.ensures.answers in
     record {
-      tells = tells_so told.looks (λ clean o k shown ranked. (told.answers clean o k shown, told.answers clean o k shown));
+      answers = tells_so told.looks (λ clean o k shown ranked. (told.answers clean o k shown, told.answers clean o k shown));
     }

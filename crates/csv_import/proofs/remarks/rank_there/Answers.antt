@@ -13,14 +13,14 @@ pub returns-in_err-levels : goal.returns-in_err-levels
 returns-in_err-levels g c =
     let a = state g.S.Store c.args.tables.now in
     record {
-      tells = tells_passed _ c.from_residual.ensures c.in_err-levels.ensures.reads.cut (λ o k it may kept clean free. (let at = it.catalogue.units in c.in_err-levels.ensures.faults at.units at.rows (legible_units a.now.trees k at kept) clean free));
+      answers = tells_passed _ c.from_residual.ensures c.in_err-levels.ensures.reads.aborts (λ o k it may kept clean free. (let at = it.catalogue.units in c.in_err-levels.ensures.faults at.units at.rows (legible_units a.now.trees k at kept) clean free));
     }
 
 pub returns-in_default : goal.returns-in_default
 returns-in_default g c =
     let a = state g.S.Store c.args.tables.now in
     record {
-      tells = tells_so c.in_ok-levels.ensures.reads.looks (λ clean o k it unit is.
+      answers = tells_so c.in_ok-levels.ensures.reads.looks (λ clean o k it unit is.
           let at = it.catalogue.units in
           let got = c.in_ok-levels.ensures.answers clean at.units at.rows tt in
           let few : length got.0 ≡ 0 = omega (arith, c.in_default.ensures.cases.0, c.in_ok-levels.levels.ok.0, ap length got.2, length-map got.0 (λ (u : Described). u.values.level)) in
@@ -32,7 +32,7 @@ pub returns : goal.returns
 returns g c =
     let a = state g.S.Store c.args.tables.now in
     record {
-      tells = tells_so c.in_ok-levels.ensures.reads.looks (λ clean o k it unit is.
+      answers = tells_so c.in_ok-levels.ensures.reads.looks (λ clean o k it unit is.
           let at = it.catalogue.units in
           let got = c.in_ok-levels.ensures.answers clean at.units at.rows tt in
           let found = one_found a.now.trees k.forest at c.args.unit got.0 got.1.0 c.pop.new.self.items c.in-Some.level (sym got.2 ∙ c.in-Some.ensures.items) in

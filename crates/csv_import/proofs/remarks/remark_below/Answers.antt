@@ -23,17 +23,17 @@ pub returns-then-parent-ge-NO_NUMBER : goal.returns-then-parent-ge-NO_NUMBER
 returns-then-parent-ge-NO_NUMBER g c =
     let a = state g.S.Store c.args.tables.now in
     record {
-      tells = tells_not g.S.Store (Represents g.P.Places.represents g.P.Versioned.version) IsKept (λ (k : Catalogue). (unit : Described) × (find (has_id c.args.parent) (nodes k.forest) ≡ Some unit)) c.args.tables.now c.args.tables.now _ _ Schema refl
+      answers = tells_not g.S.Store (Represents g.P.Places.represents g.P.Versioned.version) IsKept (λ (k : Catalogue). (unit : Described) × (find (has_id c.args.parent) (nodes k.forest) ≡ Some unit)) c.args.tables.now c.args.tables.now _ _ Schema refl
           (cut_after a a (goes_nowhere a).on)
           (λ o k it may kept clean free. absurd (false≢true (no_unit k c.args.parent c.if-parent-ge-NO_NUMBER.true kept ∙ some_found (has_id c.args.parent) (nodes k.forest) may.0 may.1)));
     }
 
 pub returns-then-is_above : goal.returns-then-is_above
 returns-then-is_above g c =
-    let told = c.in_ok-above.ensures.tells in
+    let told = c.in_ok-above.ensures.answers in
     let own = rank_of c.args.row.now.values.level in
     record {
-      tells = tells_so told.looks (λ clean o k it ranked.
+      answers = tells_so told.looks (λ clean o k it ranked.
           let both = told.answers clean o k it ranked in (
             both.1,
             λ unit is.
@@ -44,10 +44,10 @@ returns-then-is_above g c =
 
 pub returns : goal.returns
 returns g c =
-    let told = c.in_ok-above.ensures.tells in
+    let told = c.in_ok-above.ensures.answers in
     let own = rank_of c.args.row.now.values.level in
     record {
-      tells = tells_so told.looks (λ clean o k it ranked.
+      answers = tells_so told.looks (λ clean o k it ranked.
           let both = told.answers clean o k it ranked in (
             both.1,
             λ unit is.

@@ -22,7 +22,7 @@ loop-row-preserved-in-Continue-branch-3 g c =
     let b = state g.S.Store c.loop-row.tables in
     let d = state g.S.Store c.remark_on.new.tables in
     let invariant = c.loop-row.invariant in
-    let told = c.in_ok-remark.ensures.tells in
+    let told = c.in_ok-remark.ensures.answers in
     let rows = c.args.rows.now in
     let parents = c.args.parents.now in
     let item : Bor RowTold × Bor (Option ℕ) = (c.in-Some.row, c.in-Some.parent) in
@@ -49,7 +49,7 @@ loop-row-preserved g c =
     let b = state g.S.Store c.loop-row.tables in
     let d = state g.S.Store c.remark_on.new.tables in
     let invariant = c.loop-row.invariant in
-    let told = c.in_ok-remark.ensures.tells in
+    let told = c.in_ok-remark.ensures.answers in
     let rows = c.args.rows.now in
     let parents = c.args.parents.now in
     let item : Bor RowTold × Bor (Option ℕ) = (c.in-Some.row, c.in-Some.parent) in
@@ -81,13 +81,13 @@ returns-in_err-remark g c =
     let e = c.in_err-remark.field-0.0 in
     let looks = c.loop-row.invariant.looks in
     record {
-      tells = λ source. (let told = c.in_err-remark.ensures.tells source in
-          tells_passed_later _ c.from_residual.ensures looks told.cut (λ o k it have kept.
+      answers = λ source. (let told = c.in_err-remark.ensures.answers source in
+          tells_passed_later _ c.from_residual.ensures looks told.aborts (λ o k it have kept.
           told.faults o k it (parent_at k source rows parents (length c.loop-row.yielded) c.in-Some.row.now c.in-Some.parent.now have turn.0 (turn.2 c.in-Some.row.now) (turn.3 c.in-Some.parent.now)) kept));
     }
 
 pub returns-in_err-push : goal.returns-in_err-push
-returns-in_err-push g c = record { tells = λ source. tells_full c.from_residual-in_err-push.ensures (looks_then _ _ _ c.loop-row.invariant.looks (c.in_ok-remark.ensures.tells []).looks) }
+returns-in_err-push g c = record { answers = λ source. tells_full c.from_residual-in_err-push.ensures (looks_then _ _ _ c.loop-row.invariant.looks (c.in_ok-remark.ensures.answers []).looks) }
 
 pub returns : goal.returns
 returns g c =
@@ -97,5 +97,5 @@ returns g c =
     let second : iter_rest (zip_second c.into_iter-row-iterator.result) ≡ parents = ap (λ z. iter_rest (zip_second z)) c.into_iter-row-iterator.ensures.into_iter_gives ∙ c.zip-row-items.ensures.second.0 in
     let last = zip_end rows parents c.loop-row.yielded _ c.loop-row.row-iterator c.next.new.self c.next.result first second c.loop-row.yielded_by c.in-None.is c.next.ensures.steps in
     record {
-      tells = λ source. tells_so c.loop-row.invariant.looks (λ clean o k it have. told_all k source rows parents (length c.loop-row.yielded) c.loop-row.told have last (c.loop-row.invariant.so_far clean source o k it have));
+      answers = λ source. tells_so c.loop-row.invariant.looks (λ clean o k it have. told_all k source rows parents (length c.loop-row.yielded) c.loop-row.told have last (c.loop-row.invariant.so_far clean source o k it have));
     }

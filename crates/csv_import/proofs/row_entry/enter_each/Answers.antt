@@ -9,7 +9,7 @@ use Rattle.catalogue_statements.specs.Representation.{described_trees}
 use Rattle.office_tables.proofs.Calls.{early, goes_nowhere, goes_then}
 use Rattle.office_tables.proofs.Touching.{nothing_touched, touched_again}
 use Rattle.refinement.proofs.Doings.{makes_passed_later}
-use Rattle.csv_import.specs.RowEntry.{RepresentsEntering, entered}
+use Rattle.csv_import.specs.RowEntry.{RepresentsEntering, catalogue_after}
 use Rattle.csv_import.specs.declared.row_entry.Counts.{Counts}
 use Rattle.csv_import.proofs.EnteredNumbers.{number_there_small}
 use Rattle.csv_import.proofs.KnownUnits.{known_still, told_here}
@@ -40,7 +40,7 @@ loop-row-preserved g c =
     let row = c.row-item.result in
     let invariant = c.loop-row.invariant in
     let numbers = get_by_text c.args.import.now.catalogued.now in
-    let step = c.in_ok-became.ensures.makes in
+    let step = c.in_ok-became.ensures.updates in
     record {
       few = subst (λ (n : Counts). n.changed + n.new + n.same ≤ i + 1) (sym c.count-counts.ensures) (counted_few c.in_ok-became.became c.loop-row.counts i invariant.few);
       goes = goes_then a b d invariant.goes step.goes;
@@ -52,32 +52,32 @@ loop-row-preserved g c =
           let here = told_here x.0 source rows numbers i row c.loop-row-test.true (sym c.row-item.is) x.3 in
           let number : c.kept_number-number.result ≡ number_there x.0 source row.legacy = c.kept_number-number.ensures ∙ here.0 in
           let turn = (one_entered source row (drop (i + 1) rows) (c.args.import.now.next + c.loop-row.counts.new) x.0 have.come).turn in (
-            entered source (row ∷ []) x.0,
+            catalogue_after source (row ∷ []) x.0,
             step.represents_updated clean o x.0 x.1 (turn, number),
-            subst (λ (counts : Counts). HaveCome source rows (drop (i + 1) rows) c.args.import.now.next counts k (entered source (row ∷ []) x.0)) (sym c.count-counts.ensures)
+            subst (λ (counts : Counts). HaveCome source rows (drop (i + 1) rows) c.args.import.now.next counts k (catalogue_after source (row ∷ []) x.0)) (sym c.count-counts.ensures)
                 (next_comes source rows row (drop (i + 1) rows) c.args.import.now.next c.loop-row.counts k x.0 c.in_ok-became.became have (c.in_ok-became.ensures.told clean o x.0 x.1 (turn, number))),
             known_still source row (drop (i + 1) rows) (c.args.import.now.next + c.loop-row.counts.new) x.0 numbers have.come here.1,
           );
     }
 
-pub returns-in_err-became-clause-makes : goal.returns-in_err-became-clause-makes
-returns-in_err-became-clause-makes g c =
+pub returns-in_err-became-clause-updates : goal.returns-in_err-became-clause-updates
+returns-in_err-became-clause-updates g c =
     let i = c.loop-row.row-index in
     let rows = c.args.import.now.rows.now in
     let source = c.args.import.now.source.now in
     let row = c.row-item.result in
     let invariant = c.loop-row.invariant in
     let numbers = get_by_text c.args.import.now.catalogued.now in
-    let step = c.in_err-became.ensures.makes in
-    makes_passed_later _ c.from_residual.ensures c.loop-row.tables invariant.goes.on step.cut (λ o k it so kept before.
+    let step = c.in_err-became.ensures.updates in
+    makes_passed_later _ c.from_residual.ensures c.loop-row.tables invariant.goes.on step.aborts (λ o k it so kept before.
     let x = invariant.so_far before o k it so.0 so.1 in
     let have = from_here source rows c.args.import.now.next c.loop-row.counts k x.0 i row c.loop-row-test.true (sym c.row-item.is) x.2 in
     let turn = (one_entered source row (drop (i + 1) rows) (c.args.import.now.next + c.loop-row.counts.new) x.0 have.come).turn in
     let here = told_here x.0 source rows numbers i row c.loop-row-test.true (sym c.row-item.is) x.3 in
     step.faults o x.0 x.1 (turn, c.kept_number-number.ensures ∙ here.0) tt)
 
-pub returns-clause-makes : goal.returns-clause-makes
-returns-clause-makes g c =
+pub returns-clause-updates : goal.returns-clause-updates
+returns-clause-updates g c =
     let b = state g.S.Store c.loop-row.tables in
     let source = c.args.import.now.source.now in
     let rows = c.args.import.now.rows.now in
@@ -89,7 +89,7 @@ returns-clause-makes g c =
           subst (λ (y : Catalogue). RepresentsEntering g.P.Versioned.version b.now o y) (sym all.is) x.1;
       only = invariant.only;
       goes = invariant.goes;
-      cut = tt;
+      aborts = tt;
       faults = λ o k it come kept clean free. tt;
     }
 

@@ -20,24 +20,24 @@ use Rattle.office_tables.proofs.StoreCalls.{as_updates}
 use Rattle.refinement.proofs.Doings.{makes_passed}
 use Rattle.csv_import.proofs.row_entry.enter_known.Goals as goal
 
-pub returns-in_err-found-clause-makes : goal.returns-in_err-found-clause-makes
-returns-in_err-found-clause-makes g c =
-    let told = c.in_err-found.ensures.tells in
-    makes_passed _ c.from_residual.ensures told.cut (λ o k it may kept. told.faults o (at_next o.next_unit k) (record { version = g.P.Versioned.version; catalogue = it; places = all_places k may.units }) (knows_at o.next_unit k may.there.knows) (kept_at o.next_unit k may.kept))
+pub returns-in_err-found-clause-updates : goal.returns-in_err-found-clause-updates
+returns-in_err-found-clause-updates g c =
+    let told = c.in_err-found.ensures.answers in
+    makes_passed _ c.from_residual.ensures told.aborts (λ o k it may kept. told.faults o (at_next o.next_unit k) (record { version = g.P.Versioned.version; catalogue = it; places = all_places k may.units }) (knows_at o.next_unit k may.there.knows) (kept_at o.next_unit k may.kept))
 
-pub returns-in_default-clause-makes : goal.returns-in_default-clause-makes
-returns-in_default-clause-makes g c =
+pub returns-in_default-clause-updates : goal.returns-in_default-clause-updates
+returns-in_default-clause-updates g c =
     let a = state g.S.Store c.args.tables.now in
     let b = state g.S.Store c.values.new.tables in
-    let told = c.in_ok-found.ensures.tells in
+    let told = c.in_ok-found.ensures.answers in
     makes_not g.S.Store (RepresentsEntering g.P.Versioned.version) (λ _. ⊤) (MayChange c.args.unit c.args.values.now) c.args.tables.now c.values.new.tables _ (with_values c.args.unit c.args.values.now) described_trees fault.Schema
     refl (cut_after a b told.looks.goes.on)
     (λ o k it may kept clean free.
     absurd (not_untold k c.args.unit may.there.there (sym c.in_default.is ∙ told.answers clean o (at_next o.next_unit k) (record { version = g.P.Versioned.version; catalogue = it; places = all_places k may.units }))))
 
-pub returns-then-are_same-clause-makes : goal.returns-then-are_same-clause-makes
-returns-then-are_same-clause-makes g c =
-    let told = c.in_ok-found.ensures.tells in
+pub returns-then-are_same-clause-updates : goal.returns-then-are_same-clause-updates
+returns-then-are_same-clause-updates g c =
+    let told = c.in_ok-found.ensures.answers in
     makes_nothing told.looks
     (λ o k it may clean.
     let v = is_valued k c.args.unit may.there.there in
@@ -46,27 +46,27 @@ returns-then-are_same-clause-makes g c =
 
 pub returns-then-are_same-clause-told : goal.returns-then-are_same-clause-told
 returns-then-are_same-clause-told g c clean o k it may u found =
-    let told = c.in_ok-found.ensures.tells in
+    let told = c.in_ok-found.ensures.answers in
     let is = told_of_it k c.args.unit u c.in-Some.found found (sym c.in-Some.is ∙ told.answers clean o (at_next o.next_unit k) (record { version = g.P.Versioned.version; catalogue = it; places = all_places k may.units })) in
     sym (ap (λ b. cond b entry.Same entry.Changed) (ap (λ (w : Values). same_values w c.args.values.now) (sym is) ∙ (sym c.are_same.ensures ∙ c.if-are_same.true)))
 
-pub returns-in_err-enter_values-clause-makes : goal.returns-in_err-enter_values-clause-makes
-returns-in_err-enter_values-clause-makes g c =
+pub returns-in_err-enter_values-clause-updates : goal.returns-in_err-enter_values-clause-updates
+returns-in_err-enter_values-clause-updates g c =
     makes_fault _ c.from_residual-in_err-enter_values.ensures
-    (makes_then c.in_ok-found.ensures.tells.looks (makes_valued c.args.unit c.args.values.now (as_updates _ _ _ _ _ _ _ _ _ (c.in_err-enter_values.ensures.makes g.P.Versioned.version))) refl
+    (makes_then c.in_ok-found.ensures.answers.looks (makes_valued c.args.unit c.args.values.now (as_updates _ _ _ _ _ _ _ _ _ (c.in_err-enter_values.ensures.updates g.P.Versioned.version))) refl
     (λ o k it allowed clean. record { within = tt; allowed = allowed; same = refl }))
 
-pub returns-clause-makes : goal.returns-clause-makes
-returns-clause-makes g c =
+pub returns-clause-updates : goal.returns-clause-updates
+returns-clause-updates g c =
     makes_same
-    (makes_then c.in_ok-found.ensures.tells.looks (makes_valued c.args.unit c.args.values.now (as_updates _ _ _ _ _ _ _ _ _ (c.in_ok-enter_values.ensures.makes g.P.Versioned.version))) refl
+    (makes_then c.in_ok-found.ensures.answers.looks (makes_valued c.args.unit c.args.values.now (as_updates _ _ _ _ _ _ _ _ _ (c.in_ok-enter_values.ensures.updates g.P.Versioned.version))) refl
     (λ o k it allowed clean. record { within = tt; allowed = allowed; same = refl }))
 
 pub returns-clause-told : goal.returns-clause-told
 returns-clause-told g c clean o k it may u found =
     let b = state g.S.Store c.values.new.tables in
     let d = state g.S.Store c.enter_values.new.tables in
-    let at_b = early b d _ (c.in_ok-enter_values.ensures.makes g.P.Versioned.version).goes.on.crash clean in
-    let told = c.in_ok-found.ensures.tells in
+    let at_b = early b d _ (c.in_ok-enter_values.ensures.updates g.P.Versioned.version).goes.on.crash clean in
+    let told = c.in_ok-found.ensures.answers in
     let is = told_of_it k c.args.unit u c.in-Some.found found (sym c.in-Some.is ∙ told.answers at_b o (at_next o.next_unit k) (record { version = g.P.Versioned.version; catalogue = it; places = all_places k may.units })) in
     sym (ap (λ b. cond b entry.Same entry.Changed) (ap (λ (w : Values). same_values w c.args.values.now) (sym is) ∙ (sym c.are_same.ensures ∙ c.if-are_same.false)))

@@ -7,9 +7,9 @@ use Rattle.csv_import.proofs.Afterwards.{makes_then}
 use Rattle.csv_import.proofs.OneRow.{entered_known, entered_new, is_found, may_change, may_come, none_there}
 use Rattle.csv_import.proofs.row_entry.enter_row.Goals as goal
 
-pub returns-in-Some-clause-makes : goal.returns-in-Some-clause-makes
-returns-in-Some-clause-makes g c =
-    makes_then (looks_nowhere _) c.enter_known.ensures.makes refl
+pub returns-in-Some-clause-updates : goal.returns-in-Some-clause-updates
+returns-in-Some-clause-updates g c =
+    makes_then (looks_nowhere _) c.enter_known.ensures.updates refl
     (λ o k it so clean.
     let number = sym so.1 ∙ c.in-Some.is in
     record { within = tt; allowed = may_change c.args.source.now c.args.row.now c.args.next k so.0 c.in-Some.unit number; same = sym (entered_known c.args.source.now c.args.row.now c.args.next k so.0 c.in-Some.unit number) })
@@ -23,9 +23,9 @@ returns-in-Some-clause-told g c clean o k it so =
     subst (λ (u : Option Unit). IfOk c.enter_known.result (λ entry. entry ≡ entry_of u row.values)) (sym v.by_source)
     (c.enter_known.ensures.told clean o k it (may_change source row c.args.next k so.0 c.in-Some.unit number) v.unit v.by_number)
 
-pub returns-in-None-clause-makes : goal.returns-in-None-clause-makes
-returns-in-None-clause-makes g c =
-    makes_then (looks_nowhere _) c.enter_new.ensures.makes refl
+pub returns-in-None-clause-updates : goal.returns-in-None-clause-updates
+returns-in-None-clause-updates g c =
+    makes_then (looks_nowhere _) c.enter_new.ensures.updates refl
     (λ o k it so clean.
     let none = sym so.1 ∙ c.in-None.is in
     record { within = tt; allowed = may_come c.args.source.now c.args.row.now c.args.next k so.0 none; same = sym (entered_new c.args.source.now c.args.row.now c.args.next k so.0 none) })

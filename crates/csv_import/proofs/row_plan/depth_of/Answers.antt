@@ -22,13 +22,13 @@ path_of-requires g c =
 
 pub returns-then-is_empty : goal.returns-then-is_empty
 returns-then-is_empty g c =
-    let read = c.in_ok-path.ensures.tells in
+    let read = c.in_ok-path.ensures.answers in
     let p = c.in-Some.parent in
     let numbers = get_by_text c.args.catalogued.now in
     let none : get_by_text c.args.depths.now p ≡ None = ap (get_by_text c.args.depths.now) (sym c.as_str.ensures) ∙ sym c.in_default-get.ensures.value in
     let long : length c.in_ok-path.path.items ≡ c.in_ok-path.path.len = omega arith in
     record {
-      tells = tells_so read.looks (λ clean o k it good source told above knows.
+      answers = tells_so read.looks (λ clean o k it good source told above knows.
           let f = k.forest in
           let there : numbers p ≡ number_there k source p = subst (λ o. IfSome o (λ parent. numbers parent ≡ number_there k source parent)) c.in-Some.is told in
           let ids = read.answers clean o k it good source p (c.kept_number.ensures ∙ there) in
@@ -41,13 +41,13 @@ returns-then-is_empty g c =
 
 pub returns : goal.returns
 returns g c =
-    let read = c.in_ok-path.ensures.tells in
+    let read = c.in_ok-path.ensures.answers in
     let p = c.in-Some.parent in
     let numbers = get_by_text c.args.catalogued.now in
     let none : get_by_text c.args.depths.now p ≡ None = ap (get_by_text c.args.depths.now) (sym c.as_str.ensures) ∙ sym c.in_default-get.ensures.value in
     let long : length c.in_ok-path.path.items ≡ c.in_ok-path.path.len = omega arith in
     record {
-      tells = tells_so read.looks (λ clean o k it good source told above knows.
+      answers = tells_so read.looks (λ clean o k it good source told above knows.
           let f = k.forest in
           let there : numbers p ≡ number_there k source p = subst (λ o. IfSome o (λ parent. numbers parent ≡ number_there k source parent)) c.in-Some.is told in
           let ids = read.answers clean o k it good source p (c.kept_number.ensures ∙ there) in

@@ -14,7 +14,7 @@ pub returns-then-is_some : goal.returns-then-is_some
 returns-then-is_some g c =
     let a = state g.S.Store c.args.tables.now in
     record {
-      tells = tells_so (looks_nowhere a) (λ clean o k it good source told parent above knows.
+      answers = tells_so (looks_nowhere a) (λ clean o k it good source told parent above knows.
           let row = c.args.row.now in
           let there : is_known k.forest source row ≡ true = sym (is_known_by k source row) ∙ (sym (ap is_some (c.kept_number.ensures ∙ told)) ∙ (sym c.is_some.ensures ∙ c.if-is_some.true)) in
           (sym (ap (λ (b : Bool). cond b placing.Known (at_depth (depth_under k.forest source row.parent above))) there), knows));
@@ -22,12 +22,12 @@ returns-then-is_some g c =
 
 pub returns : goal.returns
 returns g c =
-    let deep = c.in_ok-depth.ensures.tells in
+    let deep = c.in_ok-depth.ensures.answers in
     record {
-      tells = tells_so deep.looks (λ clean o k it good source told parent above knows.
+      answers = tells_so deep.looks (λ clean o k it good source told parent above knows.
           let row = c.args.row.now in
           let none : is_some (number_there k source row.legacy) ≡ false = sym (ap is_some (c.kept_number.ensures ∙ told)) ∙ (sym c.is_some.ensures ∙ c.if-is_some.false) in
           let new : is_known k.forest source row ≡ false = sym (is_known_by k source row) ∙ none in
           let depth = deep.answers clean o k it good source (parent (none_known (number_there k source row.legacy) none)) above knows in
-          (c.placed.ensures ∙ (ap at_depth depth.0 ∙ sym (ap (λ (b : Bool). cond b placing.Known (at_depth (depth_under k.forest source row.parent above))) new)), depth.1));
+          (c.placing_at.ensures ∙ (ap at_depth depth.0 ∙ sym (ap (λ (b : Bool). cond b placing.Known (at_depth (depth_under k.forest source row.parent above))) new)), depth.1));
     }

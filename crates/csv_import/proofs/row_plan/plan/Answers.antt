@@ -15,7 +15,7 @@ use Rattle.csv_import.proofs.row_plan.plan.Goals.{in-Known, in-Fits+in_ok-rememb
 
 pub loop-row-init : goal.loop-row-init
 loop-row-init g c =
-    let told = c.in_ok-depths.ensures.tells in
+    let told = c.in_ok-depths.ensures.answers in
     record {
       looks = told.looks;
       few = omega arith;
@@ -25,11 +25,11 @@ loop-row-init g c =
 pub returns-in_err-place : goal.returns-in_err-place
 returns-in_err-place g c =
     let looks = c.loop-row.invariant.looks in
-    let told = c.in_err-place.ensures.tells in
-    record { tells = tells_passed_later _ c.from_residual-in_err-place.ensures looks told.cut (λ o k it may kept. told.faults o k it tt kept) }
+    let told = c.in_err-place.ensures.answers in
+    record { answers = tells_passed_later _ c.from_residual-in_err-place.ensures looks told.aborts (λ o k it may kept. told.faults o k it tt kept) }
 
 pub returns-in_err-remember-in-Fits : goal.returns-in_err-remember-in-Fits
-returns-in_err-remember-in-Fits g c = record { tells = tells_full c.from_residual-in_err-remember-in-Fits.ensures (looks_then _ _ _ c.loop-row.invariant.looks c.in_ok-place.ensures.tells.looks) }
+returns-in_err-remember-in-Fits g c = record { answers = tells_full c.from_residual-in_err-remember-in-Fits.ensures (looks_then _ _ _ c.loop-row.invariant.looks c.in_ok-place.ensures.answers.looks) }
 
 pub returns-in-Faulty : goal.returns-in-Faulty
 returns-in-Faulty g c =
@@ -37,13 +37,13 @@ returns-in-Faulty g c =
     let b = state g.S.Store c.loop-row.tables in
     let d = state g.S.Store c.place.new.tables in
     let looks = c.loop-row.invariant.looks in
-    let told = c.in_ok-place.ensures.tells in
+    let told = c.in_ok-place.ensures.answers in
     let rows = c.args.rows.now in
     let i = c.loop-row.row-index in
     let item = c.row-item.result in
     let rest : drop i rows ≡ item ∷ drop (i + 1) rows = drop_more rows i item c.loop-row-test.true ∙ ap (λ (r : RowTold). r ∷ drop (i + 1) rows) (sym c.row-item.is) in
     record {
-      tells = tells_so (looks_then a b d looks told.looks) (λ clean o k it good source known.
+      answers = tells_so (looks_then a b d looks told.looks) (λ clean o k it good source known.
           let at_b = early b d _ told.looks.goes.on.crash clean in
           let planned = subst (IsPlanned k.forest source (get_by_text c.loop-row.depths) c.loop-row.new rows) rest (c.loop-row.invariant.so_far at_b o k it good source known) in
           let shown = subst (λ (db : Database). Represents g.P.Places.represents g.P.Versioned.version db o k) (sym (looks.same at_b)) it in
@@ -60,7 +60,7 @@ loop-row-preserved g c =
     let d = state g.S.Store c.place.new.tables in
     let looks = c.loop-row.invariant.looks in
     let few = c.loop-row.invariant.few in
-    let told = c.in_ok-place.ensures.tells in
+    let told = c.in_ok-place.ensures.answers in
     let rows = c.args.rows.now in
     let i = c.loop-row.row-index in
     let item = c.row-item.result in
@@ -93,7 +93,7 @@ returns g c =
     let rows = c.args.rows.now in
     let last = c.loop-row-test.false in
     record {
-      tells = tells_so c.loop-row.invariant.looks (λ clean o k it good source known.
+      answers = tells_so c.loop-row.invariant.looks (λ clean o k it good source known.
           ends_well k.forest source (get_by_text c.loop-row.depths) c.loop-row.new rows
           (subst (IsPlanned k.forest source (get_by_text c.loop-row.depths) c.loop-row.new rows) (drop_all c.loop-row.row-index rows (omega (arith, last))) (c.loop-row.invariant.so_far clean o k it good source known)));
     }

@@ -11,13 +11,13 @@ use Rattle.desk_commands.proofs.Cancelled.{not_waiting, unknown_order, waits_or_
 use Rattle.desk_commands.proofs.cancellation.cancel.Goals as goal
 
 pub returns-in_err-placed : goal.returns-in_err-placed
-returns-in_err-placed g c = let told = c.in_err-placed.ensures.tells in desk_passed _ c.from_residual.ensures told.cut told.faults
+returns-in_err-placed g c = let told = c.in_err-placed.ensures.answers in desk_passed _ c.from_residual.ensures told.aborts told.faults
 
 pub returns-in_default : goal.returns-in_default
 returns-in_default g c =
     let a = state g.S.Store c.args.tables.now in
     let b = state g.S.Store c.order.new.tables in
-    let told = c.in_ok-placed.ensures.tells in
+    let told = c.in_ok-placed.ensures.answers in
     does_refuse g.P.Places.represents g.P.Versioned.version _ (command.Cancel c.args.number) a b (Err UnknownOrder) told.looks
     (λ clean s sound so it. unknown_order g.P.Places.represents g.P.Versioned.version s c.args.number b.now
     (not_placed s g.P.Versioned.version c.args.number
@@ -27,7 +27,7 @@ pub returns-then-not-is_waiting : goal.returns-then-not-is_waiting
 returns-then-not-is_waiting g c =
     let a = state g.S.Store c.args.tables.now in
     let b = state g.S.Store c.order.new.tables in
-    let told = c.in_ok-placed.ensures.tells in
+    let told = c.in_ok-placed.ensures.answers in
     let placed = c.in-Some.placed in
     let no : nat_eq (state_number placed.state) 1 ≡ false = sym c.is_waiting.ensures ∙ c.if-not-is_waiting.true in
     does_refuse g.P.Places.represents g.P.Versioned.version _ (command.Cancel c.args.number) a b (Err OrderNotWaiting) told.looks
@@ -38,7 +38,7 @@ returns-then-not-is_waiting g c =
 
 pub returns : goal.returns
 returns g c =
-    let told = c.in_ok-placed.ensures.tells in
+    let told = c.in_ok-placed.ensures.answers in
     let placed = c.in-Some.placed in
     let yes : nat_eq (state_number placed.state) 1 ≡ true = sym c.is_waiting.ensures ∙ c.if-not-is_waiting.false in
     does_then told.looks c.end_waiting.ensures

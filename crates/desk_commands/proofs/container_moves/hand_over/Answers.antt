@@ -16,13 +16,13 @@ set_place-requires g c = record {
 
 pub returns-in_err-end_order : goal.returns-in_err-end_order
 returns-in_err-end_order g c =
-    let made = c.in_err-end_order.ensures.makes in
-    record { makes = makes_passed _ c.from_residual.ensures made.cut (λ s d shown may kept. made.faults s d shown tt kept) }
+    let made = c.in_err-end_order.ensures.updates in
+    record { updates = makes_passed _ c.from_residual.ensures made.aborts (λ s d shown may kept. made.faults s d shown tt kept) }
 
 pub returns : goal.returns
 returns g c =
     record {
-      makes = makes_then g.S.Store c.args.tables.now c.end_order.new.tables c.set_place.new.tables _ c.set_place.result (λ _. ⊤) (λ _. ⊤)
+      updates = makes_then g.S.Store c.args.tables.now c.end_order.new.tables c.set_place.new.tables _ c.set_place.result (λ _. ⊤) (λ _. ⊤)
           (with_order_state c.args.order c.args.next) (with_place c.args.container c.args.place) (tables.orders.tree ∷ []) (tables.holding.tree ∷ []) (tables.orders.tree ∷ tables.holding.tree ∷ [])
-          (as_updates _ _ _ _ _ _ _ _ _ c.in_ok-end_order.ensures.makes) (as_updates _ _ _ _ _ _ _ _ _ c.set_place.ensures.makes) (λ d may. tt) (λ d kept. legible_state c.args.order c.args.next d kept) refl refl;
+          (as_updates _ _ _ _ _ _ _ _ _ c.in_ok-end_order.ensures.updates) (as_updates _ _ _ _ _ _ _ _ _ c.set_place.ensures.updates) (λ d may. tt) (λ d kept. legible_state c.args.order c.args.next d kept) refl refl;
     }

@@ -37,7 +37,7 @@ loop-container-preserved g c =
     let b = state g.S.Store c.loop-container.tables in
     let d = state g.S.Store c.set_place.new.tables in
     let before = c.loop-container.invariant in
-    let made = c.in_ok-set_place.ensures.makes in
+    let made = c.in_ok-set_place.ensures.updates in
     let cs = c.args.containers.now in
     let i = c.loop-container.container-index in
     record {
@@ -54,7 +54,7 @@ returns-then-container-ge-NO_NUMBER g c =
     let a = state g.S.Store c.args.tables.now in
     let b = state g.S.Store c.loop-container.tables in
     record {
-      makes = makes_not g.S.Store RepresentsDeskAlone IsLegible (λ _. AllByRecursion IsNumber c.args.containers.now) c.args.tables.now c.loop-container.tables _ (with_all_placed c.args.place c.args.containers.now) (tables.holding.tree ∷ []) fault.Schema refl
+      updates = makes_not g.S.Store RepresentsDeskAlone IsLegible (λ _. AllByRecursion IsNumber c.args.containers.now) c.args.tables.now c.loop-container.tables _ (with_all_placed c.args.place c.args.containers.now) (tables.holding.tree ∷ []) fault.Schema refl
           (cut_after a b c.loop-container.invariant.goes.on)
           (λ s d shown low kept clean free.
           let small : get_or c.args.containers.now c.loop-container.container-index 0 < 2 ^ 63 = each_of IsNumber c.args.containers.now c.loop-container.container-index 0 low c.loop-container-test.true in
@@ -67,12 +67,12 @@ returns-in_err-set_place g c =
     let b = state g.S.Store c.loop-container.tables in
     let d = state g.S.Store c.set_place.new.tables in
     let before = c.loop-container.invariant in
-    let made = c.in_err-set_place.ensures.makes in
+    let made = c.in_err-set_place.ensures.updates in
     let cs = c.args.containers.now in
     let i = c.loop-container.container-index in
     record {
-      makes = makes_passed _ c.from_residual.ensures (cut_then a b d before.goes.on made.cut) (λ s m shown low kept clean free.
-          let at_b = early b d _ made.cut.crash clean in
+      updates = makes_passed _ c.from_residual.ensures (cut_then a b d before.goes.on made.aborts) (λ s m shown low kept clean free.
+          let at_b = early b d _ made.aborts.crash clean in
           cause_then a b d before.goes.on at_b _
           (made.faults tt (with_all_placed c.args.place (take i cs) m) (before.so_far at_b m shown) tt (legible_all c.args.place (take i cs) m (all_taken IsNumber i cs low) kept) clean (still_unlimited a b before.goes.on free)));
     }
@@ -80,13 +80,13 @@ returns-in_err-set_place g c =
 pub returns : goal.returns
 returns g c =
     record {
-      makes = record {
+      updates = record {
         represents_updated = λ clean s d shown low.
             subst (λ (l : List ℕ). RepresentsDesk (state g.S.Store c.loop-container.tables).now.trees (with_all_placed c.args.place l d)) (take_all c.loop-container.container-index c.args.containers.now (omega (arith, c.loop-container-test.false)))
             (c.loop-container.invariant.so_far clean d shown);
         only = c.loop-container.invariant.only;
         goes = c.loop-container.invariant.goes;
-        cut = tt;
+        aborts = tt;
         faults = λ s d shown low kept clean free. tt;
       };
     }

@@ -3,13 +3,13 @@ use Rattle.std.specs.Prelude.{is_some}
 use Rattle.sqlite.specs.Held.{state}
 use Rattle.desk_core.specs.declared.refusal.Refusal.TheVariants.{NotIssued}
 use Rattle.desk_core.specs.declared.reader.Place.{Place}
-use Rattle.desk_store.specs.Stacks.{IsHeaded, box_with}
+use Rattle.desk_store.specs.Storage.{IsHeaded, container_with}
 use Rattle.desk_store.specs.declared.queue_heads.QueueHead.{QueueHead}
 use Rattle.office_core.specs.State.{order_out}
 use Rattle.office_core.specs.declared.command.Command.TheVariants as command
 use Rattle.desk_core.proofs.UnknownContainers.{nothing_found}
 use Rattle.refinement.proofs.Doings.{does_pass, does_refuse, does_then, is_refused}
-use Rattle.refinement.proofs.StacksShown.{legible_stacks, shows_stacks, stacks_of}
+use Rattle.refinement.proofs.StorageShown.{legible_storage, shows_storage, storage_of}
 use Rattle.desk_commands.proofs.HeadTold.{none_queued, queued_at}
 use Rattle.desk_commands.proofs.Returned.{in_house, not_issued, unknown_container}
 use Rattle.desk_commands.proofs.container_return.return_container.Goals as goal
@@ -17,42 +17,42 @@ use Rattle.desk_commands.proofs.container_return.return_container.Goals as goal
 pub returns-in_err-found : goal.returns-in_err-found
 returns-in_err-found g c =
     let a = state g.S.Store c.args.tables.now in
-    let told = c.in_err-found.ensures.tells in
-    does_pass _ c.from_residual.ensures told.cut
-    (λ s sound so it. told.faults tt (stacks_of g.P.Versioned.version s) (shows_stacks g.P.Versioned.version s g.P.Places.represents a.now sound it) tt (legible_stacks g.P.Versioned.version s sound))
+    let told = c.in_err-found.ensures.answers in
+    does_pass _ c.from_residual.ensures told.aborts
+    (λ s sound so it. told.faults tt (storage_of g.P.Versioned.version s) (shows_storage g.P.Versioned.version s g.P.Places.represents a.now sound it) tt (legible_storage g.P.Versioned.version s sound))
 
 pub returns-in-Err : goal.returns-in-Err
 returns-in-Err g c =
     let a = state g.S.Store c.args.tables.now in
-    let told = c.in_ok-found.ensures.tells in
+    let told = c.in_ok-found.ensures.answers in
     let none = nothing_found c.in_ok-found.found c.in-Err.why c.in-Err.ensures.refused in
     is_refused told.looks
     (λ clean s sound so it. unknown_container g.P.Places.represents g.P.Versioned.version s c.args.container c.in-Err.why none.1
     (none_queued s c.args.container g.P.Versioned.version
-    (subst (λ (head : Option QueueHead). IsHeaded c.args.container (stacks_of g.P.Versioned.version s) (box_with c.args.container (stacks_of g.P.Versioned.version s)) head) none.0
-    (told.answers clean tt (stacks_of g.P.Versioned.version s) (shows_stacks g.P.Versioned.version s g.P.Places.represents a.now sound it)))))
+    (subst (λ (head : Option QueueHead). IsHeaded c.args.container (storage_of g.P.Versioned.version s) (container_with c.args.container (storage_of g.P.Versioned.version s)) head) none.0
+    (told.answers clean tt (storage_of g.P.Versioned.version s) (shows_storage g.P.Versioned.version s g.P.Places.represents a.now sound it)))))
 
 pub returns-in_default : goal.returns-in_default
 returns-in_default g c =
     let a = state g.S.Store c.args.tables.now in
     let b = state g.S.Store c.queue_head.new.tables in
-    let told = c.in_ok-found.ensures.tells in
+    let told = c.in_ok-found.ensures.answers in
     let head = c.in-Ok.head in
     does_refuse g.P.Places.represents g.P.Versioned.version _ (command.Return c.args.container) a b (Err NotIssued) told.looks
     (λ clean s sound so it.
     let queued = queued_at s c.args.container g.P.Versioned.version sound head
-    (subst (λ (head : Option QueueHead). IsHeaded c.args.container (stacks_of g.P.Versioned.version s) (box_with c.args.container (stacks_of g.P.Versioned.version s)) head) c.in-Ok.ensures.found
-    (told.answers clean tt (stacks_of g.P.Versioned.version s) (shows_stacks g.P.Versioned.version s g.P.Places.represents a.now sound it))) in
+    (subst (λ (head : Option QueueHead). IsHeaded c.args.container (storage_of g.P.Versioned.version s) (container_with c.args.container (storage_of g.P.Versioned.version s)) head) c.in-Ok.ensures.found
+    (told.answers clean tt (storage_of g.P.Versioned.version s) (shows_storage g.P.Versioned.version s g.P.Places.represents a.now sound it))) in
     not_issued g.P.Places.represents g.P.Versioned.version s c.args.container b.now queued.known (ap (λ (p : Place). is_some (order_out p)) (sym queued.is_at) ∙ in_house head.place c.in_default.not-Out))
 
 pub returns : goal.returns
 returns g c =
     let a = state g.S.Store c.args.tables.now in
-    let told = c.in_ok-found.ensures.tells in
+    let told = c.in_ok-found.ensures.answers in
     let head = c.in-Ok.head in
     does_then told.looks c.take_back.ensures
     (λ clean s sound so it.
     let queued = queued_at s c.args.container g.P.Versioned.version sound head
-    (subst (λ (head : Option QueueHead). IsHeaded c.args.container (stacks_of g.P.Versioned.version s) (box_with c.args.container (stacks_of g.P.Versioned.version s)) head) c.in-Ok.ensures.found
-    (told.answers clean tt (stacks_of g.P.Versioned.version s) (shows_stacks g.P.Versioned.version s g.P.Places.represents a.now sound it))) in
+    (subst (λ (head : Option QueueHead). IsHeaded c.args.container (storage_of g.P.Versioned.version s) (container_with c.args.container (storage_of g.P.Versioned.version s)) head) c.in-Ok.ensures.found
+    (told.answers clean tt (storage_of g.P.Versioned.version s) (shows_storage g.P.Versioned.version s g.P.Places.represents a.now sound it))) in
     sym queued.is_at ∙ c.in-Out.is)

@@ -12,12 +12,12 @@ use Rattle.desk_commands.proofs.Issued.{decided_as, first_order}
 use Rattle.desk_commands.proofs.issuance.issue_known.Goals as goal
 
 pub returns-in_err-who : goal.returns-in_err-who
-returns-in_err-who g c = let told = c.in_err-who.ensures.tells in desk_passed _ c.from_residual.ensures told.cut told.faults
+returns-in_err-who g c = let told = c.in_err-who.ensures.answers in desk_passed _ c.from_residual.ensures told.aborts told.faults
 
 pub returns-in_err-is_open : goal.returns-in_err-is_open
 returns-in_err-is_open g c =
-    let told = c.in_err-is_open.ensures.tells in
-    after_look c.in_ok-who.ensures.tells.looks (office_passed _ c.from_residual-in_err-is_open.ensures told.cut told.faults)
+    let told = c.in_err-is_open.ensures.answers in
+    after_look c.in_ok-who.ensures.answers.looks (office_passed _ c.from_residual-in_err-is_open.ensures told.aborts told.faults)
 
 pub returns-in-Err : goal.returns-in-Err
 returns-in-Err g c =
@@ -26,8 +26,8 @@ returns-in-Err g c =
     let b = state g.S.Store c.ticket_holder.new.tables in
     let d = state g.S.Store c.is_open_to.new.tables in
     let head = c.args.head in
-    let told = c.in_ok-who.ensures.tells in
-    let opened = c.in_ok-is_open.ensures.tells in
+    let told = c.in_ok-who.ensures.answers in
+    let opened = c.in_ok-is_open.ensures.answers in
     is_refused (looks_then a b d told.looks opened.looks) (λ clean s sound so it.
     let at_b = early b d _ opened.looks.goes.on.crash clean in
     let shown_b = subst (λ (db : Database). RepresentsState g.P.Places.represents v db s) (sym (told.looks.same at_b)) it in
@@ -43,8 +43,8 @@ returns-in-Ok g c =
     let b = state g.S.Store c.ticket_holder.new.tables in
     let d = state g.S.Store c.is_open_to.new.tables in
     let head = c.args.head in
-    let told = c.in_ok-who.ensures.tells in
-    let opened = c.in_ok-is_open.ensures.tells in
+    let told = c.in_ok-who.ensures.answers in
+    let opened = c.in_ok-is_open.ensures.answers in
     does_then (looks_then a b d told.looks opened.looks) c.lend.ensures
     (λ clean s sound so it.
     let at_b = early b d _ opened.looks.goes.on.crash clean in

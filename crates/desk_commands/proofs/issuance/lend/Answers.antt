@@ -23,17 +23,17 @@ returns-then-order-ge-NO_NUMBER g c =
     (λ s sound so it clean free. let small = small_head s sound c.args.container c.args.order so.1 in absurd (omega (arith, small, c.if-order-ge-NO_NUMBER.true)))
 
 pub returns-in_err-hand_over : goal.returns-in_err-hand_over
-returns-in_err-hand_over g c = let made = c.in_err-hand_over.ensures.makes in desk_passed _ c.from_residual.ensures made.cut made.faults
+returns-in_err-hand_over g c = let made = c.in_err-hand_over.ensures.updates in desk_passed _ c.from_residual.ensures made.aborts made.faults
 
 pub returns : goal.returns
 returns g c =
     let a = state g.S.Store c.args.tables.now in
     let b = state g.S.Store c.hand_over.new.tables in
-    let made = c.in_ok-hand_over.ensures.makes in
+    let made = c.in_ok-hand_over.ensures.updates in
     record {
       steps = λ clean s sound so it. issues g.P.Places.represents g.P.Versioned.version s c.args.container c.args.ticket sound g.met.P.Places.shows_same a.now b.now c.args.order so.0 so.1 it (made.goes.schema clean) (made.only clean)
           (made.represents_updated clean tt (tables g.P.Versioned.version s).desk it.desk tt);
       goes = made.goes;
-      cut = tt;
+      aborts = tt;
       faults = λ s sound so it clean free. tt;
     }

@@ -20,13 +20,13 @@ not_true true e = absurd (cc)
 not_true false e = refl
 
 pub returns-in_err-loans : goal.returns-in_err-loans
-returns-in_err-loans g c = let told = c.in_err-loans.ensures.tells in desk_passed _ c.from_residual.ensures told.cut told.faults
+returns-in_err-loans g c = let told = c.in_err-loans.ensures.answers in desk_passed _ c.from_residual.ensures told.aborts told.faults
 
 pub returns-then-not-are_none : goal.returns-then-not-are_none
 returns-then-not-are_none g c =
     let a = state g.S.Store c.args.tables.now in
     let b = state g.S.Store c.issued.new.tables in
-    let told = c.in_ok-loans.ensures.tells in
+    let told = c.in_ok-loans.ensures.answers in
     let some = c.if-not-are_none.true in
     let empty = c.are_none.ensures in
     does_refuse g.P.Places.represents g.P.Versioned.version _ (command.OpenDay c.args.day) a b (Err StillIssued) told.looks
@@ -36,7 +36,7 @@ returns-then-not-are_none g c =
 
 pub returns : goal.returns
 returns g c =
-    let told = c.in_ok-loans.ensures.tells in
+    let told = c.in_ok-loans.ensures.answers in
     let none = c.if-not-are_none.false in
     let empty = c.are_none.ensures in
     does_then told.looks c.begin_day.ensures

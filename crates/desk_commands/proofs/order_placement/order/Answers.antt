@@ -8,17 +8,17 @@ use Rattle.desk_commands.proofs.Ordered.{not_known}
 use Rattle.desk_commands.proofs.order_placement.order.Goals as goal
 
 pub returns-in_err-card : goal.returns-in_err-card
-returns-in_err-card g c = let told = c.in_err-card.ensures.tells in desk_passed _ c.from_residual.ensures told.cut told.faults
+returns-in_err-card g c = let told = c.in_err-card.ensures.answers in desk_passed _ c.from_residual.ensures told.aborts told.faults
 
 pub returns-in_default : goal.returns-in_default
 returns-in_default g c =
-    let told = c.in_ok-card.ensures.tells in
+    let told = c.in_ok-card.ensures.answers in
     is_refused told.looks (λ clean s sound so it. not_known s c.args.ticket c.args.container
     (sym (has_card g.P.Versioned.version s sound c.args.ticket c.args.today) ∙ ap is_some (sym (told.answers clean tt (tables g.P.Versioned.version s).desk it.desk)) ∙ ap is_some c.in_default.is))
 
 pub returns : goal.returns
 returns g c =
-    let told = c.in_ok-card.ensures.tells in
+    let told = c.in_ok-card.ensures.answers in
     does_then told.looks c.order_by.ensures
     (λ clean s sound so it. (
       so.0,

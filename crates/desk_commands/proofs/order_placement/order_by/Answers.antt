@@ -6,7 +6,7 @@ use Rattle.desk_commands.proofs.Ordered.{number_of_open, open_with_number}
 use Rattle.desk_commands.proofs.order_placement.order_by.Goals as goal
 
 pub returns-in_err-is_open : goal.returns-in_err-is_open
-returns-in_err-is_open g c = let told = c.in_err-is_open.ensures.tells in office_passed _ c.from_residual.ensures told.cut told.faults
+returns-in_err-is_open g c = let told = c.in_err-is_open.ensures.answers in office_passed _ c.from_residual.ensures told.aborts told.faults
 
 pub decide-requires : goal.decide-requires
 decide-requires g c =
@@ -19,6 +19,6 @@ decide-requires g c =
 
 pub returns : goal.returns
 returns g c =
-    let told = c.in_ok-is_open.ensures.tells in
+    let told = c.in_ok-is_open.ensures.answers in
     does_then told.looks c.decide.ensures
     (λ clean s sound so it. (so.0, so.1, so.2, c.is_open_with_number.ensures ∙ open_with_number s sound c.args.ticket c.args.container c.in_ok-is_open.is_open (told.answers clean tt s it (judged_now s sound) so.0)))

@@ -6,16 +6,16 @@ use Rattle.desk_commands.proofs.Permitted.{no_unit}
 use Rattle.desk_commands.proofs.permits.give_for.Goals as goal
 
 pub returns-in_err-there : goal.returns-in_err-there
-returns-in_err-there g c = let told = c.in_err-there.ensures.tells in catalogue_passed _ c.from_residual.ensures told.cut told.faults
+returns-in_err-there g c = let told = c.in_err-there.ensures.answers in catalogue_passed _ c.from_residual.ensures told.aborts told.faults
 
 pub returns-then-not-there : goal.returns-then-not-there
 returns-then-not-there g c =
-    let told = c.in_ok-there.ensures.tells in
+    let told = c.in_ok-there.ensures.answers in
     is_refused told.looks
     (λ clean s sound so it. no_unit s c.args.ticket c.args.unit c.args.asked so (sym (told.answers clean (office_row s) s.catalogue it.catalogue (judged_now s sound).catalogue) ∙ c.if-not-there.true))
 
 pub returns : goal.returns
 returns g c =
-    let told = c.in_ok-there.ensures.tells in
+    let told = c.in_ok-there.ensures.answers in
     does_then told.looks c.give_within.ensures
     (λ clean s sound so it. (so, sym (told.answers clean (office_row s) s.catalogue it.catalogue (judged_now s sound).catalogue) ∙ c.if-not-there.false))

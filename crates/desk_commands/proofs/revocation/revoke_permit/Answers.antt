@@ -6,16 +6,16 @@ use Rattle.desk_commands.proofs.Revoked.{no_ticket}
 use Rattle.desk_commands.proofs.revocation.revoke_permit.Goals as goal
 
 pub returns-in_err-known : goal.returns-in_err-known
-returns-in_err-known g c = let told = c.in_err-known.ensures.tells in desk_passed _ c.from_residual.ensures told.cut told.faults
+returns-in_err-known g c = let told = c.in_err-known.ensures.answers in desk_passed _ c.from_residual.ensures told.aborts told.faults
 
 pub returns-then-not-known : goal.returns-then-not-known
 returns-then-not-known g c =
-    let told = c.in_ok-known.ensures.tells in
+    let told = c.in_ok-known.ensures.answers in
     is_refused told.looks (λ clean s sound so it. no_ticket s c.args.ticket c.args.unit
     (sym (known_ticket g.P.Versioned.version s sound c.args.ticket) ∙ sym (told.answers clean tt (tables g.P.Versioned.version s).desk it.desk) ∙ c.if-not-known.true))
 
 pub returns : goal.returns
 returns g c =
-    let told = c.in_ok-known.ensures.tells in
+    let told = c.in_ok-known.ensures.answers in
     does_then told.looks c.take_back_for.ensures
     (λ clean s sound so it. (so, sym (known_ticket g.P.Versioned.version s sound c.args.ticket) ∙ sym (told.answers clean tt (tables g.P.Versioned.version s).desk it.desk) ∙ c.if-not-known.false))

@@ -16,13 +16,13 @@ revoke-requires g c = record {
 }
 
 pub returns-in_err-revoke : goal.returns-in_err-revoke
-returns-in_err-revoke g c = let made = c.in_err-revoke.ensures.makes in desk_passed _ c.from_residual.ensures made.cut made.faults
+returns-in_err-revoke g c = let made = c.in_err-revoke.ensures.updates in desk_passed _ c.from_residual.ensures made.aborts made.faults
 
 pub returns : goal.returns
 returns g c =
     let a = state g.S.Store c.args.tables.now in
     let b = state g.S.Store c.revoke.new.tables in
-    let made = c.in_ok-revoke.ensures.makes in
+    let made = c.in_ok-revoke.ensures.updates in
     passed_where g.S.Store g.P.Places.represents g.P.Versioned.version _ (command.Revoke c.args.ticket c.args.unit) c.args.today (done.Revoke c.args.unit) a c.revoke.new.tables c.pass_near.new.tables c.pass_near.result (OthersAreOpen c.args.unit)
     (record {
       represents = λ clean s sound so it. represents s sound c.args.ticket c.args.unit g.P.Places.represents g.met.P.Places.shows_same g.P.Versioned.version a.now b.now it (made.goes.schema clean) (made.only clean)
@@ -30,6 +30,6 @@ returns g c =
       judged = λ s sound so. judged s sound c.args.ticket c.args.unit;
       day = λ s so. so.0;
       last = λ s so. gate_is_left s c.args.ticket c.args.unit so.1;
-      tells = λ clean s so it. refl;
+      answers = λ clean s so it. refl;
     })
-    (λ s sound so. revokes_near s sound c.args.ticket c.args.unit) made.goes c.pass_near.ensures.tells
+    (λ s sound so. revokes_near s sound c.args.ticket c.args.unit) made.goes c.pass_near.ensures.answers

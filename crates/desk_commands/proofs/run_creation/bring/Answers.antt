@@ -28,8 +28,8 @@ move_all-requires g c =
 
 pub returns-in_err-run : goal.returns-in_err-run
 returns-in_err-run g c =
-    let made = c.in_err-run.ensures.makes in
-    does_pass _ c.from_residual.ensures made.cut
+    let made = c.in_err-run.ensures.updates in
+    does_pass _ c.from_residual.ensures made.aborts
     (λ s sound so it. made.faults tt (tables g.P.Versioned.version s).desk it.desk tt (desk_legible g.P.Versioned.version s sound, subst TakesEachOnce (sym so.1) (taken_once g.P.Versioned.version s sound)))
 
 pub returns-in_default : goal.returns-in_default
@@ -39,8 +39,8 @@ returns-in_default g c =
     record {
       steps = λ clean s sound so it. runs_out g.P.Versioned.version s sound g.P.Places.represents b.now c.args.due.now so.1 so.2
           (sym c.in_default.is ∙ made.number clean (tables g.P.Versioned.version s).desk it.desk);
-      goes = made.makes.goes;
-      cut = tt;
+      goes = made.updates.goes;
+      aborts = tt;
       faults = λ s sound so it clean free. tt;
     }
 
@@ -50,11 +50,11 @@ returns-in_err-move_all g c =
     let a = state g.S.Store c.args.tables.now in
     let b = state g.S.Store c.record_run.new.tables in
     let d = state g.S.Store c.move_all.new.tables in
-    let made = c.in_ok-run.ensures.makes in
-    let moved = c.in_err-move_all.ensures.makes in
-    does_pass _ c.from_residual-in_err-move_all.ensures (cut_then a b d made.goes.on moved.cut) (λ s sound so it clean free.
+    let made = c.in_ok-run.ensures.updates in
+    let moved = c.in_err-move_all.ensures.updates in
+    does_pass _ c.from_residual-in_err-move_all.ensures (cut_then a b d made.goes.on moved.aborts) (λ s sound so it clean free.
     let desk = (tables v s).desk in
-    let at_b = early b d _ moved.cut.crash clean in
+    let at_b = early b d _ moved.aborts.crash clean in
     cause_then a b d made.goes.on at_b _
     (moved.faults tt (with_run (next_run desk) c.args.today c.args.due.now desk)
     (made.represents_updated at_b tt desk it.desk tt)
@@ -68,8 +68,8 @@ returns g c =
     let a = state g.S.Store c.args.tables.now in
     let b = state g.S.Store c.record_run.new.tables in
     let d = state g.S.Store c.move_all.new.tables in
-    let made = c.in_ok-run.ensures.makes in
-    let moved = c.in_ok-move_all.ensures.makes in
+    let made = c.in_ok-run.ensures.updates in
+    let moved = c.in_ok-move_all.ensures.updates in
     let touched = schema.run.tree ∷ schema.run_line.tree ∷ schema.holding.tree ∷ [] in
     let goes = goes_then a b d made.goes moved.goes in
     record {
@@ -84,6 +84,6 @@ returns g c =
           (moved.represents_updated clean tt put (made.represents_updated at_b tt desk it.desk tt)
           (subst (AllByRecursion IsNumber) (sym c.requires.theirs) (small_containers c.args.due.now c.requires.numbers))));
       goes = goes;
-      cut = tt;
+      aborts = tt;
       faults = λ s sound so it clean free. tt;
     }

@@ -15,21 +15,21 @@ use Rattle.desk_commands.proofs.RunMade.{nothing_due}
 use Rattle.desk_commands.proofs.run_creation.fetch.Goals as goal
 
 pub returns-in_err-waiting : goal.returns-in_err-waiting
-returns-in_err-waiting g c = let told = c.in_err-waiting.ensures.tells in desk_passed _ c.from_residual.ensures told.cut told.faults
+returns-in_err-waiting g c = let told = c.in_err-waiting.ensures.answers in desk_passed _ c.from_residual.ensures told.aborts told.faults
 
 pub returns-in_err-due : goal.returns-in_err-due
 returns-in_err-due g c =
-    let told = c.in_err-due.ensures.tells in
-    after_look c.in_ok-waiting.ensures.tells.looks (office_passed _ c.from_residual-in_err-due.ensures told.cut told.faults)
+    let told = c.in_err-due.ensures.answers in
+    after_look c.in_ok-waiting.ensures.answers.looks (office_passed _ c.from_residual-in_err-due.ensures told.aborts told.faults)
 
 pub returns-then-are_none : goal.returns-then-are_none
 returns-then-are_none g c =
     let v = g.P.Versioned.version in
     let a = state g.S.Store c.args.tables.now in
     let b = state g.S.Store c.candidates.new.tables in
-    let d = state g.S.Store c.due.new.tables in
-    let first = c.in_ok-waiting.ensures.tells in
-    let told = c.in_ok-due.ensures.tells in
+    let d = state g.S.Store c.first_open.new.tables in
+    let first = c.in_ok-waiting.ensures.answers in
+    let told = c.in_ok-due.ensures.answers in
     does_refuse g.P.Places.represents v _ command.Run a d (Err NothingToMove) (looks_then a b d first.looks told.looks)
     (λ clean s sound so it.
     let at_b = early b d _ told.looks.goes.on.crash clean in
@@ -45,9 +45,9 @@ returns g c =
     let v = g.P.Versioned.version in
     let a = state g.S.Store c.args.tables.now in
     let b = state g.S.Store c.candidates.new.tables in
-    let d = state g.S.Store c.due.new.tables in
-    let first = c.in_ok-waiting.ensures.tells in
-    let told = c.in_ok-due.ensures.tells in
+    let d = state g.S.Store c.first_open.new.tables in
+    let first = c.in_ok-waiting.ensures.answers in
+    let told = c.in_ok-due.ensures.answers in
     does_then (looks_then a b d first.looks told.looks) c.bring_due.ensures
     (λ clean s sound so it.
     let at_b = early b d _ told.looks.goes.on.crash clean in

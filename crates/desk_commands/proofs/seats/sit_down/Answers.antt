@@ -6,11 +6,11 @@ use Rattle.desk_commands.proofs.Seated.{may_sit, must_stand, numbers_told}
 use Rattle.desk_commands.proofs.seats.sit_down.Goals as goal
 
 pub returns-in_err-taken : goal.returns-in_err-taken
-returns-in_err-taken g c = let told = c.in_err-taken.ensures.tells in desk_passed _ c.from_residual.ensures told.cut told.faults
+returns-in_err-taken g c = let told = c.in_err-taken.ensures.answers in desk_passed _ c.from_residual.ensures told.aborts told.faults
 
 pub returns-in-Ok : goal.returns-in-Ok
 returns-in-Ok g c =
-    let told = c.in_ok-taken.ensures.tells in
+    let told = c.in_ok-taken.ensures.answers in
     does_then told.looks c.take.ensures
     (λ clean s sound so it. may_sit s sound c.args.ticket c.args.today c.args.limits.now _ so.0 so.1 (c.as_ref.ensures.value ∙ so.2) c.deref-2.result.now
     (λ k. ap (list_any (nat_eq k)) c.deref-2.ensures.value
@@ -19,7 +19,7 @@ returns-in-Ok g c =
 
 pub returns : goal.returns
 returns g c =
-    let told = c.in_ok-taken.ensures.tells in
+    let told = c.in_ok-taken.ensures.answers in
     is_refused told.looks
     (λ clean s sound so it. must_stand s sound c.args.ticket c.args.today c.args.limits.now _ so.0 so.1 (c.as_ref.ensures.value ∙ so.2) c.deref-2.result.now
     (λ k. ap (list_any (nat_eq k)) c.deref-2.ensures.value

@@ -10,19 +10,19 @@ set_seat-requires g c = record { small = c.requires.small }
 
 pub returns-in_err-set_seat : goal.returns-in_err-set_seat
 returns-in_err-set_seat g c =
-    let made = c.in_err-set_seat.ensures.makes in
-    does_pass _ c.from_residual.ensures made.cut
+    let made = c.in_err-set_seat.ensures.updates in
+    does_pass _ c.from_residual.ensures made.aborts
     (λ s sound so it. made.faults tt (tables g.P.Versioned.version s).desk it.desk (may_take s sound c.args.ticket g.P.Versioned.version c.args.seat so) (desk_legible g.P.Versioned.version s sound))
 
 pub returns : goal.returns
 returns g c =
     let a = state g.S.Store c.args.tables.now in
     let b = state g.S.Store c.set_seat.new.tables in
-    let made = c.in_ok-set_seat.ensures.makes in
+    let made = c.in_ok-set_seat.ensures.updates in
     record {
       steps = λ clean s sound so it. sits s sound c.args.ticket g.P.Versioned.version g.P.Places.represents g.met.P.Places.shows_same a.now b.now it (made.goes.schema clean) (made.only clean) c.args.seat so
           (made.represents_updated clean tt (tables g.P.Versioned.version s).desk it.desk (may_take s sound c.args.ticket g.P.Versioned.version c.args.seat so));
       goes = made.goes;
-      cut = tt;
+      aborts = tt;
       faults = λ s sound so it clean free. tt;
     }

@@ -5,11 +5,11 @@ use Rattle.refinement.proofs.Doings.{desk_passed, does_then}
 use Rattle.desk_commands.proofs.seats.take_seat.Goals as goal
 
 pub returns-in_err-who : goal.returns-in_err-who
-returns-in_err-who g c = let told = c.in_err-who.ensures.tells in desk_passed _ c.from_residual.ensures told.cut told.faults
+returns-in_err-who g c = let told = c.in_err-who.ensures.answers in desk_passed _ c.from_residual.ensures told.aborts told.faults
 
 pub returns : goal.returns
 returns g c =
-    let told = c.in_ok-who.ensures.tells in
+    let told = c.in_ok-who.ensures.answers in
     does_then told.looks c.sit_down.ensures
     (λ clean s sound so it. (
       so.0,

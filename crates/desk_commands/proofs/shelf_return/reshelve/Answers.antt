@@ -11,13 +11,13 @@ use Rattle.desk_commands.proofs.Reshelved.{nothing_idle, picks_idle}
 use Rattle.desk_commands.proofs.shelf_return.reshelve.Goals as goal
 
 pub returns-in_err-told : goal.returns-in_err-told
-returns-in_err-told g c = let told = c.in_err-told.ensures.tells in desk_passed _ c.from_residual.ensures told.cut told.faults
+returns-in_err-told g c = let told = c.in_err-told.ensures.answers in desk_passed _ c.from_residual.ensures told.aborts told.faults
 
 pub returns-then-are_none : goal.returns-then-are_none
 returns-then-are_none g c =
     let a = state g.S.Store c.args.tables.now in
     let b = state g.S.Store c.at_desk.new.tables in
-    let told = c.in_ok-told.ensures.tells in
+    let told = c.in_ok-told.ensures.answers in
     does_refuse g.P.Places.represents g.P.Versioned.version _ command.Reshelve a b (Err NothingToMove) told.looks
     (λ clean s sound so it.
     let is : c.in_ok-idle.idle.items ≡ idle s =
@@ -27,7 +27,7 @@ returns-then-are_none g c =
 
 pub returns : goal.returns
 returns g c =
-    let told = c.in_ok-told.ensures.tells in
+    let told = c.in_ok-told.ensures.answers in
     does_then told.looks c.shelve.ensures
     (λ clean s sound so it.
     let is : c.in_ok-idle.idle.items ≡ idle s =

@@ -16,15 +16,15 @@ use Rattle.desk_commands.proofs.shelf_return.shelve.Goals as goal
 
 pub returns-in_err-move_all : goal.returns-in_err-move_all
 returns-in_err-move_all g c =
-    let made = c.in_err-move_all.ensures.makes in
-    does_pass _ c.from_residual.ensures made.cut
+    let made = c.in_err-move_all.ensures.updates in
+    does_pass _ c.from_residual.ensures made.aborts
     (λ s sound so it. made.faults tt (tables g.P.Versioned.version s).desk it.desk (subst (AllByRecursion IsNumber) (sym (c.deref.ensures.value ∙ so.0)) (small_idle g.P.Versioned.version s sound)) (desk_legible g.P.Versioned.version s sound))
 
 pub returns : goal.returns
 returns g c =
     let a = state g.S.Store c.args.tables.now in
     let b = state g.S.Store c.move_all.new.tables in
-    let made = c.in_ok-move_all.ensures.makes in
+    let made = c.in_ok-move_all.ensures.updates in
     record {
       steps = λ clean s sound so it.
           let is = c.deref.ensures.value ∙ so.0 in
@@ -33,6 +33,6 @@ returns g c =
           (subst (λ (l : List ℕ). RepresentsDesk b.now.trees (with_all_placed Shelf l (tables g.P.Versioned.version s).desk)) is
           (made.represents_updated clean tt (tables g.P.Versioned.version s).desk it.desk (subst (AllByRecursion IsNumber) (sym is) (small_idle g.P.Versioned.version s sound)))));
       goes = made.goes;
-      cut = tt;
+      aborts = tt;
       faults = λ s sound so it clean free. tt;
     }

@@ -13,7 +13,7 @@ use Rattle.replies.proofs.Lists.{no_float}
 use Rattle.desk_queries.proofs.loans.issued_now.Goals as goal
 
 pub returns-in_err-loans : goal.returns-in_err-loans
-returns-in_err-loans g c = let told = c.in_err-loans.ensures.tells in desk_answers_passed _ c.from_residual.ensures told.cut told.faults
+returns-in_err-loans g c = let told = c.in_err-loans.ensures.answers in desk_answers_passed _ c.from_residual.ensures told.aborts told.faults
 
 pub list_text-requires : goal.list_text-requires
 list_text-requires g c = record { whole = no_float loan_data (λ loan. refl) c.deref.result.now }
@@ -23,7 +23,7 @@ returns g c =
     let v = g.P.Versioned.version in
     let a = state g.S.Store c.args.tables.now in
     let b = state g.S.Store c.issued.new.tables in
-    let told = c.in_ok-loans.ensures.tells in
+    let told = c.in_ok-loans.ensures.answers in
     answers_by g.P.Places.represents v query.IssuedNow a b (Json c.in_ok-text.text) told.looks
     (λ clean s sound it.
     ap Json c.in_ok-text.ensures

@@ -17,14 +17,14 @@ use Rattle.desk_queries.proofs.PermitsTold.{has_ticket, no_ticket, permits_told}
 use Rattle.desk_queries.proofs.permits.reader_permits.Goals as goal
 
 pub returns-in_err-known : goal.returns-in_err-known
-returns-in_err-known g c = let told = c.in_err-known.ensures.tells in desk_answers_passed _ c.from_residual.ensures told.cut told.faults
+returns-in_err-known g c = let told = c.in_err-known.ensures.answers in desk_answers_passed _ c.from_residual.ensures told.aborts told.faults
 
 pub returns-then-not-known : goal.returns-then-not-known
 returns-then-not-known g c =
     let v = g.P.Versioned.version in
     let a = state g.S.Store c.args.tables.now in
     let b = state g.S.Store c.is_registered.new.tables in
-    let told = c.in_ok-known.ensures.tells in
+    let told = c.in_ok-known.ensures.answers in
     answers_by g.P.Places.represents v (query.ReaderPermits c.args.ticket) a b (Unknown UnknownTicket) told.looks
     (λ clean s sound it.
     no_ticket v s sound c.args.ticket (sym (known_ticket v s sound c.args.ticket) ∙ sym (told.answers clean tt (tables v s).desk it.desk) ∙ c.if-not-known.true))
@@ -32,8 +32,8 @@ returns-then-not-known g c =
 pub returns-in_err-granted : goal.returns-in_err-granted
 returns-in_err-granted g c =
     let v = g.P.Versioned.version in
-    let told = c.in_err-granted.ensures.tells in
-    answers_passed_later _ c.from_residual-in_err-granted.ensures c.in_ok-known.ensures.tells.looks told.cut
+    let told = c.in_err-granted.ensures.answers in
+    answers_passed_later _ c.from_residual-in_err-granted.ensures c.in_ok-known.ensures.answers.looks told.aborts
     (λ s sound it. told.faults tt (tables v s).desk it.desk tt (desk_legible v s sound))
 
 pub list_text-requires : goal.list_text-requires
@@ -45,8 +45,8 @@ returns g c =
     let a = state g.S.Store c.args.tables.now in
     let b = state g.S.Store c.is_registered.new.tables in
     let z = state g.S.Store c.permits.new.tables in
-    let first = c.in_ok-known.ensures.tells in
-    let told = c.in_ok-granted.ensures.tells in
+    let first = c.in_ok-known.ensures.answers in
+    let told = c.in_ok-granted.ensures.answers in
     let t = c.args.ticket in
     answers_by g.P.Places.represents v (query.ReaderPermits t) a z (Json c.in_ok-text.text) (looks_then a b z first.looks told.looks)
     (λ clean s sound it.

@@ -8,7 +8,7 @@ use Rattle.office_core.specs.declared.query.Answer.TheVariants.{Json, Unknown}
 use Rattle.office_core.specs.declared.query.Query.TheVariants as query
 use Rattle.desk_core.proofs.UnknownContainers.{nothing_found}
 use Rattle.refinement.proofs.Answerings.{answers_by, answers_passed}
-use Rattle.refinement.proofs.StacksShown.{legible_stacks, shows_stacks, stacks_of}
+use Rattle.refinement.proofs.StorageShown.{legible_storage, shows_storage, storage_of}
 use Rattle.desk_queries.specs.JsonValues.{queue_data}
 use Rattle.desk_queries.proofs.QueueTold.{queue_answer}
 use Rattle.desk_queries.proofs.queues.queue.Goals as goal
@@ -17,31 +17,31 @@ pub returns-in_err-found : goal.returns-in_err-found
 returns-in_err-found g c =
     let v = g.P.Versioned.version in
     let a = state g.S.Store c.args.tables.now in
-    let told = c.in_err-found.ensures.tells in
-    answers_passed _ c.from_residual.ensures told.cut
-    (λ s sound it. told.faults tt (stacks_of v s) (shows_stacks v s g.P.Places.represents a.now sound it) tt (legible_stacks v s sound))
+    let told = c.in_err-found.ensures.answers in
+    answers_passed _ c.from_residual.ensures told.aborts
+    (λ s sound it. told.faults tt (storage_of v s) (shows_storage v s g.P.Places.represents a.now sound it) tt (legible_storage v s sound))
 
 pub returns-in-Err : goal.returns-in-Err
 returns-in-Err g c =
     let v = g.P.Versioned.version in
     let a = state g.S.Store c.args.tables.now in
     let b = state g.S.Store c.queue.new.tables in
-    let told = c.in_ok-found.ensures.tells in
+    let told = c.in_ok-found.ensures.answers in
     let none = nothing_found c.in_ok-found.found c.in-Err.why c.in-Err.ensures.refused in
     answers_by g.P.Places.represents v (query.Queue c.args.container) a b (Unknown c.in-Err.why) told.looks
     (λ clean s sound it.
     ap Unknown none.1
     ∙ ap (λ (q : Option ContainerQueue). known_json UnknownContainer (option_map (queue_data c.args.container) q)) (sym none.0)
-    ∙ queue_answer v s sound c.args.container c.in_ok-found.found (told.answers clean tt (stacks_of v s) (shows_stacks v s g.P.Places.represents a.now sound it)))
+    ∙ queue_answer v s sound c.args.container c.in_ok-found.found (told.answers clean tt (storage_of v s) (shows_storage v s g.P.Places.represents a.now sound it)))
 
 pub returns : goal.returns
 returns g c =
     let v = g.P.Versioned.version in
     let a = state g.S.Store c.args.tables.now in
     let b = state g.S.Store c.queue.new.tables in
-    let told = c.in_ok-found.ensures.tells in
+    let told = c.in_ok-found.ensures.answers in
     answers_by g.P.Places.represents v (query.Queue c.args.container) a b (Json c.in_ok-text.text) told.looks
     (λ clean s sound it.
     ap Json c.in_ok-text.ensures
     ∙ ap (λ (q : Option ContainerQueue). known_json UnknownContainer (option_map (queue_data c.args.container) q)) (sym c.in-Ok.ensures.found)
-    ∙ queue_answer v s sound c.args.container c.in_ok-found.found (told.answers clean tt (stacks_of v s) (shows_stacks v s g.P.Places.represents a.now sound it)))
+    ∙ queue_answer v s sound c.args.container c.in_ok-found.found (told.answers clean tt (storage_of v s) (shows_storage v s g.P.Places.represents a.now sound it)))

@@ -13,14 +13,14 @@ use Rattle.desk_queries.proofs.CardTold.{card_answer}
 use Rattle.desk_queries.proofs.reader_card.reader_orders.Goals as goal
 
 pub returns-in_err-card : goal.returns-in_err-card
-returns-in_err-card g c = let told = c.in_err-card.ensures.tells in desk_answers_passed _ c.from_residual.ensures told.cut told.faults
+returns-in_err-card g c = let told = c.in_err-card.ensures.answers in desk_answers_passed _ c.from_residual.ensures told.aborts told.faults
 
 pub returns-in_default : goal.returns-in_default
 returns-in_default g c =
     let v = g.P.Versioned.version in
     let a = state g.S.Store c.args.tables.now in
     let b = state g.S.Store c.reader.new.tables in
-    let told = c.in_ok-card.ensures.tells in
+    let told = c.in_ok-card.ensures.answers in
     answers_by g.P.Places.represents v (query.ReaderOrders c.args.ticket) a b (Unknown UnknownTicket) told.looks
     (λ clean s sound it.
     ap (λ (card : Option ReaderCard). known_json UnknownTicket (option_map card_data card)) (sym c.in_default.is)
@@ -31,7 +31,7 @@ returns g c =
     let v = g.P.Versioned.version in
     let a = state g.S.Store c.args.tables.now in
     let b = state g.S.Store c.reader.new.tables in
-    let told = c.in_ok-card.ensures.tells in
+    let told = c.in_ok-card.ensures.answers in
     answers_by g.P.Places.represents v (query.ReaderOrders c.args.ticket) a b (Json c.in_ok-text.text) told.looks
     (λ clean s sound it.
     ap Json c.in_ok-text.ensures

@@ -5,7 +5,7 @@ use Rattle.desk_core.specs.declared.refusal.Refusal.TheVariants.{UnknownRun}
 use Rattle.office_core.specs.declared.query.Answer.TheVariants.{Text, Unknown}
 use Rattle.office_core.specs.declared.query.Query.TheVariants as query
 use Rattle.refinement.proofs.Answerings.{answers_by, answers_passed}
-use Rattle.refinement.proofs.StacksShown.{legible_stacks, shows_stacks, stacks_of}
+use Rattle.refinement.proofs.StorageShown.{legible_storage, shows_storage, storage_of}
 use Rattle.desk_queries.proofs.RunTold.{lines_known, run_told, told_slip}
 use Rattle.desk_queries.proofs.slips.run_slip.Goals as goal
 
@@ -13,29 +13,29 @@ pub returns-in_err-brought : goal.returns-in_err-brought
 returns-in_err-brought g c =
     let v = g.P.Versioned.version in
     let a = state g.S.Store c.args.tables.now in
-    let told = c.in_err-brought.ensures.tells in
-    answers_passed _ c.from_residual.ensures told.cut
-    (λ s sound it. told.faults tt (stacks_of v s) (shows_stacks v s g.P.Places.represents a.now sound it) (lines_known v s sound c.args.run) (legible_stacks v s sound))
+    let told = c.in_err-brought.ensures.answers in
+    answers_passed _ c.from_residual.ensures told.aborts
+    (λ s sound it. told.faults tt (storage_of v s) (shows_storage v s g.P.Places.represents a.now sound it) (lines_known v s sound c.args.run) (legible_storage v s sound))
 
 pub returns-in_default : goal.returns-in_default
 returns-in_default g c =
     let v = g.P.Versioned.version in
     let a = state g.S.Store c.args.tables.now in
     let b = state g.S.Store c.run.new.tables in
-    let told = c.in_ok-brought.ensures.tells in
+    let told = c.in_ok-brought.ensures.answers in
     answers_by g.P.Places.represents v (query.RunSlip c.args.run) a b (Unknown UnknownRun) told.looks
     (λ clean s sound it.
     ap (told_slip c.args.run) (sym c.in_default.is)
-    ∙ run_told v s sound c.args.run c.in_ok-brought.field-0 (told.answers clean tt (stacks_of v s) (shows_stacks v s g.P.Places.represents a.now sound it)))
+    ∙ run_told v s sound c.args.run c.in_ok-brought.field-0 (told.answers clean tt (storage_of v s) (shows_storage v s g.P.Places.represents a.now sound it)))
 
 pub returns : goal.returns
 returns g c =
     let v = g.P.Versioned.version in
     let a = state g.S.Store c.args.tables.now in
     let b = state g.S.Store c.run.new.tables in
-    let told = c.in_ok-brought.ensures.tells in
+    let told = c.in_ok-brought.ensures.answers in
     answers_by g.P.Places.represents v (query.RunSlip c.args.run) a b (Text c.in_ok-text.text.items) told.looks
     (λ clean s sound it.
     ap Text (c.in_ok-text.ensures ∙ ap (slip c.args.run c.in-Some.brought.day) c.as_slice.ensures)
     ∙ ap (told_slip c.args.run) (sym c.in-Some.is)
-    ∙ run_told v s sound c.args.run c.in_ok-brought.field-0 (told.answers clean tt (stacks_of v s) (shows_stacks v s g.P.Places.represents a.now sound it)))
+    ∙ run_told v s sound c.args.run c.in_ok-brought.field-0 (told.answers clean tt (storage_of v s) (shows_storage v s g.P.Places.represents a.now sound it)))

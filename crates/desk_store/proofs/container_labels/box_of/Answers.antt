@@ -3,27 +3,27 @@ use Rattle.std.specs.Prelude.{⊤, IfSome, option_map}
 use Rattle.sqlite.specs.Held.{state}
 use Rattle.office_tables.specs.declared.fault.StoreFault.{StoreFault}
 use Rattle.office_tables.proofs.Calls.{looks_nowhere}
-use Rattle.desk_store.specs.Stacks.{RepresentsQueues, IsLegibleStacks}
+use Rattle.desk_store.specs.Storage.{RepresentsQueues, IsLegibleStorage}
 use Rattle.desk_store.proofs.BoxRows.{Numbered}
 use Rattle.desk_store.proofs.CardCalls.{unknown}
 use Rattle.desk_store.proofs.TellingCalls.{ends_well}
 use Rattle.desk_store.proofs.container_labels.box_of.Goals as goal
 
-pub returns-then-container-gt-MOST_CONTAINERS-clause-tells : goal.returns-then-container-gt-MOST_CONTAINERS-clause-tells
-returns-then-container-gt-MOST_CONTAINERS-clause-tells g c =
-    ends_well RepresentsQueues IsLegibleStacks (λ _. ⊤) g.S.Store c.args.tables.now c.args.tables.now c.args.tables.now _ (looks_nowhere (state g.S.Store c.args.tables.now)) None (λ clean s shown.
+pub returns-then-container-gt-MOST_CONTAINERS-clause-answers : goal.returns-then-container-gt-MOST_CONTAINERS-clause-answers
+returns-then-container-gt-MOST_CONTAINERS-clause-answers g c =
+    ends_well RepresentsQueues IsLegibleStorage (λ _. ⊤) g.S.Store c.args.tables.now c.args.tables.now c.args.tables.now _ (looks_nowhere (state g.S.Store c.args.tables.now)) None (λ clean s shown.
     let few = shown.few in
     let over = c.if-container-gt-MOST_CONTAINERS.true in
-    sym (ap (option_map (λ (b : Numbered). b.1)) (unknown (λ (b : Numbered). b.0) c.args.container s.boxes shown.numbers (omega (arith, few, over)))))
+    sym (ap (option_map (λ (b : Numbered). b.1)) (unknown (λ (b : Numbered). b.0) c.args.container s.containers shown.numbers (omega (arith, few, over)))))
 
-pub returns-clause-tells : goal.returns-clause-tells
-returns-clause-tells g c =
+pub returns-clause-answers : goal.returns-clause-answers
+returns-clause-answers g c =
     record {
-      answers = λ clean beside s shown. c.find_box.ensures.answers clean s.boxes shown.boxes shown.numbers;
+      answers = λ clean beside s shown. c.find_box.ensures.answers clean s.containers shown.containers shown.numbers;
       looks = c.find_box.ensures.reads.looks;
-      cut = c.find_box.ensures.reads.cut;
+      aborts = c.find_box.ensures.reads.aborts;
       spares = c.find_box.ensures.reads.spares;
-      faults = λ beside s shown may kept. c.find_box.ensures.faults s.boxes shown.boxes kept.boxes;
+      faults = λ beside s shown may kept. c.find_box.ensures.faults s.containers shown.containers kept.containers;
     }
 
 -- whatever was found, the number is one

@@ -17,11 +17,11 @@ returns-in_err-awaited g c =
     let z = state g.S.Store c.is_awaited.new.tables in
     let e = c.from_residual-in_err-awaited.ensures in
     record {
-      tells = ends_not RepresentsDeskAlone IsLegible (λ _. ⊤) g.S.Store c.args.tables.now c.loop-container.tables c.is_awaited.new.tables _ c.loop-container.invariant.looks
-          c.in_err-awaited.field-0.0 c.in_err-awaited.ensures.tells.cut c.in_err-awaited.ensures.tells.spares (λ d shown may kept clean.
-          let before = early b z _ c.in_err-awaited.ensures.tells.cut.crash clean in
+      answers = ends_not RepresentsDeskAlone IsLegible (λ _. ⊤) g.S.Store c.args.tables.now c.loop-container.tables c.is_awaited.new.tables _ c.loop-container.invariant.looks
+          c.in_err-awaited.field-0.0 c.in_err-awaited.ensures.answers.aborts c.in_err-awaited.ensures.answers.spares (λ d shown may kept clean.
+          let before = early b z _ c.in_err-awaited.ensures.answers.aborts.crash clean in
           let are = c.loop-container.invariant.containers before d (subst (λ (db : Database). RepresentsDesk db.trees d) (c.loop-container.invariant.looks.same before) shown) in
-          c.in_err-awaited.ensures.tells.faults tt d shown (number_at d c.deref-container-items.result.now c.loop-container.container-index are kept.holdings c.loop-container-test.true) kept clean)
+          c.in_err-awaited.ensures.answers.faults tt d shown (number_at d c.deref-container-items.result.now c.loop-container.container-index are kept.holdings c.loop-container-test.true) kept clean)
           c.from_residual-in_err-awaited.result (same_fault c.from_residual-in_err-awaited.result c.in_err-awaited.field-0.0 e.0 e.1);
     }
 
@@ -32,7 +32,7 @@ returns-in_err-push g c =
     let z = state g.S.Store c.is_awaited.new.tables in
     let e = c.from_residual-in_err-push.ensures in
     record {
-      tells = ends_full RepresentsDeskAlone IsLegible (λ _. ⊤) g.S.Store c.args.tables.now c.args.tables.now c.is_awaited.new.tables _ (looks_then a b z c.loop-container.invariant.looks c.in_ok-awaited.ensures.tells.looks)
+      answers = ends_full RepresentsDeskAlone IsLegible (λ _. ⊤) g.S.Store c.args.tables.now c.args.tables.now c.is_awaited.new.tables _ (looks_then a b z c.loop-container.invariant.looks c.in_ok-awaited.ensures.answers.looks)
           c.from_residual-in_err-push.result (same_fault c.from_residual-in_err-push.result Memory e.0 e.1);
     }
 
@@ -41,14 +41,14 @@ loop-container-preserved g c =
     let a = state g.S.Store c.args.tables.now in
     let b = state g.S.Store c.loop-container.tables in
     let z = state g.S.Store c.is_awaited.new.tables in
-    let last = c.in_ok-awaited.ensures.tells.looks in
+    let last = c.in_ok-awaited.ensures.answers.looks in
     let looked = c.loop-container.invariant.looks in
     record {
       looks = looks_then a b z looked last;
       containers = λ clean desk shown. c.loop-container.invariant.containers (early b z _ last.goes.on.crash clean) desk shown;
       so_far = λ clean desk shown.
           let before = early b z _ last.goes.on.crash clean in
-          let told = c.in_ok-awaited.ensures.tells.answers clean tt desk (shown_on RepresentsDeskAlone a b looked before desk shown) in
+          let told = c.in_ok-awaited.ensures.answers.answers clean tt desk (shown_on RepresentsDeskAlone a b looked before desk shown) in
           c.in_ok-push.ensures.items
           ∙ told_more desk.orders c.deref-container-items.result.now c.loop-container.container-index c.loop-container.told.items c.in_ok-awaited.awaited c.loop-container-test.true
           (c.loop-container.invariant.so_far before desk shown) told;
@@ -57,7 +57,7 @@ loop-container-preserved g c =
 pub returns : goal.returns
 returns g c =
     record {
-      tells = ends_well RepresentsDeskAlone IsLegible (λ _. ⊤) g.S.Store c.args.tables.now c.args.tables.now c.loop-container.tables _ c.loop-container.invariant.looks _ (λ clean desk shown.
+      answers = ends_well RepresentsDeskAlone IsLegible (λ _. ⊤) g.S.Store c.args.tables.now c.args.tables.now c.loop-container.tables _ c.loop-container.invariant.looks _ (λ clean desk shown.
           told_whole desk c.deref-container-items.result.now c.loop-container.container-index c.loop-container.told.items c.loop-container-test.false
           (c.loop-container.invariant.containers clean desk shown) (c.loop-container.invariant.so_far clean desk shown));
     }

@@ -12,7 +12,7 @@ pub returns-in-Shelf : goal.returns-in-Shelf
 returns-in-Shelf g c =
     let e = c.in_ok-clear_holding.ensures in
     record {
-      makes = subst (λ (place : Place). StoreUpdates g.S.Store RepresentsDeskAlone IsLegible c.args.tables.now c.clear_holding.new.tables (Ok (tt {0})) (λ _. ⊤) (with_place c.args.container place) (tables.holding.tree ∷ [])) (sym c.in-Shelf.is)
+      updates = subst (λ (place : Place). StoreUpdates g.S.Store RepresentsDeskAlone IsLegible c.args.tables.now c.clear_holding.new.tables (Ok (tt {0})) (λ _. ⊤) (with_place c.args.container place) (tables.holding.tree ∷ [])) (sym c.in-Shelf.is)
           (shelved g.S.Store c.args.tables.now c.clear_holding.new.tables c.args.container e.leaves.goes e.rows e.only);
     }
 
@@ -21,7 +21,7 @@ returns-in-Desk g c =
     let e = c.in_ok-clear_holding.ensures in
     let f = c.insert_holding.ensures in
     record {
-      makes = subst (λ (place : Place). StoreUpdates g.S.Store RepresentsDeskAlone IsLegible c.args.tables.now c.insert_holding.new.tables c.insert_holding.result (λ _. ⊤) (with_place c.args.container place) (tables.holding.tree ∷ [])) (sym c.in-Desk.is)
+      updates = subst (λ (place : Place). StoreUpdates g.S.Store RepresentsDeskAlone IsLegible c.args.tables.now c.insert_holding.new.tables c.insert_holding.result (λ _. ⊤) (with_place c.args.container place) (tables.holding.tree ∷ [])) (sym c.in-Desk.is)
           (placed g.S.Store c.args.tables.now c.clear_holding.new.tables c.args.container e.leaves.goes e.rows e.only c.insert_holding.new.tables 1 None c.insert_holding.result f.leaves f.puts f.faults);
     }
 
@@ -30,6 +30,6 @@ returns-in-Out g c =
     let e = c.in_ok-clear_holding.ensures in
     let f = c.insert_holding-in-Out.ensures in
     record {
-      makes = subst (λ (place : Place). StoreUpdates g.S.Store RepresentsDeskAlone IsLegible c.args.tables.now c.insert_holding-in-Out.new.tables c.insert_holding-in-Out.result (λ _. ⊤) (with_place c.args.container place) (tables.holding.tree ∷ [])) (sym c.in-Out.is)
+      updates = subst (λ (place : Place). StoreUpdates g.S.Store RepresentsDeskAlone IsLegible c.args.tables.now c.insert_holding-in-Out.new.tables c.insert_holding-in-Out.result (λ _. ⊤) (with_place c.args.container place) (tables.holding.tree ∷ [])) (sym c.in-Out.is)
           (placed g.S.Store c.args.tables.now c.clear_holding.new.tables c.args.container e.leaves.goes e.rows e.only c.insert_holding-in-Out.new.tables 2 (Some c.in-Out.order) c.insert_holding-in-Out.result f.leaves f.puts f.faults);
     }

@@ -17,8 +17,8 @@ pub returns-in_err-loan : goal.returns-in_err-loan
 returns-in_err-loan g c =
     let e = c.from_residual-in_err-loan.ensures in
     record {
-      tells = ends_not RepresentsDeskAlone IsLegible (λ _. ⊤) g.S.Store c.args.tables.now c.loop-line.tables c.loan_of.new.tables _ c.loop-line.invariant.looks
-          c.in_err-loan.field-0.0 c.in_err-loan.ensures.tells.cut c.in_err-loan.ensures.tells.spares (λ d shown may kept. c.in_err-loan.ensures.tells.faults tt d shown tt kept)
+      answers = ends_not RepresentsDeskAlone IsLegible (λ _. ⊤) g.S.Store c.args.tables.now c.loop-line.tables c.loan_of.new.tables _ c.loop-line.invariant.looks
+          c.in_err-loan.field-0.0 c.in_err-loan.ensures.answers.aborts c.in_err-loan.ensures.answers.spares (λ d shown may kept. c.in_err-loan.ensures.answers.faults tt d shown tt kept)
           c.from_residual-in_err-loan.result (same_fault c.from_residual-in_err-loan.result c.in_err-loan.field-0.0 e.0 e.1);
     }
 
@@ -29,7 +29,7 @@ returns-in_err-push g c =
     let d = state g.S.Store c.loan_of.new.tables in
     let e = c.from_residual-in_err-push.ensures in
     record {
-      tells = ends_full RepresentsDeskAlone IsLegible (λ _. ⊤) g.S.Store c.args.tables.now c.args.tables.now c.loan_of.new.tables _ (looks_then a b d c.loop-line.invariant.looks c.in_ok-loan.ensures.tells.looks)
+      answers = ends_full RepresentsDeskAlone IsLegible (λ _. ⊤) g.S.Store c.args.tables.now c.args.tables.now c.loan_of.new.tables _ (looks_then a b d c.loop-line.invariant.looks c.in_ok-loan.ensures.answers.looks)
           c.from_residual-in_err-push.result (same_fault c.from_residual-in_err-push.result Memory e.0 e.1);
     }
 
@@ -46,14 +46,14 @@ loop-line-preserved g c =
     let a = state g.S.Store c.args.tables.now in
     let b = state g.S.Store c.loop-line.tables in
     let d = state g.S.Store c.loan_of.new.tables in
-    let last = c.in_ok-loan.ensures.tells.looks in
+    let last = c.in_ok-loan.ensures.answers.looks in
     let looked = c.loop-line.invariant.looks in
     record {
       looks = looks_then a b d looked last;
       lines = λ clean desk shown. c.loop-line.invariant.lines (early b d _ last.goes.on.crash clean) desk shown;
       so_far = λ clean desk shown.
           let before = early b d _ last.goes.on.crash clean in
-          let told = c.in_ok-loan.ensures.tells.answers clean tt desk (shown_on RepresentsDeskAlone a b looked before desk shown) in
+          let told = c.in_ok-loan.ensures.answers.answers clean tt desk (shown_on RepresentsDeskAlone a b looked before desk shown) in
           let done = c.loop-line.invariant.so_far before desk shown in
           let lines = c.deref-line-items.result.now in
           let i = c.loop-line.line-index in
@@ -71,7 +71,7 @@ loop-line-preserved g c =
 pub returns : goal.returns
 returns g c =
     record {
-      tells = ends_well RepresentsDeskAlone IsLegible (λ _. ⊤) g.S.Store c.args.tables.now c.args.tables.now c.loop-line.tables _ c.loop-line.invariant.looks _ (λ clean desk shown.
+      answers = ends_well RepresentsDeskAlone IsLegible (λ _. ⊤) g.S.Store c.args.tables.now c.args.tables.now c.loop-line.tables _ c.loop-line.invariant.looks _ (λ clean desk shown.
           loans_whole desk.orders desk.holdings c.deref-line-items.result.now c.loop-line.line-index c.loop-line.loans.items c.loop-line-test.false
           (c.loop-line.invariant.lines clean desk shown) (c.loop-line.invariant.so_far clean desk shown));
     }

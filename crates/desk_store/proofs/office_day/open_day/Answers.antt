@@ -13,7 +13,7 @@ returns-in_err-free_seats g c =
     let whole = not_freed g.S.Store c.args.tables.now c.free_seats.new.tables c.args.on c.in_err-free_seats.field-0.0 c.in_err-free_seats.ensures.leaves c.in_err-free_seats.ensures.faults in
     let e = c.from_residual.ensures in
     record {
-      makes = subst (λ (r : Result Unit StoreFault). StoreUpdates g.S.Store RepresentsBoth IsLegibleHouse c.args.tables.now c.free_seats.new.tables r (λ _. ⊤) (opened c.args.on) (tables.seat.tree ∷ tables.office.tree ∷ []))
+      updates = subst (λ (r : Result Unit StoreFault). StoreUpdates g.S.Store RepresentsBoth IsLegibleHouse c.args.tables.now c.free_seats.new.tables r (λ _. ⊤) (opened c.args.on) (tables.seat.tree ∷ tables.office.tree ∷ []))
           (sym (same_fault c.from_residual.result c.in_err-free_seats.field-0.0 e.0 e.1)) whole;
     }
 
@@ -22,5 +22,5 @@ returns g c =
     let e = c.in_ok-free_seats.ensures in
     let f = c.set_day.ensures in
     record {
-      makes = opens g.S.Store c.args.tables.now c.free_seats.new.tables c.args.on e.leaves.goes e.rows e.only c.set_day.new.tables c.set_day.result f.leaves f.rows f.only f.faults;
+      updates = opens g.S.Store c.args.tables.now c.free_seats.new.tables c.args.on e.leaves.goes e.rows e.only c.set_day.new.tables c.set_day.result f.leaves f.rows f.only f.faults;
     }

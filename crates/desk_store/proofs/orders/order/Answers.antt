@@ -13,21 +13,21 @@ use Rattle.office_tables.proofs.Sparing.{spares_own}
 use Rattle.desk_store.proofs.orders.order.Goals as goal
 use Rattle.desk_store.proofs.TellingCalls.{ends_not, ends_well}
 
-pub returns-then-order-gt-MOST_ORDERS-clause-tells : goal.returns-then-order-gt-MOST_ORDERS-clause-tells
-returns-then-order-gt-MOST_ORDERS-clause-tells g c =
+pub returns-then-order-gt-MOST_ORDERS-clause-answers : goal.returns-then-order-gt-MOST_ORDERS-clause-answers
+returns-then-order-gt-MOST_ORDERS-clause-answers g c =
     ends_well RepresentsDeskAlone IsLegible (λ _. ⊤) g.S.Store c.args.tables.now c.args.tables.now c.args.tables.now _ (looks_nowhere (state g.S.Store c.args.tables.now)) None (λ clean d shown.
     let few = shown.few_orders in
     let over = c.if-order-gt-MOST_ORDERS.true in
     subst (λ row. IsThere row None) (sym (unknown (λ (o : OrderRow). o.id) c.args.order d.orders shown.order_numbers (omega (arith, few, over)))) refl)
 
-pub returns-in_default-clause-tells : goal.returns-in_default-clause-tells
-returns-in_default-clause-tells g c =
+pub returns-in_default-clause-answers : goal.returns-in_default-clause-answers
+returns-in_default-clause-answers g c =
     ends_well RepresentsDeskAlone IsLegible (λ _. ⊤) g.S.Store c.args.tables.now c.args.tables.now c.find_order.new.tables _ c.in_ok-entry.ensures.reads.looks None (λ clean d shown.
     let there = c.in_ok-entry.ensures.answers clean d.orders shown.orders shown.order_numbers in
     told_none (order_with c.args.order d) (sym there ∙ c.in_default.is))
 
-pub returns-in_err-placed-clause-tells : goal.returns-in_err-placed-clause-tells
-returns-in_err-placed-clause-tells g c =
+pub returns-in_err-placed-clause-answers : goal.returns-in_err-placed-clause-answers
+returns-in_err-placed-clause-answers g c =
     let a = state g.S.Store c.args.tables.now in
     let b = state g.S.Store c.find_order.new.tables in
     let looked = c.in_ok-entry.ensures.reads.looks in
@@ -42,8 +42,8 @@ returns-in_err-placed-clause-tells g c =
     absurd (let none : false ≡ true = c.in_err-placed.ensures.known some.0 some.1 in cc))
     c.from_residual-in_err-placed.result (same_fault c.from_residual-in_err-placed.result c.in_err-placed.field-0.0 e.0 e.1)
 
-pub returns-clause-tells : goal.returns-clause-tells
-returns-clause-tells g c =
+pub returns-clause-answers : goal.returns-clause-answers
+returns-clause-answers g c =
     ends_well RepresentsDeskAlone IsLegible (λ _. ⊤) g.S.Store c.args.tables.now c.args.tables.now c.find_order.new.tables _ c.in_ok-entry.ensures.reads.looks _ (λ clean d shown.
     let there = c.in_ok-entry.ensures.answers clean d.orders shown.orders shown.order_numbers in
     told_there (order_with c.args.order d) c.in-Some.entry c.in_ok-placed.placed (sym there ∙ c.in-Some.is)

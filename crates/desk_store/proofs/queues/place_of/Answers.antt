@@ -20,12 +20,12 @@ returns-in-Some g c =
     let looked = c.in_ok-entry.ensures.reads.looks in
     let entry = c.in-Some.entry in
     record {
-      tells = record {
+      answers = record {
         answers = λ clean beside d shown.
             let there = c.in_ok-entry.ensures.answers clean d.holdings shown.holdings shown.holdings_rise in
             IfOk-weaker c.place.result _ _ (λ place at. at_entry (holding_of c.args.container d) entry place (sym there ∙ c.in-Some.is) at) c.place.ensures.place;
         looks = on_ok_from c.place.result _ looked;
-        cut = cut_looks c.place.result a b looked;
+        aborts = cut_looks c.place.result a b looked;
         spares = own_last a b looked c.place.result c.place.ensures.fair;
         faults = λ beside d shown may kept clean free.
             let there = c.in_ok-entry.ensures.answers clean d.holdings shown.holdings shown.holdings_rise in
@@ -36,7 +36,7 @@ returns-in-Some g c =
 pub returns-in-None : goal.returns-in-None
 returns-in-None g c =
     record {
-      tells = ends_well RepresentsDeskAlone IsLegible (λ _. ⊤) g.S.Store c.args.tables.now c.args.tables.now c.find_place.new.tables _ c.in_ok-entry.ensures.reads.looks _ (λ clean d shown.
+      answers = ends_well RepresentsDeskAlone IsLegible (λ _. ⊤) g.S.Store c.args.tables.now c.args.tables.now c.find_place.new.tables _ c.in_ok-entry.ensures.reads.looks _ (λ clean d shown.
           let there = c.in_ok-entry.ensures.answers clean d.holdings shown.holdings shown.holdings_rise in
           at_shelf (holding_of c.args.container d) (sym there ∙ c.in-None.is));
     }

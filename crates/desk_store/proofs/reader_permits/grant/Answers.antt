@@ -9,8 +9,8 @@ use Rattle.desk_store.specs.Representation.{RepresentsDeskAlone, IsLegible}
 use Rattle.desk_store.proofs.PermitCalls.{not_cleared, grants, rows_granted}
 use Rattle.desk_store.proofs.reader_permits.grant.Goals as goal
 
-pub returns-in_err-clear_permit-clause-makes : goal.returns-in_err-clear_permit-clause-makes
-returns-in_err-clear_permit-clause-makes g c =
+pub returns-in_err-clear_permit-clause-updates : goal.returns-in_err-clear_permit-clause-updates
+returns-in_err-clear_permit-clause-updates g c =
     let old = state g.S.Store c.args.tables.now in
     let whole = not_cleared g.S.Store c.args.tables.now c.clear_permit.new.tables c.clear_permit.new.tables c.args.ticket c.args.unit c.args.until c.in_err-clear_permit.field-0.0 c.in_err-clear_permit.ensures in
     let e = c.from_residual.ensures in
@@ -20,7 +20,7 @@ returns-in_err-clear_permit-clause-makes g c =
 pub returns : goal.returns
 returns g c =
     record {
-      makes = grants g.S.Store c.args.tables.now c.clear_permit.new.tables c.insert_permit.new.tables c.args.ticket c.args.unit c.args.until c.in_ok-clear_permit.ensures.leaves.goes c.in_ok-clear_permit.ensures.only c.in_ok-clear_permit.ensures.rows
+      updates = grants g.S.Store c.args.tables.now c.clear_permit.new.tables c.insert_permit.new.tables c.args.ticket c.args.unit c.args.until c.in_ok-clear_permit.ensures.leaves.goes c.in_ok-clear_permit.ensures.only c.in_ok-clear_permit.ensures.rows
           c.insert_permit.result c.insert_permit.ensures;
       rows = rows_granted g.S.Store c.args.tables.now c.clear_permit.new.tables c.insert_permit.new.tables c.args.ticket c.args.unit c.args.until c.in_ok-clear_permit.ensures.leaves.goes c.in_ok-clear_permit.ensures.only c.in_ok-clear_permit.ensures.rows
           c.insert_permit.result c.insert_permit.ensures;

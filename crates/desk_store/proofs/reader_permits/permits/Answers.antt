@@ -13,7 +13,7 @@ pub returns-then-ticket-from : goal.returns-then-ticket-from
 returns-then-ticket-from g c =
     let old = state g.S.Store c.args.tables.now in
     record {
-      tells = ends_well RepresentsDeskAlone IsLegible (λ _. ⊤) g.S.Store c.args.tables.now c.args.tables.now c.args.tables.now _ (looks_nowhere old) _ (λ clean d shown.
+      answers = ends_well RepresentsDeskAlone IsLegible (λ _. ⊤) g.S.Store c.args.tables.now c.args.tables.now c.args.tables.now _ (looks_nowhere old) _ (λ clean d shown.
           let few = shown.few_tickets in
           let over = c.if-ticket-from.true in
           let most = c.from.ensures in

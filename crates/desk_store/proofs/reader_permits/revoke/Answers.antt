@@ -4,5 +4,5 @@ use Rattle.desk_store.proofs.reader_permits.revoke.Goals as goal
 pub returns : goal.returns
 returns g c =
     record {
-      makes = takes_back g.S.Store c.args.tables.now c.clear_permit.new.tables c.clear_permit.result c.args.ticket c.args.unit c.clear_permit.ensures;
+      updates = takes_back g.S.Store c.args.tables.now c.clear_permit.new.tables c.clear_permit.result c.args.ticket c.args.unit c.clear_permit.ensures;
     }

@@ -21,8 +21,8 @@ returns-in_err-orders g c =
     let p = state g.S.Store c.placed_on.new.tables in
     let e = c.from_residual-in_err-orders.ensures in
     record {
-      tells = ends_not RepresentsDeskAlone IsLegible (λ _. ⊤) g.S.Store c.args.tables.now c.placed_on.new.tables c.last_order.new.tables _ (looks_then a b p c.in_ok-lines.ensures.reads.looks c.in_ok-placed.ensures.reads.looks)
-          c.in_err-orders.field-0.0 c.in_err-orders.ensures.reads.cut c.in_err-orders.ensures.reads.spares (λ d shown may kept. c.in_err-orders.ensures.faults d.orders shown.orders (shown.few_orders, shown.order_numbers))
+      answers = ends_not RepresentsDeskAlone IsLegible (λ _. ⊤) g.S.Store c.args.tables.now c.placed_on.new.tables c.last_order.new.tables _ (looks_then a b p c.in_ok-lines.ensures.reads.looks c.in_ok-placed.ensures.reads.looks)
+          c.in_err-orders.field-0.0 c.in_err-orders.ensures.reads.aborts c.in_err-orders.ensures.reads.spares (λ d shown may kept. c.in_err-orders.ensures.faults d.orders shown.orders (shown.few_orders, shown.order_numbers))
           c.from_residual-in_err-orders.result (same_fault c.from_residual-in_err-orders.result c.in_err-orders.field-0.0 e.0 e.1);
     }
 
@@ -35,7 +35,7 @@ returns g c =
     let first = c.in_ok-lines.ensures.reads.looks in
     let two = looks_then a b p first c.in_ok-placed.ensures.reads.looks in
     record {
-      tells = ends_well RepresentsDeskAlone IsLegible (λ _. ⊤) g.S.Store c.args.tables.now c.args.tables.now c.last_order.new.tables _ (looks_then a p z two c.in_ok-orders.ensures.reads.looks) _ (λ clean d shown.
+      answers = ends_well RepresentsDeskAlone IsLegible (λ _. ⊤) g.S.Store c.args.tables.now c.args.tables.now c.last_order.new.tables _ (looks_then a p z two c.in_ok-orders.ensures.reads.looks) _ (λ clean d shown.
           let at_p = early p z _ c.in_ok-orders.ensures.reads.crash clean in
           let at_b = early b p _ c.in_ok-placed.ensures.reads.crash at_p in
           let shown_b = shown_on RepresentsDeskAlone a b first at_b d shown in

@@ -14,51 +14,51 @@ use Rattle.desk_store.proofs.reader_summary.reader.Goals as goal
 use Rattle.desk_store.proofs.ToldCalls.{shown_on}
 use Rattle.desk_store.proofs.TellingCalls.{ends_not, ends_well}
 
-pub returns-then-ticket-from-clause-tells : goal.returns-then-ticket-from-clause-tells
-returns-then-ticket-from-clause-tells g c =
+pub returns-then-ticket-from-clause-answers : goal.returns-then-ticket-from-clause-answers
+returns-then-ticket-from-clause-answers g c =
     ends_well RepresentsDeskAlone IsLegible (λ _. ⊤) g.S.Store c.args.tables.now c.args.tables.now c.args.tables.now _ (looks_nowhere (state g.S.Store c.args.tables.now)) None (λ clean d shown.
     let few = shown.few_tickets in
     let over = c.if-ticket-from.true in
     let most = c.from.ensures in
     sym (ap (option_map (λ (r : ReaderRow). card_with c.args.ticket c.args.today d (named r))) (unknown (λ (r : ReaderRow). r.ticket) c.args.ticket d.readers shown.tickets (omega (arith, few, over, most)))))
 
-pub returns-in_default-clause-tells : goal.returns-in_default-clause-tells
-returns-in_default-clause-tells g c =
+pub returns-in_default-clause-answers : goal.returns-in_default-clause-answers
+returns-in_default-clause-answers g c =
     ends_well RepresentsDeskAlone IsLegible (λ _. ⊤) g.S.Store c.args.tables.now c.args.tables.now c.find_reader.new.tables _ c.in_ok-name.ensures.reads.looks None (λ clean d shown.
     sym (ap (option_map (card_with c.args.ticket c.args.today d)) c.in_default.is) ∙ card_told c.args.ticket c.args.today d _ (c.in_ok-name.ensures.answers clean d.readers shown.readers shown.tickets))
 
-pub returns-in_err-taken-clause-tells : goal.returns-in_err-taken-clause-tells
-returns-in_err-taken-clause-tells g c =
+pub returns-in_err-taken-clause-answers : goal.returns-in_err-taken-clause-answers
+returns-in_err-taken-clause-answers g c =
     let e = c.from_residual-in_err-taken.ensures in
     ends_not RepresentsDeskAlone IsLegible (λ _. ⊤) g.S.Store c.args.tables.now c.find_reader.new.tables c.find_seat.new.tables _ c.in_ok-name.ensures.reads.looks
-    c.in_err-taken.field-0.0 c.in_err-taken.ensures.reads.cut c.in_err-taken.ensures.reads.spares (λ d shown may kept. c.in_err-taken.ensures.faults d.seats shown.seats kept.seats)
+    c.in_err-taken.field-0.0 c.in_err-taken.ensures.reads.aborts c.in_err-taken.ensures.reads.spares (λ d shown may kept. c.in_err-taken.ensures.faults d.seats shown.seats kept.seats)
     c.from_residual-in_err-taken.result (same_fault c.from_residual-in_err-taken.result c.in_err-taken.field-0.0 e.0 e.1)
 
-pub returns-in_err-told-clause-tells : goal.returns-in_err-told-clause-tells
-returns-in_err-told-clause-tells g c =
+pub returns-in_err-told-clause-answers : goal.returns-in_err-told-clause-answers
+returns-in_err-told-clause-answers g c =
     let a = state g.S.Store c.args.tables.now in
     let b = state g.S.Store c.find_reader.new.tables in
     let s = state g.S.Store c.find_seat.new.tables in
     let e = c.from_residual-in_err-told.ensures in
     ends_not RepresentsDeskAlone IsLegible (λ _. ⊤) g.S.Store c.args.tables.now c.find_seat.new.tables c.orders_of.new.tables _ (looks_then a b s c.in_ok-name.ensures.reads.looks c.in_ok-taken.ensures.reads.looks)
-    c.in_err-told.field-0.0 c.in_err-told.ensures.tells.cut c.in_err-told.ensures.tells.spares (λ d shown may kept. c.in_err-told.ensures.tells.faults tt d shown tt kept)
+    c.in_err-told.field-0.0 c.in_err-told.ensures.answers.aborts c.in_err-told.ensures.answers.spares (λ d shown may kept. c.in_err-told.ensures.answers.faults tt d shown tt kept)
     c.from_residual-in_err-told.result (same_fault c.from_residual-in_err-told.result c.in_err-told.field-0.0 e.0 e.1)
 
-pub returns-clause-tells : goal.returns-clause-tells
-returns-clause-tells g c =
+pub returns-clause-answers : goal.returns-clause-answers
+returns-clause-answers g c =
     let a = state g.S.Store c.args.tables.now in
     let b = state g.S.Store c.find_reader.new.tables in
     let s = state g.S.Store c.find_seat.new.tables in
     let z = state g.S.Store c.orders_of.new.tables in
     let first = c.in_ok-name.ensures.reads.looks in
     let two = looks_then a b s first c.in_ok-taken.ensures.reads.looks in
-    ends_well RepresentsDeskAlone IsLegible (λ _. ⊤) g.S.Store c.args.tables.now c.args.tables.now c.orders_of.new.tables _ (looks_then a s z two c.in_ok-told.ensures.tells.looks) _ (λ clean d shown.
-    let at_s = early s z _ c.in_ok-told.ensures.tells.looks.goes.on.crash clean in
+    ends_well RepresentsDeskAlone IsLegible (λ _. ⊤) g.S.Store c.args.tables.now c.args.tables.now c.orders_of.new.tables _ (looks_then a s z two c.in_ok-told.ensures.answers.looks) _ (λ clean d shown.
+    let at_s = early s z _ c.in_ok-told.ensures.answers.looks.goes.on.crash clean in
     let at_b = early b s _ c.in_ok-taken.ensures.reads.crash at_s in
     let shown_b = shown_on RepresentsDeskAlone a b first at_b d shown in
     let card = sym (ap (option_map (card_with c.args.ticket c.args.today d)) c.in-Some.is) ∙ card_told c.args.ticket c.args.today d _ (c.in_ok-name.ensures.answers at_b d.readers shown.readers shown.tickets) in
     let seat = c.seat_in.ensures ∙ seat_told c.args.ticket d _ (c.in_ok-taken.ensures.answers at_s d.seats shown_b.seats shown_b.seats_rise) in
-    let told = c.in_ok-told.ensures.tells.answers clean tt d (shown_on RepresentsDeskAlone a s two at_s d shown) in
+    let told = c.in_ok-told.ensures.answers.answers clean tt d (shown_on RepresentsDeskAlone a s two at_s d shown) in
     let live = c.as_slice.ensures ∙ ap (λ (o : TicketOrders). o.live) told in
     let few = subst (λ l. length l < 2 ^ 32) (sym live) (few_live c.args.ticket d shown.few_orders) in
     let held = c.count_out.ensures few ∙ ap (count_by (λ (l : LiveOrder). l.is_out)) live ∙ out_of_live c.args.ticket d.orders in

@@ -10,15 +10,15 @@ use Rattle.desk_store.proofs.ReaderRows.{named}
 use Rattle.desk_store.proofs.readers.is_registered.Goals as goal
 use Rattle.desk_store.proofs.TellingCalls.{ends_well}
 
-pub returns-then-ticket-from-clause-tells : goal.returns-then-ticket-from-clause-tells
-returns-then-ticket-from-clause-tells g c =
+pub returns-then-ticket-from-clause-answers : goal.returns-then-ticket-from-clause-answers
+returns-then-ticket-from-clause-answers g c =
     ends_well RepresentsDeskAlone IsLegible (λ _. ⊤) g.S.Store c.args.tables.now c.args.tables.now c.args.tables.now _ (looks_nowhere (state g.S.Store c.args.tables.now)) false (λ clean d shown.
     let few = shown.few_tickets in
     let over = c.if-ticket-from.true in
     let most = c.from.ensures in
     sym (ap is_some (unknown (λ (r : ReaderRow). r.ticket) c.args.ticket d.readers shown.tickets (omega (arith, few, over, most)))))
 
-pub returns-clause-tells : goal.returns-clause-tells
-returns-clause-tells g c =
+pub returns-clause-answers : goal.returns-clause-answers
+returns-clause-answers g c =
     ends_well RepresentsDeskAlone IsLegible (λ _. ⊤) g.S.Store c.args.tables.now c.args.tables.now c.find_reader.new.tables _ c.in_ok-found.ensures.reads.looks _ (λ clean d shown.
     c.is_some.ensures ∙ ap is_some (c.in_ok-found.ensures.answers clean d.readers shown.readers shown.tickets) ∙ some_mapped named (reader_with c.args.ticket d))

@@ -18,7 +18,7 @@ returns g c =
     let one = c.in_ok-orders.ensures.reads.looks in
     let two = c.in_ok-lines.ensures.reads.looks in
     record {
-      tells = ends_well RepresentsDeskAlone IsLegible (λ _. ⊤) g.S.Store c.args.tables.now c.args.tables.now c.holding_lines.new.tables _ (looks_then a b z one two) _ (λ clean d shown.
+      answers = ends_well RepresentsDeskAlone IsLegible (λ _. ⊤) g.S.Store c.args.tables.now c.args.tables.now c.holding_lines.new.tables _ (looks_then a b z one two) _ (λ clean d shown.
           let before = early b z _ two.goes.on.crash clean in
           let shown_b = shown_on RepresentsDeskAlone a b one before d shown in
           let orders = c.deref-2.ensures.value ∙ c.in_ok-orders.ensures.answers before d.orders shown.orders shown.order_numbers in

@@ -3,7 +3,7 @@ use Rattle.std.specs.Prelude.{option_map}
 use Rattle.sqlite.specs.Held.{state}
 use Rattle.office_tables.proofs.Calls.{cut_after, looks_nowhere}
 use Rattle.office_tables.proofs.CallEnds.{same_fault}
-use Rattle.desk_store.specs.Stacks.{RepresentsQueues, IsLegibleStacks, IsKnownLine, box_with}
+use Rattle.desk_store.specs.Storage.{RepresentsQueues, IsLegibleStorage, IsKnownLine, container_with}
 use Rattle.desk_store.proofs.BoxRows.{Numbered}
 use Rattle.desk_store.proofs.BroughtRows.{line_told}
 use Rattle.desk_store.proofs.TellingCalls.{ends_not, ends_well}
@@ -14,8 +14,8 @@ pub returns-in_err-written : goal.returns-in_err-written
 returns-in_err-written g c =
     let e = c.from_residual.ensures in
     record {
-      tells = ends_not RepresentsQueues IsLegibleStacks (IsKnownLine c.args.line.now) g.S.Store c.args.tables.now c.args.tables.now c.box_of.new.tables _ (looks_nowhere (state g.S.Store c.args.tables.now))
-          c.in_err-written.field-0.0 c.in_err-written.ensures.tells.cut c.in_err-written.ensures.tells.spares (λ s shown may kept. c.in_err-written.ensures.tells.faults tt s shown tt kept)
+      answers = ends_not RepresentsQueues IsLegibleStorage (IsKnownLine c.args.line.now) g.S.Store c.args.tables.now c.args.tables.now c.box_of.new.tables _ (looks_nowhere (state g.S.Store c.args.tables.now))
+          c.in_err-written.field-0.0 c.in_err-written.ensures.answers.aborts c.in_err-written.ensures.answers.spares (λ s shown may kept. c.in_err-written.ensures.answers.faults tt s shown tt kept)
           c.from_residual.result (same_fault c.from_residual.result c.in_err-written.field-0.0 e.0 e.1);
     }
 
@@ -24,19 +24,19 @@ returns-in_default g c =
     let a = state g.S.Store c.args.tables.now in
     let b = state g.S.Store c.box_of.new.tables in
     record {
-      tells = record {
+      answers = record {
         answers = λ clean beside s shown. tt;
         looks = tt;
-        cut = cut_after a b c.in_ok-written.ensures.tells.looks.goes.on;
-        spares = spares_known a b c.in_ok-written.ensures.tells.looks;
+        aborts = cut_after a b c.in_ok-written.ensures.answers.looks.goes.on;
+        spares = spares_known a b c.in_ok-written.ensures.answers.looks;
         faults = λ beside s shown may kept clean free.
-            absurd (let none : option_map (λ (b : Numbered). b.1) (Some may.0) ≡ None = ap (option_map (λ (b : Numbered). b.1)) (sym may.1) ∙ sym (c.in_ok-written.ensures.tells.answers clean tt s shown) ∙ c.in_default.is in cc);
+            absurd (let none : option_map (λ (b : Numbered). b.1) (Some may.0) ≡ None = ap (option_map (λ (b : Numbered). b.1)) (sym may.1) ∙ sym (c.in_ok-written.ensures.answers.answers clean tt s shown) ∙ c.in_default.is in cc);
       };
     }
 
 pub returns : goal.returns
 returns g c =
     record {
-      tells = ends_well RepresentsQueues IsLegibleStacks (IsKnownLine c.args.line.now) g.S.Store c.args.tables.now c.args.tables.now c.box_of.new.tables _ c.in_ok-written.ensures.tells.looks _ (λ clean s shown.
-          line_told c.args.line.now s c.in-Some.written (box_with c.args.line.now.container s) refl (sym (c.in_ok-written.ensures.tells.answers clean tt s shown) ∙ c.in-Some.is));
+      answers = ends_well RepresentsQueues IsLegibleStorage (IsKnownLine c.args.line.now) g.S.Store c.args.tables.now c.args.tables.now c.box_of.new.tables _ c.in_ok-written.ensures.answers.looks _ (λ clean s shown.
+          line_told c.args.line.now s c.in-Some.written (container_with c.args.line.now.container s) refl (sym (c.in_ok-written.ensures.answers.answers clean tt s shown) ∙ c.in-Some.is));
     }

@@ -9,7 +9,7 @@ use Rattle.office_tables.proofs.Calls.{early, looks_then}
 use Rattle.office_tables.proofs.Puts.{has_at}
 use Rattle.office_tables.proofs.CallEnds.{same_fault}
 use Rattle.office_tables.specs.declared.fault.StoreFault.TheVariants.{Memory}
-use Rattle.desk_store.specs.Stacks.{Stacks, RepresentsQueues, IsLegibleStacks, IsKnownLine, IsToldLine}
+use Rattle.desk_store.specs.Storage.{Storage, RepresentsQueues, IsLegibleStorage, IsKnownLine, IsToldLine}
 use Rattle.desk_store.specs.declared.runs.TakenLine.{TakenLine}
 use Rattle.desk_store.proofs.BroughtRows.{zip_more}
 use Rattle.desk_store.proofs.ToldCalls.{shown_on}
@@ -23,9 +23,9 @@ returns-in_err-candidate g c =
     let i = c.loop-line.line-index in
     let none : TakenLine = record { container = 0; order = 0; ticket = 0 } in
     record {
-      tells = ends_not RepresentsQueues IsLegibleStacks (λ (s : Stacks). AllByRecursion (λ l. IsKnownLine l s) lines) g.S.Store c.args.tables.now c.loop-line.tables c.candidate.new.tables _ c.loop-line.invariant.looks
-          c.in_err-candidate.field-0.0 c.in_err-candidate.ensures.tells.cut c.in_err-candidate.ensures.tells.spares
-          (λ s shown may kept. c.in_err-candidate.ensures.tells.faults tt s shown (all_has (λ l. IsKnownLine l s) lines (get_or lines i none) may (has_at lines i none c.loop-line-test.true)) kept)
+      answers = ends_not RepresentsQueues IsLegibleStorage (λ (s : Storage). AllByRecursion (λ l. IsKnownLine l s) lines) g.S.Store c.args.tables.now c.loop-line.tables c.candidate.new.tables _ c.loop-line.invariant.looks
+          c.in_err-candidate.field-0.0 c.in_err-candidate.ensures.answers.aborts c.in_err-candidate.ensures.answers.spares
+          (λ s shown may kept. c.in_err-candidate.ensures.answers.faults tt s shown (all_has (λ l. IsKnownLine l s) lines (get_or lines i none) may (has_at lines i none c.loop-line-test.true)) kept)
           c.from_residual.result (same_fault c.from_residual.result c.in_err-candidate.field-0.0 e.0 e.1);
     }
 
@@ -36,8 +36,8 @@ returns-in_err-push g c =
     let z = state g.S.Store c.candidate.new.tables in
     let e = c.from_residual-in_err-push.ensures in
     record {
-      tells = ends_full RepresentsQueues IsLegibleStacks (λ (s : Stacks). AllByRecursion (λ l. IsKnownLine l s) c.args.lines.now) g.S.Store c.args.tables.now c.args.tables.now c.candidate.new.tables _
-          (looks_then a b z c.loop-line.invariant.looks c.in_ok-candidate.ensures.tells.looks)
+      answers = ends_full RepresentsQueues IsLegibleStorage (λ (s : Storage). AllByRecursion (λ l. IsKnownLine l s) c.args.lines.now) g.S.Store c.args.tables.now c.args.tables.now c.candidate.new.tables _
+          (looks_then a b z c.loop-line.invariant.looks c.in_ok-candidate.ensures.answers.looks)
           c.from_residual-in_err-push.result (same_fault c.from_residual-in_err-push.result Memory e.0 e.1);
     }
 
@@ -46,7 +46,7 @@ loop-line-preserved g c =
     let a = state g.S.Store c.args.tables.now in
     let b = state g.S.Store c.loop-line.tables in
     let z = state g.S.Store c.candidate.new.tables in
-    let last = c.in_ok-candidate.ensures.tells.looks in
+    let last = c.in_ok-candidate.ensures.answers.looks in
     let looked = c.loop-line.invariant.looks in
     let lines = c.args.lines.now in
     let i = c.loop-line.line-index in
@@ -55,7 +55,7 @@ loop-line-preserved g c =
       looks = looks_then a b z looked last;
       so_far = λ clean s shown.
           let before = early b z _ last.goes.on.crash clean in
-          let told = c.in_ok-candidate.ensures.tells.answers clean tt s (shown_on RepresentsQueues a b looked before s shown) in
+          let told = c.in_ok-candidate.ensures.answers.answers clean tt s (shown_on RepresentsQueues a b looked before s shown) in
           let more = zip_more (IsToldLine s) (take i lines) c.loop-line.told.items (get_or lines i none) c.in_ok-candidate.candidate (c.loop-line.invariant.so_far before s shown) told in
           subst (λ (ys : List Candidate). AllZip (IsToldLine s) (take (i + 1) lines) ys) (sym c.in_ok-push.ensures.items)
           (subst (λ (xs : List TakenLine). AllZip (IsToldLine s) xs (c.loop-line.told.items ++ c.in_ok-candidate.candidate ∷ [])) (sym (take_more lines i none c.loop-line-test.true)) more);

@@ -3,12 +3,12 @@ use Rattle.std.specs.List.{AllZip}
 use Rattle.sqlite.specs.Held.{state}
 use Rattle.sqlite.specs.State.{HasCleanDisk}
 use Rattle.office_tables.specs.Step.{LeavesUnchanged}
-use Rattle.desk_store.specs.Stacks.{Stacks, RepresentsQueues, IsToldLine}
+use Rattle.desk_store.specs.Storage.{Storage, RepresentsQueues, IsToldLine}
 use Rattle.desk_store.proofs.run_lines.candidates_of.Given as goal
 
 abbrev pub invariant-loop-line : goal.invariant-loop-line
 invariant-loop-line g l = record {
   looks : LeavesUnchanged (state g.S.Store l.fn.tables) (state g.S.Store l.tables);
-  so_far : HasCleanDisk (state g.S.Store l.tables) → (s : Stacks) → RepresentsQueues (state g.S.Store l.fn.tables).now tt s
+  so_far : HasCleanDisk (state g.S.Store l.tables) → (s : Storage) → RepresentsQueues (state g.S.Store l.fn.tables).now tt s
       → AllZip (IsToldLine s) (take l.line-index l.fn.lines) l.told.items;
 }

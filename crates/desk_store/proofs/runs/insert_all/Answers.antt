@@ -21,7 +21,7 @@ returns-in_err-insert_run g c =
     let e = c.in_err-insert_run.field-0.0 in
     let handed = c.from_residual.ensures in
     let last = c.in_err-insert_run.ensures in
-    makes_not g.S.Store _ _ _ c.args.tables.now c.insert_run.new.tables c.from_residual.result _ both e (same_fault c.from_residual.result e handed.0 handed.1) last.leaves.cut last.leaves.spares
+    makes_not g.S.Store _ _ _ c.args.tables.now c.insert_run.new.tables c.from_residual.result _ both e (same_fault c.from_residual.result e handed.0 handed.1) last.leaves.aborts last.leaves.spares
     (λ beside d shown is once. last.faults d.runs shown.runs (run_free a b b c.args.run c.args.on c.args.taken.now d shown is))
 
 pub returns : goal.returns
@@ -35,18 +35,18 @@ returns g c =
     let lines = c.insert_lines.ensures in
     record {
       represents_updated = λ clean beside desk shown is.
-          let wrote = put.puts (clean_before b d r lines.goes lines.cut clean) in
+          let wrote = put.puts (clean_before b d r lines.goes lines.aborts clean) in
           on_ok_both r _ _ _ (λ only has. run_shown a b d c.args.run c.args.on c.args.taken.now wrote only desk shown is has) (lines.only clean)
           (lines.represents_updated clean tt desk.run_lines (lines_still a b d c.args.run c.args.on c.args.taken.now wrote.only desk shown) tt);
       only = λ clean.
-          let wrote = put.puts (clean_before b d r lines.goes lines.cut clean) in
+          let wrote = put.puts (clean_before b d r lines.goes lines.aborts clean) in
           on_ok_then r _ _ (both_touched a b d c.args.run c.args.on c.args.taken.now wrote.only) (lines.only clean);
       goes = on_ok_then r _ _ (goes_then a b d goes) lines.goes;
-      cut = on_err_then r _ _ (cut_then a b d goes.on) lines.cut;
+      aborts = on_err_then r _ _ (cut_then a b d goes.on) lines.aborts;
       spares = λ clean.
           last_touched both a b d goes.on (λ before. touched_wider (tables.run.tree ∷ []) both a.now b.now refl (put.puts before).only)
-          r lines.cut clean (wider_last (tables.run_line.tree ∷ []) both b d r refl (lines.spares clean));
-      faults = λ beside desk shown is once clean free. last_cause a b d goes.on r lines.cut clean (λ cleaner.
+          r lines.aborts clean (wider_last (tables.run_line.tree ∷ []) both b d r refl (lines.spares clean));
+      faults = λ beside desk shown is once clean free. last_cause a b d goes.on r lines.aborts clean (λ cleaner.
           lines.faults tt desk.run_lines (lines_still a b d c.args.run c.args.on c.args.taken.now (put.puts cleaner).only desk shown) tt
           (no_line a b d c.args.run c.args.on c.args.taken.now desk shown is, once) clean (still_unlimited a b goes.on free));
     }

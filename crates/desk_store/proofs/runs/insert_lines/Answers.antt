@@ -47,7 +47,7 @@ returns-in_err-insert_line g c =
     let handed = c.from_residual.ensures in
     let last = c.in_err-insert_line.ensures in
     makes_cut g.S.Store _ _ _ c.args.tables.now c.loop-line.tables c.insert_line.new.tables c.from_residual.result _ touched e (same_fault c.from_residual.result e handed.0 handed.1)
-    so_far.0.on so_far.1.0 last.leaves.cut (λ clean. untouched touched b d e (last.leaves.spares clean))
+    so_far.0.on so_far.1.0 last.leaves.aborts (λ clean. untouched touched b d e (last.leaves.spares clean))
     (λ beside ls at may kept before clean free. last.faults _ (so_far.1.1 before ls at) (free_line c.args.run ls c.args.taken.now i _ kept.0 kept.1 low) clean free)
 
 pub returns : goal.returns
@@ -60,7 +60,7 @@ returns g c =
           subst (λ taken. HasNumbered run_line_cells (d.now.trees tables.run_line.tree) (ls ++ map (line_of c.args.run) taken)) all (so_far.1.1 clean ls at);
       only = so_far.1.0;
       goes = so_far.0;
-      cut = tt;
+      aborts = tt;
       spares = λ clean. tt;
       faults = λ beside ls at may kept clean free. tt;
     }

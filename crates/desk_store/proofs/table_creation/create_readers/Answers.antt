@@ -7,9 +7,9 @@ use Rattle.desk_store.proofs.table_creation.create_readers.Goals as goal
 pub returns-in_err-create_table : goal.returns-in_err-create_table
 returns-in_err-create_table g c =
     let e = c.from_residual.ensures in
-    makes_not (same_fault c.from_residual.result c.in_err-create_table.field-0.0 e.0 e.1) (makes_one g.S.Store c.args.conn.now c.create_table.new.conn (Err c.in_err-create_table.field-0.0) reader_defined c.in_err-create_table.ensures.made c.in_err-create_table.ensures.faults c.in_err-create_table.ensures.cut)
+    makes_not (same_fault c.from_residual.result c.in_err-create_table.field-0.0 e.0 e.1) (makes_one g.S.Store c.args.conn.now c.create_table.new.conn (Err c.in_err-create_table.field-0.0) reader_defined c.in_err-create_table.ensures.made c.in_err-create_table.ensures.faults c.in_err-create_table.ensures.aborts)
 
 pub returns : goal.returns
 returns g c =
-    let step1 = makes_one g.S.Store c.args.conn.now c.create_table.new.conn (Ok c.in_ok-create_table.field-0) reader_defined c.in_ok-create_table.ensures.made c.in_ok-create_table.ensures.faults c.in_ok-create_table.ensures.cut in
-    makes_next step1 (makes_one g.S.Store c.create_table.new.conn c.create_table-2.new.conn c.create_table-2.result seat_defined c.create_table-2.ensures.made c.create_table-2.ensures.faults c.create_table-2.ensures.cut)
+    let step1 = makes_one g.S.Store c.args.conn.now c.create_table.new.conn (Ok c.in_ok-create_table.field-0) reader_defined c.in_ok-create_table.ensures.made c.in_ok-create_table.ensures.faults c.in_ok-create_table.ensures.aborts in
+    makes_next step1 (makes_one g.S.Store c.create_table.new.conn c.create_table-2.new.conn c.create_table-2.result seat_defined c.create_table-2.ensures.made c.create_table-2.ensures.faults c.create_table-2.ensures.aborts)

@@ -13,38 +13,38 @@ use Rattle.desk_store.proofs.ticket_holders.ticket_holder.Goals as goal
 use Rattle.desk_store.proofs.ToldCalls.{shown_on}
 use Rattle.desk_store.proofs.TellingCalls.{ends_not, ends_well}
 
-pub returns-then-ticket-from-clause-tells : goal.returns-then-ticket-from-clause-tells
-returns-then-ticket-from-clause-tells g c =
+pub returns-then-ticket-from-clause-answers : goal.returns-then-ticket-from-clause-answers
+returns-then-ticket-from-clause-answers g c =
     ends_well RepresentsDeskAlone IsLegible (λ _. ⊤) g.S.Store c.args.tables.now c.args.tables.now c.args.tables.now _ (looks_nowhere (state g.S.Store c.args.tables.now)) None (λ clean d shown.
     let few = shown.few_tickets in
     let over = c.if-ticket-from.true in
     let most = c.from.ensures in
     sym (ap (option_map (λ (r : ReaderRow). holder_with c.args.ticket d (named r))) (unknown (λ (r : ReaderRow). r.ticket) c.args.ticket d.readers shown.tickets (omega (arith, few, over, most)))))
 
-pub returns-in_default-clause-tells : goal.returns-in_default-clause-tells
-returns-in_default-clause-tells g c =
+pub returns-in_default-clause-answers : goal.returns-in_default-clause-answers
+returns-in_default-clause-answers g c =
     ends_well RepresentsDeskAlone IsLegible (λ _. ⊤) g.S.Store c.args.tables.now c.args.tables.now c.find_reader.new.tables _ c.in_ok-row.ensures.reads.looks None (λ clean d shown.
     sym (ap (option_map (holder_with c.args.ticket d)) c.in_default.is) ∙ holder_told c.args.ticket d _ (c.in_ok-row.ensures.answers clean d.readers shown.readers shown.tickets))
 
-pub returns-in_err-taken-clause-tells : goal.returns-in_err-taken-clause-tells
-returns-in_err-taken-clause-tells g c =
+pub returns-in_err-taken-clause-answers : goal.returns-in_err-taken-clause-answers
+returns-in_err-taken-clause-answers g c =
     let e = c.from_residual-in_err-taken.ensures in
     ends_not RepresentsDeskAlone IsLegible (λ _. ⊤) g.S.Store c.args.tables.now c.find_reader.new.tables c.find_seat.new.tables _ c.in_ok-row.ensures.reads.looks
-    c.in_err-taken.field-0.0 c.in_err-taken.ensures.reads.cut c.in_err-taken.ensures.reads.spares (λ d shown may kept. c.in_err-taken.ensures.faults d.seats shown.seats kept.seats)
+    c.in_err-taken.field-0.0 c.in_err-taken.ensures.reads.aborts c.in_err-taken.ensures.reads.spares (λ d shown may kept. c.in_err-taken.ensures.faults d.seats shown.seats kept.seats)
     c.from_residual-in_err-taken.result (same_fault c.from_residual-in_err-taken.result c.in_err-taken.field-0.0 e.0 e.1)
 
-pub returns-in_err-lines-clause-tells : goal.returns-in_err-lines-clause-tells
-returns-in_err-lines-clause-tells g c =
+pub returns-in_err-lines-clause-answers : goal.returns-in_err-lines-clause-answers
+returns-in_err-lines-clause-answers g c =
     let a = state g.S.Store c.args.tables.now in
     let b = state g.S.Store c.find_reader.new.tables in
     let s = state g.S.Store c.find_seat.new.tables in
     let e = c.from_residual-in_err-lines.ensures in
     ends_not RepresentsDeskAlone IsLegible (λ _. ⊤) g.S.Store c.args.tables.now c.find_seat.new.tables c.live_lines.new.tables _ (looks_then a b s c.in_ok-row.ensures.reads.looks c.in_ok-taken.ensures.reads.looks)
-    c.in_err-lines.field-0.0 c.in_err-lines.ensures.reads.cut c.in_err-lines.ensures.reads.spares (λ d shown may kept. c.in_err-lines.ensures.faults d.orders shown.orders tt)
+    c.in_err-lines.field-0.0 c.in_err-lines.ensures.reads.aborts c.in_err-lines.ensures.reads.spares (λ d shown may kept. c.in_err-lines.ensures.faults d.orders shown.orders tt)
     c.from_residual-in_err-lines.result (same_fault c.from_residual-in_err-lines.result c.in_err-lines.field-0.0 e.0 e.1)
 
-pub returns-clause-tells : goal.returns-clause-tells
-returns-clause-tells g c =
+pub returns-clause-answers : goal.returns-clause-answers
+returns-clause-answers g c =
     let t = c.args.ticket in
     let a = state g.S.Store c.args.tables.now in
     let b = state g.S.Store c.find_reader.new.tables in

@@ -4,7 +4,7 @@ use Rattle.sqlite.specs.State.{State, HasCleanDisk}
 use Rattle.sqlite.specs.Tree.{Trees}
 use Rattle.office_tables.specs.Schema.{no_schema, desk_schema, desk_tables}
 use Rattle.tree_core.specs.Forest.{Forest}
-use Rattle.tree_core.specs.Versions.{Version}
+use Rattle.office_tables.specs.Versions.{Version}
 use Rattle.office_tables.specs.Creation.{IsMaking}
 use Rattle.office_tables.specs.Step.{InTransaction, Continues}
 use Rattle.catalogue_core.specs.CatalogueMerge.{Catalogue}

@@ -1,14 +1,14 @@
 use Rattle.std.proofs.Common.{ap, ◌∙◌, length}
 use Rattle.std.specs.Prelude.{decimal}
 use Rattle.http_messages.specs.Answers.{number_of, phrase_of, type_name, body_text}
-use Rattle.http_messages.specs.Replies.{viewed}
+use Rattle.http_messages.specs.Replies.{answer_of_view}
 use Rattle.http_desk.specs.AnswerOutput.{SendsAsCalled}
 use Rattle.http_desk.proofs.Printed.{of_pieces}
 use Rattle.http_desk.proofs.reply.send_answer.Goals as goal
 
 pub returns : goal.returns
 returns g c =
-    let a = viewed c.args.answer in
+    let a = answer_of_view c.args.answer in
     of_pieces (λ x. SendsAsCalled x c.args.writer.now c.send_parts.new.writer c.send_parts.result) c.args.closing a (body_text c.args.bare a) _ _ _ _ _ _ _
     (c.as_bytes-number.ensures.value ∙ c.format.ensures.text ∙ ap decimal (c.as_u16.ensures.value ∙ c.code_of.ensures ∙ ap number_of c.status-status.ensures))
     (c.phrase.ensures.phrase ∙ ap phrase_of c.status-status.ensures)

@@ -16,7 +16,7 @@ pub returns-clause-sent : goal.returns-clause-sent
 returns-clause-sent g c =
     let sent = c.send_answer-sent.result in (
       sent,
-      subst (λ a. Sends c.args.writer.now.bytes c.send_answer-sent.new.writer.bytes (answer_text c.args.bare true a) sent) c.fixed.ensures c.send_answer-sent.ensures.sends,
+      subst (λ a. Sends c.args.writer.now.bytes c.send_answer-sent.new.writer.bytes (answer_text c.args.bare true a) sent) c.fixed_answer.ensures c.send_answer-sent.ensures.sends,
       c.after.ensures,
     )
 
@@ -25,4 +25,4 @@ returns-clause-used_up g c =
     let sent = c.send_answer-sent.result in
     let writer = c.send_answer-sent.new.writer in
     tells_bound _ writer sent _ c.after.result closed_no_bound c.after.ensures
-    (subst (λ a. sent ≡ Bound → TextIsUsedUp (answer_text c.args.bare true a) writer) c.fixed.ensures c.send_answer-sent.ensures.used_up)
+    (subst (λ a. sent ≡ Bound → TextIsUsedUp (answer_text c.args.bare true a) writer) c.fixed_answer.ensures c.send_answer-sent.ensures.used_up)

@@ -8,7 +8,7 @@ use Rattle.office_core.specs.declared.query.Query.TheVariants as query
 use Rattle.office_core.specs.MixedRuns.{ToDo, ToTell}
 use Rattle.office_core.specs.WorkedExamples.{draft}
 use Rattle.http_desk.specs.Runs.{Means, Puts}
-use Rattle.http_desk.specs.WorkedExamples.{filled, with_draft, fonds_list, not_found}
+use Rattle.http_desk.specs.WorkedExamples.{filled_office, with_draft, fonds_list, not_found}
 use Rattle.http_desk.specs.WorkedSessions.{list_request, register_head, half_a_request, draft_head, draft_request, page_request, one_unit}
 use Rattle.http_desk.proofs.Meanings.{same_answers}
 use Rattle.http_desk.proofs.WorkedHeads.{list_has, page_has, register_has, draft_has, orders_at, two_answered, one_answered}
@@ -38,22 +38,22 @@ returns c = record {
   no_length = λ s. refl;
   no_members = λ s. refl;
   none_came = (
-    one_answered filled filled (list_request ++ half_a_request) half_a_request list_message (orders_at (codes "/desk/register") 35) fonds_list
+    one_answered filled_office filled_office (list_request ++ half_a_request) half_a_request list_message (orders_at (codes "/desk/register") 35) fonds_list
         (record { block = list_request; head = list_has half_a_request; complete = refl })
-        refl list_told (list_keeps filled)
+        refl list_told (list_keeps filled_office)
         (register_head, codes "{\"name\":\"A", register_has (codes "{\"name\":\"A"), lit< tt) refl,
     record {
       meanings = Puts (ToTell query.Fonds) ∷ [];
       mean = (list_means, tt);
       are = refl;
-      answers = same_answers (list_message ∷ []) (Puts (ToTell query.Fonds) ∷ []) filled (list_means, tt);
+      answers = same_answers (list_message ∷ []) (Puts (ToTell query.Fonds) ∷ []) filled_office (list_means, tt);
       leaves = refl;
       days = tt;
       texts = tt;
     },
   );
   one_came = (
-    two_answered filled with_draft with_draft (draft_request ++ page_request) page_request draft_message page_message one_unit not_found
+    two_answered filled_office with_draft with_draft (draft_request ++ page_request) page_request draft_message page_message one_unit not_found
         (record { block = draft_head; head = draft_has (draft_message.body ++ page_request); complete = refl })
         (record { block = page_request; head = page_has []; complete = refl })
         refl refl draft_told draft_leaves page_told (page_keeps with_draft),
@@ -61,7 +61,7 @@ returns c = record {
       meanings = Puts (ToDo (draft 2)) ∷ Puts (ToTell (query.Page 2)) ∷ [];
       mean = (draft_means, (page_means, tt));
       are = refl;
-      answers = same_answers (draft_message ∷ page_message ∷ []) (Puts (ToDo (draft 2)) ∷ Puts (ToTell (query.Page 2)) ∷ []) filled (draft_means, (page_means, tt));
+      answers = same_answers (draft_message ∷ page_message ∷ []) (Puts (ToDo (draft 2)) ∷ Puts (ToTell (query.Page 2)) ∷ []) filled_office (draft_means, (page_means, tt));
       leaves = refl;
       days = (tt, tt);
       texts = (tt, tt);

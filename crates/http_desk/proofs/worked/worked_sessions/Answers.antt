@@ -1,5 +1,5 @@
 use Rattle.std.proofs.Common.{[], ◌++◌, refl, lit<, codes}
-use Rattle.http_desk.specs.WorkedExamples.{filled, with_draft, fonds_list, not_found}
+use Rattle.http_desk.specs.WorkedExamples.{filled_office, with_draft, fonds_list, not_found}
 use Rattle.http_desk.specs.WorkedSessions.{list_request, register_head, half_a_request, draft_head, draft_request, page_request, one_unit}
 use Rattle.http_desk.proofs.WorkedHeads.{list_has, page_has, register_has, draft_has, orders_at, two_answered, one_answered}
 use Rattle.http_desk.proofs.WorkedPieces.{list_message, page_message, draft_message, list_told, list_keeps, draft_told, draft_leaves, page_told, page_keeps}
@@ -7,15 +7,15 @@ use Rattle.http_desk.proofs.worked.worked_sessions.Goals as goal
 
 pub returns : goal.returns
 returns c = record {
-  twice = two_answered filled filled filled (list_request ++ list_request) list_request list_message list_message fonds_list fonds_list
+  twice = two_answered filled_office filled_office filled_office (list_request ++ list_request) list_request list_message list_message fonds_list fonds_list
       (record { block = list_request; head = list_has list_request; complete = refl })
       (record { block = list_request; head = list_has []; complete = refl })
-      refl refl list_told (list_keeps filled) list_told (list_keeps filled);
-  cut = one_answered filled filled (list_request ++ half_a_request) half_a_request list_message (orders_at (codes "/desk/register") 35) fonds_list
+      refl refl list_told (list_keeps filled_office) list_told (list_keeps filled_office);
+  cut = one_answered filled_office filled_office (list_request ++ half_a_request) half_a_request list_message (orders_at (codes "/desk/register") 35) fonds_list
       (record { block = list_request; head = list_has half_a_request; complete = refl })
-      refl list_told (list_keeps filled)
+      refl list_told (list_keeps filled_office)
       (register_head, codes "{\"name\":\"A", register_has (codes "{\"name\":\"A"), lit< tt) refl;
-  drafted = two_answered filled with_draft with_draft (draft_request ++ page_request) page_request draft_message page_message one_unit not_found
+  drafted = two_answered filled_office with_draft with_draft (draft_request ++ page_request) page_request draft_message page_message one_unit not_found
       (record { block = draft_head; head = draft_has (draft_message.body ++ page_request); complete = refl })
       (record { block = page_request; head = page_has []; complete = refl })
       refl refl draft_told draft_leaves page_told (page_keeps with_draft);

@@ -13,7 +13,7 @@ returns-then-has_named-clause-is c =
     let fields = c.args.fields.now in
     let m = span_bytes c.args.block.now c.args.line.method in
     let t = span_bytes c.args.block.now c.args.line.target in
-    c.refused-then-has_named.ensures.is
+    c.refuse-then-has_named.ensures.is
     ∙ sym (weigh_coded m t c.args.line.minor (map f fields) (sym c.if-not-has_allowed_hosts.false ∙ c.has_allowed_hosts.ensures) (list_any_map (is_named (codes "transfer-encoding")) f fields ∙ sym c.has_named.ensures ∙ c.if-has_named.true))
 
 pub returns-else-has_named-clause-is : goal.returns-else-has_named-clause-is

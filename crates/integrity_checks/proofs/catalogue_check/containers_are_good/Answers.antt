@@ -10,12 +10,12 @@ returns-in_err-containers g c = passes c.from_residual.ensures c.in_err-containe
 pub returns-in_default : goal.returns-in_default
 returns-in_default g c =
     let one = c.in_ok-containers.ensures in
-    examined one.reads.looks (λ clean version read. bad_containers version (state g.S.Store c.args.conn.now).now.trees (sym (one.answers clean) ∙ c.in_default.is))
+    examined one.reads.looks (λ clean version read. bad_containers version (state g.S.Store c.args.tables.now).now.trees (sym (one.answers clean) ∙ c.in_default.is))
 
 pub returns : goal.returns
 returns g c =
     let one = c.in_ok-containers.ensures in
     examined_last one.reads.looks c.housings_are_good.ensures (λ clean good follows version read.
-    let db = (state g.S.Store c.args.conn.now).now.trees in
+    let db = (state g.S.Store c.args.tables.now).now.trees in
     let count = sym (one.answers clean) ∙ c.in-Some.is in
     follows version read (counted version db c.in-Some.containers count) ∙ rest_of_containers version db c.in-Some.containers count)

@@ -11,7 +11,7 @@ returns-in_err-seats_are_good g c = passes c.from_residual.ensures c.in_err-seat
 pub returns-then-not-branch : goal.returns-then-not-branch
 returns-then-not-branch g c =
     let one = c.in_ok-seats_are_good.ensures in
-    examined one.reads.looks (λ clean a held. bad_seats a (state g.S.Store c.args.conn.now).now.trees (sym (one.answers clean a held) ∙ c.if-not-branch.true))
+    examined one.reads.looks (λ clean a held. bad_seats a (state g.S.Store c.args.tables.now).now.trees (sym (one.answers clean a held) ∙ c.if-not-branch.true))
 
 pub returns-in_err-permits_are_good : goal.returns-in_err-permits_are_good
 returns-in_err-permits_are_good g c = passes_later c.from_residual-in_err-permits_are_good.ensures c.in_ok-seats_are_good.ensures.reads.looks c.in_err-permits_are_good.ensures
@@ -21,7 +21,7 @@ returns-then-not-branch-2 g c =
     let one = c.in_ok-seats_are_good.ensures in
     let two = c.in_ok-permits_are_good.ensures in
     examined (looks_then _ _ _ one.reads.looks two.reads.looks) (λ clean a held.
-    bad_permits a (state g.S.Store c.args.conn.now).now.trees (sym (one.answers (earlier two clean) a held) ∙ c.if-not-branch.false) (sym (still one.reads.looks two clean a held) ∙ c.if-not-branch-2.true))
+    bad_permits a (state g.S.Store c.args.tables.now).now.trees (sym (one.answers (earlier two clean) a held) ∙ c.if-not-branch.false) (sym (still one.reads.looks two clean a held) ∙ c.if-not-branch-2.true))
 
 pub returns : goal.returns
 returns g c =
@@ -29,4 +29,4 @@ returns g c =
     let two = c.in_ok-permits_are_good.ensures in
     examined_last (looks_then _ _ _ one.reads.looks two.reads.looks) c.check_orders.ensures (λ clean told follows a held.
     follows a held
-    ∙ good_cards a (state g.S.Store c.args.conn.now).now.trees (sym (one.answers (earlier two clean) a held) ∙ c.if-not-branch.false) (sym (still one.reads.looks two clean a held) ∙ c.if-not-branch-2.false))
+    ∙ good_cards a (state g.S.Store c.args.tables.now).now.trees (sym (one.answers (earlier two clean) a held) ∙ c.if-not-branch.false) (sym (still one.reads.looks two clean a held) ∙ c.if-not-branch-2.false))

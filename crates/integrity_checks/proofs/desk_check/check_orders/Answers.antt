@@ -24,7 +24,7 @@ returns-in_err-are_good g c = is_full c.from_residual-in_err-are_good.ensures c.
 
 pub returns-then-not-are_sound : goal.returns-then-not-are_sound
 returns-then-not-are_sound g c = examined c.in_ok-all.ensures.reads.looks (λ clean a held.
-    let old = state g.S.Store c.args.conn.now in
+    let old = state g.S.Store c.args.tables.now in
     let all = c.in_ok-all.all in
     let good = c.in_ok-are_good.are_good in
     let judged = orders_judged c.args.around.now a old.now.trees held (map order_row all.rows.items) all.are_read good (c.in_ok-all.ensures.answers clean)
@@ -37,7 +37,7 @@ returns-then-not-are_sound g c = examined c.in_ok-all.ensures.reads.looks (λ cl
 
 pub returns : goal.returns
 returns g c = examined_last c.in_ok-all.ensures.reads.looks c.check_past.ensures (λ clean told follows a held.
-    let old = state g.S.Store c.args.conn.now in
+    let old = state g.S.Store c.args.tables.now in
     let all = c.in_ok-all.all in
     let good = c.in_ok-are_good.are_good in
     let judged = orders_judged c.args.around.now a old.now.trees held (map order_row all.rows.items) all.are_read good (c.in_ok-all.ensures.answers clean)

@@ -13,7 +13,7 @@ returns-in_err-readers g c = passes c.from_residual.ensures c.in_err-readers.ens
 pub returns-in_default : goal.returns-in_default
 returns-in_default g c =
     let one = c.in_ok-readers.ensures in
-    let db = (state g.S.Store c.args.conn.now).now.trees in
+    let db = (state g.S.Store c.args.tables.now).now.trees in
     examined one.reads.looks (λ clean. bad_readers (around_in c.args.limits.now c.args.today db) db (sym (one.answers clean) ∙ c.in_default.is))
 
 pub returns-in_err-around : goal.returns-in_err-around
@@ -24,7 +24,7 @@ returns g c =
     let one = c.in_ok-readers.ensures in
     let two = c.in_ok-around.ensures in
     examined_last (looks_then _ _ _ one.reads.looks two.reads.looks) c.check_cards.ensures (λ clean told follows.
-    let db = (state g.S.Store c.args.conn.now).now.trees in
+    let db = (state g.S.Store c.args.tables.now).now.trees in
     let readers = c.in-Some.readers in
     let a = around_in c.args.limits.now c.args.today db in
     let count : number_registered db ≡ Some readers = sym (one.answers (earlier two clean)) ∙ c.in-Some.is in

@@ -14,7 +14,7 @@ returns-in_err-are_good g c = is_full c.from_residual-in_err-are_good.ensures c.
 
 pub returns : goal.returns
 returns g c = examined c.in_ok-all.ensures.reads.looks (λ clean a held are fine.
-    let old = state g.S.Store c.args.conn.now in
+    let old = state g.S.Store c.args.tables.now in
     let all = c.in_ok-all.all in
     let good = c.in_ok-are_good.are_good in
     let judged = holdings_judged c.args.around.now a old.now.trees held (map order_row c.args.orders.now) are fine (map holding_row all.rows.items) all.are_read good (c.in_ok-all.ensures.answers clean)

@@ -21,7 +21,7 @@ returns g c = examined (looks_then _ _ _ c.in_ok-all.ensures.reads.looks c.in_ok
     let all = c.in_ok-all.all in
     let lines = c.in_ok-lines.lines in
     let good = c.in_ok-are_good.are_good in
-    let judged = runs_judged c.args.around.now a (state g.S.Store c.args.conn.now).now.trees held (map order_row c.args.orders.now) are fine (map run_row all.rows.items) (map run_line_row lines.rows.items) all.are_read lines.are_read good
+    let judged = runs_judged c.args.around.now a (state g.S.Store c.args.tables.now).now.trees held (map order_row c.args.orders.now) are fine (map run_row all.rows.items) (map run_line_row lines.rows.items) all.are_read lines.are_read good
     (c.in_ok-all.ensures.answers (earlier c.in_ok-lines.ensures clean)) (still c.in_ok-all.ensures.reads.looks c.in_ok-lines.ensures clean)
     (λ b e around os rs ls sound. c.in_ok-are_good.ensures b e around os (rs ∙ ap (map run_row) (sym c.deref.ensures.value)) (ls ∙ ap (map run_line_row) (sym c.deref-2.ensures.value)) sound) in
     let both : c.if-all.are_read ≡ (all.are_read && lines.are_read) = elim c.if-all.branch [

@@ -11,7 +11,7 @@ returns-in_err-all g c = passes c.from_residual.ensures c.in_err-all.ensures
 
 pub returns : goal.returns
 returns g c = examined c.in_ok-all.ensures.reads.looks (λ clean a held.
-    let old = state g.S.Store c.args.conn.now in
+    let old = state g.S.Store c.args.tables.now in
     let all = c.in_ok-all.all in
     let good = c.are_good_seats-are_good.result in
     let judged = seats_judged c.args.around.now a old.now.trees held (map seat_row all.rows.items) all.are_read good (c.in_ok-all.ensures.answers clean)

@@ -15,7 +15,7 @@ returns-in_err-containers g c = passes_later c.from_residual-in_err-containers.e
 
 pub returns : goal.returns
 returns g c = examined (looks_then _ _ _ c.in_ok-units.ensures.reads.looks c.in_ok-containers.ensures.reads.looks) (λ clean count.
-    let db = (state g.S.Store c.args.conn.now).now.trees in
+    let db = (state g.S.Store c.args.tables.now).now.trees in
     let there = still c.in_ok-units.ensures.reads.looks c.in_ok-containers.ensures clean in
     let units = numbers_met (db tables.unit.tree) c.in_ok-units.units.rows.items (c.in_ok-units.ensures.answers (earlier c.in_ok-containers.ensures clean)) in
     let containers = numbers_met (db tables.container.tree) c.in_ok-containers.containers.rows.items there in

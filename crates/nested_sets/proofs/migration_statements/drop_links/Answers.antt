@@ -1,7 +1,7 @@
 use Rattle.std.proofs.Common.{◌∙◌}
 use Rattle.sqlite.specs.Held.{state}
 use Rattle.sqlite.specs.State.{HasCleanDisk}
-use Rattle.tree_core.specs.Versions.{Links}
+use Rattle.office_tables.specs.Versions.{First}
 use Rattle.office_tables.specs.Schema.{schema}
 use Rattle.office_tables.specs.Step.{Continues}
 use Rattle.office_tables.proofs.Calls.{early, known_in}
@@ -16,7 +16,7 @@ returns-in_err-execute-clause-leaves g c =
     let r = c.from_residual.result in
     let handed = c.from_residual.ensures in
     let at = c.requires.inside in
-    let known = λ (clean : HasCleanDisk old). known_in (schema Links) drop_text drop_command old (at clean).0 (at clean).1 drop_says.is drop_says.plain in
+    let known = λ (clean : HasCleanDisk old). known_in (schema First) drop_text drop_command old (at clean).0 (at clean).1 drop_says.is drop_says.plain in
     let why = λ (clean : HasCleanDisk new). drop_cause old new (at (early old new _ c.execute.ensures.survives clean)).0 c.schema.ensures.live c.in_err-execute.field-0.0 (c.in_err-execute.ensures.runs clean) in
     making_not old new r _ (same_fault r _ handed.0 handed.1) (drop_cut old new known c.execute.ensures.survives c.in_err-execute.field-0.0 c.in_err-execute.ensures.runs)
     (λ clean. blames old new _ (why clean)) (λ clean free. why clean)
@@ -34,7 +34,7 @@ returns-clause-leaves g c =
     let old = state g.S.Store c.args.conn.now in
     let new = state g.S.Store c.execute.new.self in
     let at = c.requires.inside in
-    let known = λ (clean : HasCleanDisk old). known_in (schema Links) drop_text drop_command old (at clean).0 (at clean).1 drop_says.is drop_says.plain in
+    let known = λ (clean : HasCleanDisk old). known_in (schema First) drop_text drop_command old (at clean).0 (at clean).1 drop_says.is drop_says.plain in
     let on : Continues old new = drop_continues old new known c.execute.ensures.survives
     (λ clean. (drops old new (at (early old new _ c.execute.ensures.survives clean)).0 c.in_ok-execute.field-0 (c.in_ok-execute.ensures.runs clean)).1) in
-    record { goes = on; cut = tt; disk = λ clean. tt; faults = λ clean free. tt }
+    record { goes = on; aborts = tt; disk = λ clean. tt; faults = λ clean free. tt }

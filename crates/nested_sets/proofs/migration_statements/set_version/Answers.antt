@@ -1,6 +1,6 @@
 use Rattle.std.proofs.Common.{◌∙◌, List, map, OnOk, refl, ap, subst, sym}
 use Rattle.sqlite.specs.Held.{state}
-use Rattle.tree_core.specs.Versions.{Spans}
+use Rattle.office_tables.specs.Versions.{Second}
 use Rattle.office_tables.specs.Schema as tables
 use Rattle.office_tables.specs.Step.{HasRows}
 use Rattle.office_tables.proofs.StatementEnds.{changes_in}
@@ -16,7 +16,7 @@ returns g c =
     let a = state g.S.Store c.args.tables.now in
     let b = state g.S.Store c.change.new.tables in
     let r = c.change.result in
-    changes_in Spans c.change.ensures.leaves (rw (c.number-2.ensures, c.number.ensures) at c.change.ensures.ran)
+    changes_in Second c.change.ensures.leaves (rw (c.number-2.ensures, c.number.ensures) at c.change.ensures.ran)
     (λ has ran xs held one.
     subst (λ (rows : List VersionedRow). OnOk r (HasRows tables.office.tree (map versioned_cells (map in_version_2 rows)) a.now b.now)) (sym one.1)
     (set_version_leaves a b has r ran one.0 (held ∙ ap (map versioned_cells) one.1)))

@@ -6,7 +6,7 @@ use Rattle.office.proofs.commands.apply_to.Goals as goal
 
 pub returns-in-Some : goal.returns-in-Some
 returns-in-Some g c =
-    let told = c.told.ensures in
+    let told = c.reply_of.ensures in
     refused_whole g.S.Store c.args.closed.now c.requires.office (λ s. misnamed_refuses s c.args.command.now c.in-Some.why (sym c.in-Some.ensures)) told.same told.bytes told.memory
 
 pub returns : goal.returns

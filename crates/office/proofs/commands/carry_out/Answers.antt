@@ -5,15 +5,15 @@ use Rattle.office.proofs.Sights.{misdated_refuses}
 use Rattle.office.proofs.commands.carry_out.Goals as goal
 
 pub returns-in_err-row : goal.returns-in_err-row
-returns-in_err-row g c = let told = c.in_err-row.ensures.tells in does_pass _ c.from_residual.ensures told.cut (λ s sound so it clean free. told.faults tt s it tt sound clean free)
+returns-in_err-row g c = let told = c.in_err-row.ensures.answers in does_pass _ c.from_residual.ensures told.aborts (λ s sound so it clean free. told.faults tt s it tt sound clean free)
 
 pub returns-in-Some : goal.returns-in-Some
 returns-in-Some g c =
-    let told = c.in_ok-row.ensures.tells in
+    let told = c.in_ok-row.ensures.answers in
     is_refused told.looks
     (λ clean s sound so it.
     let day = ap (λ row. row.day) (told.answers clean tt s it) in
     misdated_refuses s c.args.command.now c.in-Some.why (sym (c.in-Some.ensures ∙ ap (λ today. misdated today c.args.command.now) day)))
 
 pub returns : goal.returns
-returns g c = let told = c.in_ok-row.ensures.tells in does_then told.looks c.perform.ensures (λ clean s sound so it. told.answers clean tt s it)
+returns g c = let told = c.in_ok-row.ensures.answers in does_then told.looks c.perform.ensures (λ clean s sound so it. told.answers clean tt s it)

@@ -19,7 +19,7 @@ returns-in_err-begin g c =
     let e = c.in_err-begin.field-0.0 in
     handed_on (Inspects g.S.Store c.args.conn.now c.begin.new.conn g.P.Versioned.version) _ e c.from_residual.ensures
     (record {
-      tells = λ clean. tt;
+      answers = λ clean. tt;
       back = search rules;
       disk = λ clean. outer_blames old begun e (it.faults clean (c.requires.outside (early old begun _ it.crash clean)));
       faults = λ clean ordered. it.faults clean (c.requires.outside (early old begun _ it.crash clean));
@@ -34,7 +34,7 @@ returns g c =
     let new = state g.S.Store c.take_back.new.conn in
     let told = c.judge-verdict.ensures in
     record {
-      tells = λ clean.
+      answers = λ clean.
           let clean_judged = early judged new _ c.take_back.ensures.crash clean in
           let clean_begun = early begun judged _ told.reads.crash clean_judged in
           subst (λ (db : Database). IfOk c.judge-verdict.result (IsVerdict g.P.Versioned.version db)) (c.in_ok-begin.ensures.begun clean_begun).now_is (told.answers clean_judged);

@@ -1,7 +1,7 @@
 use Rattle.std.proofs.Common.{◌≡◌, rules}
 use Rattle.sqlite.specs.Held.{state}
 use Rattle.sqlite.proofs.StateLemmas.{survives_then}
-use Rattle.tree_core.specs.Versions.{Links, Spans}
+use Rattle.office_tables.specs.Versions.{First, Second}
 use Rattle.catalogue_statements.specs.Representation.{RepresentsLinkRows}
 use Rattle.office_tables.proofs.Calls.{early}
 use Rattle.nested_sets.specs.Representation.{RepresentsSpanRows}
@@ -29,6 +29,6 @@ returns g c =
           (λ clean db same s is.
           let at_m = early m z _ c.keep.ensures.crash clean in
           let begun = c.in_ok-begin.ensures.begun (early b m _ made.goes.crash at_m) in
-          found_committed RepresentsSpanRows Spans s m.now (made.represents at_m s (shown_begun RepresentsLinkRows Links s a b begun is)) db same)
+          found_committed RepresentsSpanRows Second s m.now (made.represents at_m s (shown_begun RepresentsLinkRows First s a b begun is)) db same)
           so_far c.keep.ensures.crash;
     }

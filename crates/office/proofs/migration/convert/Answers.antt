@@ -1,6 +1,6 @@
 use Rattle.std.proofs.Common.{[], ◌∷◌, refl}
 use Rattle.sqlite.specs.Held.{state}
-use Rattle.tree_core.specs.Versions.{Links, Spans}
+use Rattle.office_tables.specs.Versions.{First, Second}
 use Rattle.office_core.proofs.KeptOffices.{office_kept}
 use Rattle.state_encoding.specs.OfficeRows as rows
 use Rattle.office_tables.specs.Schema as tables
@@ -20,13 +20,13 @@ returns g c =
     let it = rw c.inside.ensures at c.migrate.ensures in
     record {
       represents = λ clean s shown.
-          on_ok_both c.migrate.result.1 (OnlyTouches touched a.now b.now) (Represents RepresentsSpanRows Spans b.now (office_of s) s.catalogue) (RepresentsState RepresentsSpanRows Spans b.now s)
-          (λ only catalogue. record { catalogue = catalogue; desk = desk_kept a.now b.now touched only (rows.tables Links s).desk refl shown.desk; texts = shown.texts })
+          on_ok_both c.migrate.result.1 (OnlyTouches touched a.now b.now) (Represents RepresentsSpanRows Second b.now (office_of s) s.catalogue) (RepresentsState RepresentsSpanRows Second b.now s)
+          (λ only catalogue. record { catalogue = catalogue; desk = desk_kept a.now b.now touched only (rows.tables First s).desk refl shown.desk; texts = shown.texts })
           (it.only clean) (it.represents clean (office_of s, s.catalogue) shown.catalogue);
       only = it.only;
       inside = it.inside;
       goes = it.goes;
-      cut = it.cut;
+      aborts = it.aborts;
       disk = it.disk;
       faults = λ s shown sound. it.faults (office_of s, s.catalogue) shown.catalogue (office_kept s sound);
     }

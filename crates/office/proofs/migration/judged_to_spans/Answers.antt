@@ -1,7 +1,7 @@
 use Rattle.std.proofs.Common.{[], ◌∷◌, ◌∙◌, subst, sym}
 use Rattle.sqlite.specs.Effect.{Database}
 use Rattle.sqlite.specs.Held.{state}
-use Rattle.tree_core.specs.Versions.{Links}
+use Rattle.office_tables.specs.Versions.{First}
 use Rattle.catalogue_statements.specs.Representation.{RepresentsLinkRows}
 use Rattle.office_tables.specs.Schema as tables
 use Rattle.office_tables.specs.Step.{OnlyTouches}
@@ -26,9 +26,9 @@ returns-in_err-verdict g c =
       same = λ clean opened. tt;
       inside = tt;
       goes = tt;
-      cut = told.reads.cut;
+      aborts = told.reads.aborts;
       cause = λ clean opened.
-          store_cause Links old new e (told.disk clean)
+          store_cause First old new e (told.disk clean)
           (λ ordered. outer_cause old new (c.requires.inside (early old new _ told.reads.crash clean)) e (told.faults ordered clean c.requires.unlimited));
     })
 
@@ -45,15 +45,15 @@ returns-in_err-to_spans g c =
       same = λ clean opened. tt;
       inside = tt;
       goes = tt;
-      cut = cut_then old mid new reads.looks.goes.on failed.cut;
+      aborts = cut_then old mid new reads.looks.goes.on failed.aborts;
       cause = λ clean opened.
-          let clean_mid = early mid new _ failed.cut.crash clean in
+          let clean_mid = early mid new _ failed.aborts.crash clean in
           let its_state = shows_its_state old.now c.in_ok-verdict.verdict (sym c.refusal.ensures ∙ c.in_default.is) (c.in_ok-verdict.ensures.answers clean_mid) (c.schema.ensures.live opened).0 in
           cause_of_call old mid new e (failed.disk clean)
           (λ ordered.
-          let shown = subst (λ (db : Database). RepresentsState RepresentsLinkRows Links db (state_in Links old.now.trees)) (sym (reads.looks.same clean_mid)) (its_state ordered).represents in
+          let shown = subst (λ (db : Database). RepresentsState RepresentsLinkRows First db (state_in First old.now.trees)) (sym (reads.looks.same clean_mid)) (its_state ordered).represents in
           outer_cause mid new ((reads.looks.goes.on.within clean_mid).mode ∙ c.requires.inside (early old mid _ reads.crash clean_mid)) e
-          (failed.faults (state_in Links old.now.trees) shown (its_state ordered).sound clean (reads.crash.limit ∙ c.requires.unlimited)))
+          (failed.faults (state_in First old.now.trees) shown (its_state ordered).sound clean (reads.crash.limit ∙ c.requires.unlimited)))
           reads.crash.counts (reads.looks.goes.on.within clean_mid).opened;
     })
 
@@ -69,10 +69,10 @@ returns g c =
           let clean_mid = early mid new _ made.goes.crash clean in
           let same = reads.looks.same clean_mid in
           migrated old.now c.in_ok-verdict.verdict (sym c.refusal.ensures ∙ c.in_default.is) (c.in_ok-verdict.ensures.answers clean_mid) (c.schema.ensures.live opened).0 new.now
-          (λ s shown. made.represents clean s (subst (λ (db : Database). RepresentsState RepresentsLinkRows Links db s) (sym same) shown))
+          (λ s shown. made.represents clean s (subst (λ (db : Database). RepresentsState RepresentsLinkRows First db s) (sym same) shown))
           (subst (λ (db : Database). OnlyTouches (tables.office.tree ∷ tables.link.tree ∷ []) db new.now) same (made.only clean));
       inside = made.inside;
       goes = continues_then old mid new reads.looks.goes.on made.goes;
-      cut = tt;
+      aborts = tt;
       cause = λ clean opened. tt;
     }

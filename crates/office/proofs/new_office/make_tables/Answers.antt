@@ -13,7 +13,7 @@ returns-in_err-create_desk g c =
     let a = state g.S.Store c.args.conn.now in
     let it = c.in_err-create_desk.ensures in
     handed_on (MakesTables g.P.Places.represents g.P.Versioned.version g.S.Store c.args.conn.now c.create_desk.new.conn c.args.row.now) _ _ c.from_residual.ensures
-    (record { represents = λ clean. tt; goes = tt; cut = it.cut a.now (making a c.requires.blank); faults = λ clean free. it.faults a.now (making a c.requires.blank) clean })
+    (record { represents = λ clean. tt; goes = tt; aborts = it.aborts a.now (making a c.requires.blank); faults = λ clean free. it.faults a.now (making a c.requires.blank) clean })
 
 pub returns : goal.returns
 returns g c =
@@ -24,12 +24,12 @@ returns g c =
     let step = c.in_ok-create_desk.ensures.made a.now (making a c.requires.blank) in
     let desk = made_desk a b step.1 in
     let left = c.create.ensures.leaves b.now desk in
-    let whole = making_last a b d step.0 r left.goes left.cut left.disk (λ _. left.faults) in
+    let whole = making_last a b d step.0 r left.goes left.aborts left.disk (λ _. left.faults) in
     record {
       represents = λ clean.
-          let at_b = early b d _ (continued r b d left.goes left.cut) clean in
+          let at_b = early b d _ (continued r b d left.goes left.aborts) clean in
           on_ok_both r _ _ _ (λ represents kept. record { catalogue = represents; desk = shows_none a b d.now.trees step.1 at_b kept }) (c.create.ensures.represents b.now desk clean) (c.create.ensures.desk b.now desk clean);
       goes = whole.goes;
-      cut = whole.cut;
+      aborts = whole.aborts;
       faults = whole.faults;
     }

@@ -8,8 +8,8 @@ use Rattle.office_tables.proofs.CreationCauses.{index_cause}
 use Rattle.office_tables.proofs.WriteCauses.{write_disk}
 use Rattle.office_tables.proofs.table_creation.create_index.Goals as goal
 
-pub returns-in_err-execute-clause-cut : goal.returns-in_err-execute-clause-cut
-returns-in_err-execute-clause-cut g c there start before after making defines =
+pub returns-in_err-execute-clause-aborts : goal.returns-in_err-execute-clause-aborts
+returns-in_err-execute-clause-aborts g c there start before after making defines =
     let old = state g.S.Store c.args.conn.now in
     let new = state g.S.Store c.execute.new.self in
     let cut : IsAborted old new = write_cut c.args.text.now _ old new (CreateIndex defines.at) refl (λ clean. known_in before c.args.text.now (CreateIndex defines.at) old (making clean).0.schema_is (making clean).1 defines.says.is defines.says.plain)

@@ -2,7 +2,7 @@ use Rattle.std.proofs.Common.{inl, refl}
 use Rattle.std.proofs.lemmas.Result.{IfErr-weaker, on_ok_weaker}
 use Rattle.sqlite.specs.Files.{over_files}
 use Rattle.nested_sets.specs.Representation.{RepresentsSpanRows}
-use Rattle.tree_core.specs.Versions.{Spans}
+use Rattle.office_tables.specs.Versions.{Second}
 use Rattle.office.specs.IdleOffice.{is_clean, is_shown, is_still_open}
 use Rattle.program.specs.Connections.{after_listening}
 use Rattle.program.specs.KeptOffices.{IsRecovered}
@@ -23,7 +23,7 @@ returns-clause-done g c =
     serve_done _ _ c.args.start c.close_office.result c.args.out.now served.new.out c.args.number c.args.connections told told_after office after c.in-Ok.ensures.found
     served.ensures.intact c.close_office.ensures served.result
     (on_ok_weaker served.result (λ (listens, it).
-    (listens, seen_as {told = after_listening told c.args.number} {told_after = told_after} (is_shown over_files RepresentsSpanRows Spans) (is_clean over_files) (is_still_open over_files) (IsRecovered over_files) office after it it.sessions))
+    (listens, seen_as {told = after_listening told c.args.number} {told_after = told_after} (is_shown over_files RepresentsSpanRows Second) (is_clean over_files) (is_still_open over_files) (IsRecovered over_files) office after it it.sessions))
     served.ensures.done)
 
 pub returns-clause-fault : goal.returns-clause-fault
@@ -36,7 +36,7 @@ returns-clause-fault g c =
     serve_failed _ _ c.args.start c.close_office.result c.args.out.now served.new.out c.args.number c.args.connections told told_after office after c.in-Ok.ensures.found
     served.ensures.intact c.close_office.ensures served.result
     (IfErr-weaker served.result _ _ (λ f why. either_so
-    (λ (fails, it). (fails, seen_as {told = told_after} {told_after = told_after} (is_shown over_files RepresentsSpanRows Spans) (is_clean over_files) (is_still_open over_files) (IsRecovered over_files) office after it it.sessions))
+    (λ (fails, it). (fails, seen_as {told = told_after} {told_after = told_after} (is_shown over_files RepresentsSpanRows Second) (is_clean over_files) (is_still_open over_files) (IsRecovered over_files) office after it it.sessions))
     (λ (is, listens, it).
-    (is, listens, seen_as {told = after_listening told c.args.number} {told_after = told_after} (is_shown over_files RepresentsSpanRows Spans) (is_clean over_files) (is_still_open over_files) (IsRecovered over_files) office after it it.sessions)) why)
+    (is, listens, seen_as {told = after_listening told c.args.number} {told_after = told_after} (is_shown over_files RepresentsSpanRows Second) (is_clean over_files) (is_still_open over_files) (IsRecovered over_files) office after it it.sessions)) why)
     served.ensures.fault)

@@ -10,12 +10,12 @@ loop-connection-init g c = (
 
 pub loop-connection-preserved : goal.loop-connection-preserved
 loop-connection-preserved g c =
-    let (it, heard, tells, through) = c.if-not-serve_one.ensures.served in (
+    let (it, heard, answers, through) = c.if-not-serve_one.ensures.served in (
       λ intact. c.loop-connection.invariant.0 (c.if-not-serve_one.ensures.intact intact),
-      and_one _ _ _ _ c.loop-connection.connection _ _ _ _ _ _ c.loop-connection.invariant.1 c.if-not-serve_one.ensures.intact it heard tells through,
+      and_one _ _ _ _ c.loop-connection.connection _ _ _ _ _ _ c.loop-connection.invariant.1 c.if-not-serve_one.ensures.intact it heard answers through,
     )
 
 pub returns-then-not-serve_one-clause-served : goal.returns-then-not-serve_one-clause-served
 returns-then-not-serve_one-clause-served g c =
-    let (tells, same) = c.if-not-serve_one.ensures.served in
-    and_none _ _ _ _ c.loop-connection.connection c.args.connections _ _ _ _ _ _ c.loop-connection.invariant.1 (omega (arith, c.loop-connection-test.true)) tells same
+    let (answers, same) = c.if-not-serve_one.ensures.served in
+    and_none _ _ _ _ c.loop-connection.connection c.args.connections _ _ _ _ _ _ c.loop-connection.invariant.1 (omega (arith, c.loop-connection-test.true)) answers same

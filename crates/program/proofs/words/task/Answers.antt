@@ -19,7 +19,7 @@ not_true false h = refl
 
 pub returns-in-Err-clause-refused : goal.returns-in-Err-clause-refused
 returns-in-Err-clause-refused c = λ w.
-    not_true (takes program (map string_bytes c.args.words.now)) (λ e. c.refused.ensures.words w
+    not_true (takes program (map string_bytes c.args.words.now)) (λ e. c.words_fault.ensures.words w
     (c.in-Err.ensures.passes (ap (λ (a : App). takes a (map string_bytes c.args.words.now)) c.in_ok-record_office.ensures ∙ e)))
 
 pair_from : {X A B : Type 0} (f : X → A) (g : X → B) (o : Option X) (n : A) (r : B) → Some n ≡ option_map f o → Some r ≡ option_map (λ (p : A × B). p.1) (option_map {U = A × B} (λ b. (f b, g b)) o)
@@ -30,8 +30,8 @@ pair_from f g (Some x) n r a b =
     let second : g x ≡ r = cc in
     rw (first, second) refl
 
-pub named-requires : goal.named-requires
-named-requires c =
+pub named_task-requires : goal.named_task-requires
+named_task-requires c =
     let words = map string_bytes c.args.words.now in
     let free : is_simple_and_free (app_of c.in_ok-record_office.field-0) ≡ true = ap is_simple_and_free c.in_ok-record_office.ensures in
     let none = sym (ap (λ (a : App). fault_of a words) c.in_ok-record_office.ensures) ∙ c.in-Ok.ensures.kinds free in
@@ -47,7 +47,7 @@ returns-clause-named c =
     let found : subcommand_rows_of c.in-Ok.matches ≡ Some (c.in-Some.name.now, rows_of (found_of c.in-Some.found.now)) =
     pair_from (λ b. (out-SubCommand (box_value b)).name.now) (λ b. rows_of (found_of (out-SubCommand (box_value b)).matches)) (out-ArgMatches c.in-Ok.matches).subcommand _ _ c.in-Some.ensures.name c.in-Some.ensures.rows in
     let sub = sym (ap (λ (a : App). subcommand_of a words) c.in_ok-record_office.ensures) ∙ sym matches ∙ found in
-    IfOk-weaker c.named.result _ _ (λ t h. subst (λ m. IsTaskOf m t) (sym sub) h) c.named.ensures.named
+    IfOk-weaker c.named_task.result _ _ (λ t h. subst (λ m. IsTaskOf m t) (sym sub) h) c.named_task.ensures.named
 
 pub returns-clause-values : goal.returns-clause-values
 returns-clause-values c =
@@ -56,7 +56,7 @@ returns-clause-values c =
     let found : subcommand_rows_of c.in-Ok.matches ≡ Some (c.in-Some.name.now, rows_of (found_of c.in-Some.found.now)) =
     pair_from (λ b. (out-SubCommand (box_value b)).name.now) (λ b. rows_of (found_of (out-SubCommand (box_value b)).matches)) (out-ArgMatches c.in-Ok.matches).subcommand _ _ c.in-Some.ensures.name c.in-Some.ensures.rows in
     let sub = sym (ap (λ (a : App). subcommand_of a words) c.in_ok-record_office.ensures) ∙ sym matches ∙ found in
-    IfErr-weaker c.named.result _ _ (λ f h. subst (λ m. AreRefusedFor m f) (sym sub) h) c.named.ensures.refused
+    IfErr-weaker c.named_task.result _ _ (λ f h. subst (λ m. AreRefusedFor m f) (sym sub) h) c.named_task.ensures.refused
 
 pub returns-in-Err-clause-values : goal.returns-in-Err-clause-values
-returns-in-Err-clause-values c = c.refused.ensures.others _
+returns-in-Err-clause-values c = c.words_fault.ensures.others _

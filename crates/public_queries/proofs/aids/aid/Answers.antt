@@ -29,12 +29,12 @@ returns-then-unit-ge-NO_NUMBER g c =
     (λ clean s sound so it. far_off s sound c.args.unit c.if-unit-ge-NO_NUMBER.true)
 
 pub returns-in_err-way : goal.returns-in_err-way
-returns-in_err-way g c = let told = c.in_err-way.ensures.tells in catalogue_passed _ c.from_residual.ensures told.cut told.faults
+returns-in_err-way g c = let told = c.in_err-way.ensures.answers in catalogue_passed _ c.from_residual.ensures told.aborts told.faults
 
 pub returns-then-not-shows_last : goal.returns-then-not-shows_last
 returns-then-not-shows_last g c =
     let a = state g.S.Store c.args.tables.now in
-    let told = c.in_ok-way.ensures.tells in
+    let told = c.in_ok-way.ensures.answers in
     knows_by g.P.Places.represents g.P.Versioned.version (λ s. c.args.known.now ≡ office_of s) (query.Aid c.args.unit) a _ (Unknown UnknownUnit) told.looks
     (λ clean s sound so it.
     let way = c.deref.ensures.value ∙ told.answers clean (office_of s) s.catalogue it.catalogue in
@@ -43,8 +43,8 @@ returns-then-not-shows_last g c =
 
 pub returns-in_err-text : goal.returns-in_err-text
 returns-in_err-text g c =
-    let last = c.in_err-text.ensures.tells in
-    knows_passed_later _ c.from_residual-in_err-text.ensures c.in_ok-way.ensures.tells.looks last.cut
+    let last = c.in_err-text.ensures.answers in
+    knows_passed_later _ c.from_residual-in_err-text.ensures c.in_ok-way.ensures.answers.looks last.aborts
     (λ s sound so it. last.faults (office_of s) s.catalogue it.catalogue (tellable s sound, apart s sound) (office_kept s sound))
 
 pub returns : goal.returns
@@ -52,8 +52,8 @@ returns g c =
     let v = g.P.Versioned.version in
     let a = state g.S.Store c.args.tables.now in
     let d = state g.S.Store c.branch_text.new.tables in
-    let first = c.in_ok-way.ensures.tells in
-    let last = c.in_ok-text.ensures.tells in
+    let first = c.in_ok-way.ensures.answers in
+    let last = c.in_ok-text.ensures.answers in
     knows_by g.P.Places.represents v (λ s. c.args.known.now ≡ office_of s) (query.Aid c.args.unit) a d (Text c.in_ok-text.text) (looks_then a _ d first.looks last.looks)
     (λ clean s sound so it.
     let at_b = early _ d _ last.looks.goes.on.crash clean in

@@ -2,7 +2,7 @@ use Rattle.std.proofs.Common.{rules, ◌≡◌, of_z, to_z, w32, FitsSigned, ap,
 use Rattle.std.proofs.lemmas.Int.{to_z-of_z}
 use Rattle.sqlite.specs.Held.{state}
 use Rattle.tree_core.specs.Forest.{tree}
-use Rattle.tree_core.specs.Marks.{kept as kept_on}
+use Rattle.tree_core.specs.Marks.{public_walk as kept_on}
 use Rattle.catalogue_core.specs.Units.{has_id}
 use Rattle.office_tables.proofs.Calls.{cut_after}
 use Rattle.public_queries.proofs.AidPrinted.{kept_units}
@@ -13,12 +13,12 @@ pub returns-then-len-gt-MOST_MARKS : goal.returns-then-len-gt-MOST_MARKS
 returns-then-len-gt-MOST_MARKS g c =
     let a = state g.S.Store c.args.tables.now in
     let b = state g.S.Store c.branch_marks.new.tables in
-    let told = c.in_ok-marks.ensures.tells in
+    let told = c.in_ok-marks.ensures.answers in
     record {
-      tells = record {
+      answers = record {
         answers = λ clean o k it. tt;
         looks = tt;
-        cut = cut_after a b told.looks.goes.on;
+        aborts = cut_after a b told.looks.goes.on;
         faults = λ o k it may kept clean free.
             let few = few_marks k (has_id c.args.unit) c.in_ok-marks.marks.items kept (told.answers clean o k it) in
             absurd (omega (arith, few, c.len.ensures, c.in_ok-marks.marks.ok.0, c.if-len-gt-MOST_MARKS.true));
@@ -27,9 +27,9 @@ returns-then-len-gt-MOST_MARKS g c =
 
 pub returns : goal.returns
 returns g c =
-    let told = c.in_ok-marks.ensures.tells in
+    let told = c.in_ok-marks.ensures.answers in
     record {
-      tells = record {
+      answers = record {
         answers = λ clean o k it.
             let fits : FitsSigned w32 c.number.result = search rules in
             let today : to_z w32 (of_z w32 c.number.result) ≡ c.args.today = to_z-of_z w32 c.number.result fits ∙ c.number.ensures.number in
@@ -38,7 +38,7 @@ returns g c =
             ∙ ap (λ day. kept_on day marks.forest) today
             ∙ kept_units c.args.today marks.forest (tree (has_id c.args.unit) k.forest) marks.theirs;
         looks = told.looks;
-        cut = tt;
+        aborts = tt;
         faults = λ o k it may kept clean free. tt;
       };
     }

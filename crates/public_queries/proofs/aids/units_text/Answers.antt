@@ -14,19 +14,19 @@ use Rattle.public_queries.proofs.aids.units_text.Goals as goal
 
 pub returns-in_err-seen : goal.returns-in_err-seen
 returns-in_err-seen g c =
-    let last = c.in_err-seen.ensures.tells in
+    let last = c.in_err-seen.ensures.answers in
     record {
-      tells = tells_passed_later _ c.from_residual.ensures c.loop-unit.invariant.looks last.cut
+      answers = tells_passed_later _ c.from_residual.ensures c.loop-unit.invariant.looks last.aborts
           (λ o k it may kept.
           let here = row_at c.args.known.now.day k c.args.kept.now may.1 c.loop-unit.unit-index may.2 c.loop-unit-test.true in
           last.faults o k it (may.0, here.item, here.holds, here.is) kept);
     }
 
 pub returns-in_err-text : goal.returns-in_err-text
-returns-in_err-text g c = record { tells = tells_full c.from_residual-in_err-text.ensures (looks_then _ _ _ c.loop-unit.invariant.looks c.in_ok-seen.ensures.tells.looks) }
+returns-in_err-text g c = record { answers = tells_full c.from_residual-in_err-text.ensures (looks_then _ _ _ c.loop-unit.invariant.looks c.in_ok-seen.ensures.answers.looks) }
 
 pub returns-in_err-extend_from_slice : goal.returns-in_err-extend_from_slice
-returns-in_err-extend_from_slice g c = record { tells = tells_full c.from_residual-in_err-extend_from_slice.ensures (looks_then _ _ _ c.loop-unit.invariant.looks c.in_ok-seen.ensures.tells.looks) }
+returns-in_err-extend_from_slice g c = record { answers = tells_full c.from_residual-in_err-extend_from_slice.ensures (looks_then _ _ _ c.loop-unit.invariant.looks c.in_ok-seen.ensures.answers.looks) }
 
 pub loop-unit-preserved : goal.loop-unit-preserved
 loop-unit-preserved g c =
@@ -37,7 +37,7 @@ loop-unit-preserved g c =
     let base = c.len-base.result in
     let ids = c.loop-unit.ids.items in
     let i = c.loop-unit.unit-index in
-    let last = c.in_ok-seen.ensures.tells in
+    let last = c.in_ok-seen.ensures.answers in
     record {
       looks = looks_then a b d c.loop-unit.invariant.looks last.looks;
       so_far = λ clean o k it tellable rows keeps.
@@ -58,7 +58,7 @@ returns g c =
     let at = repository_of c.args.known.now in
     let i = c.loop-unit.unit-index in
     record {
-      tells = record {
+      answers = record {
         answers = λ clean o k it tellable rows keeps.
             let past : length rows ≤ i = (let long = ap length keeps.told ∙ length-map rows kept_row in omega (arith, long, c.loop-unit-test.false)) in
             let base : c.len-base.result ≡ length c.args.above.items = cc (c.len-base.ensures, c.args.above.ok.0) in
@@ -67,7 +67,7 @@ returns g c =
             ∙ ap (λ l. c.loop-unit.out.items ++ aid (along at k.containers c.len-base.result c.loop-unit.ids.items l)) (drop_past rows i past)
             ∙ append-nil c.loop-unit.out.items);
         looks = c.loop-unit.invariant.looks;
-        cut = tt;
+        aborts = tt;
         faults = λ o k it may kept clean free. tt;
       };
     }

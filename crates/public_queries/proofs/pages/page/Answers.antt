@@ -22,13 +22,13 @@ returns-then-unit-ge-NO_NUMBER g c =
     (λ clean s sound so it. far s sound c.args.unit c.if-unit-ge-NO_NUMBER.true)
 
 pub returns-in_err-way : goal.returns-in_err-way
-returns-in_err-way g c = let told = c.in_err-way.ensures.tells in catalogue_passed _ c.from_residual.ensures told.cut told.faults
+returns-in_err-way g c = let told = c.in_err-way.ensures.answers in catalogue_passed _ c.from_residual.ensures told.aborts told.faults
 
 pub returns-then-not-shows_last : goal.returns-then-not-shows_last
 returns-then-not-shows_last g c =
     let a = state g.S.Store c.args.tables.now in
     let b = state g.S.Store c.path_heads.new.tables in
-    let told = c.in_ok-way.ensures.tells in
+    let told = c.in_ok-way.ensures.answers in
     knows_by g.P.Places.represents g.P.Versioned.version (λ s. c.args.known.now ≡ office_of s) (query.Page c.args.unit) a b (Unknown UnknownUnit) told.looks
     (λ clean s sound so it.
     let way = c.as_slice.ensures.value ∙ told.answers clean (office_of s) s.catalogue it.catalogue in
@@ -40,7 +40,7 @@ returns g c =
     let a = state g.S.Store c.args.tables.now in
     let b = state g.S.Store c.path_heads.new.tables in
     let d = state g.S.Store c.shown_page.new.tables in
-    let told = c.in_ok-way.ensures.tells in
+    let told = c.in_ok-way.ensures.answers in
     knows_then g.P.Places.represents g.P.Versioned.version (λ s. c.args.known.now ≡ office_of s) (RepresentsUnit c.args.known.now c.args.unit c.as_slice-2.result.now) (query.Page c.args.unit) a b d c.shown_page.result told.looks
     (λ clean s sound so it. record {
       office = so;

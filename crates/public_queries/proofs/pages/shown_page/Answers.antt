@@ -13,7 +13,7 @@ use Rattle.office_tables.specs.declared.fault.StoreFault.TheVariants as fault
 use Rattle.refinement.specs.Representation.{office_of}
 use Rattle.refinement.proofs.Answerings.{still_shown}
 use Rattle.catalogue_store.specs.Heads.{head_of}
-use Rattle.public_queries.specs.HeadLines.{bare, repository_of}
+use Rattle.public_queries.specs.HeadLines.{head_alone, repository_of}
 use Rattle.public_queries.specs.KnownPaths.{AreHeadsOf, IsTellable, RepresentsUnit}
 use Rattle.catalogue_store.specs.declared.heads.Head.{Head}
 use Rattle.public_queries.proofs.Knowings.{knows_by, knows_passed, knows_passed_later, knows_short}
@@ -37,14 +37,14 @@ returns-then-is_closed g c =
 
 pub returns-in_err-told : goal.returns-in_err-told
 returns-in_err-told g c =
-    let told = c.in_err-told.ensures.tells in
-    knows_passed _ c.from_residual-in_err-told.ensures told.cut
+    let told = c.in_err-told.ensures.answers in
+    knows_passed _ c.from_residual-in_err-told.ensures told.aborts
     (λ s sound so it. told.faults (office_of s) s.catalogue it.catalogue (tellable s sound, heads_of s sound c.args.unit c.args.way.now so.way_is) (office_kept s sound))
 
 pub returns-in_err-heads : goal.returns-in_err-heads
 returns-in_err-heads g c =
-    let told = c.in_err-heads.ensures.tells in
-    knows_passed_later _ c.from_residual-in_err-heads.ensures c.in_ok-told.ensures.tells.looks told.cut
+    let told = c.in_err-heads.ensures.answers in
+    knows_passed_later _ c.from_residual-in_err-heads.ensures c.in_ok-told.ensures.answers.looks told.aborts
     (λ s sound so it. told.faults (office_of s) s.catalogue it.catalogue tt (office_kept s sound))
 
 pub returns-in_err-text-2 : goal.returns-in_err-text-2
@@ -55,21 +55,21 @@ returns-in_err-text-2 g c =
     let e = c.from_residual-in_err-text-2.ensures in
     knows_short g.P.Places.represents g.P.Versioned.version (RepresentsUnit c.args.known.now c.args.unit c.args.way.now) (query.Page c.args.unit) a d c.from_residual-in_err-text-2.result
     (same_fault c.from_residual-in_err-text-2.result fault.Memory e.0 e.1)
-    (looks_then a b d c.in_ok-told.ensures.tells.looks c.in_ok-heads.ensures.tells.looks)
+    (looks_then a b d c.in_ok-told.ensures.answers.looks c.in_ok-heads.ensures.answers.looks)
 
 pub returns : goal.returns
 returns g c =
     let a = state g.S.Store c.args.tables.now in
     let b = state g.S.Store c.values_of_all.new.tables in
     let d = state g.S.Store c.heads_below.new.tables in
-    let first = c.in_ok-told.ensures.tells in
-    let last = c.in_ok-heads.ensures.tells in
+    let first = c.in_ok-told.ensures.answers in
+    let last = c.in_ok-heads.ensures.answers in
     knows_by g.P.Places.represents g.P.Versioned.version (RepresentsUnit c.args.known.now c.args.unit c.args.way.now) (query.Page c.args.unit) a d (Text c.in_ok-text-2.text) (looks_then a b d first.looks last.looks)
     (λ clean s sound so it.
     let at_b = early b d _ last.looks.goes.on.crash clean in
     let shown = still_shown g.P.Places.represents g.P.Versioned.version a b first.looks at_b s it in
     let units = first.answers at_b (office_of s) s.catalogue it.catalogue (tellable s sound) (heads_of s sound c.args.unit c.args.way.now so.way_is) in
     let heads = c.as_slice-2.ensures.value ∙ last.answers clean (office_of s) s.catalogue shown.catalogue in
-    let head = c.in_ok-head.ensures ∙ ap (λ l. bare (repository_of c.args.known.now) l c.args.known.now.day c.in-Some.last.now) c.as_slice.ensures.value in
+    let head = c.in_ok-head.ensures ∙ ap (λ l. head_alone (repository_of c.args.known.now) l c.args.known.now.day c.in-Some.last.now) c.as_slice.ensures.value in
     answers_told s sound c.args.unit c.args.known.now c.args.way.now c.in-Some._above.now c.in-Some.last.now so.office so.way_is so.shown c.in-Some.ensures.cases.0
     c.in_ok-ids.ids.items c.in_ok-head.head c.in_ok-told.told.items c.as_slice-2.result.now c.in_ok-text-2.text c.in_ok-ids.ensures head (sym c.is_closed.ensures ∙ c.if-is_closed.false) units heads c.in_ok-text-2.ensures)

@@ -27,7 +27,7 @@ loop-head-preserved g c =
     let i = c.loop-head.head-index in
     let head = c.head-item.result in
     let looked = c.loop-head.invariant.looks in
-    let told = c.in_ok-values_there.ensures.tells in
+    let told = c.in_ok-values_there.ensures.answers in
     record {
       looks = looks_then a b d looked told.looks;
       so_far = λ clean o k it tellable of.
@@ -46,24 +46,24 @@ returns-in_err-values_there g c =
     let i = c.loop-head.head-index in
     let looked = c.loop-head.invariant.looks in
     record {
-      tells = tells_passed_later _ c.from_residual.ensures looked c.in_err-values_there.ensures.tells.cut (λ o k it may kept.
+      answers = tells_passed_later _ c.from_residual.ensures looked c.in_err-values_there.ensures.answers.aborts (λ o k it may kept.
           let here = subst (λ (h : Head). HeadAt k.forest may.1.units i h) (sym c.head-item.is) (head_at k.forest may.1.units c.args.way.now i c.head-item.result may.1.found may.1.are c.loop-head-test.true) in
-          c.in_err-values_there.ensures.tells.faults o k it (may.0, here.unit, here.found) kept);
+          c.in_err-values_there.ensures.answers.faults o k it (may.0, here.unit, here.found) kept);
     }
 
 pub returns-in_err-push : goal.returns-in_err-push
-returns-in_err-push g c = record { tells = tells_full c.from_residual-in_err-push.ensures (looks_then _ _ _ c.loop-head.invariant.looks c.in_ok-values_there.ensures.tells.looks) }
+returns-in_err-push g c = record { answers = tells_full c.from_residual-in_err-push.ensures (looks_then _ _ _ c.loop-head.invariant.looks c.in_ok-values_there.ensures.answers.looks) }
 
 pub returns : goal.returns
 returns g c =
     record {
-      tells = record {
+      answers = record {
         answers = λ clean o k it tellable of.
             let long : length c.args.way.now ≡ length of.units = ap length of.are ∙ length-map of.units head_of in
             c.loop-head.invariant.so_far clean o k it tellable of
             ∙ ap (map (unit_values k.containers)) (take_all c.loop-head.head-index of.units (omega (arith, long, c.loop-head-test.false)));
         looks = c.loop-head.invariant.looks;
-        cut = tt;
+        aborts = tt;
         faults = λ o k it may kept clean free. tt;
       };
     }

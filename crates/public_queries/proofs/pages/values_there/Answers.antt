@@ -10,10 +10,10 @@ returns-then-unit-ge-NO_NUMBER g c =
     let a = state g.S.Store c.args.tables.now in
     let looked = looks_nowhere a in
     record {
-      tells = record {
+      answers = record {
         answers = λ clean o k it. tt;
         looks = tt;
-        cut = cut_after a a looked.goes.on;
+        aborts = cut_after a a looked.goes.on;
         faults = λ o k it may kept clean free.
             let small : c.args.unit < 2 ^ 63 = found_low k c.args.unit may.1 kept may.2 in
             absurd (omega (arith, small, c.if-unit-ge-NO_NUMBER.true));

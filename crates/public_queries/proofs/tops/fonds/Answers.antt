@@ -11,13 +11,13 @@ use Rattle.public_queries.proofs.Knowings.{catalogue_passed, knows_by}
 use Rattle.public_queries.proofs.tops.fonds.Goals as goal
 
 pub returns-in_err-heads : goal.returns-in_err-heads
-returns-in_err-heads g c = let told = c.in_err-heads.ensures.tells in catalogue_passed _ c.from_residual.ensures told.cut told.faults
+returns-in_err-heads g c = let told = c.in_err-heads.ensures.answers in catalogue_passed _ c.from_residual.ensures told.aborts told.faults
 
 pub returns : goal.returns
 returns g c =
     let a = state g.S.Store c.args.tables.now in
     let b = state g.S.Store c.heads_below.new.tables in
-    let told = c.in_ok-heads.ensures.tells in
+    let told = c.in_ok-heads.ensures.answers in
     knows_by g.P.Places.represents g.P.Versioned.version (λ s. c.args.known.now ≡ office_of s) query.Fonds a b (Text c.in_ok-text.text) told.looks
     (λ clean s sound so it.
     let heads = c.as_slice.ensures.value ∙ told.answers clean (office_of s) s.catalogue it.catalogue in

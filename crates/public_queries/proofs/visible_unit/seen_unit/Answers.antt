@@ -18,10 +18,10 @@ pub returns-then-unit-ge-NO_NUMBER : goal.returns-then-unit-ge-NO_NUMBER
 returns-then-unit-ge-NO_NUMBER g c =
     let a = state g.S.Store c.args.tables.now in
     record {
-      tells = record {
+      answers = record {
         answers = λ clean o k it. tt;
         looks = tt;
-        cut = cut_after a a (looks_nowhere a).goes.on;
+        aborts = cut_after a a (looks_nowhere a).goes.on;
         faults = λ o k it may kept clean free.
             let low = found_low k may.1.0.0.id may.1.0.0 kept may.2.found in
             let id = ap (λ (x : Kept). x.id) may.3 in
@@ -32,7 +32,7 @@ returns-then-unit-ge-NO_NUMBER g c =
 pub returns-then-unit : goal.returns-then-unit
 returns-then-unit g c =
     record {
-      tells = tells_as g.S.Store (Represents g.P.Places.represents g.P.Versioned.version) IsKept c.args.tables.now c.closed.new.tables c.closed.result _ _ _ _
+      answers = tells_as g.S.Store (Represents g.P.Places.represents g.P.Versioned.version) IsKept c.args.tables.now c.seen_closed.new.tables c.seen_closed.result _ _ _ _
           (λ k may.
           let stub = sym (ap (λ (x : Kept). x.stub) may.3) ∙ c.if-unit.true in
           let until = closed_until c.args.today may.1.0.0 (sym may.2.stub ∙ stub) in
@@ -42,17 +42,17 @@ returns-then-unit g c =
           let until = closed_until c.args.today row.0.0 (sym of.stub ∙ stub) in
           told row.0.0 until.0 (ap (λ n. find (has_id n) (nodes k.forest)) (ap (λ (x : Kept). x.id) is) ∙ of.found) until.1
           ∙ sym (ap (λ b. seen_of k.containers (public_unit (row.0.0, b))) stub ∙ seen_stub k.containers row.0.0 until.0 until.1))
-          c.closed.ensures.tells;
+          c.seen_closed.ensures.answers;
     }
 
 pub returns-else-unit : goal.returns-else-unit
 returns-else-unit g c =
     record {
-      tells = tells_as g.S.Store (Represents g.P.Places.represents g.P.Versioned.version) IsKept c.args.tables.now c.told.new.tables c.told.result _ _ _ _
+      answers = tells_as g.S.Store (Represents g.P.Places.represents g.P.Versioned.version) IsKept c.args.tables.now c.seen_open.new.tables c.seen_open.result _ _ _ _
           (λ k may. (may.0, may.1.0.0, ap (λ n. find (has_id n) (nodes k.forest)) (ap (λ (x : Kept). x.id) may.3) ∙ may.2.found))
           (λ o k seen told tellable row of is.
           let stub = sym (ap (λ (x : Kept). x.stub) is) ∙ c.if-unit.false in
           told tellable row.0.0 (ap (λ n. find (has_id n) (nodes k.forest)) (ap (λ (x : Kept). x.id) is) ∙ of.found)
           ∙ sym (ap (λ b. seen_of k.containers (public_unit (row.0.0, b))) stub))
-          c.told.ensures.tells;
+          c.seen_open.ensures.answers;
     }

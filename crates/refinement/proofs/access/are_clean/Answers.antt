@@ -37,7 +37,7 @@ loop-row-preserved g c =
     let rows = c.args.rows.now in
     let i = c.loop-row.row-index in
     let before = c.loop-row.invariant in
-    let told = c.in_ok-found.ensures.tells in
+    let told = c.in_ok-found.ensures.answers in
     let represents = Represents g.P.Places.represents g.P.Versioned.version in
     record {
       looks = looks_then a b d before.looks told.looks;
@@ -61,9 +61,9 @@ returns-in_err-is_clean g c =
     let a = state g.S.Store c.args.tables.now in
     let d = state g.S.Store c.marks_after.new.tables in
     let handed = c.from_residual-in_err-is_clean.ensures in
-    let looked = looks_then a (state g.S.Store c.loop-row.tables) d c.loop-row.invariant.looks c.in_ok-found.ensures.tells.looks in
+    let looked = looks_then a (state g.S.Store c.loop-row.tables) d c.loop-row.invariant.looks c.in_ok-found.ensures.answers.looks in
     record {
-      tells = tells_not g.S.Store (Represents g.P.Places.represents g.P.Versioned.version) IsKept (λ k. AllByRecursion (g.P.Places.stands (each (λ (u : Unit). u.id) k.forest)) c.args.rows.now) c.args.tables.now c.marks_after.new.tables c.from_residual-in_err-is_clean.result (λ _ k yes. AreTheirs g.P.Places.stands k c.args.rows.now → yes ≡ are_clean_for c.args.today c.args.permits.now k c.args.rows.now) fault.Memory
+      answers = tells_not g.S.Store (Represents g.P.Places.represents g.P.Versioned.version) IsKept (λ k. AllByRecursion (g.P.Places.stands (each (λ (u : Unit). u.id) k.forest)) c.args.rows.now) c.args.tables.now c.marks_after.new.tables c.from_residual-in_err-is_clean.result (λ _ k yes. AreTheirs g.P.Places.stands k c.args.rows.now → yes ≡ are_clean_for c.args.today c.args.permits.now k c.args.rows.now) fault.Memory
           (same_fault c.from_residual-in_err-is_clean.result fault.Memory handed.0 handed.1) (cut_after a d looked.goes.on) (spares_full a d looked) (λ o k it all kept clean free. tt);
     }
 
@@ -75,10 +75,10 @@ returns-then-not-branch g c =
     let rows = c.args.rows.now in
     let i = c.loop-row.row-index in
     let before = c.loop-row.invariant in
-    let told = c.in_ok-found.ensures.tells in
+    let told = c.in_ok-found.ensures.answers in
     let represents = Represents g.P.Places.represents g.P.Versioned.version in
     record {
-      tells = record {
+      answers = record {
         answers = λ clean o k it theirs.
             let at_b = early b d _ told.looks.goes.on.crash clean in
             let it_b = subst (λ (db : Database). represents db o k) (sym (before.looks.same at_b)) it in
@@ -87,7 +87,7 @@ returns-then-not-branch g c =
             let there = all-get_or (λ (row : Span). has_unit k.forest row.id ≡ true) rows i _ theirs.1 c.loop-row-test.true in
             not_clean (is_clean_for (allows c.args.today c.args.permits.now) c.args.today k.forest) rows i _ c.loop-row-test.true c.in_ok-is_clean.field-0 (c.in_ok-is_clean.ensures k.forest _ there own.0) c.if-not-branch.true;
         looks = looks_then a b d before.looks told.looks;
-        cut = tt;
+        aborts = tt;
         spares = λ clean. tt;
         faults = λ o k it all kept clean free. tt;
       };
@@ -98,12 +98,12 @@ returns-in_err-found g c =
     let handed = c.from_residual.ensures in
     let e = c.in_err-found.field-0.0 in
     let looked = c.loop-row.invariant.looks in
-    let why = c.in_err-found.ensures.tells in
+    let why = c.in_err-found.ensures.answers in
     let represents = Represents g.P.Places.represents g.P.Versioned.version in
     record {
-      tells = tells_cut g.S.Store represents IsKept (λ k. AllByRecursion (g.P.Places.stands (each (λ (u : Unit). u.id) k.forest)) c.args.rows.now) c.args.tables.now c.loop-row.tables c.marks_after.new.tables c.from_residual.result
+      answers = tells_cut g.S.Store represents IsKept (λ k. AllByRecursion (g.P.Places.stands (each (λ (u : Unit). u.id) k.forest)) c.args.rows.now) c.args.tables.now c.loop-row.tables c.marks_after.new.tables c.from_residual.result
           (λ _ k yes. AreTheirs g.P.Places.stands k c.args.rows.now → yes ≡ are_clean_for c.args.today c.args.permits.now k c.args.rows.now) e
-          (same_fault c.from_residual.result e handed.0 handed.1) looked why.cut why.spares
+          (same_fault c.from_residual.result e handed.0 handed.1) looked why.aborts why.spares
           (λ o k it all kept at_b clean free.
           why.faults o k (subst (λ (db : Database). represents db o k) (sym (looked.same at_b)) it)
           (all-get_or (g.P.Places.stands (each (λ (u : Unit). u.id) k.forest)) c.args.rows.now c.loop-row.row-index _ all c.loop-row-test.true, subst (g.P.Places.knows k) (sym c.deref.ensures.value) (c.loop-row.invariant.known at_b o k it all)) kept clean free);
@@ -112,12 +112,12 @@ returns-in_err-found g c =
 pub returns : goal.returns
 returns g c =
     record {
-      tells = record {
+      answers = record {
         answers = λ clean o k it all.
             all_of (is_clean_for (allows c.args.today c.args.permits.now) c.args.today k.forest) (map (λ (row : Span). row.id) c.args.rows.now) c.loop-row.row-index
             (omega (arith, c.loop-row-test.false, length-map c.args.rows.now (λ (row : Span). row.id))) (c.loop-row.invariant.so_far clean o k it all);
         looks = c.loop-row.invariant.looks;
-        cut = tt;
+        aborts = tt;
         spares = λ clean. tt;
         faults = λ o k it all kept clean free. tt;
       };

@@ -27,7 +27,7 @@ returns-then-container-ge-NO_NUMBER g c =
     let v = g.P.Versioned.version in
     let a = state g.S.Store c.args.tables.now in
     record {
-      tells = ends_well (RepresentsWhole g.P.Places.represents v) CanBeJudged (λ _. ⊤) g.S.Store c.args.tables.now c.args.tables.now c.args.tables.now (Tells c.args.container c.args.ticket c.args.today c.args.clean.items)
+      answers = ends_well (RepresentsWhole g.P.Places.represents v) CanBeJudged (λ _. ⊤) g.S.Store c.args.tables.now c.args.tables.now c.args.tables.now (Tells c.args.container c.args.ticket c.args.today c.args.clean.items)
           (looks_nowhere a) (record { is_open = false; clean = c.args.clean })
           (λ clean s it judged day kept. (opens_none s judged c.args.ticket c.args.container c.if-container-ge-NO_NUMBER.true, kept));
       disk = λ clean. tt;
@@ -37,11 +37,11 @@ pub returns-in_err-rows : goal.returns-in_err-rows
 returns-in_err-rows g c =
     let v = g.P.Versioned.version in
     let e = c.from_residual.ensures in
-    let told = c.in_err-rows.ensures.tells in
+    let told = c.in_err-rows.ensures.answers in
     let same = same_fault c.from_residual.result c.in_err-rows.field-0.0 e.0 e.1 in
     record {
-      tells = tells_not g.S.Store (RepresentsWhole g.P.Places.represents v) CanBeJudged (λ _. ⊤) c.args.tables.now c.attached_rows.new.tables c.from_residual.result (Tells c.args.container c.args.ticket c.args.today c.args.clean.items) c.in_err-rows.field-0.0
-          same told.cut
+      answers = tells_not g.S.Store (RepresentsWhole g.P.Places.represents v) CanBeJudged (λ _. ⊤) c.args.tables.now c.attached_rows.new.tables c.from_residual.result (Tells c.args.container c.args.ticket c.args.today c.args.clean.items) c.in_err-rows.field-0.0
+          same told.aborts
           (λ beside s it may judged clean free. told.faults (shown.office_of s) s.catalogue it.catalogue tt judged.catalogue clean free);
       disk = λ clean. blames_first (state g.S.Store c.args.tables.now) (state g.S.Store c.attached_rows.new.tables) c.from_residual.result c.in_err-rows.field-0.0 same (told.spares clean).disk;
     }
@@ -49,11 +49,11 @@ returns-in_err-rows g c =
 pub returns-then-is_empty : goal.returns-then-is_empty
 returns-then-is_empty g c =
     let v = g.P.Versioned.version in
-    let told = c.in_ok-rows.ensures.tells in
+    let told = c.in_ok-rows.ensures.answers in
     let zero : c.in_ok-rows.rows.len ≡ 0 = eqb-true c.in_ok-rows.rows.len 0 (sym c.if-is_empty.ensures) in
     let none : length c.in_ok-rows.rows.items ≡ 0 = omega (arith, zero) in
     record {
-      tells = ends_well (RepresentsWhole g.P.Places.represents v) CanBeJudged (λ _. ⊤) g.S.Store c.args.tables.now c.args.tables.now c.attached_rows.new.tables (Tells c.args.container c.args.ticket c.args.today c.args.clean.items)
+      answers = ends_well (RepresentsWhole g.P.Places.represents v) CanBeJudged (λ _. ⊤) g.S.Store c.args.tables.now c.args.tables.now c.attached_rows.new.tables (Tells c.args.container c.args.ticket c.args.today c.args.clean.items)
           told.looks (record { is_open = false; clean = c.args.clean })
           (λ clean s it judged day kept. (empty_closed g.P.Places.stands s judged c.args.ticket c.args.container c.in_ok-rows.rows.items (told.answers clean (shown.office_of s) s.catalogue it.catalogue) none, kept));
       disk = λ clean. tt;
@@ -63,16 +63,16 @@ pub returns-in_err-permits : goal.returns-in_err-permits
 returns-in_err-permits g c =
     let v = g.P.Versioned.version in
     let e = c.from_residual-in_err-permits.ensures in
-    let told = c.in_err-permits.ensures.tells in
-    let looked = c.in_ok-rows.ensures.tells.looks in
+    let told = c.in_err-permits.ensures.answers in
+    let looked = c.in_ok-rows.ensures.answers.looks in
     let same = same_fault c.from_residual-in_err-permits.result c.in_err-permits.field-0.0 e.0 e.1 in
     record {
-      tells = ends_not (RepresentsWhole g.P.Places.represents v) CanBeJudged (λ _. ⊤) g.S.Store c.args.tables.now c.attached_rows.new.tables c.permits.new.tables (Tells c.args.container c.args.ticket c.args.today c.args.clean.items)
-          looked c.in_err-permits.field-0.0 told.cut
+      answers = ends_not (RepresentsWhole g.P.Places.represents v) CanBeJudged (λ _. ⊤) g.S.Store c.args.tables.now c.attached_rows.new.tables c.permits.new.tables (Tells c.args.container c.args.ticket c.args.today c.args.clean.items)
+          looked c.in_err-permits.field-0.0 told.aborts
           (λ s it may judged clean free. told.faults tt (tables v s).desk it.desk tt (judged.desk v) clean free)
           c.from_residual-in_err-permits.result same;
       disk = λ clean.
-          blames_later (state g.S.Store c.args.tables.now) (state g.S.Store c.attached_rows.new.tables) (state g.S.Store c.permits.new.tables) c.from_residual-in_err-permits.result c.in_err-permits.field-0.0 same looked told.cut clean
+          blames_later (state g.S.Store c.args.tables.now) (state g.S.Store c.attached_rows.new.tables) (state g.S.Store c.permits.new.tables) c.from_residual-in_err-permits.result c.in_err-permits.field-0.0 same looked told.aborts clean
           (told.spares clean).disk;
     }
 
@@ -84,19 +84,19 @@ returns-in_err-judged g c =
     let b = state g.S.Store c.attached_rows.new.tables in
     let d = state g.S.Store c.permits.new.tables in
     let e = c.from_residual-in_err-judged.ensures in
-    let rows = c.in_ok-rows.ensures.tells in
-    let permits = c.in_ok-permits.ensures.tells in
-    let told = c.in_err-judged.ensures.tells in
+    let rows = c.in_ok-rows.ensures.answers in
+    let permits = c.in_ok-permits.ensures.answers in
+    let told = c.in_err-judged.ensures.answers in
     let looked = looks_then a b d rows.looks permits.looks in
     let same = same_fault c.from_residual-in_err-judged.result c.in_err-judged.field-0.0 e.0 e.1 in
     record {
-      tells = tells_cut g.S.Store represents CanBeJudged (λ _. ⊤) c.args.tables.now c.permits.new.tables c.judge_rows.new.tables c.from_residual-in_err-judged.result (Tells c.args.container c.args.ticket c.args.today c.args.clean.items) c.in_err-judged.field-0.0
-          same looked told.cut
+      answers = tells_cut g.S.Store represents CanBeJudged (λ _. ⊤) c.args.tables.now c.permits.new.tables c.judge_rows.new.tables c.from_residual-in_err-judged.result (Tells c.args.container c.args.ticket c.args.today c.args.clean.items) c.in_err-judged.field-0.0
+          same looked told.aborts
           (λ beside s it may judged at_d clean free.
           let at = rows.answers (early b d _ permits.looks.goes.on.crash at_d) (shown.office_of s) s.catalogue it.catalogue in
           told.faults (shown.office_of s) s.catalogue (shown_on represents a d looked at_d s it).catalogue at.1 judged.catalogue clean free);
       disk = λ clean.
-          blames_later a d (state g.S.Store c.judge_rows.new.tables) c.from_residual-in_err-judged.result c.in_err-judged.field-0.0 same looked told.cut clean (told.spares clean).disk;
+          blames_later a d (state g.S.Store c.judge_rows.new.tables) c.from_residual-in_err-judged.result c.in_err-judged.field-0.0 same looked told.aborts clean (told.spares clean).disk;
     }
 
 pub returns : goal.returns
@@ -107,16 +107,16 @@ returns g c =
     let b = state g.S.Store c.attached_rows.new.tables in
     let d = state g.S.Store c.permits.new.tables in
     let f = state g.S.Store c.judge_rows.new.tables in
-    let rows = c.in_ok-rows.ensures.tells in
-    let told = c.in_ok-permits.ensures.tells in
-    let judged_rows = c.in_ok-judged.ensures.tells in
+    let rows = c.in_ok-rows.ensures.answers in
+    let told = c.in_ok-permits.ensures.answers in
+    let judged_rows = c.in_ok-judged.ensures.answers in
     let found = c.in_ok-rows.rows.items in
     let permits = c.in_ok-permits.permits.items in
     let looked = looks_then a b d rows.looks told.looks in
     let long : length found ≡ c.in_ok-rows.rows.len = omega arith in
     let some : nat_eq (length found) 0 ≡ false = ap (λ k. nat_eq k 0) long ∙ sym c.if-is_empty.ensures in
     record {
-      tells = ends_well represents CanBeJudged (λ _. ⊤) g.S.Store c.args.tables.now c.args.tables.now c.judge_rows.new.tables (Tells c.args.container c.args.ticket c.args.today c.args.clean.items)
+      answers = ends_well represents CanBeJudged (λ _. ⊤) g.S.Store c.args.tables.now c.args.tables.now c.judge_rows.new.tables (Tells c.args.container c.args.ticket c.args.today c.args.clean.items)
           (looks_then a d f looked judged_rows.looks) c.in_ok-judged.judged
           (λ clean s it judged day kept.
           let at_d = early d f _ judged_rows.looks.goes.on.crash clean in

@@ -26,10 +26,10 @@ pub returns-in_err-branch : goal.returns-in_err-branch
 returns-in_err-branch g c =
     let v = g.P.Versioned.version in
     let e = c.from_residual.ensures in
-    let told = c.in_err-branch.ensures.tells in
+    let told = c.in_err-branch.ensures.answers in
     record {
-      tells = tells_not g.S.Store (RepresentsWhole g.P.Places.represents v) CanBeJudged (λ _. ⊤) c.args.tables.now c.branch-alloc.new.tables c.from_residual.result (λ _ s found. IsHoused c.args.unit s c.args.housed.now → AreNear c.args.unit s found.items) c.in_err-branch.field-0.0
-          (same_fault c.from_residual.result c.in_err-branch.field-0.0 e.0 e.1) told.cut
+      answers = tells_not g.S.Store (RepresentsWhole g.P.Places.represents v) CanBeJudged (λ _. ⊤) c.args.tables.now c.branch-alloc.new.tables c.from_residual.result (λ _ s found. IsHoused c.args.unit s c.args.housed.now → AreNear c.args.unit s found.items) c.in_err-branch.field-0.0
+          (same_fault c.from_residual.result c.in_err-branch.field-0.0 e.0 e.1) told.aborts
           (λ beside s it may judged clean free. told.faults tt (each (λ (u : Unit). u.id) s.catalogue.forest) it.catalogue.shown tt judged.catalogue.places clean free);
     }
 
@@ -41,13 +41,13 @@ returns-in_err-containers g c =
     let d = state g.S.Store c.containers_of_each.new.tables in
     let u = c.args.unit in
     let e = c.from_residual-in_err-containers.ensures in
-    let one = c.in_ok-branch.ensures.tells in
+    let one = c.in_ok-branch.ensures.answers in
     let each_of = c.in_err-containers.ensures in
     let failed : Result (Vec ℕ Global) StoreFault = Err c.in_err-containers.field-0.0 in
     record {
-      tells = tells_not g.S.Store (RepresentsWhole g.P.Places.represents v) CanBeJudged (λ _. ⊤) c.args.tables.now c.containers_of_each.new.tables c.from_residual-in_err-containers.result (λ _ s found. IsHoused c.args.unit s c.args.housed.now → AreNear c.args.unit s found.items) c.in_err-containers.field-0.0
-          (same_fault c.from_residual-in_err-containers.result c.in_err-containers.field-0.0 e.0 e.1) (cut_then a b d one.looks.goes.on each_of.reads.cut)
-          (λ beside s it may judged. excused_then a b d one.looks.goes.on failed each_of.reads.cut (λ at_b.
+      answers = tells_not g.S.Store (RepresentsWhole g.P.Places.represents v) CanBeJudged (λ _. ⊤) c.args.tables.now c.containers_of_each.new.tables c.from_residual-in_err-containers.result (λ _ s found. IsHoused c.args.unit s c.args.housed.now → AreNear c.args.unit s found.items) c.in_err-containers.field-0.0
+          (same_fault c.from_residual-in_err-containers.result c.in_err-containers.field-0.0 e.0 e.1) (cut_then a b d one.looks.goes.on each_of.reads.aborts)
+          (λ beside s it may judged. excused_then a b d one.looks.goes.on failed each_of.reads.aborts (λ at_b.
           let F = each (λ (u : Unit). u.id) s.catalogue.forest in
           let housings = it.catalogue.catalogue.housings in
           let ids = c.deref.ensures.value ∙ one.answers at_b tt F it.catalogue.shown in
@@ -62,9 +62,9 @@ returns-in_err-extend_from_slice g c =
     let b = state g.S.Store c.branch-alloc.new.tables in
     let d = state g.S.Store c.containers_of_each.new.tables in
     let e = c.from_residual-in_err-extend_from_slice.ensures in
-    let looked = looks_then a b d c.in_ok-branch.ensures.tells.looks c.in_ok-containers.ensures.reads.looks in
+    let looked = looks_then a b d c.in_ok-branch.ensures.answers.looks c.in_ok-containers.ensures.reads.looks in
     record {
-      tells = tells_not g.S.Store (RepresentsWhole g.P.Places.represents v) CanBeJudged (λ _. ⊤) c.args.tables.now c.containers_of_each.new.tables c.from_residual-in_err-extend_from_slice.result (λ _ s found. IsHoused c.args.unit s c.args.housed.now → AreNear c.args.unit s found.items) fault.Memory
+      answers = tells_not g.S.Store (RepresentsWhole g.P.Places.represents v) CanBeJudged (λ _. ⊤) c.args.tables.now c.containers_of_each.new.tables c.from_residual-in_err-extend_from_slice.result (λ _ s found. IsHoused c.args.unit s c.args.housed.now → AreNear c.args.unit s found.items) fault.Memory
           (same_fault c.from_residual-in_err-extend_from_slice.result fault.Memory e.0 e.1) (cut_after a d looked.goes.on) (λ beside s it may judged clean free. tt);
     }
 
@@ -75,10 +75,10 @@ returns g c =
     let b = state g.S.Store c.branch-alloc.new.tables in
     let d = state g.S.Store c.containers_of_each.new.tables in
     let u = c.args.unit in
-    let one = c.in_ok-branch.ensures.tells in
+    let one = c.in_ok-branch.ensures.answers in
     let each_of = c.in_ok-containers.ensures in
     record {
-      tells = ends_well (RepresentsWhole g.P.Places.represents v) CanBeJudged (λ _. ⊤) g.S.Store c.args.tables.now c.args.tables.now c.containers_of_each.new.tables (λ _ s found. IsHoused u s c.args.housed.now → AreNear u s found.items)
+      answers = ends_well (RepresentsWhole g.P.Places.represents v) CanBeJudged (λ _. ⊤) g.S.Store c.args.tables.now c.args.tables.now c.containers_of_each.new.tables (λ _ s found. IsHoused u s c.args.housed.now → AreNear u s found.items)
           (looks_then a b d one.looks each_of.reads.looks) _
           (λ clean s it housed n.
           let at_b = early b d _ each_of.reads.crash clean in

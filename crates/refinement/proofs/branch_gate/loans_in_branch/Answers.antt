@@ -12,10 +12,10 @@ pub returns-in_err-containers : goal.returns-in_err-containers
 returns-in_err-containers g c =
     let v = g.P.Versioned.version in
     let e = c.from_residual.ensures in
-    let told = c.in_err-containers.ensures.tells in
+    let told = c.in_err-containers.ensures.answers in
     record {
-      tells = tells_not g.S.Store (RepresentsWhole g.P.Places.represents v) CanBeJudged (λ _. ⊤) c.args.tables.now c.containers_near.new.tables c.from_residual.result (λ _ s found. IsHoused c.args.unit s c.args.housed.now → AreAsked c.args.unit s c.args.loans.now found.items) c.in_err-containers.field-0.0
-          (same_fault c.from_residual.result c.in_err-containers.field-0.0 e.0 e.1) told.cut told.faults;
+      answers = tells_not g.S.Store (RepresentsWhole g.P.Places.represents v) CanBeJudged (λ _. ⊤) c.args.tables.now c.containers_near.new.tables c.from_residual.result (λ _ s found. IsHoused c.args.unit s c.args.housed.now → AreAsked c.args.unit s c.args.loans.now found.items) c.in_err-containers.field-0.0
+          (same_fault c.from_residual.result c.in_err-containers.field-0.0 e.0 e.1) told.aborts told.faults;
     }
 
 pub loans_of-requires : goal.loans_of-requires
@@ -24,9 +24,9 @@ loans_of-requires g c = record { rise = subst IsNonDecreasing (sym c.deref.ensur
 pub returns : goal.returns
 returns g c =
     let v = g.P.Versioned.version in
-    let told = c.in_ok-containers.ensures.tells in
+    let told = c.in_ok-containers.ensures.answers in
     record {
-      tells = ends_well (RepresentsWhole g.P.Places.represents v) CanBeJudged (λ _. ⊤) g.S.Store c.args.tables.now c.args.tables.now c.containers_near.new.tables (λ _ s found. IsHoused c.args.unit s c.args.housed.now → AreAsked c.args.unit s c.args.loans.now found.items)
+      answers = ends_well (RepresentsWhole g.P.Places.represents v) CanBeJudged (λ _. ⊤) g.S.Store c.args.tables.now c.args.tables.now c.containers_near.new.tables (λ _ s found. IsHoused c.args.unit s c.args.housed.now → AreAsked c.args.unit s c.args.loans.now found.items)
           told.looks _
           (λ clean s shown housed.
           record {

@@ -12,10 +12,10 @@ pub returns-in_err-apart : goal.returns-in_err-apart
 returns-in_err-apart g c =
     let v = g.P.Versioned.version in
     let e = c.from_residual.ensures in
-    let told = c.in_err-apart.ensures.tells in
+    let told = c.in_err-apart.ensures.answers in
     record {
-      tells = tells_not g.S.Store (RepresentsWhole g.P.Places.represents v) CanBeJudged (λ _. ⊤) c.args.tables.now c.containers_apart.new.tables c.from_residual.result (λ _ s found. CanBeJudged s → IsHoused c.args.unit s c.args.housed.now → AreAsked c.args.unit s c.args.loans.now found.items) c.in_err-apart.field-0.0
-          (same_fault c.from_residual.result c.in_err-apart.field-0.0 e.0 e.1) told.cut told.faults;
+      answers = tells_not g.S.Store (RepresentsWhole g.P.Places.represents v) CanBeJudged (λ _. ⊤) c.args.tables.now c.containers_apart.new.tables c.from_residual.result (λ _ s found. CanBeJudged s → IsHoused c.args.unit s c.args.housed.now → AreAsked c.args.unit s c.args.loans.now found.items) c.in_err-apart.field-0.0
+          (same_fault c.from_residual.result c.in_err-apart.field-0.0 e.0 e.1) told.aborts told.faults;
     }
 
 pub loans_in_branch-requires : goal.loans_in_branch-requires
@@ -26,16 +26,16 @@ pub returns-in_default : goal.returns-in_default
 returns-in_default g c =
     let v = g.P.Versioned.version in
     record {
-      tells = told_then (RepresentsWhole g.P.Places.represents v) CanBeJudged g.S.Store c.args.tables.now c.containers_apart.new.tables c.loans_in_branch.new.tables c.loans_in_branch.result
+      answers = told_then (RepresentsWhole g.P.Places.represents v) CanBeJudged g.S.Store c.args.tables.now c.containers_apart.new.tables c.loans_in_branch.new.tables c.loans_in_branch.result
           (λ _ s found. IsHoused c.args.unit s c.args.housed.now → AreAsked c.args.unit s c.args.loans.now found.items) (λ _ s found. CanBeJudged s → IsHoused c.args.unit s c.args.housed.now → AreAsked c.args.unit s c.args.loans.now found.items)
-          c.in_ok-apart.ensures.tells.looks (λ clean s shown found is judged housed. is housed) c.loans_in_branch.ensures.tells;
+          c.in_ok-apart.ensures.answers.looks (λ clean s shown found is judged housed. is housed) c.loans_in_branch.ensures.answers;
     }
 
 pub returns-in_err-loans_without : goal.returns-in_err-loans_without
 returns-in_err-loans_without g c =
     let e = c.from_residual-in_err-loans_without.ensures in
     record {
-      tells = ends_full (RepresentsWhole g.P.Places.represents g.P.Versioned.version) CanBeJudged (λ _. ⊤) g.S.Store c.args.tables.now c.args.tables.now c.containers_apart.new.tables _ c.in_ok-apart.ensures.tells.looks
+      answers = ends_full (RepresentsWhole g.P.Places.represents g.P.Versioned.version) CanBeJudged (λ _. ⊤) g.S.Store c.args.tables.now c.args.tables.now c.containers_apart.new.tables _ c.in_ok-apart.ensures.answers.looks
           c.from_residual-in_err-loans_without.result (same_fault c.from_residual-in_err-loans_without.result Memory e.0 e.1);
     }
 
@@ -46,9 +46,9 @@ not_false false e = absurd (cc)
 pub returns : goal.returns
 returns g c =
     let v = g.P.Versioned.version in
-    let told = c.in_ok-apart.ensures.tells in
+    let told = c.in_ok-apart.ensures.answers in
     record {
-      tells = ends_well (RepresentsWhole g.P.Places.represents v) CanBeJudged (λ _. ⊤) g.S.Store c.args.tables.now c.args.tables.now c.containers_apart.new.tables (λ _ s found. CanBeJudged s → IsHoused c.args.unit s c.args.housed.now → AreAsked c.args.unit s c.args.loans.now found.items)
+      answers = ends_well (RepresentsWhole g.P.Places.represents v) CanBeJudged (λ _. ⊤) g.S.Store c.args.tables.now c.args.tables.now c.containers_apart.new.tables (λ _ s found. CanBeJudged s → IsHoused c.args.unit s c.args.housed.now → AreAsked c.args.unit s c.args.loans.now found.items)
           told.looks _
           (λ clean s shown judged housed.
           let apart : AreApart c.args.unit s c.in-Some.apart.items = subst (λ (o : Option (Vec ℕ Global)). IfSome o (λ apart. AreApart c.args.unit s apart.items)) c.in-Some.is (told.answers clean tt s shown judged housed) in

@@ -4,10 +4,10 @@ use Rattle.sqlite.specs.Held.{state}
 use Rattle.desk_store.specs.Holdings.{issued_of}
 use Rattle.desk_store.specs.declared.holdings.Loan.{Loan}
 use Rattle.desk_store.proofs.ToldCalls.{ends_not, ends_well, shown_on}
-use Rattle.office_core.specs.Rules.{kept}
+use Rattle.office_core.specs.Rules.{lowest_withheld}
 use Rattle.office_core.specs.State.{State}
 use Rattle.state_encoding.specs.OfficeRows.{tables}
-use Rattle.tree_core.specs.Versions.{Version}
+use Rattle.office_tables.specs.Versions.{Version}
 use Rattle.office_tables.proofs.CallEnds.{same_fault, tells_not}
 use Rattle.office_tables.proofs.Calls.{early, looks_then}
 use Rattle.refinement.specs.AccessConditions.{CanBeJudged, RepresentsWhole}
@@ -19,28 +19,28 @@ use Rattle.refinement.proofs.branch_gate.lowest_closed.Goals as goal
 -- what the call tells
 abbrev Tells : Version → ℕ → HousedUnit → List Loan → ℕ → State → ℕ → Type 0
 Tells v u it loans place s container =
-    OthersAreOpen u s → IsHoused u s it → IsWithheldAt s it loans place → loans ≡ issued_of (tables v s).desk → kept s ≡ Some container
+    OthersAreOpen u s → IsHoused u s it → IsWithheldAt s it loans place → loans ≡ issued_of (tables v s).desk → lowest_withheld s ≡ Some container
 
 pub returns-in_err-lower : goal.returns-in_err-lower
 returns-in_err-lower g c =
     let v = g.P.Versioned.version in
     let e = c.from_residual.ensures in
-    let told = c.in_err-lower.ensures.tells in
+    let told = c.in_err-lower.ensures.answers in
     record {
-      tells = tells_not g.S.Store (RepresentsWhole g.P.Places.represents v) CanBeJudged (λ _. ⊤) c.args.tables.now c.lower_loans.new.tables c.from_residual.result
+      answers = tells_not g.S.Store (RepresentsWhole g.P.Places.represents v) CanBeJudged (λ _. ⊤) c.args.tables.now c.lower_loans.new.tables c.from_residual.result
           (λ _ s container. CanBeJudged s → c.args.today ≡ s.day → Tells v c.args.unit c.args.housed.now c.args.loans.now c.args.place s container) c.in_err-lower.field-0.0
-          (same_fault c.from_residual.result c.in_err-lower.field-0.0 e.0 e.1) told.cut told.faults;
+          (same_fault c.from_residual.result c.in_err-lower.field-0.0 e.0 e.1) told.aborts told.faults;
     }
 
 pub returns-in_err-container : goal.returns-in_err-container
 returns-in_err-container g c =
     let v = g.P.Versioned.version in
     let e = c.from_residual-in_err-container.ensures in
-    let told = c.in_err-container.ensures.tells in
+    let told = c.in_err-container.ensures.answers in
     record {
-      tells = ends_not (RepresentsWhole g.P.Places.represents v) CanBeJudged (λ _. ⊤) g.S.Store c.args.tables.now c.lower_loans.new.tables c.first_closed.new.tables
+      answers = ends_not (RepresentsWhole g.P.Places.represents v) CanBeJudged (λ _. ⊤) g.S.Store c.args.tables.now c.lower_loans.new.tables c.first_closed.new.tables
           (λ _ s container. CanBeJudged s → c.args.today ≡ s.day → Tells v c.args.unit c.args.housed.now c.args.loans.now c.args.place s container)
-          c.in_ok-lower.ensures.tells.looks c.in_err-container.field-0.0 told.cut
+          c.in_ok-lower.ensures.answers.looks c.in_err-container.field-0.0 told.aborts
           (λ s it may judged clean free. told.faults tt s it tt judged clean free)
           c.from_residual-in_err-container.result (same_fault c.from_residual-in_err-container.result c.in_err-container.field-0.0 e.0 e.1);
     }
@@ -52,10 +52,10 @@ returns-in-Some g c =
     let a = state g.S.Store c.args.tables.now in
     let b = state g.S.Store c.lower_loans.new.tables in
     let d = state g.S.Store c.first_closed.new.tables in
-    let asked = c.in_ok-lower.ensures.tells in
-    let told = c.in_ok-container.ensures.tells in
+    let asked = c.in_ok-lower.ensures.answers in
+    let told = c.in_ok-container.ensures.answers in
     record {
-      tells = ends_well represents CanBeJudged (λ _. ⊤) g.S.Store c.args.tables.now c.args.tables.now c.first_closed.new.tables
+      answers = ends_well represents CanBeJudged (λ _. ⊤) g.S.Store c.args.tables.now c.args.tables.now c.first_closed.new.tables
           (λ _ s container. CanBeJudged s → c.args.today ≡ s.day → Tells v c.args.unit c.args.housed.now c.args.loans.now c.args.place s container)
           (looks_then a b d asked.looks told.looks) c.in-Some.container
           (λ clean s it judged day others housed withheld are.
@@ -72,11 +72,11 @@ returns g c =
     let a = state g.S.Store c.args.tables.now in
     let b = state g.S.Store c.lower_loans.new.tables in
     let d = state g.S.Store c.first_closed.new.tables in
-    let asked = c.in_ok-lower.ensures.tells in
-    let told = c.in_ok-container.ensures.tells in
+    let asked = c.in_ok-lower.ensures.answers in
+    let told = c.in_ok-container.ensures.answers in
     let none : Loan = record { container = 0; order = 0; ticket = 0 } in
     record {
-      tells = ends_well represents CanBeJudged (λ _. ⊤) g.S.Store c.args.tables.now c.args.tables.now c.first_closed.new.tables
+      answers = ends_well represents CanBeJudged (λ _. ⊤) g.S.Store c.args.tables.now c.args.tables.now c.first_closed.new.tables
           (λ _ s container. CanBeJudged s → c.args.today ≡ s.day → Tells v c.args.unit c.args.housed.now c.args.loans.now c.args.place s container)
           (looks_then a b d asked.looks told.looks) _
           (λ clean s it judged day others housed withheld are.

@@ -9,7 +9,7 @@ use Rattle.desk_store.proofs.ToldCalls.{ends_not, ends_well, shown_on}
 use Rattle.state_encoding.specs.OfficeRows.{tables}
 use Rattle.office_tables.proofs.CallEnds.{same_fault, tells_not}
 use Rattle.office_tables.proofs.Calls.{early, looks_then}
-use Rattle.refinement.specs.Gate.{AreAsked, AreEnough, IsWithheldAt, OthersAreOpen, first_closed, gated, unless_refused}
+use Rattle.refinement.specs.Gate.{AreAsked, AreEnough, IsWithheldAt, OthersAreOpen, first_closed, gate_reply, unless_refused}
 use Rattle.refinement.specs.AccessConditions.{CanBeJudged, RepresentsWhole}
 use Rattle.refinement.proofs.Gates.{enough_of, kept_is}
 use Rattle.refinement.proofs.Tellings.{told_then}
@@ -19,10 +19,10 @@ pub returns-in_err-loans : goal.returns-in_err-loans
 returns-in_err-loans g c =
     let v = g.P.Versioned.version in
     let e = c.from_residual.ensures in
-    let told = c.in_err-loans.ensures.tells in
+    let told = c.in_err-loans.ensures.answers in
     record {
-      tells = tells_not g.S.Store (RepresentsWhole g.P.Places.represents v) CanBeJudged (λ _. ⊤) c.args.tables.now c.issued.new.tables c.from_residual.result (λ _ s reply. CanBeJudged s → c.args.today ≡ s.day → OthersAreOpen c.args.unit s → reply ≡ gated s c.args.done) c.in_err-loans.field-0.0
-          (same_fault c.from_residual.result c.in_err-loans.field-0.0 e.0 e.1) told.cut
+      answers = tells_not g.S.Store (RepresentsWhole g.P.Places.represents v) CanBeJudged (λ _. ⊤) c.args.tables.now c.issued.new.tables c.from_residual.result (λ _ s reply. CanBeJudged s → c.args.today ≡ s.day → OthersAreOpen c.args.unit s → reply ≡ gate_reply s c.args.done) c.in_err-loans.field-0.0
+          (same_fault c.from_residual.result c.in_err-loans.field-0.0 e.0 e.1) told.aborts
           (λ beside s shown may judged clean free. told.faults tt (tables v s).desk shown.desk tt (judged.desk v) clean free);
     }
 
@@ -34,11 +34,11 @@ nothing_long (x ∷ xs) e = absurd (omega (arith, e))
 pub returns-then-is_empty : goal.returns-then-is_empty
 returns-then-is_empty g c =
     let v = g.P.Versioned.version in
-    let told = c.in_ok-loans.ensures.tells in
+    let told = c.in_ok-loans.ensures.answers in
     let zero : c.in_ok-loans.loans.len ≡ 0 = eqb-true c.in_ok-loans.loans.len 0 (sym c.if-is_empty.ensures) in
     let long : length c.in_ok-loans.loans.items ≡ 0 = omega (arith, zero) in
     record {
-      tells = ends_well (RepresentsWhole g.P.Places.represents v) CanBeJudged (λ _. ⊤) g.S.Store c.args.tables.now c.args.tables.now c.issued.new.tables (λ _ s reply. CanBeJudged s → c.args.today ≡ s.day → OthersAreOpen c.args.unit s → reply ≡ gated s c.args.done)
+      answers = ends_well (RepresentsWhole g.P.Places.represents v) CanBeJudged (λ _. ⊤) g.S.Store c.args.tables.now c.args.tables.now c.issued.new.tables (λ _ s reply. CanBeJudged s → c.args.today ≡ s.day → OthersAreOpen c.args.unit s → reply ≡ gate_reply s c.args.done)
           told.looks (Ok c.args.done)
           (λ clean s shown judged day others.
           let none : issued_of (tables v s).desk ≡ [] = sym (told.answers clean tt (tables v s).desk shown.desk) ∙ nothing_long c.in_ok-loans.loans.items long in
@@ -52,10 +52,10 @@ pub returns-in_err-housed : goal.returns-in_err-housed
 returns-in_err-housed g c =
     let v = g.P.Versioned.version in
     let e = c.from_residual-in_err-housed.ensures in
-    let told = c.in_err-housed.ensures.tells in
+    let told = c.in_err-housed.ensures.answers in
     record {
-      tells = ends_not (RepresentsWhole g.P.Places.represents v) CanBeJudged (λ _. ⊤) g.S.Store c.args.tables.now c.issued.new.tables c.housed_unit.new.tables (λ _ s reply. CanBeJudged s → c.args.today ≡ s.day → OthersAreOpen c.args.unit s → reply ≡ gated s c.args.done)
-          c.in_ok-loans.ensures.tells.looks c.in_err-housed.field-0.0 told.cut
+      answers = ends_not (RepresentsWhole g.P.Places.represents v) CanBeJudged (λ _. ⊤) g.S.Store c.args.tables.now c.issued.new.tables c.housed_unit.new.tables (λ _ s reply. CanBeJudged s → c.args.today ≡ s.day → OthersAreOpen c.args.unit s → reply ≡ gate_reply s c.args.done)
+          c.in_ok-loans.ensures.answers.looks c.in_err-housed.field-0.0 told.aborts
           (λ s it may judged clean free. told.faults tt s it tt judged clean free)
           c.from_residual-in_err-housed.result (same_fault c.from_residual-in_err-housed.result c.in_err-housed.field-0.0 e.0 e.1);
     }
@@ -75,10 +75,10 @@ returns-in_err-place g c =
     let b = state g.S.Store c.issued.new.tables in
     let d = state g.S.Store c.housed_unit.new.tables in
     let e = c.from_residual-in_err-place.ensures in
-    let told = c.in_err-place.ensures.tells in
+    let told = c.in_err-place.ensures.answers in
     record {
-      tells = ends_not (RepresentsWhole g.P.Places.represents v) CanBeJudged (λ _. ⊤) g.S.Store c.args.tables.now c.housed_unit.new.tables c.first_withheld.new.tables (λ _ s reply. CanBeJudged s → c.args.today ≡ s.day → OthersAreOpen c.args.unit s → reply ≡ gated s c.args.done)
-          (looks_then a b d c.in_ok-loans.ensures.tells.looks c.in_ok-housed.ensures.tells.looks) c.in_err-place.field-0.0 told.cut
+      answers = ends_not (RepresentsWhole g.P.Places.represents v) CanBeJudged (λ _. ⊤) g.S.Store c.args.tables.now c.housed_unit.new.tables c.first_withheld.new.tables (λ _ s reply. CanBeJudged s → c.args.today ≡ s.day → OthersAreOpen c.args.unit s → reply ≡ gate_reply s c.args.done)
+          (looks_then a b d c.in_ok-loans.ensures.answers.looks c.in_ok-housed.ensures.answers.looks) c.in_err-place.field-0.0 told.aborts
           (λ s it may judged clean free. told.faults tt s it tt judged clean free)
           c.from_residual-in_err-place.result (same_fault c.from_residual-in_err-place.result c.in_err-place.field-0.0 e.0 e.1);
     }
@@ -102,10 +102,10 @@ returns-in_err-asked g c =
     let d = state g.S.Store c.housed_unit.new.tables in
     let f = state g.S.Store c.first_withheld.new.tables in
     let e = c.from_residual-in_err-asked.ensures in
-    let told = c.in_err-asked.ensures.tells in
+    let told = c.in_err-asked.ensures.answers in
     record {
-      tells = ends_not (RepresentsWhole g.P.Places.represents v) CanBeJudged (λ _. ⊤) g.S.Store c.args.tables.now c.first_withheld.new.tables c.loans_to_ask.new.tables (λ _ s reply. CanBeJudged s → c.args.today ≡ s.day → OthersAreOpen c.args.unit s → reply ≡ gated s c.args.done)
-          (looks_then a d f (looks_then a b d c.in_ok-loans.ensures.tells.looks c.in_ok-housed.ensures.tells.looks) c.in_ok-place.ensures.tells.looks) c.in_err-asked.field-0.0 told.cut
+      answers = ends_not (RepresentsWhole g.P.Places.represents v) CanBeJudged (λ _. ⊤) g.S.Store c.args.tables.now c.first_withheld.new.tables c.loans_to_ask.new.tables (λ _ s reply. CanBeJudged s → c.args.today ≡ s.day → OthersAreOpen c.args.unit s → reply ≡ gate_reply s c.args.done)
+          (looks_then a d f (looks_then a b d c.in_ok-loans.ensures.answers.looks c.in_ok-housed.ensures.answers.looks) c.in_ok-place.ensures.answers.looks) c.in_err-asked.field-0.0 told.aborts
           (λ s it may judged clean free. told.faults tt s it tt judged clean free)
           c.from_residual-in_err-asked.result (same_fault c.from_residual-in_err-asked.result c.in_err-asked.field-0.0 e.0 e.1);
     }
@@ -119,15 +119,15 @@ returns-in_default g c =
     let d = state g.S.Store c.housed_unit.new.tables in
     let f = state g.S.Store c.first_withheld.new.tables in
     let e = state g.S.Store c.loans_to_ask.new.tables in
-    let told = c.in_ok-loans.ensures.tells in
-    let housed = c.in_ok-housed.ensures.tells in
-    let withheld = c.in_ok-place.ensures.tells in
-    let near = c.in_ok-asked.ensures.tells in
+    let told = c.in_ok-loans.ensures.answers in
+    let housed = c.in_ok-housed.ensures.answers in
+    let withheld = c.in_ok-place.ensures.answers in
+    let near = c.in_ok-asked.ensures.answers in
     let to_d = looks_then a b d told.looks housed.looks in
     let to_f = looks_then a d f to_d withheld.looks in
     record {
-      tells = told_then represents CanBeJudged g.S.Store c.args.tables.now c.loans_to_ask.new.tables c.pass_of.new.tables c.pass_of.result
-          (λ _ s reply. CanBeJudged s → c.args.today ≡ s.day → AreEnough c.deref-in_default.result.now s → reply ≡ gated s c.args.done) (λ _ s reply. CanBeJudged s → c.args.today ≡ s.day → OthersAreOpen c.args.unit s → reply ≡ gated s c.args.done)
+      answers = told_then represents CanBeJudged g.S.Store c.args.tables.now c.loans_to_ask.new.tables c.pass_of.new.tables c.pass_of.result
+          (λ _ s reply. CanBeJudged s → c.args.today ≡ s.day → AreEnough c.deref-in_default.result.now s → reply ≡ gate_reply s c.args.done) (λ _ s reply. CanBeJudged s → c.args.today ≡ s.day → OthersAreOpen c.args.unit s → reply ≡ gate_reply s c.args.done)
           (looks_then a f e to_f near.looks)
           (λ at_e s shown reply is judged day others.
           let at_f = early f e _ near.looks.goes.on.crash at_e in
@@ -138,7 +138,7 @@ returns-in_default g c =
           let lies = housed.answers at_d tt s shown_b in
           let asked : AreAsked c.args.unit s (issued_of (tables v s).desk) c.in_ok-asked.asked.items = subst (λ (loans : List Loan). AreAsked c.args.unit s loans c.in_ok-asked.asked.items) (told.answers at_b tt (tables v s).desk shown.desk) (near.answers at_e tt s shown_f lies) in
           is judged day (enough_of v s judged asked.test (λ k far. others k (asked.near k far)) c.deref-in_default.result.now (c.deref-in_default.ensures.value ∙ asked.are)))
-          c.pass_of.ensures.tells;
+          c.pass_of.ensures.answers;
     }
 
 -- ---- the unit is withheld from one who has such a container
@@ -165,10 +165,10 @@ returns-in_err-container g c =
     let d = state g.S.Store c.housed_unit.new.tables in
     let f = state g.S.Store c.first_withheld.new.tables in
     let e = c.from_residual-in_err-container.ensures in
-    let told = c.in_err-container.ensures.tells in
+    let told = c.in_err-container.ensures.answers in
     record {
-      tells = ends_not (RepresentsWhole g.P.Places.represents v) CanBeJudged (λ _. ⊤) g.S.Store c.args.tables.now c.first_withheld.new.tables c.lowest_closed.new.tables (λ _ s reply. CanBeJudged s → c.args.today ≡ s.day → OthersAreOpen c.args.unit s → reply ≡ gated s c.args.done)
-          (looks_then a d f (looks_then a b d c.in_ok-loans.ensures.tells.looks c.in_ok-housed.ensures.tells.looks) c.in_ok-place.ensures.tells.looks) c.in_err-container.field-0.0 told.cut
+      answers = ends_not (RepresentsWhole g.P.Places.represents v) CanBeJudged (λ _. ⊤) g.S.Store c.args.tables.now c.first_withheld.new.tables c.lowest_closed.new.tables (λ _ s reply. CanBeJudged s → c.args.today ≡ s.day → OthersAreOpen c.args.unit s → reply ≡ gate_reply s c.args.done)
+          (looks_then a d f (looks_then a b d c.in_ok-loans.ensures.answers.looks c.in_ok-housed.ensures.answers.looks) c.in_ok-place.ensures.answers.looks) c.in_err-container.field-0.0 told.aborts
           (λ s it may judged clean free. told.faults tt s it tt judged clean free)
           c.from_residual-in_err-container.result (same_fault c.from_residual-in_err-container.result c.in_err-container.field-0.0 e.0 e.1);
     }
@@ -182,14 +182,14 @@ returns g c =
     let d = state g.S.Store c.housed_unit.new.tables in
     let f = state g.S.Store c.first_withheld.new.tables in
     let h = state g.S.Store c.lowest_closed.new.tables in
-    let told = c.in_ok-loans.ensures.tells in
-    let housed = c.in_ok-housed.ensures.tells in
-    let withheld = c.in_ok-place.ensures.tells in
-    let lowest = c.in_ok-container.ensures.tells in
+    let told = c.in_ok-loans.ensures.answers in
+    let housed = c.in_ok-housed.ensures.answers in
+    let withheld = c.in_ok-place.ensures.answers in
+    let lowest = c.in_ok-container.ensures.answers in
     let to_d = looks_then a b d told.looks housed.looks in
     let to_f = looks_then a d f to_d withheld.looks in
     record {
-      tells = ends_well represents CanBeJudged (λ _. ⊤) g.S.Store c.args.tables.now c.args.tables.now c.lowest_closed.new.tables (λ _ s reply. CanBeJudged s → c.args.today ≡ s.day → OthersAreOpen c.args.unit s → reply ≡ gated s c.args.done)
+      answers = ends_well represents CanBeJudged (λ _. ⊤) g.S.Store c.args.tables.now c.args.tables.now c.lowest_closed.new.tables (λ _ s reply. CanBeJudged s → c.args.today ≡ s.day → OthersAreOpen c.args.unit s → reply ≡ gate_reply s c.args.done)
           (looks_then a f h to_f lowest.looks) (Err (WithReader c.in_ok-container.container))
           (λ clean s shown judged day others.
           let at_f = early f h _ lowest.looks.goes.on.crash clean in

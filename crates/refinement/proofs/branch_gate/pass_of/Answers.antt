@@ -3,7 +3,7 @@ use Rattle.std.specs.Prelude.{⊤, Option, ℕ, option_map}
 use Rattle.desk_core.specs.declared.refusal.Refusal.TheVariants.{WithReader}
 use Rattle.desk_store.proofs.ToldCalls.{ends_well}
 use Rattle.office_tables.proofs.CallEnds.{same_fault, tells_not}
-use Rattle.refinement.specs.Gate.{AreEnough, gated, unless_refused}
+use Rattle.refinement.specs.Gate.{AreEnough, gate_reply, unless_refused}
 use Rattle.refinement.specs.AccessConditions.{CanBeJudged, RepresentsWhole}
 use Rattle.refinement.proofs.branch_gate.pass_of.Goals as goal
 
@@ -11,26 +11,26 @@ pub returns-in_err-container : goal.returns-in_err-container
 returns-in_err-container g c =
     let v = g.P.Versioned.version in
     let e = c.from_residual.ensures in
-    let told = c.in_err-container.ensures.tells in
+    let told = c.in_err-container.ensures.answers in
     record {
-      tells = tells_not g.S.Store (RepresentsWhole g.P.Places.represents v) CanBeJudged (λ _. ⊤) c.args.tables.now c.first_closed.new.tables c.from_residual.result (λ _ s reply. CanBeJudged s → c.args.today ≡ s.day → AreEnough c.args.loans.now s → reply ≡ gated s c.args.done) c.in_err-container.field-0.0
-          (same_fault c.from_residual.result c.in_err-container.field-0.0 e.0 e.1) told.cut told.faults;
+      answers = tells_not g.S.Store (RepresentsWhole g.P.Places.represents v) CanBeJudged (λ _. ⊤) c.args.tables.now c.first_closed.new.tables c.from_residual.result (λ _ s reply. CanBeJudged s → c.args.today ≡ s.day → AreEnough c.args.loans.now s → reply ≡ gate_reply s c.args.done) c.in_err-container.field-0.0
+          (same_fault c.from_residual.result c.in_err-container.field-0.0 e.0 e.1) told.aborts told.faults;
     }
 
 pub returns-in-Some : goal.returns-in-Some
 returns-in-Some g c =
-    let told = c.in_ok-container.ensures.tells in
+    let told = c.in_ok-container.ensures.answers in
     record {
-      tells = ends_well (RepresentsWhole g.P.Places.represents g.P.Versioned.version) CanBeJudged (λ _. ⊤) g.S.Store c.args.tables.now c.args.tables.now c.first_closed.new.tables (λ _ s reply. CanBeJudged s → c.args.today ≡ s.day → AreEnough c.args.loans.now s → reply ≡ gated s c.args.done)
+      answers = ends_well (RepresentsWhole g.P.Places.represents g.P.Versioned.version) CanBeJudged (λ _. ⊤) g.S.Store c.args.tables.now c.args.tables.now c.first_closed.new.tables (λ _ s reply. CanBeJudged s → c.args.today ≡ s.day → AreEnough c.args.loans.now s → reply ≡ gate_reply s c.args.done)
           told.looks (Err (WithReader c.in-Some.container))
           (λ clean s shown judged day enough. ap (λ (k : Option ℕ). unless_refused (option_map WithReader k) c.args.done) (sym c.in-Some.is ∙ told.answers clean tt s shown judged day ∙ sym enough));
     }
 
 pub returns-in-None : goal.returns-in-None
 returns-in-None g c =
-    let told = c.in_ok-container.ensures.tells in
+    let told = c.in_ok-container.ensures.answers in
     record {
-      tells = ends_well (RepresentsWhole g.P.Places.represents g.P.Versioned.version) CanBeJudged (λ _. ⊤) g.S.Store c.args.tables.now c.args.tables.now c.first_closed.new.tables (λ _ s reply. CanBeJudged s → c.args.today ≡ s.day → AreEnough c.args.loans.now s → reply ≡ gated s c.args.done)
+      answers = ends_well (RepresentsWhole g.P.Places.represents g.P.Versioned.version) CanBeJudged (λ _. ⊤) g.S.Store c.args.tables.now c.args.tables.now c.first_closed.new.tables (λ _ s reply. CanBeJudged s → c.args.today ≡ s.day → AreEnough c.args.loans.now s → reply ≡ gate_reply s c.args.done)
           told.looks (Ok c.args.done)
           (λ clean s shown judged day enough. ap (λ (k : Option ℕ). unless_refused (option_map WithReader k) c.args.done) (sym c.in-None.is ∙ told.answers clean tt s shown judged day ∙ sym enough));
     }

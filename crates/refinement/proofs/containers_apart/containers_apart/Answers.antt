@@ -29,7 +29,7 @@ returns-then-loans-gt-FEW g c =
     let v = g.P.Versioned.version in
     let a = state g.S.Store c.args.tables.now in
     record {
-      tells = ends_well (RepresentsWhole g.P.Places.represents v) CanBeJudged (λ _. ⊤) g.S.Store c.args.tables.now c.args.tables.now c.args.tables.now (λ _ s found. CanBeJudged s → IsHoused c.args.unit s c.args.housed.now → IfSome found (λ apart. AreApart c.args.unit s apart.items))
+      answers = ends_well (RepresentsWhole g.P.Places.represents v) CanBeJudged (λ _. ⊤) g.S.Store c.args.tables.now c.args.tables.now c.args.tables.now (λ _ s found. CanBeJudged s → IsHoused c.args.unit s c.args.housed.now → IfSome found (λ apart. AreApart c.args.unit s apart.items))
           (looks_nowhere a) None (λ clean s it judged housed. tt);
     }
 
@@ -47,10 +47,10 @@ lies_apart-requires g c = record { rise = c.requires.rise }
 pub returns-in_err-is_apart : goal.returns-in_err-is_apart
 returns-in_err-is_apart g c =
     let e = c.from_residual.ensures in
-    let told = c.in_err-is_apart.ensures.tells in
+    let told = c.in_err-is_apart.ensures.answers in
     record {
-      tells = ends_not (RepresentsWhole g.P.Places.represents g.P.Versioned.version) CanBeJudged (λ _. ⊤) g.S.Store c.args.tables.now c.loop-loan.tables c.lies_apart.new.tables (λ _ s found. CanBeJudged s → IsHoused c.args.unit s c.args.housed.now → IfSome found (λ apart. AreApart c.args.unit s apart.items))
-          c.loop-loan.invariant.looks c.in_err-is_apart.field-0.0 told.cut
+      answers = ends_not (RepresentsWhole g.P.Places.represents g.P.Versioned.version) CanBeJudged (λ _. ⊤) g.S.Store c.args.tables.now c.loop-loan.tables c.lies_apart.new.tables (λ _ s found. CanBeJudged s → IsHoused c.args.unit s c.args.housed.now → IfSome found (λ apart. AreApart c.args.unit s apart.items))
+          c.loop-loan.invariant.looks c.in_err-is_apart.field-0.0 told.aborts
           (λ s it may judged clean free. told.faults tt s it tt judged clean free)
           c.from_residual.result (same_fault c.from_residual.result c.in_err-is_apart.field-0.0 e.0 e.1);
     }
@@ -61,8 +61,8 @@ returns-in_default g c =
     let b = state g.S.Store c.loop-loan.tables in
     let d = state g.S.Store c.lies_apart.new.tables in
     record {
-      tells = ends_well (RepresentsWhole g.P.Places.represents g.P.Versioned.version) CanBeJudged (λ _. ⊤) g.S.Store c.args.tables.now c.args.tables.now c.lies_apart.new.tables (λ _ s found. CanBeJudged s → IsHoused c.args.unit s c.args.housed.now → IfSome found (λ apart. AreApart c.args.unit s apart.items))
-          (looks_then a b d c.loop-loan.invariant.looks c.in_ok-is_apart.ensures.tells.looks) None (λ clean s it judged housed. tt);
+      answers = ends_well (RepresentsWhole g.P.Places.represents g.P.Versioned.version) CanBeJudged (λ _. ⊤) g.S.Store c.args.tables.now c.args.tables.now c.lies_apart.new.tables (λ _ s found. CanBeJudged s → IsHoused c.args.unit s c.args.housed.now → IfSome found (λ apart. AreApart c.args.unit s apart.items))
+          (looks_then a b d c.loop-loan.invariant.looks c.in_ok-is_apart.ensures.answers.looks) None (λ clean s it judged housed. tt);
     }
 
 pub returns-in_err-push : goal.returns-in_err-push
@@ -72,7 +72,7 @@ returns-in_err-push g c =
     let d = state g.S.Store c.lies_apart.new.tables in
     let e = c.from_residual-in_err-push.ensures in
     record {
-      tells = ends_full (RepresentsWhole g.P.Places.represents g.P.Versioned.version) CanBeJudged (λ _. ⊤) g.S.Store c.args.tables.now c.args.tables.now c.lies_apart.new.tables _ (looks_then a b d c.loop-loan.invariant.looks c.in_ok-is_apart.ensures.tells.looks)
+      answers = ends_full (RepresentsWhole g.P.Places.represents g.P.Versioned.version) CanBeJudged (λ _. ⊤) g.S.Store c.args.tables.now c.args.tables.now c.lies_apart.new.tables _ (looks_then a b d c.loop-loan.invariant.looks c.in_ok-is_apart.ensures.answers.looks)
           c.from_residual-in_err-push.result (same_fault c.from_residual-in_err-push.result Memory e.0 e.1);
     }
 
@@ -83,7 +83,7 @@ loop-loan-preserved g c =
     let b = state g.S.Store c.loop-loan.tables in
     let d = state g.S.Store c.lies_apart.new.tables in
     let looks = c.loop-loan.invariant.looks in
-    let told = c.in_ok-is_apart.ensures.tells in
+    let told = c.in_ok-is_apart.ensures.answers in
     let u = c.args.unit in
     let before_it = c.loop-loan.apart.items in
     record {
@@ -103,6 +103,6 @@ loop-loan-preserved g c =
 pub returns : goal.returns
 returns g c =
     record {
-      tells = ends_well (RepresentsWhole g.P.Places.represents g.P.Versioned.version) CanBeJudged (λ _. ⊤) g.S.Store c.args.tables.now c.args.tables.now c.loop-loan.tables (λ _ s found. CanBeJudged s → IsHoused c.args.unit s c.args.housed.now → IfSome found (λ apart. AreApart c.args.unit s apart.items))
+      answers = ends_well (RepresentsWhole g.P.Places.represents g.P.Versioned.version) CanBeJudged (λ _. ⊤) g.S.Store c.args.tables.now c.args.tables.now c.loop-loan.tables (λ _ s found. CanBeJudged s → IsHoused c.args.unit s c.args.housed.now → IfSome found (λ apart. AreApart c.args.unit s apart.items))
           c.loop-loan.invariant.looks _ (λ clean s it judged housed. c.loop-loan.invariant.apart clean s judged it housed);
     }

@@ -24,17 +24,17 @@ loop-unit-init g c =
 pub returns-then-unit-ge-NO_NUMBER : goal.returns-then-unit-ge-NO_NUMBER
 returns-then-unit-ge-NO_NUMBER g c =
     record {
-      tells = ends_well (RepresentsWhole g.P.Places.represents g.P.Versioned.version) CanBeJudged (λ _. ⊤) g.S.Store c.args.tables.now c.args.tables.now c.loop-unit.tables (λ _ s found. found ≡ false → list_any (is_on_path c.args.other s) c.args.units.now ≡ false)
+      answers = ends_well (RepresentsWhole g.P.Places.represents g.P.Versioned.version) CanBeJudged (λ _. ⊤) g.S.Store c.args.tables.now c.args.tables.now c.loop-unit.tables (λ _ s found. found ≡ false → list_any (is_on_path c.args.other s) c.args.units.now ≡ false)
           c.loop-unit.invariant.looks true (λ clean s it no. absurd (cc));
     }
 
 pub returns-in_err-is_below : goal.returns-in_err-is_below
 returns-in_err-is_below g c =
     let e = c.from_residual.ensures in
-    let told = c.in_err-is_below.ensures.tells in
+    let told = c.in_err-is_below.ensures.answers in
     record {
-      tells = ends_not (RepresentsWhole g.P.Places.represents g.P.Versioned.version) CanBeJudged (λ _. ⊤) g.S.Store c.args.tables.now c.loop-unit.tables c.is_below.new.tables (λ _ s found. found ≡ false → list_any (is_on_path c.args.other s) c.args.units.now ≡ false)
-          c.loop-unit.invariant.looks c.in_err-is_below.field-0.0 told.cut
+      answers = ends_not (RepresentsWhole g.P.Places.represents g.P.Versioned.version) CanBeJudged (λ _. ⊤) g.S.Store c.args.tables.now c.loop-unit.tables c.is_below.new.tables (λ _ s found. found ≡ false → list_any (is_on_path c.args.other s) c.args.units.now ≡ false)
+          c.loop-unit.invariant.looks c.in_err-is_below.field-0.0 told.aborts
           (λ s it may judged clean free. told.faults tt (each (λ (u : Unit). u.id) s.catalogue.forest) it.catalogue.shown tt judged.catalogue.places clean free)
           c.from_residual.result (same_fault c.from_residual.result c.in_err-is_below.field-0.0 e.0 e.1);
     }
@@ -45,8 +45,8 @@ returns-then-branch g c =
     let b = state g.S.Store c.loop-unit.tables in
     let d = state g.S.Store c.is_below.new.tables in
     record {
-      tells = ends_well (RepresentsWhole g.P.Places.represents g.P.Versioned.version) CanBeJudged (λ _. ⊤) g.S.Store c.args.tables.now c.args.tables.now c.is_below.new.tables (λ _ s found. found ≡ false → list_any (is_on_path c.args.other s) c.args.units.now ≡ false)
-          (looks_then a b d c.loop-unit.invariant.looks c.in_ok-is_below.ensures.tells.looks) true (λ clean s it no. absurd (cc));
+      answers = ends_well (RepresentsWhole g.P.Places.represents g.P.Versioned.version) CanBeJudged (λ _. ⊤) g.S.Store c.args.tables.now c.args.tables.now c.is_below.new.tables (λ _ s found. found ≡ false → list_any (is_on_path c.args.other s) c.args.units.now ≡ false)
+          (looks_then a b d c.loop-unit.invariant.looks c.in_ok-is_below.ensures.answers.looks) true (λ clean s it no. absurd (cc));
     }
 
 pub loop-unit-preserved : goal.loop-unit-preserved
@@ -56,7 +56,7 @@ loop-unit-preserved g c =
     let b = state g.S.Store c.loop-unit.tables in
     let d = state g.S.Store c.is_below.new.tables in
     let looks = c.loop-unit.invariant.looks in
-    let told = c.in_ok-is_below.ensures.tells in
+    let told = c.in_ok-is_below.ensures.answers in
     let units = c.args.units.now in
     let i = c.loop-unit.unit-index in
     record {

@@ -22,7 +22,7 @@ returns-then-container-ge-NO_NUMBER g c =
     let v = g.P.Versioned.version in
     let a = state g.S.Store c.args.tables.now in
     record {
-      tells = ends_well (RepresentsWhole g.P.Places.represents v) CanBeJudged (λ _. ⊤) g.S.Store c.args.tables.now c.args.tables.now c.args.tables.now (Tells c.args.unit c.args.housed.now c.args.container)
+      answers = ends_well (RepresentsWhole g.P.Places.represents v) CanBeJudged (λ _. ⊤) g.S.Store c.args.tables.now c.args.tables.now c.args.tables.now (Tells c.args.unit c.args.housed.now c.args.container)
           (looks_nowhere a) None (λ clean s shown judged housed yes. absurd (cc));
     }
 
@@ -34,7 +34,7 @@ returns-then-is_among g c =
     let v = g.P.Versioned.version in
     let a = state g.S.Store c.args.tables.now in
     record {
-      tells = ends_well (RepresentsWhole g.P.Places.represents v) CanBeJudged (λ _. ⊤) g.S.Store c.args.tables.now c.args.tables.now c.args.tables.now (Tells c.args.unit c.args.housed.now c.args.container)
+      answers = ends_well (RepresentsWhole g.P.Places.represents v) CanBeJudged (λ _. ⊤) g.S.Store c.args.tables.now c.args.tables.now c.args.tables.now (Tells c.args.unit c.args.housed.now c.args.container)
           (looks_nowhere a) (Some false) (λ clean s shown judged housed yes. absurd (cc));
     }
 
@@ -43,25 +43,25 @@ returns-in_err-units g c =
     let e = c.from_residual.ensures in
     let read = c.in_err-units.ensures in
     record {
-      tells = tells_not g.S.Store (RepresentsWhole g.P.Places.represents g.P.Versioned.version) CanBeJudged (λ _. ⊤) c.args.tables.now c.housed_in.new.tables c.from_residual.result (Tells c.args.unit c.args.housed.now c.args.container) c.in_err-units.field-0.0
-          (same_fault c.from_residual.result c.in_err-units.field-0.0 e.0 e.1) read.reads.cut
+      answers = tells_not g.S.Store (RepresentsWhole g.P.Places.represents g.P.Versioned.version) CanBeJudged (λ _. ⊤) c.args.tables.now c.housed_in.new.tables c.from_residual.result (Tells c.args.unit c.args.housed.now c.args.container) c.in_err-units.field-0.0
+          (same_fault c.from_residual.result c.in_err-units.field-0.0 e.0 e.1) read.reads.aborts
           (λ beside s it may judged clean free. let housings = it.catalogue.catalogue.housings in read.faults housings.housings housings.rows tt clean free);
     }
 
 pub returns-then-len-gt-FEW : goal.returns-then-len-gt-FEW
 returns-then-len-gt-FEW g c =
     record {
-      tells = ends_well (RepresentsWhole g.P.Places.represents g.P.Versioned.version) CanBeJudged (λ _. ⊤) g.S.Store c.args.tables.now c.args.tables.now c.housed_in.new.tables (Tells c.args.unit c.args.housed.now c.args.container)
+      answers = ends_well (RepresentsWhole g.P.Places.represents g.P.Versioned.version) CanBeJudged (λ _. ⊤) g.S.Store c.args.tables.now c.args.tables.now c.housed_in.new.tables (Tells c.args.unit c.args.housed.now c.args.container)
           c.in_ok-units.ensures.reads.looks None (λ clean s shown judged housed yes. absurd (cc));
     }
 
 pub returns-in_err-is_near : goal.returns-in_err-is_near
 returns-in_err-is_near g c =
     let e = c.from_residual-in_err-is_near.ensures in
-    let told = c.in_err-is_near.ensures.tells in
+    let told = c.in_err-is_near.ensures.answers in
     record {
-      tells = ends_not (RepresentsWhole g.P.Places.represents g.P.Versioned.version) CanBeJudged (λ _. ⊤) g.S.Store c.args.tables.now c.housed_in.new.tables c.is_some_below.new.tables (Tells c.args.unit c.args.housed.now c.args.container)
-          c.in_ok-units.ensures.reads.looks c.in_err-is_near.field-0.0 told.cut
+      answers = ends_not (RepresentsWhole g.P.Places.represents g.P.Versioned.version) CanBeJudged (λ _. ⊤) g.S.Store c.args.tables.now c.housed_in.new.tables c.is_some_below.new.tables (Tells c.args.unit c.args.housed.now c.args.container)
+          c.in_ok-units.ensures.reads.looks c.in_err-is_near.field-0.0 told.aborts
           (λ s it may judged clean free. told.faults tt s it tt judged clean free)
           c.from_residual-in_err-is_near.result (same_fault c.from_residual-in_err-is_near.result c.in_err-is_near.field-0.0 e.0 e.1);
     }
@@ -77,11 +77,11 @@ returns g c =
     let b = state g.S.Store c.housed_in.new.tables in
     let d = state g.S.Store c.is_some_below.new.tables in
     let read = c.in_ok-units.ensures in
-    let told = c.in_ok-is_near.ensures.tells in
+    let told = c.in_ok-is_near.ensures.answers in
     let it = c.args.housed.now in
     let outside : is_one_of c.args.container it.containers.items ≡ false = ap (is_one_of c.args.container) (sym c.deref.ensures.value) ∙ sym c.if-is_among.ensures in
     record {
-      tells = ends_well represents CanBeJudged (λ _. ⊤) g.S.Store c.args.tables.now c.args.tables.now c.is_some_below.new.tables (Tells c.args.unit it c.args.container)
+      answers = ends_well represents CanBeJudged (λ _. ⊤) g.S.Store c.args.tables.now c.args.tables.now c.is_some_below.new.tables (Tells c.args.unit it c.args.container)
           (looks_then a b d read.reads.looks told.looks) (Some (not c.in_ok-is_near.is_near))
           (λ clean s shown judged housed yes.
           let before = early b d _ told.looks.goes.on.crash clean in

@@ -16,7 +16,7 @@ returns-then-branch g c =
     let v = g.P.Versioned.version in
     let a = state g.S.Store c.args.tables.now in
     record {
-      tells = ends_well (RepresentsWhole g.P.Places.represents v) CanBeJudged (λ _. ⊤) g.S.Store c.args.tables.now c.args.tables.now c.args.tables.now
+      answers = ends_well (RepresentsWhole g.P.Places.represents v) CanBeJudged (λ _. ⊤) g.S.Store c.args.tables.now c.args.tables.now c.args.tables.now
           (λ _ s broken. CanBeJudged s → c.args.today ≡ s.day → c.args.hands ≡ s.settings.hands → broken ≡ are_against_rules s c.args.loans.now)
           (looks_nowhere a) _
           (λ clean s it judged day hands. by_hands v s c.args.hands c.args.loans.now c.in_ok-are_too_many.field-0 hands c.in_ok-are_too_many.ensures c.if-branch.true);
@@ -26,13 +26,13 @@ returns-then-branch g c =
 pub returns-in_err-is_one_without_seat : goal.returns-in_err-is_one_without_seat
 returns-in_err-is_one_without_seat g c =
     let v = g.P.Versioned.version in
-    let told = c.in_err-is_one_without_seat.ensures.tells in
+    let told = c.in_err-is_one_without_seat.ensures.answers in
     let e = c.from_residual-in_err-is_one_without_seat.ensures in
     let same = same_fault c.from_residual-in_err-is_one_without_seat.result c.in_err-is_one_without_seat.field-0.0 e.0 e.1 in
     record {
-      tells = tells_not g.S.Store (RepresentsWhole g.P.Places.represents v) CanBeJudged (λ _. ⊤) c.args.tables.now c.is_one_without_seat.new.tables c.from_residual-in_err-is_one_without_seat.result
+      answers = tells_not g.S.Store (RepresentsWhole g.P.Places.represents v) CanBeJudged (λ _. ⊤) c.args.tables.now c.is_one_without_seat.new.tables c.from_residual-in_err-is_one_without_seat.result
           (λ _ s broken. CanBeJudged s → c.args.today ≡ s.day → c.args.hands ≡ s.settings.hands → broken ≡ are_against_rules s c.args.loans.now) c.in_err-is_one_without_seat.field-0.0
-          same told.cut
+          same told.aborts
           (λ beside s shown may judged clean free. told.faults tt (tables v s).desk shown.desk tt (judged.desk v) clean free);
       disk = λ clean.
           blames_first (state g.S.Store c.args.tables.now) (state g.S.Store c.is_one_without_seat.new.tables) c.from_residual-in_err-is_one_without_seat.result c.in_err-is_one_without_seat.field-0.0 same
@@ -42,9 +42,9 @@ returns-in_err-is_one_without_seat g c =
 pub returns-then-branch-2 : goal.returns-then-branch-2
 returns-then-branch-2 g c =
     let v = g.P.Versioned.version in
-    let told = c.in_ok-is_one_without_seat.ensures.tells in
+    let told = c.in_ok-is_one_without_seat.ensures.answers in
     record {
-      tells = ends_well (RepresentsWhole g.P.Places.represents v) CanBeJudged (λ _. ⊤) g.S.Store c.args.tables.now c.args.tables.now c.is_one_without_seat.new.tables
+      answers = ends_well (RepresentsWhole g.P.Places.represents v) CanBeJudged (λ _. ⊤) g.S.Store c.args.tables.now c.args.tables.now c.is_one_without_seat.new.tables
           (λ _ s broken. CanBeJudged s → c.args.today ≡ s.day → c.args.hands ≡ s.settings.hands → broken ≡ are_against_rules s c.args.loans.now)
           told.looks _
           (λ clean s it judged day hands. by_seats v s c.args.hands c.args.loans.now c.in_ok-are_too_many.field-0 hands c.in_ok-are_too_many.ensures c.if-branch.false
@@ -56,17 +56,17 @@ pub returns-in_err-closed : goal.returns-in_err-closed
 returns-in_err-closed g c =
     let v = g.P.Versioned.version in
     let e = c.from_residual-in_err-closed.ensures in
-    let told = c.in_err-closed.ensures.tells in
-    let looked = c.in_ok-is_one_without_seat.ensures.tells.looks in
+    let told = c.in_err-closed.ensures.answers in
+    let looked = c.in_ok-is_one_without_seat.ensures.answers.looks in
     let same = same_fault c.from_residual-in_err-closed.result c.in_err-closed.field-0.0 e.0 e.1 in
     record {
-      tells = ends_not (RepresentsWhole g.P.Places.represents v) CanBeJudged (λ _. ⊤) g.S.Store c.args.tables.now c.is_one_without_seat.new.tables c.is_one_closed.new.tables
+      answers = ends_not (RepresentsWhole g.P.Places.represents v) CanBeJudged (λ _. ⊤) g.S.Store c.args.tables.now c.is_one_without_seat.new.tables c.is_one_closed.new.tables
           (λ _ s broken. CanBeJudged s → c.args.today ≡ s.day → c.args.hands ≡ s.settings.hands → broken ≡ are_against_rules s c.args.loans.now)
-          looked c.in_err-closed.field-0.0 told.cut
+          looked c.in_err-closed.field-0.0 told.aborts
           (λ s it may judged clean free. told.faults tt s it tt judged clean free)
           c.from_residual-in_err-closed.result same;
       disk = λ clean.
-          blames_later (state g.S.Store c.args.tables.now) (state g.S.Store c.is_one_without_seat.new.tables) (state g.S.Store c.is_one_closed.new.tables) c.from_residual-in_err-closed.result c.in_err-closed.field-0.0 same looked told.cut clean
+          blames_later (state g.S.Store c.args.tables.now) (state g.S.Store c.is_one_without_seat.new.tables) (state g.S.Store c.is_one_closed.new.tables) c.from_residual-in_err-closed.result c.in_err-closed.field-0.0 same looked told.aborts clean
           (c.in_err-closed.ensures.disk clean);
     }
 
@@ -76,10 +76,10 @@ returns g c =
     let a = state g.S.Store c.args.tables.now in
     let b = state g.S.Store c.is_one_without_seat.new.tables in
     let d = state g.S.Store c.is_one_closed.new.tables in
-    let seats = c.in_ok-is_one_without_seat.ensures.tells in
-    let told = c.in_ok-closed.ensures.tells in
+    let seats = c.in_ok-is_one_without_seat.ensures.answers in
+    let told = c.in_ok-closed.ensures.answers in
     record {
-      tells = ends_well (RepresentsWhole g.P.Places.represents v) CanBeJudged (λ _. ⊤) g.S.Store c.args.tables.now c.args.tables.now c.is_one_closed.new.tables
+      answers = ends_well (RepresentsWhole g.P.Places.represents v) CanBeJudged (λ _. ⊤) g.S.Store c.args.tables.now c.args.tables.now c.is_one_closed.new.tables
           (λ _ s broken. CanBeJudged s → c.args.today ≡ s.day → c.args.hands ≡ s.settings.hands → broken ≡ are_against_rules s c.args.loans.now)
           (looks_then a b d seats.looks told.looks) _
           (λ clean s it judged day hands.

@@ -25,16 +25,16 @@ pub returns-in_err-found : goal.returns-in_err-found
 returns-in_err-found g c =
     let v = g.P.Versioned.version in
     let e = c.from_residual.ensures in
-    let told = c.in_err-found.ensures.tells in
+    let told = c.in_err-found.ensures.answers in
     let looked = c.loop-loan.invariant.looks in
     let same = same_fault c.from_residual.result c.in_err-found.field-0.0 e.0 e.1 in
     record {
-      tells = ends_not (RepresentsWhole g.P.Places.represents v) CanBeJudged (λ _. ⊤) g.S.Store c.args.tables.now c.loop-loan.tables c.judge.new.tables (λ _ s found. CanBeJudged s → c.args.today ≡ s.day → found ≡ first_closed s c.args.loans.now)
-          looked c.in_err-found.field-0.0 told.cut
+      answers = ends_not (RepresentsWhole g.P.Places.represents v) CanBeJudged (λ _. ⊤) g.S.Store c.args.tables.now c.loop-loan.tables c.judge.new.tables (λ _ s found. CanBeJudged s → c.args.today ≡ s.day → found ≡ first_closed s c.args.loans.now)
+          looked c.in_err-found.field-0.0 told.aborts
           (λ s it may judged clean free. told.faults tt s it tt judged clean free)
           c.from_residual.result same;
       disk = λ clean.
-          blames_later (state g.S.Store c.args.tables.now) (state g.S.Store c.loop-loan.tables) (state g.S.Store c.judge.new.tables) c.from_residual.result c.in_err-found.field-0.0 same looked told.cut clean
+          blames_later (state g.S.Store c.args.tables.now) (state g.S.Store c.loop-loan.tables) (state g.S.Store c.judge.new.tables) c.from_residual.result c.in_err-found.field-0.0 same looked told.aborts clean
           (c.in_err-found.ensures.disk clean);
     }
 
@@ -45,11 +45,11 @@ returns-then-not-found g c =
     let b = state g.S.Store c.loop-loan.tables in
     let d = state g.S.Store c.judge.new.tables in
     let looks = c.loop-loan.invariant.looks in
-    let told = c.in_ok-found.ensures.tells in
+    let told = c.in_ok-found.ensures.answers in
     let none : Loan = record { container = 0; order = 0; ticket = 0 } in
     let i = c.loop-loan.loan-index in
     record {
-      tells = ends_well (RepresentsWhole g.P.Places.represents v) CanBeJudged (λ _. ⊤) g.S.Store c.args.tables.now c.args.tables.now c.judge.new.tables (λ _ s found. CanBeJudged s → c.args.today ≡ s.day → found ≡ first_closed s c.args.loans.now)
+      answers = ends_well (RepresentsWhole g.P.Places.represents v) CanBeJudged (λ _. ⊤) g.S.Store c.args.tables.now c.args.tables.now c.judge.new.tables (λ _ s found. CanBeJudged s → c.args.today ≡ s.day → found ≡ first_closed s c.args.loans.now)
           (looks_then a b d looks told.looks) _
           (λ clean s it judged day.
           let before = early b d _ told.looks.goes.on.crash clean in
@@ -66,7 +66,7 @@ loop-loan-preserved g c =
     let b = state g.S.Store c.loop-loan.tables in
     let d = state g.S.Store c.judge.new.tables in
     let looks = c.loop-loan.invariant.looks in
-    let told = c.in_ok-found.ensures.tells in
+    let told = c.in_ok-found.ensures.answers in
     let none : Loan = record { container = 0; order = 0; ticket = 0 } in
     let i = c.loop-loan.loan-index in
     record {

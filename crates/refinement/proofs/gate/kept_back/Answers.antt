@@ -1,6 +1,6 @@
 use Rattle.std.proofs.Common.{◌≡◌, ap, sym, ◌∙◌}
 use Rattle.std.specs.Prelude.{⊤}
-use Rattle.office_core.specs.Rules.{kept}
+use Rattle.office_core.specs.Rules.{lowest_withheld}
 use Rattle.state_encoding.specs.OfficeRows.{tables}
 use Rattle.office_tables.proofs.CallEnds.{same_fault, tells_not}
 use Rattle.refinement.specs.Gate.{first_closed}
@@ -13,22 +13,22 @@ pub returns-in_err-loans : goal.returns-in_err-loans
 returns-in_err-loans g c =
     let v = g.P.Versioned.version in
     let e = c.from_residual.ensures in
-    let told = c.in_err-loans.ensures.tells in
+    let told = c.in_err-loans.ensures.answers in
     record {
-      tells = tells_not g.S.Store (RepresentsWhole g.P.Places.represents v) CanBeJudged (λ _. ⊤) c.args.tables.now c.issued.new.tables c.from_residual.result (λ _ s found. CanBeJudged s → c.args.today ≡ s.day → found ≡ kept s) c.in_err-loans.field-0.0
-          (same_fault c.from_residual.result c.in_err-loans.field-0.0 e.0 e.1) told.cut
+      answers = tells_not g.S.Store (RepresentsWhole g.P.Places.represents v) CanBeJudged (λ _. ⊤) c.args.tables.now c.issued.new.tables c.from_residual.result (λ _ s found. CanBeJudged s → c.args.today ≡ s.day → found ≡ lowest_withheld s) c.in_err-loans.field-0.0
+          (same_fault c.from_residual.result c.in_err-loans.field-0.0 e.0 e.1) told.aborts
           (λ beside s shown may judged clean free. told.faults tt (tables v s).desk shown.desk tt (judged.desk v) clean free);
     }
 
 pub returns : goal.returns
 returns g c =
     let v = g.P.Versioned.version in
-    let told = c.in_ok-loans.ensures.tells in
+    let told = c.in_ok-loans.ensures.answers in
     record {
-      tells = told_then (RepresentsWhole g.P.Places.represents v) CanBeJudged g.S.Store c.args.tables.now c.issued.new.tables c.first_closed.new.tables c.first_closed.result
-          (λ _ s found. CanBeJudged s → c.args.today ≡ s.day → found ≡ first_closed s c.deref.result.now) (λ _ s found. CanBeJudged s → c.args.today ≡ s.day → found ≡ kept s)
+      answers = told_then (RepresentsWhole g.P.Places.represents v) CanBeJudged g.S.Store c.args.tables.now c.issued.new.tables c.first_closed.new.tables c.first_closed.result
+          (λ _ s found. CanBeJudged s → c.args.today ≡ s.day → found ≡ first_closed s c.deref.result.now) (λ _ s found. CanBeJudged s → c.args.today ≡ s.day → found ≡ lowest_withheld s)
           told.looks
           (λ clean s shown found is judged day.
           is judged day ∙ ap (first_closed s) (c.deref.ensures.value ∙ told.answers clean tt (tables v s).desk shown.desk) ∙ sym (kept_is v s judged))
-          c.first_closed.ensures.tells;
+          c.first_closed.ensures.answers;
     }

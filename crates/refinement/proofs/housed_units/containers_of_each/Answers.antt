@@ -23,7 +23,7 @@ returns-in_err-named-clause-reads g c =
     let d = state g.S.Store c.containers_of.new.tables in
     let e = c.from_residual.ensures in
     read_cut a b d c.from_residual.result c.in_err-named.field-0.0 (same_fault c.from_residual.result c.in_err-named.field-0.0 e.0 e.1)
-    c.loop-unit.invariant.looks c.in_err-named.ensures.reads.cut c.in_err-named.ensures.reads.spares
+    c.loop-unit.invariant.looks c.in_err-named.ensures.reads.aborts c.in_err-named.ensures.reads.spares
 
 pub returns-in_err-named-clause-faults : goal.returns-in_err-named-clause-faults
 returns-in_err-named-clause-faults g c xs stored small clean free =
@@ -34,7 +34,7 @@ returns-in_err-named-clause-faults g c xs stored small clean free =
     let looks = c.loop-unit.invariant.looks in
     let failed : Result (Vec ℕ Global) StoreFault = Err c.in_err-named.field-0.0 in
     subst (λ (r : Result (Vec ℕ Global) StoreFault). IfErr r (HasCause a d)) (sym (same_fault c.from_residual.result c.in_err-named.field-0.0 e.0 e.1))
-    (excused_then a b d looks.goes.on failed c.in_err-named.ensures.reads.cut
+    (excused_then a b d looks.goes.on failed c.in_err-named.ensures.reads.aborts
     (λ at_b. c.in_err-named.ensures.faults xs (subst (λ (db : Database). HasNumbered housing_row (db.trees tables.housing.tree) xs) (sym (looks.same at_b)) stored)) clean free)
 
 pub returns-in_err-extend_from_slice-clause-reads : goal.returns-in_err-extend_from_slice-clause-reads

@@ -38,7 +38,7 @@ returns-in_err-containers-clause-reads g c =
     let d = state g.S.Store c.containers_of_each.new.tables in
     let e = c.from_residual-in_err-containers.ensures in
     read_cut a b d c.from_residual-in_err-containers.result c.in_err-containers.field-0.0 (same_fault c.from_residual-in_err-containers.result c.in_err-containers.field-0.0 e.0 e.1)
-    c.in_ok-boxed.ensures.reads.looks c.in_err-containers.ensures.reads.cut c.in_err-containers.ensures.reads.spares
+    c.in_ok-boxed.ensures.reads.looks c.in_err-containers.ensures.reads.aborts c.in_err-containers.ensures.reads.spares
 
 pub returns-in_err-containers-clause-faults : goal.returns-in_err-containers-clause-faults
 returns-in_err-containers-clause-faults g c xs stored small clean free =
@@ -50,7 +50,7 @@ returns-in_err-containers-clause-faults g c xs stored small clean free =
     let looks = boxed.reads.looks in
     let failed : Result (Vec ℕ Global) StoreFault = Err c.in_err-containers.field-0.0 in
     subst (λ (r : Result (Vec ℕ Global) StoreFault). IfErr r (HasCause a d)) (sym (same_fault c.from_residual-in_err-containers.result c.in_err-containers.field-0.0 e.0 e.1))
-    (excused_then a b d looks.goes.on failed c.in_err-containers.ensures.reads.cut
+    (excused_then a b d looks.goes.on failed c.in_err-containers.ensures.reads.aborts
     (λ at_b.
     let here = subst (λ (db : Database). HasNumbered housing_row (db.trees tables.housing.tree) xs) (sym (looks.same at_b)) stored in
     let units = c.deref.ensures.value ∙ c.in_ok-units.ensures ∙ ap option_to_list (boxed.rows at_b xs stored) in

@@ -19,23 +19,23 @@ loop-place-init g c =
 pub is_withheld_in-requires : goal.is_withheld_in-requires
 is_withheld_in-requires g c = record { rise = c.requires.rise }
 
-pub returns-in_err-is_withheld_in-clause-tells : goal.returns-in_err-is_withheld_in-clause-tells
-returns-in_err-is_withheld_in-clause-tells g c =
+pub returns-in_err-is_withheld_in-clause-answers : goal.returns-in_err-is_withheld_in-clause-answers
+returns-in_err-is_withheld_in-clause-answers g c =
     let e = c.from_residual.ensures in
-    let told = c.in_err-is_withheld_in.ensures.tells in
+    let told = c.in_err-is_withheld_in.ensures.answers in
     ends_not (RepresentsWhole g.P.Places.represents g.P.Versioned.version) CanBeJudged (λ _. ⊤) g.S.Store c.args.tables.now c.loop-place.tables c.is_withheld_in.new.tables
-    (λ _ s found. CanBeJudged s → c.args.today ≡ s.day → IfSome found (IsWithheldAt s c.args.unit.now c.args.loans.now)) c.loop-place.invariant.looks c.in_err-is_withheld_in.field-0.0 told.cut
+    (λ _ s found. CanBeJudged s → c.args.today ≡ s.day → IfSome found (IsWithheldAt s c.args.unit.now c.args.loans.now)) c.loop-place.invariant.looks c.in_err-is_withheld_in.field-0.0 told.aborts
     (λ s it may judged clean free. told.faults tt s it tt judged clean free)
     c.from_residual.result (same_fault c.from_residual.result c.in_err-is_withheld_in.field-0.0 e.0 e.1)
 
-pub returns-then-branch-clause-tells : goal.returns-then-branch-clause-tells
-returns-then-branch-clause-tells g c =
+pub returns-then-branch-clause-answers : goal.returns-then-branch-clause-answers
+returns-then-branch-clause-answers g c =
     let represents = RepresentsWhole g.P.Places.represents g.P.Versioned.version in
     let a = state g.S.Store c.args.tables.now in
     let b = state g.S.Store c.loop-place.tables in
     let d = state g.S.Store c.is_withheld_in.new.tables in
     let looks = c.loop-place.invariant.looks in
-    let told = c.in_ok-is_withheld_in.ensures.tells in
+    let told = c.in_ok-is_withheld_in.ensures.answers in
     let loans = c.args.loans.now in
     let place = c.loop-place.place in
     let none : Loan = record { container = 0; order = 0; ticket = 0 } in
@@ -53,5 +53,5 @@ loop-place-preserved g c =
     let a = state g.S.Store c.args.tables.now in
     let b = state g.S.Store c.loop-place.tables in
     let d = state g.S.Store c.is_withheld_in.new.tables in
-    let looked = c.in_ok-is_withheld_in.ensures.tells.looks in
+    let looked = c.in_ok-is_withheld_in.ensures.answers.looks in
     record { looks = looks_then a b d c.loop-place.invariant.looks looked }

@@ -23,38 +23,38 @@ use Rattle.refinement.proofs.NearRows.{all_path, last_with_rows, nearest_named}
 use Rattle.refinement.proofs.WithheldUnits.{ids_of_marks}
 use Rattle.refinement.proofs.housed_units.housed_unit.Goals as goal
 
-pub returns-in_err-path-clause-tells : goal.returns-in_err-path-clause-tells
-returns-in_err-path-clause-tells g c =
+pub returns-in_err-path-clause-answers : goal.returns-in_err-path-clause-answers
+returns-in_err-path-clause-answers g c =
     let v = g.P.Versioned.version in
     let e = c.from_residual.ensures in
-    let told = c.in_err-path.ensures.tells in
+    let told = c.in_err-path.ensures.answers in
     tells_not g.S.Store (RepresentsWhole g.P.Places.represents v) CanBeJudged (λ _. ⊤) c.args.tables.now c.path_marks.new.tables c.from_residual.result (λ _ s found. IsHoused c.args.unit s found) c.in_err-path.field-0.0
-    (same_fault c.from_residual.result c.in_err-path.field-0.0 e.0 e.1) told.cut
+    (same_fault c.from_residual.result c.in_err-path.field-0.0 e.0 e.1) told.aborts
     (λ beside s it may judged clean free. told.faults (shown.office_of s) s.catalogue it.catalogue tt judged.catalogue clean free)
 
-pub returns-in_err-units-clause-tells : goal.returns-in_err-units-clause-tells
-returns-in_err-units-clause-tells g c =
+pub returns-in_err-units-clause-answers : goal.returns-in_err-units-clause-answers
+returns-in_err-units-clause-answers g c =
     let v = g.P.Versioned.version in
     let a = state g.S.Store c.args.tables.now in
     let b = state g.S.Store c.path_marks.new.tables in
     let e = c.from_residual-in_err-units.ensures in
     tells_not g.S.Store (RepresentsWhole g.P.Places.represents v) CanBeJudged (λ _. ⊤) c.args.tables.now c.path_marks.new.tables c.from_residual-in_err-units.result (λ _ s found. IsHoused c.args.unit s found) fault.Memory
-    (same_fault c.from_residual-in_err-units.result fault.Memory e.0 e.1) (cut_after a b c.in_ok-path.ensures.tells.looks.goes.on) (λ beside s it may judged clean free. tt)
+    (same_fault c.from_residual-in_err-units.result fault.Memory e.0 e.1) (cut_after a b c.in_ok-path.ensures.answers.looks.goes.on) (λ beside s it may judged clean free. tt)
 
-pub returns-in_err-containers-clause-tells : goal.returns-in_err-containers-clause-tells
-returns-in_err-containers-clause-tells g c =
+pub returns-in_err-containers-clause-answers : goal.returns-in_err-containers-clause-answers
+returns-in_err-containers-clause-answers g c =
     let v = g.P.Versioned.version in
     let a = state g.S.Store c.args.tables.now in
     let b = state g.S.Store c.path_marks.new.tables in
     let d = state g.S.Store c.containers_on_path.new.tables in
     let u = c.args.unit in
     let e = c.from_residual-in_err-containers.ensures in
-    let one = c.in_ok-path.ensures.tells in
+    let one = c.in_ok-path.ensures.answers in
     let last = c.in_err-containers.ensures in
     let failed : Result (Vec ℕ Global) StoreFault = Err c.in_err-containers.field-0.0 in
     tells_not g.S.Store (RepresentsWhole g.P.Places.represents v) CanBeJudged (λ _. ⊤) c.args.tables.now c.containers_on_path.new.tables c.from_residual-in_err-containers.result (λ _ s found. IsHoused c.args.unit s found) c.in_err-containers.field-0.0
-    (same_fault c.from_residual-in_err-containers.result c.in_err-containers.field-0.0 e.0 e.1) (cut_then a b d one.looks.goes.on last.reads.cut)
-    (λ beside s it may judged. excused_then a b d one.looks.goes.on failed last.reads.cut (λ at_b.
+    (same_fault c.from_residual-in_err-containers.result c.in_err-containers.field-0.0 e.0 e.1) (cut_then a b d one.looks.goes.on last.reads.aborts)
+    (λ beside s it may judged. excused_then a b d one.looks.goes.on failed last.reads.aborts (λ at_b.
     let f = s.catalogue.forest in
     let F = each (λ (u : Unit). u.id) f in
     let housings = it.catalogue.catalogue.housings in
@@ -70,10 +70,10 @@ returns g c =
     let b = state g.S.Store c.path_marks.new.tables in
     let d = state g.S.Store c.containers_on_path.new.tables in
     let u = c.args.unit in
-    let one = c.in_ok-path.ensures.tells in
+    let one = c.in_ok-path.ensures.answers in
     let last = c.in_ok-containers.ensures in
     record {
-      tells = ends_well (RepresentsWhole g.P.Places.represents v) CanBeJudged (λ _. ⊤) g.S.Store c.args.tables.now c.args.tables.now c.containers_on_path.new.tables (λ _ s found. IsHoused u s found)
+      answers = ends_well (RepresentsWhole g.P.Places.represents v) CanBeJudged (λ _. ⊤) g.S.Store c.args.tables.now c.args.tables.now c.containers_on_path.new.tables (λ _ s found. IsHoused u s found)
           (looks_then a b d one.looks last.reads.looks) (record { containers = c.in_ok-containers.containers; path = c.in_ok-path.path })
           (λ clean s it.
           let at_b = early b d _ last.reads.crash clean in

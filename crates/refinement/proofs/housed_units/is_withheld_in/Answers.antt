@@ -29,7 +29,7 @@ returns-then-not-is_among g c =
     let loan = c.args.loan in
     let far : is_one_of loan.container it.containers.items ≡ false = ap (is_one_of loan.container) (sym c.deref.ensures.value) ∙ sym c.if-not-is_among.ensures in
     record {
-      tells = ends_well (RepresentsWhole g.P.Places.represents v) CanBeJudged (λ _. ⊤) g.S.Store c.args.tables.now c.args.tables.now c.args.tables.now (λ _ s yes. CanBeJudged s → c.args.today ≡ s.day → yes ≡ is_withheld_in s it loan)
+      answers = ends_well (RepresentsWhole g.P.Places.represents v) CanBeJudged (λ _. ⊤) g.S.Store c.args.tables.now c.args.tables.now c.args.tables.now (λ _ s yes. CanBeJudged s → c.args.today ≡ s.day → yes ≡ is_withheld_in s it loan)
           (looks_nowhere a) false
           (λ clean s shown judged day. sym (ap (λ b. b && withholds s.day false (map (with_permit (is_permitted s.day (s.permits loan.ticket))) it.path.items)) far));
       disk = λ clean. tt;
@@ -39,11 +39,11 @@ pub returns-in_err-permits : goal.returns-in_err-permits
 returns-in_err-permits g c =
     let v = g.P.Versioned.version in
     let e = c.from_residual.ensures in
-    let told = c.in_err-permits.ensures.tells in
+    let told = c.in_err-permits.ensures.answers in
     let same = same_fault c.from_residual.result c.in_err-permits.field-0.0 e.0 e.1 in
     record {
-      tells = tells_not g.S.Store (RepresentsWhole g.P.Places.represents v) CanBeJudged (λ _. ⊤) c.args.tables.now c.permits.new.tables c.from_residual.result (λ _ s yes. CanBeJudged s → c.args.today ≡ s.day → yes ≡ is_withheld_in s c.args.unit.now c.args.loan) c.in_err-permits.field-0.0
-          same told.cut
+      answers = tells_not g.S.Store (RepresentsWhole g.P.Places.represents v) CanBeJudged (λ _. ⊤) c.args.tables.now c.permits.new.tables c.from_residual.result (λ _ s yes. CanBeJudged s → c.args.today ≡ s.day → yes ≡ is_withheld_in s c.args.unit.now c.args.loan) c.in_err-permits.field-0.0
+          same told.aborts
           (λ beside s it may judged clean free. told.faults tt (tables v s).desk it.desk tt (judged.desk v) clean free);
       disk = λ clean. blames_first (state g.S.Store c.args.tables.now) (state g.S.Store c.permits.new.tables) c.from_residual.result c.in_err-permits.field-0.0 same (told.spares clean).disk;
     }
@@ -56,8 +56,8 @@ returns-in_err-path g c =
     let e = c.from_residual-in_err-path.ensures in
     let same = same_fault c.from_residual-in_err-path.result fault.Memory e.0 e.1 in
     record {
-      tells = tells_not g.S.Store (RepresentsWhole g.P.Places.represents v) CanBeJudged (λ _. ⊤) c.args.tables.now c.permits.new.tables c.from_residual-in_err-path.result (λ _ s yes. CanBeJudged s → c.args.today ≡ s.day → yes ≡ is_withheld_in s c.args.unit.now c.args.loan) fault.Memory
-          same (cut_after a b c.in_ok-permits.ensures.tells.looks.goes.on) (λ beside s it may judged clean free. tt);
+      answers = tells_not g.S.Store (RepresentsWhole g.P.Places.represents v) CanBeJudged (λ _. ⊤) c.args.tables.now c.permits.new.tables c.from_residual-in_err-path.result (λ _ s yes. CanBeJudged s → c.args.today ≡ s.day → yes ≡ is_withheld_in s c.args.unit.now c.args.loan) fault.Memory
+          same (cut_after a b c.in_ok-permits.ensures.answers.looks.goes.on) (λ beside s it may judged clean free. tt);
       disk = λ clean. blames_first a b c.from_residual-in_err-path.result fault.Memory same tt;
     }
 
@@ -70,7 +70,7 @@ returns g c =
     let v = g.P.Versioned.version in
     let it = c.args.unit.now in
     let loan = c.args.loan in
-    let told = c.in_ok-permits.ensures.tells in
+    let told = c.in_ok-permits.ensures.answers in
     let near : is_one_of loan.container it.containers.items ≡ true = ap (is_one_of loan.container) (sym c.deref.ensures.value) ∙ sym c.if-not-is_among.ensures in
     let fits : FitsSigned w32 c.number.result = search rules in
     let day_is : to_z w32 (of_z w32 c.number.result) ≡ c.args.today = to_z-of_z w32 c.number.result fits ∙ c.number.ensures.number in
@@ -79,7 +79,7 @@ returns g c =
     let read : not c.clean_path.result ≡ withholds c.args.today false (map (with_permit permitted) it.path.items) =
     ap not (c.clean_path.ensures ∙ ap₂ (λ t l. not (withholds t false l)) day_is path_is) ∙ twice_not (withholds c.args.today false (map (with_permit permitted) it.path.items)) in
     record {
-      tells = ends_well (RepresentsWhole g.P.Places.represents v) CanBeJudged (λ _. ⊤) g.S.Store c.args.tables.now c.args.tables.now c.permits.new.tables (λ _ s yes. CanBeJudged s → c.args.today ≡ s.day → yes ≡ is_withheld_in s it loan)
+      answers = ends_well (RepresentsWhole g.P.Places.represents v) CanBeJudged (λ _. ⊤) g.S.Store c.args.tables.now c.args.tables.now c.permits.new.tables (λ _ s yes. CanBeJudged s → c.args.today ≡ s.day → yes ≡ is_withheld_in s it loan)
           told.looks (not c.clean_path.result)
           (λ clean s shown judged day.
           read

@@ -23,7 +23,7 @@ returns-in_err-has_containers-clause-faults g c xs stored small clean free =
     let looks = c.loop-unit.invariant.looks in
     let failed : Result (Option ℕ) StoreFault = Err c.in_err-has_containers.field-0.0 in
     subst (λ (r : Result (Option ℕ) StoreFault). IfErr r (HasCause a d)) (sym (same_fault c.from_residual.result c.in_err-has_containers.field-0.0 e.0 e.1))
-    (excused_then a b d looks.goes.on failed c.in_err-has_containers.ensures.reads.cut
+    (excused_then a b d looks.goes.on failed c.in_err-has_containers.ensures.reads.aborts
     (λ at_b. c.in_err-has_containers.ensures.faults xs (subst (λ (db : Database). HasNumbered housing_row (db.trees tables.housing.tree) xs) (sym (looks.same at_b)) stored)) clean free)
 
 pub loop-unit-preserved : goal.loop-unit-preserved

@@ -1,17 +1,16 @@
 use Rattle.std.proofs.Common.{[], refl}
-use Rattle.sqlite.specs.Held.{state}
 use Rattle.office_tables.specs.DeskCells.{read_holding}
 use Rattle.office_tables.specs.Schema as tables
 use Rattle.row_decoding.specs.Readings.{in_any_order, said_holding}
 use Rattle.desk_core.specs.RowRecords.{holding_row}
-use Rattle.row_decoding.proofs.TableReads.{is_ours, examines}
+use Rattle.row_decoding.proofs.TableReads.{is_query, examines}
 use Rattle.row_decoding.proofs.TableTexts.{holdings_text, holdings_terms, holdings_names, holdings_mean}
 use Rattle.row_decoding.proofs.tables.holdings.Goals as goal
 
 pub read_rows-requires : goal.read_rows-requires
-read_rows-requires g c = record { ours = is_ours tables.holding holdings_terms [] holdings_names holdings_text holdings_mean (λ _. refl) (state g.S.Store c.args.conn.now) c.requires.inside }
+read_rows-requires g c = let v = g.P.Versioned.version in record { ours = is_query tables.holding holdings_terms [] holdings_names holdings_text v (holdings_mean v) }
 
 pub returns : goal.returns
 returns g c =
-    examines tables.holding holdings_terms [] holdings_names holdings_text holdings_mean (λ _. refl) holding_row said_holding read_holding in_any_order (λ _. refl) (λ a b. refl)
-    c.requires.inside c.read_rows.ensures.reads c.read_rows.ensures.gathers c.read_rows.ensures.stops
+    let v = g.P.Versioned.version in
+    examines tables.holding holdings_terms [] holdings_names holdings_text v (holdings_mean v) refl holding_row said_holding read_holding in_any_order (λ _. refl) (λ a b. refl) c.read_rows.ensures.reads c.read_rows.ensures.ran

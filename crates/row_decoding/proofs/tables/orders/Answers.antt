@@ -1,18 +1,17 @@
 use Rattle.std.proofs.Common.{refl}
-use Rattle.sqlite.specs.Held.{state}
 use Rattle.sqlite_value.proofs.OrderLemmas.{then-Equal}
 use Rattle.office_tables.specs.DeskCells.{read_order}
 use Rattle.office_tables.specs.Schema as tables
 use Rattle.row_decoding.specs.Readings.{by_rowid, said_order}
 use Rattle.desk_core.specs.RowRecords.{order_row}
-use Rattle.row_decoding.proofs.TableReads.{is_ours, examines}
+use Rattle.row_decoding.proofs.TableReads.{is_query, examines}
 use Rattle.row_decoding.proofs.TableTexts.{by_first, orders_text, orders_terms, orders_names, orders_mean}
 use Rattle.row_decoding.proofs.tables.orders.Goals as goal
 
 pub read_rows-requires : goal.read_rows-requires
-read_rows-requires g c = record { ours = is_ours tables.orders orders_terms by_first orders_names orders_text orders_mean (λ _. refl) (state g.S.Store c.args.conn.now) c.requires.inside }
+read_rows-requires g c = let v = g.P.Versioned.version in record { ours = is_query tables.orders orders_terms by_first orders_names orders_text v (orders_mean v) }
 
 pub returns : goal.returns
 returns g c =
-    examines tables.orders orders_terms by_first orders_names orders_text orders_mean (λ _. refl) order_row said_order read_order by_rowid (λ _. refl) (λ a b. then-Equal _)
-    c.requires.inside c.read_rows.ensures.reads c.read_rows.ensures.gathers c.read_rows.ensures.stops
+    let v = g.P.Versioned.version in
+    examines tables.orders orders_terms by_first orders_names orders_text v (orders_mean v) refl order_row said_order read_order by_rowid (λ _. refl) (λ a b. then-Equal _) c.read_rows.ensures.reads c.read_rows.ensures.ran

@@ -1,17 +1,16 @@
 use Rattle.std.proofs.Common.{[], refl}
-use Rattle.sqlite.specs.Held.{state}
 use Rattle.office_tables.specs.DeskCells.{read_run_line}
 use Rattle.office_tables.specs.Schema as tables
 use Rattle.row_decoding.specs.Readings.{in_any_order, said_run_line}
 use Rattle.desk_core.specs.RowRecords.{run_line_row}
-use Rattle.row_decoding.proofs.TableReads.{is_ours, examines}
+use Rattle.row_decoding.proofs.TableReads.{is_query, examines}
 use Rattle.row_decoding.proofs.TableTexts.{run_lines_text, run_lines_terms, run_lines_names, run_lines_mean}
 use Rattle.row_decoding.proofs.tables.run_lines.Goals as goal
 
 pub read_rows-requires : goal.read_rows-requires
-read_rows-requires g c = record { ours = is_ours tables.run_line run_lines_terms [] run_lines_names run_lines_text run_lines_mean (λ _. refl) (state g.S.Store c.args.conn.now) c.requires.inside }
+read_rows-requires g c = let v = g.P.Versioned.version in record { ours = is_query tables.run_line run_lines_terms [] run_lines_names run_lines_text v (run_lines_mean v) }
 
 pub returns : goal.returns
 returns g c =
-    examines tables.run_line run_lines_terms [] run_lines_names run_lines_text run_lines_mean (λ _. refl) run_line_row said_run_line read_run_line in_any_order (λ _. refl) (λ a b. refl)
-    c.requires.inside c.read_rows.ensures.reads c.read_rows.ensures.gathers c.read_rows.ensures.stops
+    let v = g.P.Versioned.version in
+    examines tables.run_line run_lines_terms [] run_lines_names run_lines_text v (run_lines_mean v) refl run_line_row said_run_line read_run_line in_any_order (λ _. refl) (λ a b. refl) c.read_rows.ensures.reads c.read_rows.ensures.ran

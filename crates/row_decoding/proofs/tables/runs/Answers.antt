@@ -1,18 +1,17 @@
 use Rattle.std.proofs.Common.{refl}
-use Rattle.sqlite.specs.Held.{state}
 use Rattle.sqlite_value.proofs.OrderLemmas.{then-Equal}
 use Rattle.office_tables.specs.DeskCells.{read_run}
 use Rattle.office_tables.specs.Schema as tables
 use Rattle.row_decoding.specs.Readings.{by_rowid, said_run}
 use Rattle.desk_core.specs.RowRecords.{run_row}
-use Rattle.row_decoding.proofs.TableReads.{is_ours, examines}
+use Rattle.row_decoding.proofs.TableReads.{is_query, examines}
 use Rattle.row_decoding.proofs.TableTexts.{by_first, runs_text, runs_terms, runs_names, runs_mean}
 use Rattle.row_decoding.proofs.tables.runs.Goals as goal
 
 pub read_rows-requires : goal.read_rows-requires
-read_rows-requires g c = record { ours = is_ours tables.run runs_terms by_first runs_names runs_text runs_mean (λ _. refl) (state g.S.Store c.args.conn.now) c.requires.inside }
+read_rows-requires g c = let v = g.P.Versioned.version in record { ours = is_query tables.run runs_terms by_first runs_names runs_text v (runs_mean v) }
 
 pub returns : goal.returns
 returns g c =
-    examines tables.run runs_terms by_first runs_names runs_text runs_mean (λ _. refl) run_row said_run read_run by_rowid (λ _. refl) (λ a b. then-Equal _)
-    c.requires.inside c.read_rows.ensures.reads c.read_rows.ensures.gathers c.read_rows.ensures.stops
+    let v = g.P.Versioned.version in
+    examines tables.run runs_terms by_first runs_names runs_text v (runs_mean v) refl run_row said_run read_run by_rowid (λ _. refl) (λ a b. then-Equal _) c.read_rows.ensures.reads c.read_rows.ensures.ran

@@ -1,17 +1,16 @@
 use Rattle.std.proofs.Common.{[], refl}
-use Rattle.sqlite.specs.Held.{state}
 use Rattle.office_tables.specs.DeskCells.{read_seat}
 use Rattle.office_tables.specs.Schema as tables
 use Rattle.row_decoding.specs.Readings.{in_any_order, said_seat}
 use Rattle.desk_core.specs.RowRecords.{seat_row}
-use Rattle.row_decoding.proofs.TableReads.{is_ours, examines}
+use Rattle.row_decoding.proofs.TableReads.{is_query, examines}
 use Rattle.row_decoding.proofs.TableTexts.{seats_text, seats_terms, seats_names, seats_mean}
 use Rattle.row_decoding.proofs.tables.seats.Goals as goal
 
 pub read_rows-requires : goal.read_rows-requires
-read_rows-requires g c = record { ours = is_ours tables.seat seats_terms [] seats_names seats_text seats_mean (λ _. refl) (state g.S.Store c.args.conn.now) c.requires.inside }
+read_rows-requires g c = let v = g.P.Versioned.version in record { ours = is_query tables.seat seats_terms [] seats_names seats_text v (seats_mean v) }
 
 pub returns : goal.returns
 returns g c =
-    examines tables.seat seats_terms [] seats_names seats_text seats_mean (λ _. refl) seat_row said_seat read_seat in_any_order (λ _. refl) (λ a b. refl)
-    c.requires.inside c.read_rows.ensures.reads c.read_rows.ensures.gathers c.read_rows.ensures.stops
+    let v = g.P.Versioned.version in
+    examines tables.seat seats_terms [] seats_names seats_text v (seats_mean v) refl seat_row said_seat read_seat in_any_order (λ _. refl) (λ a b. refl) c.read_rows.ensures.reads c.read_rows.ensures.ran

@@ -2,7 +2,7 @@ use Rattle.std.proofs.Common.{◌≡◌, true, IsTrue, ap, ◌∙◌, Result, Ok
 use Rattle.sqlite.specs.Effect.{Database}
 use Rattle.sqlite.specs.Held.{state}
 use Rattle.sqlite.specs.State.{State, HasCleanDisk, Shows, Survives}
-use Rattle.tree_core.specs.Versions.{Version, Links}
+use Rattle.office_tables.specs.Versions.{Version, First}
 use Rattle.office_tables.specs.Step.{AreTables, InTransaction}
 use Rattle.office_tables.specs.Transactions.{Committed}
 use Rattle.office_tables.proofs.Calls.{early}
@@ -25,4 +25,4 @@ returns g c =
     let b = state g.S.Store c.commit.new.conn in
     let d = state g.S.Store c.begin.new.conn in
     let done = c.in_ok-commit.ensures in
-    record { inside = turned Links a b d c.begin.result c.requires.are c.commit.ensures.crash c.begin.ensures.crash done.inside done.committed c.begin.ensures.begun }
+    record { inside = turned First a b d c.begin.result c.requires.are c.commit.ensures.crash c.begin.ensures.crash done.inside done.committed c.begin.ensures.begun }

@@ -1,5 +1,5 @@
 use Rattle.std.proofs.Common.{◌≡◌, ◌∙◌, ◌++◌, Some, Bool, true, false, codes, sym, ap, ap₂, refl, not, Option}
-use Rattle.atom_csv.specs.Fields.{Fields, is_named, seen}
+use Rattle.atom_csv.specs.Fields.{Fields, is_named, borrowed_fields}
 use Rattle.atom_csv.specs.FileContents.{has_column, has_twice, lowest, when}
 use Rattle.atom_csv.specs.declared.cause.Cause.{Cause}
 use Rattle.atom_csv.specs.declared.cause.Cause.TheVariants as cause
@@ -20,7 +20,7 @@ pub returns-then-not-has : goal.returns-then-not-has
 returns-then-not-has c =
     let names = c.as_slice-names.result.now in
     let header = c.args.self.now in
-    let same : seen names ≡ header = ap seen c.as_slice-names.ensures.value ∙ c.self.view_is in
+    let same : borrowed_fields names ≡ header = ap borrowed_fields c.as_slice-names.ensures.value ∙ c.self.view_is in
     let there : has_legacy header ≡ false = sym (c.has.ensures ∙ (column_seen (is_named (codes "legacyId")) names ∙ ap has_legacy same)) ∙ c.if-not-has.true in
     none_there (has_twice header) ∙ ap (λ h. chosen h (has_twice header)) (sym there)
 
@@ -28,7 +28,7 @@ pub returns-then-has_twice : goal.returns-then-has_twice
 returns-then-has_twice c =
     let names = c.as_slice-names.result.now in
     let header = c.args.self.now in
-    let same : seen names ≡ header = ap seen c.as_slice-names.ensures.value ∙ c.self.view_is in
+    let same : borrowed_fields names ≡ header = ap borrowed_fields c.as_slice-names.ensures.value ∙ c.self.view_is in
     let there : has_legacy header ≡ true = sym (c.has.ensures ∙ (column_seen (is_named (codes "legacyId")) names ∙ ap has_legacy same)) ∙ c.if-not-has.false in
     let twice : has_twice header ≡ true = sym (c.has_twice.ensures ∙ (twice_seen names ∙ ap has_twice same)) ∙ c.if-has_twice.true in
     ap₂ chosen (sym there) (sym twice)
@@ -37,7 +37,7 @@ pub returns : goal.returns
 returns c =
     let names = c.as_slice-names.result.now in
     let header = c.args.self.now in
-    let same : seen names ≡ header = ap seen c.as_slice-names.ensures.value ∙ c.self.view_is in
+    let same : borrowed_fields names ≡ header = ap borrowed_fields c.as_slice-names.ensures.value ∙ c.self.view_is in
     let there : has_legacy header ≡ true = sym (c.has.ensures ∙ (column_seen (is_named (codes "legacyId")) names ∙ ap has_legacy same)) ∙ c.if-not-has.false in
     let twice : has_twice header ≡ false = sym (c.has_twice.ensures ∙ (twice_seen names ∙ ap has_twice same)) ∙ c.if-has_twice.false in
     ap₂ chosen (sym there) (sym twice)

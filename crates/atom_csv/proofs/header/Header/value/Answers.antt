@@ -2,7 +2,7 @@ use Rattle.std.proofs.Common.{◌≡◌, ◌∙◌, ◌<◌, sym, ap, subst, len
 use denote.Enum.Declared.{tag_of}
 use Rattle.atom_csv.specs.contracts.column.Column.{the_type}
 use Rattle.atom_csv.specs.Columns.{name_of}
-use Rattle.atom_csv.specs.Fields.{Fields, field_in, fields_in, place_of, places_in, seen, value}
+use Rattle.atom_csv.specs.Fields.{Fields, field_in, fields_in, place_of, places_in, borrowed_fields, value}
 use Rattle.atom_csv.specs.declared.column.Column.{Column}
 use Rattle.atom_csv.proofs.ColumnLemmas.{place_within}
 use Rattle.atom_csv.proofs.FieldLemmas.{value_at}
@@ -10,14 +10,14 @@ use Rattle.atom_csv.proofs.header.Header.value.Goals as goal
 
 pub index-requires : goal.index-requires
 index-requires c =
-    let header = seen c.self.inside.names.items in
+    let header = borrowed_fields c.self.inside.names.items in
     let is : c.self.inside.places.items ≡ places_in header = c.self.invariant in
     let within : tag_of the_type c.args.column < length c.self.inside.places.items = subst (λ (ps : List (Option ℕ)). tag_of the_type c.args.column < length ps) (sym is) (place_within (λ (k : Column). place_of (name_of k) header) c.args.column) in
     omega (arith, c.self.inside.places.ok.0)
 
 pub returns : goal.returns
 returns c =
-    let header = seen c.self.inside.names.items in
+    let header = borrowed_fields c.self.inside.names.items in
     let fields = fields_in c.args.row.now in
     let is : c.self.inside.places.items ≡ places_in header = c.self.invariant in
     c.field_at.ensures ∙ (ap (λ (o : Option ℕ). field_in o fields) c.index.ensures

@@ -1,7 +1,0 @@
-use Rattle.std.proofs.Common.{◌≡◌, map, take}
-use Rattle.isad_core.specs.declared.values.BoxKey.{BoxKey}
-use Rattle.finding_aids.specs.Numbers.{number_by}
-use Rattle.finding_aids.proofs.previews.aid_printer.Printer.numbered.Given as goal
-
-abbrev pub invariant-loop-container : goal.invariant-loop-container
-invariant-loop-container l = l.numbered ≡ map (λ (b : BoxKey). (number_by l.self.numbers b, b.name)) (take l.container-index l.boxes)

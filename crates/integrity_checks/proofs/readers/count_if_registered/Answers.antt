@@ -1,0 +1,50 @@
+use Rattle.std.proofs.Common.{◌≡◌, refl, ap, ◌∙◌, sym, nat_le, ◌&&◌}
+use Rattle.sqlite.specs.Held.{state}
+use Rattle.sqlite_value.proofs.OrderLemmas.{then-Equal}
+use Rattle.office_tables.specs.DeskCells.{read_reader}
+use Rattle.office_tables.specs.Schema as tables
+use Rattle.office_tables.proofs.ByNumber.{by_key}
+use Rattle.office_tables.proofs.StatementEnds.{found_in}
+use Rattle.row_decoding.proofs.TableReads.{is_query, is_excused, in_table}
+use Rattle.integrity_checks.proofs.ExaminationEnds.{examined, passes_of}
+use Rattle.integrity_checks.proofs.JudgedReaders.{all_readers_text, all_readers_terms, by_ticket, all_readers_names, all_readers_means, ticket_of, keyed, registered_so_many, registered_badly}
+use Rattle.integrity_checks.proofs.readers.count_if_registered.Goals as goal
+use Rattle.integrity_checks.proofs.readers.count_if_registered.Goals.{then-all, else-all}
+
+pub gather-requires-clause-ours : goal.gather-requires-clause-ours
+gather-requires-clause-ours g c = let v = g.P.Versioned.version in is_query tables.reader all_readers_terms by_ticket all_readers_names all_readers_text v (all_readers_means v)
+
+pub returns-in_err-all : goal.returns-in_err-all
+returns-in_err-all g c =
+    let v = g.P.Versioned.version in
+    passes_of c.from_residual.ensures c.in_err-all.ensures.reads (is_excused tables.reader all_readers_terms by_ticket all_readers_names all_readers_text v (all_readers_means v) refl (state g.S.Store c.args.tables.now) (state g.S.Store c.gather.new.tables) _ c.in_err-all.ensures.ran)
+
+pub returns-then-are_sound : goal.returns-then-are_sound
+returns-then-are_sound g c = examined c.in_ok-all.ensures.reads.looks (λ clean.
+    let v = g.P.Versioned.version in
+    let old = state g.S.Store c.args.tables.now in
+    let new = state g.S.Store c.gather.new.tables in
+    let of = found_in old c.in_ok-all.all (c.in_ok-all.ensures.ran clean) in
+    let all = of.1 in
+    let got = in_table tables.reader all_readers_terms by_ticket all_readers_names all_readers_text v (all_readers_means v) (by_key read_reader ticket_of keyed) (λ a b. then-Equal _) old new of.0 all.rows all.shown in
+    let few = nat_le c.in_ok-all.all.count 1000000 in
+    let is : c.if-all.are_sound ≡ (c.in_ok-all.all.are_good && few) = elim c.if-all.branch [
+      | then-all w ↦ w.are_sound-is ∙ ap (λ b. b && few) (sym w.if-all.true)
+      | else-all w ↦ w.are_sound-is ∙ w.if-all.false ∙ ap (λ b. b && few) (sym w.if-all.false)
+    ] in
+    registered_so_many old.now.trees got.0 all.rows c.in_ok-all.all.count c.in_ok-all.all.are_good got.1 got.2 got.3 all.holds.0 all.holds.1 (sym is ∙ c.if-are_sound.true))
+
+pub returns-else-are_sound : goal.returns-else-are_sound
+returns-else-are_sound g c = examined c.in_ok-all.ensures.reads.looks (λ clean.
+    let v = g.P.Versioned.version in
+    let old = state g.S.Store c.args.tables.now in
+    let new = state g.S.Store c.gather.new.tables in
+    let of = found_in old c.in_ok-all.all (c.in_ok-all.ensures.ran clean) in
+    let all = of.1 in
+    let got = in_table tables.reader all_readers_terms by_ticket all_readers_names all_readers_text v (all_readers_means v) (by_key read_reader ticket_of keyed) (λ a b. then-Equal _) old new of.0 all.rows all.shown in
+    let few = nat_le c.in_ok-all.all.count 1000000 in
+    let is : c.if-all.are_sound ≡ (c.in_ok-all.all.are_good && few) = elim c.if-all.branch [
+      | then-all w ↦ w.are_sound-is ∙ ap (λ b. b && few) (sym w.if-all.true)
+      | else-all w ↦ w.are_sound-is ∙ w.if-all.false ∙ ap (λ b. b && few) (sym w.if-all.false)
+    ] in
+    registered_badly old.now.trees got.0 all.rows c.in_ok-all.all.count c.in_ok-all.all.are_good got.1 got.2 got.3 all.holds.0 all.holds.1 (sym is ∙ c.if-are_sound.false))

@@ -1,0 +1,56 @@
+use Rattle.std.proofs.Common.{◌≡◌, Some, None, sym, ap, ◌∙◌}
+use Rattle.std.specs.Prelude.{option_map}
+use Rattle.sqlite.specs.Held.{state}
+use Rattle.office_tables.proofs.Calls.{cut_after}
+use Rattle.refinement.proofs.Doings.{tells_passed}
+use Rattle.public_queries.specs.FindingAids.{seen_values}
+use Rattle.public_queries.proofs.AidUnits.{seen_read, values_read}
+use Rattle.public_queries.proofs.visible_unit.seen_open.Goals as goal
+
+none_some : {X : Type 0} (x : X) → None ≡ Some x → ⊥
+none_some x e = absurd (cc)
+
+same : {X : Type 0} (x y : X) → Some x ≡ Some y → x ≡ y
+same x y e = cc
+
+pub values-requires : goal.values-requires
+values-requires g c = record { small = c.requires.small }
+
+pub returns-in_err-found : goal.returns-in_err-found
+returns-in_err-found g c =
+    let told = c.in_err-found.ensures.answers in
+    record {
+      answers = tells_passed _ c.from_residual.ensures told.aborts (λ o k it may kept. told.faults o k (record { version = g.P.Versioned.version; catalogue = it.catalogue; places = may.0.places }) may.0.containers kept);
+    }
+
+pub returns-in_default : goal.returns-in_default
+returns-in_default g c =
+    let a = state g.S.Store c.args.tables.now in
+    let b = state g.S.Store c.values.new.tables in
+    let told = c.in_ok-found.ensures.answers in
+    record {
+      answers = record {
+        answers = λ clean o k it. tt;
+        looks = tt;
+        aborts = cut_after a b told.looks.goes.on;
+        faults = λ o k it may kept clean free.
+            absurd (none_some (values_read k.containers may.1)
+            (sym c.in_default.is ∙ told.answers clean o k (record { version = g.P.Versioned.version; catalogue = it.catalogue; places = may.0.places })
+            ∙ ap (option_map (values_read k.containers)) may.2));
+      };
+    }
+
+pub returns : goal.returns
+returns g c =
+    let told = c.in_ok-found.ensures.answers in
+    record {
+      answers = record {
+        answers = λ clean o k it tellable u found.
+            let values = same c.in-Some.found (values_read k.containers u)
+            (sym c.in-Some.is ∙ told.answers clean o k (record { version = g.P.Versioned.version; catalogue = it.catalogue; places = tellable.places }) ∙ ap (option_map (values_read k.containers)) found) in
+            c.in_ok-seen_values.ensures ∙ ap seen_values values ∙ seen_read k.containers u;
+        looks = told.looks;
+        aborts = tt;
+        faults = λ o k it may kept clean free. tt;
+      };
+    }
