@@ -89,19 +89,11 @@ class Names:
     def in_file(self, text, crate, file):
         """The text of a file with the new names of the definitions in it or imported by it, and of labels."""
         for home, spec, old, new in self.definitions:
-            path = rf"Rattle\.{home}\.specs\.{spec}"
-            names = rf"(use {path}\.\{{(?:[^}}]*[{{, ])?){old}(?=[,}} ])"
-            is_bare = (crate, file) == (home, spec) or re.search(rf"{names}(?! as )", text)
-            text = re.sub(names, rf"\g<1>{new}", text)
-            for alias in [path, *re.findall(rf"use {path} as (\w+)", text)]:
-                text = re.sub(rf"(?<![\w.]){alias}\.{old}(?![\w'])", f"{alias}.{new}".replace("\\", ""), text)
-            if is_bare:
-                label = "" if (crate, file) == (home, spec) else r"|\s=(?![=>≡])"
-                text = re.sub(rf"(?<![\w.'-]){old}(?![\w'-]{label})", new, text)
+            text = with_definition(text, rf"Rattle\.{home}\.specs\.{spec}", old, new, (crate, file) == (home, spec))
         for old, new, *crates in self.labels:
-            label = r"((?:^|\n) +(?:pub )?(?:ensures )?|(?<=\w)\.)"
+            before = r"((?:^|\n) +(?:pub )?(?:ensures )?|(?<=\w)\.)"
             if crate in crates:
-                text = re.sub(rf"{label}{old}(?= \{{| : |[ );.\n]|$)", rf"\g<1>{new}", text)
+                text = re.sub(rf"{before}{old}(?= \{{| : |[ );.\n]|$)", rf"\g<1>{new}", text)
         return text
 
     def crate(self, old, file=""):
@@ -128,6 +120,22 @@ class Names:
             parts += [WORD.sub(of_match, text[at : found.start()]), self.path(found, word)]
             at = found.end()
         return "".join([*parts, WORD.sub(of_match, text[at:])])
+
+
+def with_definition(text, path, old, new, at_home):
+    """The text of a file with the new name of a definition of the module at this path (a pattern). What stands in
+    quotes stays, and so do fields of records that have the name."""
+    imported = rf"(use {path}\.\{{(?:[^}}]*[{{, ])?){old}(?=[,}} ])"
+    is_bare = at_home or re.search(rf"{imported}(?! as )", text)
+    text = re.sub(imported, rf"\g<1>{new}", text)
+    for alias in [path, *re.findall(rf"use {path} as (\w+)", text)]:
+        text = re.sub(rf"(?<![\w.]){alias}\.{old}(?![\w'])", f"{alias}.{new}".replace("\\", ""), text)
+    if not is_bare:
+        return text
+    quoted, field = r'"(?:[^"\\\n]|\\.)*"', rf"(?:^|\n) +(?:pub )?{old} :"
+    label = "" if at_home else r"|\s=(?![=>≡])"
+    name = rf"(?<![\w.'-]){old}(?![\w'-]{label})"
+    return re.sub(rf"{quoted}|{field}|{name}", lambda found: new if found[0] == old else found[0], text)
 
 
 def tokens(text):
