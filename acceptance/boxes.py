@@ -13,6 +13,7 @@ The script prints how many sessions were equal, how often each command was accep
 boxes that an order, a run, an issue or the gate judged. It ends with 1 and the first different answer if a session
 differs, and also if, in a hundred sessions or more, something came less often than LEAST says. The sessions of KEPT
 come too: each finds a wrong way to read a box in one pass."""
+import functools
 import itertools
 import json
 import sys
@@ -59,18 +60,21 @@ class Watched(plain.Office):
     is_judging = False
 
     def post(self, path, body):
+        """Answers a command, and counts the kinds of the boxes that it judges."""
         self.is_judging = True
         told = super().post(path, body)
         self.is_judging = False
         return told
 
     def is_open(self, container, ticket):
+        """Whether a box may go to a reader; counts its kinds while a command is carried out."""
         if self.is_judging:
             count.update(("judged", kind) for kind in kinds(self, container, ticket))
         return super().is_open(container, ticket)
 
 
 def walk(office):
+    """The units of an office in walk order."""
     return [unit for top in office.tops for unit in office.branch(top)]
 
 
@@ -113,11 +117,12 @@ class BoxSession(sessions.Session):
     OFFICE = Watched
 
     def some_settings(self):
-        chosen = {"seats": "200", "daily": "50", "hands": self.random.choice(["3", "10"]), "run": self.random.choice("1359")}
-        return client.SETTINGS | chosen
+        """Settings with many seats and orders, random boxes in a reader's hands and in a run."""
+        hands, run = self.random.choice(["3", "10"]), self.random.choice("1359")
+        return client.SETTINGS | {"seats": "200", "daily": "50", "hands": hands, "run": run}
 
     def beginning(self):
-        """A catalogue, readers, in half of the sessions closed units that are open to a reader, and boxes that go out."""
+        """A catalogue, readers, often closed units that a reader may see, and boxes that go out."""
         yield "/desk/import/a", self.catalogue()
         for ticket in TICKETS:
             yield "/desk/register", json.dumps({"name": f"Reader {ticket}", "until": "2030-01-01"})
@@ -155,7 +160,9 @@ class BoxSession(sessions.Session):
         return max(1, unit - self.random.randint(1, 3)) if shape == "deep" else self.random.randint(1, unit - 1)
 
     def box(self, order, unit, units, boxes):
-        nth = {"side by side": unit * boxes // (units + 1), "in turns": unit % boxes}.get(order, self.random.randrange(boxes))
+        """The name of the box of a unit, by the order in which units lie in boxes."""
+        by_order = {"side by side": unit * boxes // (units + 1), "in turns": unit % boxes}
+        nth = by_order.get(order, self.random.randrange(boxes))
         return f"Box {nth + 1}"
 
     def file(self, source):
@@ -173,7 +180,7 @@ class BoxSession(sessions.Session):
 
     # ---- commands
 
-    def lying(self):
+    def contents_of_a_box(self):
         """The contents of a box, in walk order; often of one that is out or waited for."""
         office = self.office
         wanted = [*office.out(), *(office.orders[it].container for it in office.waiting)]
@@ -183,13 +190,14 @@ class BoxSession(sessions.Session):
 
     def unit(self):
         """The first, the last or another unit of a box, or one above it."""
-        contents = self.lying()
+        contents = self.contents_of_a_box()
         if not contents:
             return super().unit()
         unit = self.random.choice([contents[0], contents[-1], self.random.choice(contents)])
         return unit if self.happens(0.6) else self.random.choice(self.office.path(unit))
 
     def closure(self):
+        """A closure of a unit of a box, or in nearly half of the cases the end of one."""
         closed = [it for it in self.office.units if self.office.is_closed(it)]
         if closed and self.happens(0.45):
             return "closure", {"unit": self.random.choice(closed), "until": None}
@@ -197,11 +205,13 @@ class BoxSession(sessions.Session):
 
     def move(self):
         """A move below another unit of a box, or below a unit that is withheld, or anywhere."""
-        parent = self.random.choice([self.unit, self.unit, self.withheld_unit, lambda: self.one_of(self.office.units, 99)])()
+        anywhere = functools.partial(self.one_of, self.office.units, 99)
+        parent = self.random.choice([self.unit, self.unit, self.withheld_unit, anywhere])()
         return "move", {"unit": self.unit(), "parent": None if self.happens(0.03) else parent}
 
     def remove(self):
-        contents = [it for it in self.lying() if not self.office.below(it)]
+        """A removal, mostly of a unit of a box that has nothing below it."""
+        contents = [it for it in self.contents_of_a_box() if not self.office.below(it)]
         return "remove", {"unit": self.random.choice(contents) if contents and self.happens(0.9) else self.unit()}
 
     def permit(self):
@@ -216,6 +226,7 @@ class BoxSession(sessions.Session):
         return "permit", {"ticket": ticket, "unit": unit, "until": self.random.choice(FAR)}
 
     def revoke(self):
+        """The end of a permit, mostly of one that was granted."""
         granted = list(self.office.permits)
         ticket, unit = self.random.choice(granted) if granted and self.happens(0.9) else (self.ticket(), self.unit())
         return "revoke", {"ticket": ticket, "unit": unit}
@@ -243,13 +254,15 @@ class BoxSession(sessions.Session):
 
 
 def main():
-    given = client.seeded(__doc__, 200).parse_args()
+    """Compares the sessions, prints the counts, and returns whether something is wrong."""
+    given = client.seeded_options(__doc__, 200).parse_args()
     seeds = sorted(set(KEPT) | set(range(given.first, given.first + given.count)))
     held = sum(sessions.is_held(given.program, BoxSession(seed)) for seed in seeds)
-    print(f"of {len(seeds)} random sessions about boxes, {len(KEPT)} of kept seeds, {held} were answered as by a plain office")
+    sums = f"of {len(seeds)} random sessions about boxes, {len(KEPT)} of kept seeds, {held}"
+    print(f"{sums} were answered as by a plain office")
     judged = {kind: count.pop(("judged", kind), 0) for kind in KINDS}
-    sessions.tell_commands()
-    print(f"what was so of boxes that were judged: {sessions.listed(judged.items())}")
+    sessions.print_commands()
+    print(f"what was so of boxes that were judged: {sessions.join_counts(judged.items())}")
     return not sessions.is_enough(judged, LEAST, given.count) or held != len(seeds)
 
 

@@ -2,7 +2,7 @@
 options.
 
     with client.temporary(given.room) as room:
-        office = client.Office.made(given.program, room / "office.db")
+        office = client.Office.create(given.program, room / "office.db")
         ended = office.talk(client.get("/public/fonds"), client.post("/desk/run"))
         [fonds, run] = client.replies(ended.output)
 """
@@ -34,21 +34,32 @@ PORTS = itertools.count(20_000 + os.getpid() % 10_000)
 # ---- requests and replies
 
 TEXT, JSON = "text/plain; charset=utf-8", "application/json"
-PHRASES = {200: "OK", 400: "Bad Request", 404: "Not Found", 409: "Conflict", 503: "Service Unavailable"}
+PHRASES = {200: "OK", 400: "Bad Request", 404: "Not Found", 409: "Conflict", 502: "Bad Gateway",
+           503: "Service Unavailable"}
 
 
-def get(path):
-    """A question."""
-    return f"GET {path} HTTP/1.1\r\nHost: x\r\n\r\n".encode()
-
-
-def post(path, body=b""):
-    """A command. Its body is bytes, a text, or members that are sent as JSON."""
+def request(method, path, body=None, host="x", fields=()):
+    """The bytes of a request. Its body is bytes, a text, or members that are sent as JSON; without one it has no
+    length. `fields` are names with values."""
     if isinstance(body, dict):
         body = json.dumps(body)
     if isinstance(body, str):
         body = body.encode()
-    return f"POST {path} HTTP/1.1\r\nHost: x\r\nContent-Length: {len(body)}\r\n\r\n".encode() + body
+    lines = [f"{method} {path} HTTP/1.1", f"Host: {host}",
+             *(f"{name}: {value}" for name, value in dict(fields).items())]
+    if body is not None:
+        lines.append(f"Content-Length: {len(body)}")
+    return "".join(f"{line}\r\n" for line in [*lines, ""]).encode() + (body or b"")
+
+
+def get(path):
+    """A question."""
+    return request("GET", path)
+
+
+def post(path, body=b""):
+    """A command. Its body is that of `request`."""
+    return request("POST", path, body)
 
 
 def path_of(word):
@@ -97,6 +108,13 @@ def replies(output):
     return found
 
 
+def ask(port, sent, patience=PATIENCE):
+    """Sends a request to a port of this machine, over a connection of its own; returns its reply."""
+    with socket.create_connection((HOST, port), patience) as connection, connection.makefile("rb") as answers:
+        connection.sendall(sent)
+        return read_reply(answers)
+
+
 # ---- the program and its offices
 
 
@@ -106,6 +124,12 @@ class Ended(NamedTuple):
     status: int
     output: bytes
     message: bytes
+
+    def expect_success(self):
+        """Returns the output. Raises RuntimeError if the exit status is not 0."""
+        if self.status:
+            raise RuntimeError(f"exit status {self.status}: {self.message}")
+        return self.output
 
 
 SOUND = Ended(0, b"sound\n", b"")
@@ -146,7 +170,7 @@ class Office:
         self.program, self.store = program, Path(store)
 
     @classmethod
-    def made(cls, program, store, settings=None, **how):
+    def create(cls, program, store, settings=None, **how):
         """A new office, which must not fail."""
         office = cls(program, store)
         ended = office.init(settings, **how)
@@ -178,7 +202,7 @@ class Office:
         """A running session."""
         return Session(self)
 
-    def served(self, connections, port=None, **environment):
+    def serve(self, connections, port=None, **environment):
         """A running server for so many connections."""
         return Server(self, connections, port or next(PORTS), environment)
 
@@ -221,15 +245,15 @@ class Server(Running):
     def __init__(self, office, connections, port, environment):
         words = ["serve", "--port", str(port), "--connections", str(connections)]
         streams = {"stdin": subprocess.DEVNULL, "stdout": subprocess.PIPE, "stderr": subprocess.PIPE}
-        # without a buffer, so that `ended` finds all that comes after the first line
+        # without a buffer, so that `wait_for_end` finds all that comes after the first line
         super().__init__(office, *words, environment=environment, bufsize=0, **streams)
         self.port, self.said = port, self.process.stdout.readline()
 
-    def connected(self, patience=PATIENCE):
+    def connect(self, patience=PATIENCE):
         """A connection to the server."""
         return socket.create_connection((HOST, self.port), patience)
 
-    def ended(self, timeout=PATIENCE):
+    def wait_for_end(self, timeout=PATIENCE):
         """Waits until the server ends by itself. Its output is what it wrote after its first line."""
         output, message = self.process.communicate(timeout=timeout)
         return Ended(self.process.returncode, output, message)
@@ -244,16 +268,24 @@ class Checks:
     def __init__(self):
         self.passed = self.failed = 0
 
+    def check(self, what, holds, seen=""):
+        """Counts a condition; if it does not hold, prints what was seen. Says whether it holds."""
+        if holds:
+            self.passed += 1
+        else:
+            self.fail(what, f"WRONG {what}: {seen}")
+        return bool(holds)
+
+    def fail(self, what, told):
+        """Counts and prints something wrong; `what` is its name."""
+        self.failed += 1
+        print(told, flush=True)
+
     def same(self, what, found, wanted):
         """Compares a result; says whether it is right."""
-        if found == wanted:
-            self.passed += 1
-            return True
-        self.failed += 1
-        print(f"WRONG {what}: {found!r}, wanted {wanted!r}", flush=True)
-        return False
+        return self.check(what, found == wanted, f"{found!r}, wanted {wanted!r}")
 
-    def ends(self):
+    def finish(self):
         """Prints how many results were right; returns the exit status. Without a check nothing was shown."""
         print(f"{self.passed} passed, {self.failed} failed")
         return 1 if self.failed or not self.passed else 0
@@ -271,18 +303,24 @@ def first_difference(found, wanted):
 # ---- options and rooms
 
 
-def options(text, in_memory=True):
-    """The options of every script; `text` is what the script says about itself. Its stores are made in memory, where no
-    sync waits for a disk, or where temporary files are."""
+def program_options(text):
+    """The option of every script, which names the program; `text` is what the script says about itself."""
     words = argparse.ArgumentParser(description=text, formatter_class=argparse.RawDescriptionHelpFormatter)
     words.add_argument("--program", type=Program, default=str(BUILT), help="the built program; else that of `rt ci`")
+    return words
+
+
+def options(text, in_memory=True):
+    """The same for a script that makes stores: in memory, where no sync waits for a disk, or where temporary files
+    are."""
+    words = program_options(text)
     room = MEMORY if in_memory and os.access(MEMORY, os.W_OK) else Path(tempfile.gettempdir())
     told = f"where stores are made; else {room}"
     words.add_argument("--room", type=Path, default=room, metavar="DIRECTORY", help=told)
     return words
 
 
-def seeded(text, count):
+def seeded_options(text, count):
     """The same for a script of random sessions or inputs, each made from a seed."""
     words = options(text)
     words.add_argument("--first", type=int, default=0, metavar="SEED", help="the first seed; else 0")
@@ -294,12 +332,12 @@ def one_of(known):
     """The type of a word that is one of these names or numbers."""
     by_word = {str(it): it for it in known}
 
-    def found(word):
+    def parse(word):
         if word not in by_word:
             raise argparse.ArgumentTypeError(f"{word} is none of {', '.join(by_word)}")
         return by_word[word]
 
-    return found
+    return parse
 
 
 @contextlib.contextmanager

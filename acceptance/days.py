@@ -53,6 +53,7 @@ class Day:
 
     @classmethod
     def of(cls, file):
+        """The day that a file describes."""
         return cls(file.stem, file.parent, file.read_text())
 
     def read(self, line, *text):
@@ -72,17 +73,20 @@ class Day:
             self.take(word, rest or lines, client.JSON if rest else client.TEXT)
 
     def ask(self, method, rest, lines):
+        """Adds a request; a body `@FILE` is read from the folder of the day."""
         path, _, body = rest.partition(" ")
         said = (self.folder / body[1:]).read_bytes() if body[:1] == "@" else (body or lines).encode()
         self.said += client.get(path) if method == "GET" else client.post(path, said)
         self.asked.append([method, path, said])
 
     def take(self, status, text, kind):
+        """Adds the answer to the last request, with its text as the body."""
         self.answered += client.reply(int(status), text.encode(), kind)
         if self.asked:
             self.asked[-1] += [int(status), text]
 
     def read_raw(self, word, rest):
+        """Reads a line of raw bytes that are sent or answered, or the line that says how the program ends."""
         self.is_raw = True
         if word == "ends":
             status, _, told = rest.partition(" ")
@@ -94,11 +98,12 @@ class Day:
         else:
             self.answered += rest.encode() + ENDS[word[1:]]
 
-    def wanted(self):
+    def wanted_end(self):
         """How a session with the program must end."""
         return Ended(self.status, self.answered, self.told)
 
     def has_other_settings(self):
+        """Whether the day has other seats, orders a day, boxes in hands or boxes in a run than the usual settings."""
         return any(self.settings[it] != client.SETTINGS[it] for it in ("seats", "daily", "hands", "run"))
 
     def is_kept(self, store):
@@ -113,7 +118,7 @@ class Day:
         return True
 
 
-def written():
+def read_days():
     """The days in the files of days/."""
     return [Day.of(it) for it in sorted((HERE / "days").glob("*.day"))]
 
@@ -132,19 +137,19 @@ def is_answered(day, ended, how):
     if client.lacked_memory(ended):
         print(f"WRONG {day.name} by {how}: 503 or no memory, with ample memory")
         return False
-    if ended != day.wanted():
-        print(f"WRONG {day.name} by {how}: {client.first_difference(ended, day.wanted())}")
-    return ended == day.wanted()
+    if ended != day.wanted_end():
+        print(f"WRONG {day.name} by {how}: {client.first_difference(ended, day.wanted_end())}")
+    return ended == day.wanted_end()
 
 
-def does(day, ended, command, output=b""):
+def ends_well(day, ended, command, output=b""):
     """Whether a command ended well."""
     if ended != Ended(0, output, b""):
         print(f"WRONG {day.name}, {command}: {ended}")
     return ended == Ended(0, output, b"")
 
 
-def is_tried(program, day):
+def is_answered_by_trial(program, day):
     """Whether `trial` answers the whole input."""
     return is_answered(day, program.trial(day.said, day.settings, LONGEST), "trial")
 
@@ -168,19 +173,20 @@ def is_read_by_bytes(program, day):
     return is_answered(day, Ended(running.returncode, printed, told), "trial, byte by byte")
 
 
-def is_talked(day, office):
+def is_answered_by_talk(day, office):
     """Whether `talk` on this office answers."""
     return is_answered(day, office.talk(day.said, timeout=LONGEST), "talk")
 
 
 def is_sound(day, office):
-    return does(day, office.check(timeout=LONGEST), "check", b"sound\n")
+    """Whether `check` says that the store is sound; prints what is wrong."""
+    return ends_well(day, office.check(timeout=LONGEST), "check", b"sound\n")
 
 
 def is_kept(program, day, room):
     """Whether the day goes as written on a new store, which then is sound and has what the day says."""
     office = Office(program, room / f"{day.name}.db")
-    made = does(day, office.init(day.settings), "init") and is_talked(day, office)
+    made = ends_well(day, office.init(day.settings), "init") and is_answered_by_talk(day, office)
     return made and is_sound(day, office) and day.is_kept(office.store)
 
 
@@ -189,7 +195,8 @@ def play(text, made, what, is_by_bytes=False):
     given, held = client.options(text).parse_args(), 0
     with client.temporary(given.room) as room:
         for day in made:
-            is_held = is_tried(given.program, day) and (not is_by_bytes or is_read_by_bytes(given.program, day))
+            is_held = is_answered_by_trial(given.program, day)
+            is_held = is_held and (not is_by_bytes or is_read_by_bytes(given.program, day))
             held += is_held and is_kept(given.program, day, room)
     ways = "by trial, byte by byte and over a store" if is_by_bytes else "by trial and over a store"
     print(f"of {len(made)} days {what} {held} were held {ways}")
@@ -198,8 +205,8 @@ def play(text, made, what, is_by_bytes=False):
 
 def play_written(program, room):
     """Plays the days of the files, and returns the exit status."""
-    days = written()
-    tried = sum(is_tried(program, day) for day in days)
+    days = read_days()
+    tried = sum(is_answered_by_trial(program, day) for day in days)
     read = sum(is_read_by_bytes(program, day) for day in days)
     kept = sum(is_kept(program, day, room) for day in days)
     other = sum(day.has_other_settings() for day in days)
@@ -209,6 +216,7 @@ def play_written(program, room):
 
 
 def main():
+    """Plays the day that is named on its store, or all days; returns whether a result is wrong."""
     words = client.options(__doc__)
     words.add_argument("on_store", nargs="*", type=Path, metavar="DAY STORE")
     given = words.parse_args()
@@ -216,7 +224,7 @@ def main():
         if len(given.on_store) != 2:
             words.error("a DAY needs its STORE")
         day, store = given.on_store
-        return not is_talked(Day.of(day), Office(given.program, store))
+        return not is_answered_by_talk(Day.of(day), Office(given.program, store))
     with client.temporary(given.room) as room:
         return play_written(given.program, room)
 

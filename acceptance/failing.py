@@ -24,7 +24,7 @@ from concurrent.futures import ThreadPoolExecutor
 import client
 import stopped
 from client import BUSY, Ended, Office, get, post
-from stopped import LONGEST, Command, copied
+from stopped import LONGEST, Command, copy_office
 
 PAIRS = [f"{how}:{kept}" for how in ("broken", "once", "late", "full") for kept in stopped.KEPT] + ["unread:all"]
 FAULT = Ended(3, b"", b"store fault\n")
@@ -33,6 +33,7 @@ SOUND = client.SOUND[:2]
 
 
 def register(name):
+    """The request that registers a reader of this name."""
     return post("/desk/register", f'{{"name":"{name}","until":"2024-12-31"}}')
 
 
@@ -68,6 +69,7 @@ def every_command(units):
 
 
 def talk(office, asked, **disk):
+    """Runs a session of these requests, with the variables of a disk that fails."""
     return office.talk(*asked, timeout=LONGEST, **disk)
 
 
@@ -83,9 +85,9 @@ class Tries:
         self.name, self.before, self.room = name, before, room
         self.fates, self.wrong = [], []
 
-    def looked(self, *asked):
+    def look_after(self, *asked):
         """A look at a copy of the office after these requests, and their answers."""
-        office = copied(self.before, self.room)
+        office = copy_office(self.before, self.room)
         answers = talk(office, asked).output if asked else b""
         return look(office), answers
 
@@ -94,11 +96,12 @@ class Tries:
         raise NotImplementedError
 
     def is_left_well(self, office, ended):
+        """Always true; a kind of run may check here more of what a failure leaves than a look shows."""
         return True
 
     def fail(self, shim, number, how, kept):
         """Makes the disk fail at this call, and looks at the office. False if there was no such call."""
-        office = copied(self.before, self.room)
+        office = copy_office(self.before, self.room)
         mark = office.store.parent / "failed"
         disk = {"LD_PRELOAD": shim, "FAIL": str(number), "HOW": how, "KEPT": kept, "FAILED": str(mark)}
         ended, may_show = self.run(office, **disk)
@@ -111,15 +114,18 @@ class Tries:
         return has_failed
 
     def fates_of(self, ended, is_done):
+        """The words to count for a failure: whether the run told of it, and whether all was done nevertheless."""
         is_told = ended[2] == FAULT.message or BUSY in ended[1]
         return ["failure", *["told"] * is_told, *["done"] * is_done]
 
-    def all_failures(self, shim, how, kept):
+    def try_all_failures(self, shim, how, kept):
+        """Makes the disk fail at the first, second, .. call, until a run has no such call."""
         for number in itertools.count(1):
             if not self.fail(shim, number, how, kept):
                 return
 
     def lines(self):
+        """The lines of the report: the counts of failures, and each wrong result."""
         failures, told, done = (self.fates.count(it) for it in ("failure", "told", "done"))
         counts = f"{failures} failures, {told} were told, {done} of these were done all the same"
         return [f"{self.name}: {counts}", *self.wrong]
@@ -130,12 +136,13 @@ class Commands(Tries):
 
     def __init__(self, name, before, room, *words):
         super().__init__(name, before, room)
-        self.command, self.after = Command([name, *words]), copied(before, room)
+        self.command, self.after = Command([name, *words]), copy_office(before, room)
         self.whole = self.command.perform(self.after)
-        self.found, self.left = self.looked()[0], look(copied(self.after, room))
+        self.found, self.left = self.look_after()[0], look(copy_office(self.after, room))
         assert self.whole.status == 0 and self.left[0][:2] == SOUND, (name, self.whole, self.left)
 
     def run(self, office, **disk):
+        """Runs the command; returns how it ended, and what the office may show then."""
         ended = self.command.perform(office, **disk)
         if ended == self.whole:
             return ended, [self.left]
@@ -144,6 +151,7 @@ class Commands(Tries):
         return ended, [self.found] if self.name == "init" else [self.found, self.left]
 
     def is_left_well(self, office, ended):
+        """Whether `init` succeeds when it is called again after a failure; true of other commands."""
         return self.name != "init" or ended != FAULT or self.command.perform(office) == self.whole
 
 
@@ -153,11 +161,12 @@ class Sessions(Tries):
     def __init__(self, name, before, room, asked, refused=0):
         super().__init__(name, before, room)
         self.asked = asked
-        self.looks, self.answers = zip(*(self.looked(*asked[:count]) for count in range(len(asked) + 1)))
+        self.looks, self.answers = zip(*(self.look_after(*asked[:count]) for count in range(len(asked) + 1)))
         assert all(it[0][:2] == SOUND for it in self.looks), name
         assert self.answers[-1].count(b"HTTP/1.1 200 OK") == len(asked) - refused, self.answers
 
     def run(self, office, **disk):
+        """Runs the session; returns how it ended, and what the office may show after its answers."""
         ended = talk(office, self.asked, **disk)
         if ended == FAULT:
             return ended, self.looks[:1]
@@ -171,7 +180,7 @@ class Sessions(Tries):
 
 def ask(server, asked):
     """Asks on a new connection; returns the answer, or nothing if the connection breaks."""
-    with contextlib.suppress(OSError), server.connected(20) as it:
+    with contextlib.suppress(OSError), server.connect(20) as it:
         it.sendall(asked)
         it.shutdown(socket.SHUT_WR)
         return b"".join(iter(lambda: it.recv(4096), b""))
@@ -180,10 +189,10 @@ def ask(server, asked):
 
 def serve(office, asked, **disk):
     """Asks a server, each request on its own connection; returns its status, answers and message."""
-    with office.served(len(asked), **disk) as server:
+    with office.serve(len(asked), **disk) as server:
         listens = server.said == b"listening %d\n" % server.port
         answers = [ask(server, it) for it in asked] if listens else []
-        ended = server.ended(LONGEST)
+        ended = server.wait_for_end(LONGEST)
     return serve(office, asked, **disk) if ended.message == TAKEN else (ended.status, answers, ended.message)
 
 
@@ -196,16 +205,17 @@ class Servers(Tries):
         super().__init__("serve", before, room)
         self.looks, self.answers = {}, {}
         for there in ((), (ANN,), (BEN,), (ANN, BEN)):
-            self.looks[there], said = self.looked(*there)
-            self.answers |= {(there, it): self.looked(*there, it)[1][len(said) :] for it in self.ASKED}
+            self.looks[there], said = self.look_after(*there)
+            self.answers |= {(there, it): self.look_after(*there, it)[1][len(said) :] for it in self.ASKED}
 
     def run(self, office, **disk):
+        """Runs the server; returns how it ended, and what the office may show after its answers."""
         status, answers, told = ended = serve(office, self.ASKED, **disk)
         if (status, told) == (0, b"") or (status, answers, told) == (3, [], FAULT.message):
-            return ended, [self.looks[it] for it in self.registered(answers)]
+            return ended, [self.looks[it] for it in self.possible_readers(answers)]
         return ended, []
 
-    def registered(self, answers):
+    def possible_readers(self, answers):
         """The readers who may be registered then, as a list of possibilities. The first has those who were answered.
         After a registration that got 503 there is a second, with that reader; a later answer rules it out.
         A question that gets 503 shows that the store is shut: no later request may be answered."""
@@ -222,14 +232,16 @@ class Servers(Tries):
         return [there, *maybe]
 
     def fates_of(self, ended, is_done):
+        """The words to count, and one more if the question was refused because the store was shut."""
         return [*super().fates_of(ended, is_done), *["shut"] * (ended[1][1:2] == [BUSY])]
 
     def lines(self):
+        """The lines of the report, with how often the store was shut."""
         first, *wrong = super().lines()
         return [f"{first}; {self.fates.count('shut')} times the store was shut", *wrong]
 
 
-def registers(office, most):
+def register_readers(office, most):
     """Registers up to this many readers, kills the program, and returns their number. It stops early when the log is
     written into the file."""
     with office.session() as session:
@@ -244,10 +256,10 @@ def registers(office, most):
 def long_log(before, room):
     """An office whose program was killed, with a log that the next command writes into the file."""
     most = 5000
-    made = registers(copied(before, room), most)
+    made = register_readers(copy_office(before, room), most)
     assert made < most
-    office = copied(before, room)
-    registers(office, made - 1)
+    office = copy_office(before, room)
+    register_readers(office, made - 1)
     return office
 
 
@@ -268,15 +280,16 @@ def all_tries(program, room):
 
 
 def main():
+    """Tries all runs with the kinds of failure that are named, and returns whether one went wrong or met no failure."""
     words = client.options(__doc__)
     words.add_argument("pairs", nargs="*", type=client.one_of(PAIRS), metavar="HOW:KEPT", help=", ".join(PAIRS))
     given = words.parse_args()
     with client.temporary(given.room) as room:
         short, long = all_tries(given.program, room)
-        shim, pairs = stopped.built_shim(room), given.pairs or PAIRS
+        shim, pairs = stopped.build_shim(room), given.pairs or PAIRS
         runs = [(it, *pair.split(":")) for pair in pairs for it in short + long if it in short or pair != "unread:all"]
         with ThreadPoolExecutor(os.cpu_count()) as pool:
-            for it in [pool.submit(it.all_failures, shim, *how) for it, *how in runs]:
+            for it in [pool.submit(it.try_all_failures, shim, *how) for it, *how in runs]:
                 it.result()
     tried = list(dict.fromkeys(it for it, *_ in runs))
     for it in tried:

@@ -79,7 +79,8 @@ GET /desk/runs/{MOST_RUNS}
 """,
     "containers": f"""with seats 1 daily 1 hands 1 run 1
 {ANN}{one("1,Plans,Published,Box 1|Last")}{NEW}{LENT}{one("2,Maps,Published,One more")}{FULL}\
-{one("1,Plans,Published,One more")}{FULL}{one("1,Plans,Published,Last")}409 {{"code":21,"container":1,"refused":"WithReader"}}
+{one("1,Plans,Published,One more")}{FULL}{one("1,Plans,Published,Last")}\
+409 {{"code":21,"container":1,"refused":"WithReader"}}
 {one("2,Maps,Published,Last")}{NEW}GET /public/aid/2
 200
 | GB 0999 [-] Maps
@@ -141,7 +142,8 @@ POST /desk/cancel {{"order":{MOST_ORDERS}}}
 BY_HAND = {"orders"}
 
 
-def counted(most):
+def numbers_to(most):
+    """The beginning of an SQL statement that has the numbers from 1 to `most` as the table n."""
     return f"WITH RECURSIVE n(i) AS (SELECT 1 UNION ALL SELECT i + 1 FROM n WHERE i < {most}) "
 
 
@@ -154,18 +156,19 @@ TWO_BOXES = [
     "UPDATE office SET next_unit = 2",
 ]
 SQL = {
-    "tickets": [counted(MOST_TICKETS - 1) + "INSERT INTO reader SELECT i, 'Ann', 20088 FROM n"],
+    "tickets": [numbers_to(MOST_TICKETS - 1) + "INSERT INTO reader SELECT i, 'Ann', 20088 FROM n"],
     "runs": [
         *TWO_BOXES,
         "INSERT INTO reader VALUES (1, 'Ann', 20088)",
         "INSERT INTO orders VALUES (1, 1, 1, 19783, 3)",
-        counted(MOST_RUNS - 1) + "INSERT INTO run SELECT i, 19783 FROM n",
-        counted(MOST_RUNS - 1) + "INSERT INTO run_line SELECT i, 1, 1, 1 FROM n",
+        numbers_to(MOST_RUNS - 1) + "INSERT INTO run SELECT i, 19783 FROM n",
+        numbers_to(MOST_RUNS - 1) + "INSERT INTO run_line SELECT i, 1, 1, 1 FROM n",
     ],
-    "containers": [counted(MOST_CONTAINERS - 1) + "INSERT INTO container SELECT i, 'Box ' || i, '', '' FROM n"],
+    "containers": [numbers_to(MOST_CONTAINERS - 1) + "INSERT INTO container SELECT i, 'Box ' || i, '', '' FROM n"],
     "units": [
-        counted(MOST_UNITS - 1) + "INSERT INTO unit (id, source, legacy, level, draft) SELECT i, 'a', i, '', 1 FROM n",
-        counted(MOST_UNITS - 1) + "INSERT INTO span SELECT i, 2 * i - 1, 2 * i FROM n",
+        numbers_to(MOST_UNITS - 1)
+        + "INSERT INTO unit (id, source, legacy, level, draft) SELECT i, 'a', i, '', 1 FROM n",
+        numbers_to(MOST_UNITS - 1) + "INSERT INTO span SELECT i, 2 * i - 1, 2 * i FROM n",
         f"UPDATE office SET next_unit = {MOST_UNITS}",
     ],
     "numbers": [f"UPDATE office SET next_unit = {LAST_UNIT - 1}"],
@@ -173,8 +176,8 @@ SQL = {
         *TWO_BOXES,
         "INSERT INTO container VALUES (2, 'Box 2', '', '')",
         "INSERT INTO housing VALUES (1, 2, 2)",
-        counted(1000) + "INSERT INTO reader SELECT i, 'Ann', 20088 FROM n",
-        counted(MOST_ORDERS - 1) + "INSERT INTO orders SELECT i, 1 + i % 1000, 1, 19782 - i / 1000, 3 FROM n",
+        numbers_to(1000) + "INSERT INTO reader SELECT i, 'Ann', 20088 FROM n",
+        numbers_to(MOST_ORDERS - 1) + "INSERT INTO orders SELECT i, 1 + i % 1000, 1, 19782 - i / 1000, 3 FROM n",
     ],
 }
 
@@ -207,6 +210,7 @@ class CountedList(list):
         return self.more + super().__len__()
 
     def index(self, it):
+        """The place of a thing, as if the missing ones were there."""
         place = super().index(it)
         return place and place + self.more
 
@@ -221,7 +225,8 @@ def fill(office, day):
     """Fills a plain office, as SQL fills a store."""
     name = day.filled
     if name in ("runs", "orders"):
-        head, boxes = b"legacyId,title,publicationStatus,physicalObjectName\n", b"Box 1|Box 2" if name == "orders" else b"Box 1"
+        head = b"legacyId,title,publicationStatus,physicalObjectName\n"
+        boxes = b"Box 1|Box 2" if name == "orders" else b"Box 1"
         office.post("/desk/import/a", head + b"1,Plans,Published," + boxes)
         office.post("/desk/register", b'{"name":"Ann","until":"2024-12-31"}')
     if name == "runs":
@@ -244,7 +249,7 @@ def fill(office, day):
 # ---- the program
 
 
-def made():
+def make_days():
     """The days, each with the name of what fills its office."""
     made = []
     for name, text in DAYS.items():
@@ -254,7 +259,7 @@ def made():
     return made
 
 
-def is_filled(day, office):
+def fill_store(day, office):
     """Fills the tables of an office; whether it is sound then."""
     with contextlib.closing(sqlite3.connect(office.store)) as connection:
         connection.execute("PRAGMA foreign_keys = ON")
@@ -268,17 +273,18 @@ def is_held(program, day, where):
     """Whether the day goes as written on a new office; prints how long it took."""
     with client.temporary(where) as room:
         office, begun = client.Office(program, room / "office.db"), time.time()
-        held = days.does(day, office.init(day.settings), "init") and is_filled(day, office)
-        held = held and days.is_talked(day, office) and days.is_sound(day, office)
+        held = days.ends_well(day, office.init(day.settings), "init") and fill_store(day, office)
+        held = held and days.is_answered_by_talk(day, office) and days.is_sound(day, office)
         print(f"{day.filled}: {time.time() - begun:.0f} s")
     return held
 
 
 def main():
+    """Plays the days that are named, or all quick ones; returns whether one went wrong."""
     words = client.options(__doc__)
     words.add_argument("names", nargs="*", type=client.one_of(DAYS), metavar="NAME", help=", ".join(DAYS))
     given = words.parse_args()
-    wanted = [it for it in made() if (it.filled in given.names if given.names else it.filled not in BY_HAND)]
+    wanted = [it for it in make_days() if (it.filled in given.names if given.names else it.filled not in BY_HAND)]
     held = sum(is_held(given.program, day, given.room) for day in wanted)
     print(f"of {len(wanted)} days of offices that are nearly full {held} were held")
     return not wanted or held != len(wanted)

@@ -1,10 +1,10 @@
 #!/usr/bin/env bash
 # A day of the reading room and a visit of a reader, played on the pages in a real browser, and the rules of the front.
 #   acceptance/front.sh [PROGRAM]
-# It starts the program and the front of front/server on free ports of 127.0.0.1, and ends them. It needs nginx, haproxy and openssl,
-# python3-waitress for the search in all archives and chromium for the pages, and tries to install them from Debian's packages.
-# If it cannot, it says what it leaves out; in CI that is wrong. Pictures of the pages go to acceptance/front/out, which is not
-# committed.
+# It starts the program and the front of front/server on free ports of 127.0.0.1, and ends them. It needs nginx, haproxy and
+# openssl, python3-waitress for the search in all archives and chromium for the pages, and tries to install them from
+# Debian's packages. If it cannot, it says what it leaves out; in CI that is wrong. Pictures of the pages go to
+# acceptance/front/out, which is not committed.
 # Its last line is `N passed, M failed`; it ends with 0 if all passed.
 set -euo pipefail
 here=$(cd "$(dirname "$0")" && pwd)
@@ -15,7 +15,8 @@ export PATH=$PATH:/usr/sbin:/usr/local/sbin
 install() {
     if [ "$(id -u)" = 0 ] && command -v apt-get >/dev/null; then
         timeout 120 apt-get update -q >/dev/null 2>&1 || true
-        DEBIAN_FRONTEND=noninteractive timeout 300 apt-get install -y -q --no-install-recommends "$@" >/dev/null 2>&1 || true
+        DEBIAN_FRONTEND=noninteractive timeout 300 \
+            apt-get install -y -q --no-install-recommends "$@" >/dev/null 2>&1 || true
     fi
 }
 
@@ -56,4 +57,4 @@ fi
 has zbarimg zbar-tools || echo "left out that zbarimg reads the barcodes: it is not here and cannot be installed"
 room=$(mktemp -d)
 trap 'rm -rf "$room"' EXIT
-python3 "$here/front/run.py" "$program" "$room/offices" "$here/front/out" "${parts[@]}"
+python3 "$here/front/run.py" --program "$program" "$room/offices" "$here/front/out" "${parts[@]}"

@@ -21,27 +21,28 @@ def answer(status, body, *fields, has_body=True):
     return [*(f"< {it}".rstrip() for it in head), *([f"<| {body}"] if has_body else [])]
 
 
-def closing(status, error, has_body=True):
+def closing_answer(status, error, has_body=True):
+    """The lines of a day for an error that closes the connection."""
     return answer(status, f'{{"error":"{error}"}}', "Connection: close", has_body=has_body)
 
 
 NOTHING = answer("200 OK", "[]")
 LAST = answer("200 OK", "[]", "Connection: close")
 UNKNOWN = answer("404 Not Found", '{"error":"not found"}')
-BAD = closing("400 Bad Request", "bad request")
-LARGE = closing("413 Content Too Large", "too large")
-CHUNKED = closing("501 Not Implemented", "not implemented")
+BAD = closing_answer("400 Bad Request", "bad request")
+LARGE = closing_answer("413 Content Too Large", "too large")
+CHUNKED = closing_answer("501 Not Implemented", "not implemented")
 
 
-def said(*lines):
+def head_lines(*lines):
     """A head of these lines; each %HH is a byte."""
     return [f">% {it}%0D%0A" for it in (*lines, "")]
 
 
-QUESTION = said(ASKED, HOST)
+QUESTION = head_lines(ASKED, HOST)
 
 
-def then(head, answered):
+def with_question(head, answered):
     """A head with its answer, and a question after it."""
     is_closed = "< Connection: close" in answered
     return [*head, *answered, *QUESTION, *([] if is_closed else NOTHING)]
@@ -50,12 +51,14 @@ def then(head, answered):
 # ---- targets, and whether they name the question about what is out
 
 NAMED = [
-    "/desk/issued", "/desk/issued?", "/desk/issued?x=/desk/run?#y", "http://x/desk/issued", "HTTP://x:80/desk/issued?a/b",
-    "hTtP:///desk/issued", "http://x@y:1/desk/issued", "http:///desk/issued?http://x/y", "http://[::1]/desk/issued",
+    "/desk/issued", "/desk/issued?", "/desk/issued?x=/desk/run?#y", "http://x/desk/issued",
+    "HTTP://x:80/desk/issued?a/b", "hTtP:///desk/issued", "http://x@y:1/desk/issued",
+    "http:///desk/issued?http://x/y", "http://[::1]/desk/issued",
 ]
 NOT_NAMED = [
     "*", "/", "?/desk/issued", "x", "desk/issued", "/desk/issued/", "/desk//issued", "//desk/issued", "/DESK/issued",
-    "/desk/Issued", "/desk/%2569ssued", "/desk/issued%23x", "/desk/issued%2523x", "/desk/issued&x", "/desk/./issued", "/desk/issue%64%64",
+    "/desk/Issued", "/desk/%2569ssued", "/desk/issued%23x", "/desk/issued%2523x", "/desk/issued&x", "/desk/./issued",
+    "/desk/issue%64%64",
     "https://x/desk/issued", "http:/x/desk/issued", "http:/desk/issued", "http:x/desk/issued", "//x/desk/issued",
     "http://x", "http://x?/desk/issued", "http://x%23/desk/issued", "http://desk/issued", "http://%23y/desk/issued",
     "/http://x/desk/issued", "/x?http://x/desk/issued", "/desk/issued%C3%A9", "x:443", "http://x//desk/issued",
@@ -128,8 +131,9 @@ CHECKED = {
     "an_empty_host_is_one": (["GET /desk/issued HTTP/1.1", "Host:", "Host:"], BAD),
     "an_old_peer_with_two_hosts": (["GET /desk/issued HTTP/1.0", HOST, "HOST: y"], BAD),
     "an_old_peer_without_a_host": (["GET /desk/issued HTTP/1.0"], LAST),
-    "two_hosts_of_head": (["HEAD / HTTP/1.1", HOST, HOST], closing("400 Bad Request", "bad request", has_body=False)),
-    "no_host_of_head": (["HEAD / HTTP/1.1"], closing("400 Bad Request", "bad request", has_body=False)),
+    "two_hosts_of_head": (["HEAD / HTTP/1.1", HOST, HOST],
+                          closing_answer("400 Bad Request", "bad request", has_body=False)),
+    "no_host_of_head": (["HEAD / HTTP/1.1"], closing_answer("400 Bad Request", "bad request", has_body=False)),
     "no_host_of_small_head": (["head / HTTP/1.1"], BAD),
     "no_head_of_head": (["HEAD / HTTP/1.1", HOST, "X"], BAD),
     "no_host_and_chunked": ([ASKED, "Transfer-Encoding: chunked"], BAD),
@@ -141,7 +145,7 @@ CHECKED = {
     "not_coded": ([ASKED, HOST, "Transfer-Encoding: identity"], CHUNKED),
     "coded_by_nothing": ([ASKED, HOST, "Transfer-Encoding:"], CHUNKED),
     "chunked_of_head": (["HEAD / HTTP/1.1", HOST, "Transfer-Encoding: x"],
-                        closing("501 Not Implemented", "not implemented", has_body=False)),
+                        closing_answer("501 Not Implemented", "not implemented", has_body=False)),
     "no_length": ([ASKED, HOST, "Content-Length:"], BAD),
     "a_second_length_is_none": ([ASKED, HOST, "Content-Length: 0", "Content-Length:"], BAD),
     "a_length_with_a_minus": ([ASKED, HOST, "Content-Length: -0"], BAD),
@@ -151,7 +155,7 @@ CHECKED = {
     "a_length_in_a_list": ([ASKED, HOST, "Content-Length: 0, 0"], BAD),
     "a_length_past_ascii": ([ASKED, HOST, "Content-Length: %B2"], BAD),
     "a_bad_length_of_head": (["HEAD / HTTP/1.1", HOST, "Content-Length: x"],
-                             closing("400 Bad Request", "bad request", has_body=False)),
+                             closing_answer("400 Bad Request", "bad request", has_body=False)),
     "lengths_that_differ": ([ASKED, HOST, "Content-Length: 0", "Content-Length: 1"], BAD),
     "lengths_of_which_the_third_differs": ([ASKED, HOST, *["Content-Length: 0"] * 2, "Content-Length: 10"], BAD),
     "a_bad_length_after_a_good_one": ([ASKED, HOST, "Content-Length: 0", "Content-Length: +0"], BAD),
@@ -163,7 +167,7 @@ CHECKED = {
     "a_length_past_64_bits": ([ASKED, HOST, "Content-Length: 18446744073709551616"], LARGE),
     "too_large_of_an_old_peer": (["POST / HTTP/1.0", f"Content-Length: {LARGEST + 1}"], LARGE),
     "too_large_of_head": (["HEAD / HTTP/1.1", HOST, f"Content-Length: {LARGEST + 1}"],
-                          closing("413 Content Too Large", "too large", has_body=False)),
+                          closing_answer("413 Content Too Large", "too large", has_body=False)),
     "too_large_without_a_path": (["PUT /nothing HTTP/1.1", HOST, f"Content-Length: {LARGEST + 1}"], LARGE),
 }  # fmt: skip
 
@@ -172,9 +176,9 @@ CHECKED = {
 CUT = "ends 3 cut"
 DOTS = "." * 30
 ENDINGS = {
-    "refused_after_an_answer": [*QUESTION, *NOTHING, *said(ASKED), *BAD, *QUESTION],
+    "refused_after_an_answer": [*QUESTION, *NOTHING, *head_lines(ASKED), *BAD, *QUESTION],
     "too_long_after_an_answer": [*QUESTION, *NOTHING, f">| {'x' * HEAD}", *BAD],
-    "half_a_head_after_a_refusal": [*said(ASKED), *BAD, ">| GET /desk"],
+    "half_a_head_after_a_refusal": [*head_lines(ASKED), *BAD, ">| GET /desk"],
     "empty_lines_after_an_answer": [*QUESTION, *NOTHING, ">", ">$", ">"],
     "half_an_empty_line_after_an_answer": [*QUESTION, *NOTHING, ">", ">^", CUT],
     "a_return_and_an_empty_line": [">^", ">", CUT],
@@ -183,29 +187,32 @@ ENDINGS = {
     "half_of_the_last_line": [f"> {ASKED}", f"> {HOST}", ">^", CUT],
     "a_return_and_a_byte_in_a_line": [f"> {ASKED}", f"> {HOST}", ">^", ">$ x", CUT],
     "one_byte": [">| G", CUT],
-    "no_body": [*said("POST /desk/run HTTP/1.1", HOST, "Content-Length: 1"), CUT],
-    "a_body_without_its_last_byte": [*said("GET /nothing HTTP/1.1", HOST, "Content-Length: 31"), f">| {DOTS}", CUT],
-    "the_largest_length": [*said("POST /desk/run HTTP/1.1", HOST, f"Content-Length: {LARGEST}"), CUT],
+    "no_body": [*head_lines("POST /desk/run HTTP/1.1", HOST, "Content-Length: 1"), CUT],
+    "a_body_without_its_last_byte": [
+        *head_lines("GET /nothing HTTP/1.1", HOST, "Content-Length: 31"), f">| {DOTS}", CUT,
+    ],
+    "the_largest_length": [*head_lines("POST /desk/run HTTP/1.1", HOST, f"Content-Length: {LARGEST}"), CUT],
     "most_empty_lines": [">$"] * (HEAD - 1),
     "an_empty_line_more": [*[">$"] * HEAD, *BAD],
     "empty_lines_and_the_longest_head": [*[">$"] * (HEAD - len(f"{ASKED}{HOST}") - 6), *QUESTION, *NOTHING],
     "empty_lines_and_a_byte_more": [*[">$"] * (HEAD - len(f"{ASKED}{HOST}") - 5), *QUESTION, *BAD],
     "the_longest_head_that_is_cut": [f">| {'x' * (HEAD - 1)}", CUT],
 }
-BY_ONE_PEER = [line for target, answered in TARGETS for line in [*said(target, HOST), *answered]]
+BY_ONE_PEER = [line for target, answered in TARGETS for line in [*head_lines(target, HOST), *answered]]
 DAYS = {
     "targets": BY_ONE_PEER,
-    **{name: [*said(*lines), *NOTHING, *QUESTION, *NOTHING] for name, lines in TAKEN.items()},
-    **{name: then(said(*lines), BAD) for name, lines in UNREADABLE.items()},
-    **{name: then(said(*lines), answered) for name, (lines, answered) in CHECKED.items()},
+    **{name: [*head_lines(*lines), *NOTHING, *QUESTION, *NOTHING] for name, lines in TAKEN.items()},
+    **{name: with_question(head_lines(*lines), BAD) for name, lines in UNREADABLE.items()},
+    **{name: with_question(head_lines(*lines), answered) for name, (lines, answered) in CHECKED.items()},
     **ENDINGS,
 }
 DAYS["an_empty_line_of_one_byte"][2:2] = NOTHING
 
 
-def made():
+def make_days():
+    """The days of all tables; the name of each begins with `heads_`."""
     return days.of_table(DAYS, "heads_")
 
 
 if __name__ == "__main__":
-    sys.exit(days.play(__doc__, made(), "of heads", is_by_bytes=True))
+    sys.exit(days.play(__doc__, make_days(), "of heads", is_by_bytes=True))

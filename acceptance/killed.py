@@ -28,25 +28,26 @@ class Kills:
         self.office, self.room, self.checks = office, room, checks
         self.seconds, self.midst = 0, 0
 
-    def started(self, words, said):
+    def start(self, words, said):
         """Starts the program with its streams in files, so that what it prints is there after a kill."""
         (self.room / "asked").write_bytes(said)
         with open(self.room / "asked", "rb") as asked, open(self.room / "told", "wb") as told:
             return client.Running(self.office, *words, stdin=asked, stdout=told).process
 
-    def printed(self):
+    def output(self):
+        """What the last run of the program had printed."""
         return (self.room / "told").read_bytes()
 
-    def undisturbed(self, words, said=b""):
+    def run_undisturbed(self, words, said=b""):
         """Runs one to its end, and takes its time. Returns what it printed."""
         begun = time.monotonic()
-        self.checks.same(words[0], self.started(words, said).wait(), 0)
+        self.checks.same(words[0], self.start(words, said).wait(), 0)
         self.seconds = time.monotonic() - begun
-        return self.printed()
+        return self.output()
 
     def kill(self, words, said=b""):
         """Kills one, and returns what it had printed. About a third should end before they are killed."""
-        program = self.started(words, said)
+        program = self.start(words, said)
         try:
             program.wait(random.random() * self.seconds)
             self.seconds *= 0.9
@@ -56,7 +57,7 @@ class Kills:
             self.midst += 1
             self.seconds *= 1.05
         self.checks.same("check", self.office.check(), client.SOUND)
-        return self.printed()
+        return self.output()
 
     # ---- imports
 
@@ -67,19 +68,19 @@ class Kills:
         file.write_text(f"legacyId,parentId,identifier,title,publicationStatus\n1,,F,Fonds,Published\n{rows}")
         return ["import", "--source", source, file]
 
-    def tops(self):
+    def count_tops(self):
         """How many top units the public sees: one for each file that was imported."""
         ended = self.office.talk(client.get("/public/fonds"))
         self.checks.same("the list of fonds", (ended.status, ended.output[:15]), (0, b"HTTP/1.1 200 OK"))
         return sum(it.body.count(b"\n") for it in client.replies(ended.output))
 
-    def imports(self, times):
+    def kill_imports(self, times):
         """Kills imports."""
-        self.undisturbed(self.import_from("undisturbed"))
+        self.run_undisturbed(self.import_from("undisturbed"))
         there = 1
         for turn in range(times):
             told = self.kill(self.import_from(f"s{turn}"))
-            now = self.tops()
+            now = self.count_tops()
             allowed = [there + 1] if told else [there, there + 1]
             what = "an import that was answered" if told else "an import that was killed"
             self.checks.same(what, now if now not in allowed else allowed, allowed)
@@ -89,13 +90,14 @@ class Kills:
     # ---- sessions
 
     def is_ticket(self, number):
+        """Whether the office has a reader with this ticket."""
         told = self.office.talk(client.get(f"/desk/readers/{number}")).output
         return [it.status for it in client.replies(told)] == [200]
 
-    def sessions(self, times):
+    def kill_sessions(self, times):
         """Kills sessions that register readers."""
         words, said = ["talk"], REGISTRATION * REQUESTS
-        given = len(tickets_in(self.undisturbed(words, said)))
+        given = len(tickets_in(self.run_undisturbed(words, said)))
         for _ in range(times):
             tickets = tickets_in(self.kill(words, said))
             self.checks.same("tickets", tickets, list(range(given + 1, given + 1 + len(tickets))))
@@ -108,22 +110,24 @@ class Kills:
 
 
 def tickets_in(told):
+    """The numbers of the tickets that an output tells."""
     return [int(it) for it in re.findall(rb'\{"ticket":(\d+)\}', told)]
 
 
 def main():
+    """Kills imports and sessions, prints how many were killed in the midst, and returns the exit status."""
     words = client.options(__doc__)
     words.add_argument("--times", type=int, default=50, help="how often each is killed; else 50")
     given, checks = words.parse_args(), client.Checks()
     with client.temporary(given.room) as room:
         office = client.Office(given.program, room / "office.db")
         checks.same("init", office.init(client.LARGE), client.Ended(0, b"", b""))
-        imports = Kills(office, room, checks).imports(given.times).midst
-        sessions = Kills(office, room, checks).sessions(given.times).midst
+        imports = Kills(office, room, checks).kill_imports(given.times).midst
+        sessions = Kills(office, room, checks).kill_sessions(given.times).midst
     print(f"of {given.times} imports {imports} were killed in the midst, of {given.times} sessions {sessions}")
     fewest = max(1, given.times // FEWEST)
     checks.same(f"{fewest} or more of each were killed in the midst", min(imports, sessions) >= fewest, True)
-    return checks.ends()
+    return checks.finish()
 
 
 if __name__ == "__main__":

@@ -41,29 +41,35 @@ def rows():
 
 
 def file(lines):
+    """A file of these rows, for an import."""
     return plain.text(["legacyId,parentId,publicationStatus,physicalObjectName", *lines])
 
 
 WHOLE = file(f"{unit},{parent},Published,{boxes}" for unit, parent, boxes in rows())
 
 
-def closed(unit, until=FAR):
+def close_unit(unit, until=FAR):
+    """The command that closes a unit until a day."""
     return "closure", {"unit": unit, "until": until}
 
 
-def drawn(unit, branch=False):
+def withdraw_unit(unit, branch=False):
+    """The command that makes a unit, or its whole branch, a draft."""
     return "status", {"unit": unit, "status": "draft", "branch": branch}
 
 
-def shown(unit, branch=False):
+def publish_unit(unit, branch=False):
+    """The command that publishes a unit, or its whole branch."""
     return "status", {"unit": unit, "status": "published", "branch": branch}
 
 
-def moved(unit, parent):
+def move_unit(unit, parent):
+    """The command that moves a unit below another."""
     return "move", {"unit": unit, "parent": parent}
 
 
 def loan(ticket, container):
+    """The members of a command about a ticket and a box."""
     return {"ticket": ticket, "container": container}
 
 
@@ -88,30 +94,31 @@ def morning():
 
 def changes():
     """What the gate lets pass and what not, while all three boxes are out."""
-    for unit in (FIRST_ITEM, MIDDLE, FIRST_BESIDE - 1, FIRST_LAST, FIRST_BELOW - 1, FIRST_BELOW, FIRST_BELOW + 1, END - 1):
-        yield 21 if unit % 3 or unit < FIRST_BELOW else 0, *closed(unit)
+    items = FIRST_ITEM, MIDDLE, FIRST_BESIDE - 1, FIRST_LAST, FIRST_BELOW - 1
+    for unit in (*items, FIRST_BELOW, FIRST_BELOW + 1, END - 1):
+        yield 21 if unit % 3 or unit < FIRST_BELOW else 0, *close_unit(unit)
     for unit in (FONDS, LARGE, LATER, HOUSE):
-        yield 21, *closed(unit)
-        yield 21, *drawn(unit, True)
-        yield 0, *closed(unit, PAST)
+        yield 21, *close_unit(unit)
+        yield 21, *withdraw_unit(unit, True)
+        yield 0, *close_unit(unit, PAST)
     for unit in (APART, FIRST_BESIDE, FIRST_LAST - 1):
-        yield 0, *closed(unit)
-        yield 0, *drawn(unit)
+        yield 0, *close_unit(unit)
+        yield 0, *withdraw_unit(unit)
     for unit in (FIRST_ITEM, MIDDLE, FIRST_LAST):
-        yield 0, *shown(unit)
-        yield 0, *closed(unit, PAST)
-        yield 21, *moved(unit, APART)
-    yield 0, *moved(FIRST_ITEM, LARGE)
-    yield 0, *moved(FIRST_LAST, MIDDLE)
-    yield 0, *shown(APART)
-    yield 0, *closed(APART, PAST)
-    yield 0, *moved(MIDDLE, FIRST_BESIDE + 1)
-    yield 0, *moved(LARGE, FONDS)
+        yield 0, *publish_unit(unit)
+        yield 0, *close_unit(unit, PAST)
+        yield 21, *move_unit(unit, APART)
+    yield 0, *move_unit(FIRST_ITEM, LARGE)
+    yield 0, *move_unit(FIRST_LAST, MIDDLE)
+    yield 0, *publish_unit(APART)
+    yield 0, *close_unit(APART, PAST)
+    yield 0, *move_unit(MIDDLE, FIRST_BESIDE + 1)
+    yield 0, *move_unit(LARGE, FONDS)
     for unit in (APART, FIRST_BESIDE + 1, MIDDLE):
-        yield 21, *closed(unit)
-    yield 21, *closed(FIRST_ITEM)
-    yield 21, *closed(FIRST_LAST)
-    yield 0, *moved(FIRST_BELOW, LATER)
+        yield 21, *close_unit(unit)
+    yield 21, *close_unit(FIRST_ITEM)
+    yield 21, *close_unit(FIRST_LAST)
+    yield 0, *move_unit(FIRST_BELOW, LATER)
     yield 0, "import/a", WHOLE
     yield 21, "import/a", file([f"{FIRST_BESIDE},{APART},Published,Box 2"])
     yield 0, "import/a", file([f"new,{LARGE},Published,Box 2"])
@@ -126,26 +133,26 @@ def permits():
         yield 0, "return", {"container": container}
     yield 0, "issue", loan(2, 2)
     yield 0, "return", {"container": 2}
-    yield 0, *closed(FIRST_ITEM)
+    yield 0, *close_unit(FIRST_ITEM)
     yield 5, "orders", loan(1, 2)
     yield 0, "orders", loan(1, 3)
     yield 0, "permit", {"ticket": 1, "unit": FIRST_ITEM, "until": FAR}
     yield 0, "orders", loan(1, 2)
     yield 5, "orders", loan(2, 2)
-    yield 0, *moved(LATER, FONDS)
-    yield 0, *closed(LARGE)
+    yield 0, *move_unit(LATER, FONDS)
+    yield 0, *close_unit(LARGE)
     yield 5, "issue", loan(1, 2)
     yield 0, "permit", {"ticket": 1, "unit": LARGE, "until": FAR}
     yield 0, "issue", loan(1, 2)
     yield 21, "revoke", {"ticket": 1, "unit": LARGE}
     yield 0, "revoke", {"ticket": 1, "unit": FIRST_ITEM}
-    yield 21, *closed(FIRST_LAST + 1)
+    yield 21, *close_unit(FIRST_LAST + 1)
     yield 0, "return", {"container": 2}
-    yield 0, *closed(HOUSE)
+    yield 0, *close_unit(HOUSE)
     yield 5, "orders", loan(1, 1)
     yield 0, "permit", {"ticket": 1, "unit": HOUSE, "until": FAR}
     yield 0, "orders", loan(1, 1)
-    yield 0, *drawn(FIRST_BELOW - 1)
+    yield 0, *withdraw_unit(FIRST_BELOW - 1)
     yield 5, "orders", loan(1, 2)
     yield 0, "reshelve", {}
 
@@ -162,10 +169,12 @@ class Day:
         for code, word, members in (*morning(), *changes(), *permits()):
             self.command(code, word, members)
             self.question("/desk/issued")
-        for path in ("/desk/readers/1", "/desk/queue/2", "/desk/runs/1", f"/public/units/{FIRST_BESIDE - 1}", "/public/fonds"):
+        last_item = f"/public/units/{FIRST_BESIDE - 1}"
+        for path in ("/desk/readers/1", "/desk/queue/2", "/desk/runs/1", last_item, "/public/fonds"):
             self.question(path)
 
     def command(self, code, word, members):
+        """Adds a command; raises Unlike if the plain office does not refuse it with this number, or accept it for 0."""
         path = client.path_of(word)
         body = members if isinstance(members, str) else plain.as_json(members)
         status, told = self.office.post(path, body.encode())
@@ -174,9 +183,11 @@ class Day:
         self.keep(client.post(path, body), status, told)
 
     def question(self, path):
+        """Adds a question, with the answer of the plain office."""
         self.keep(client.get(path), *self.office.get(path))
 
     def keep(self, request, status, told):
+        """Keeps a request and the bytes of its answer."""
         self.said.append(request)
         self.wanted.append(sessions.Session.answer(status, told))
 
@@ -191,20 +202,21 @@ def first_wrong(day, printed):
     return None if place == len(printed) else f"more than was asked: {printed[place:place + 400]}"
 
 
-def played(program, store, day):
+def play_day(program, store, day):
     """The office, how a session of the day ended, and the seconds that both took."""
     begun = time.monotonic()
-    office = client.Office.made(program, store, SETTINGS, timeout=SECONDS)
+    office = client.Office.create(program, store, SETTINGS, timeout=SECONDS)
     ended = office.talk(*day.said, timeout=SECONDS)
     return office, ended, time.monotonic() - begun
 
 
 def main():
+    """Plays the day, prints how long it took, and returns whether it went wrong or took too long."""
     given, day = client.options(__doc__).parse_args(), Day(plain.Office(**SETTINGS))
     what = f"around a box of {ITEMS:,} items"
     with client.temporary(given.room) as room:
         try:
-            office, ended, taken = played(given.program, room / "office.db", day)
+            office, ended, taken = play_day(given.program, room / "office.db", day)
         except subprocess.TimeoutExpired:
             print(f"WRONG a day {what} takes more than {SECONDS} seconds")
             return True

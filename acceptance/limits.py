@@ -40,17 +40,19 @@ def head_of(fields):
 
 
 def head_as_long(size):
-    """A question whose head has this many bytes; a long field fills it. The mark of a line, `> `, counts for its CR LF."""
+    """A question with a head of this many bytes, filled by a long field; `> ` counts for the CR LF of a line."""
     rest = sum(map(len, ASKED)) + len("X: \r\n\r\n")
     return [*ASKED, "> X: " + "x" * (size - rest), ">"]
 
 
-def answered(question):
+def with_answer(question):
+    """A question about what is out, with the answer that nothing is."""
     return [*question, *NOTHING, "<", "<| []"]
 
 
 def permits():
-    """Permits for as many units as a ticket may have them for, and one more; a later day for one of them; a permit that is revoked makes room."""
+    """Permits for as many units as a ticket may have them for, and one more; a later day for one of them; a permit that
+    is revoked makes room."""
     lines = ["POST /desk/import/a", "| legacyId,identifier,title,publicationStatus"]
     lines += [f"| {n},A{n},Plans,Published" for n in range(1, PERMITS + 2)]
     remarks = ",".join(f'{{"kind":2,"row":{n + 1}}}' for n in range(1, PERMITS + 2))
@@ -75,7 +77,8 @@ def permits():
 def boxes(number):
     """A unit in this many boxes, and three readers."""
     names = "|".join(f"B{n}" for n in range(1, number + 1))
-    lines = ["POST /desk/import/a", "| legacyId,title,publicationStatus,physicalObjectName", f"| 1,Plans,Published,{names}"]
+    lines = ["POST /desk/import/a", "| legacyId,title,publicationStatus,physicalObjectName"]
+    lines.append(f"| 1,Plans,Published,{names}")
     lines.append('200 {"changed":0,"new":1,"remarks":[{"kind":2,"row":2}],"same":0,"translations":0}')
     for ticket in (1, 2, 3):
         lines += [f'POST /desk/register {{"name":"Ann","until":"{EVER}"}}', f'200 {{"ticket":{ticket}}}']
@@ -83,6 +86,7 @@ def boxes(number):
 
 
 def order(ticket, container, answer):
+    """The lines of an order, with its answer."""
     return [f'POST /public/orders {{"ticket":{ticket},"container":{container}}}', answer]
 
 
@@ -99,16 +103,18 @@ def seats():
 
 
 def reader_in(seat):
+    """The answer to a question for the reader on this seat, who has the ticket of the same number."""
     return f'200 {{"name":"Ann","orders":[],"seat":{seat},"ticket":{seat},"until":"{EVER}"}}'
 
 
 def orders():
-    """All orders of a ticket in a day; cancelled ones count; another ticket and another day have as many of their own."""
+    """All orders of a ticket in a day; cancelled ones count; other tickets and days have as many of their own."""
     lines = [f"with seats 1 daily {DAILY} hands 1 run 1", *boxes(DAILY + 1)]
     for container in range(1, DAILY + 1):
         lines += order(1, container, f'200 {{"order":{container}}}')
     lines += [*order(1, DAILY + 1, LIMIT), 'POST /desk/cancel {"order":7}', '200 {"order":7}', *order(1, 7, LIMIT)]
-    lines += [*order(2, DAILY + 1, f'200 {{"order":{DAILY + 1}}}'), 'POST /desk/day {"day":"2024-03-02"}', '200 {"day":"2024-03-02"}']
+    lines += order(2, DAILY + 1, f'200 {{"order":{DAILY + 1}}}')
+    lines += ['POST /desk/day {"day":"2024-03-02"}', '200 {"day":"2024-03-02"}']
     return [*lines, *order(1, DAILY + 1, f'200 {{"order":{DAILY + 2}}}')]
 
 
@@ -124,21 +130,23 @@ def a_run():
     lines += ["POST /desk/run", f'200 {{"run":1,"taken":{RUN}}}', "GET /desk/runs/1", "200", "| Run 1  2024-03-01"]
     names = sorted((f"B{container}", container) for container in range(2, RUN + 2))
     lines += [f"| {'':<20} {name:<16} {it:>6} {past - it:>8} {ticket(past - it):>7}" for name, it in names]
-    return [*lines, "POST /desk/run", '200 {"run":2,"taken":1}', "POST /desk/run", '409 {"code":24,"refused":"NothingToMove"}']
+    lines += ["POST /desk/run", '200 {"run":2,"taken":1}']
+    return [*lines, "POST /desk/run", '409 {"code":24,"refused":"NothingToMove"}']
 
 
 def bad_row(row, cause):
+    """The answer to a file that is refused for a fault in this row."""
     return f'409 {{"cause":{cause},"code":22,"refused":"BadFile","row":{row}}}'
 
 
 def rows():
-    """The last row that a file may have, and one more, of each kind. If that row has another fault too, that fault is reported."""
+    """The last row that a file may have, and one more, of each kind; another fault of that row is reported first."""
     blank = ["| ,,,"] * (ROWS - 3)
     first = ["POST /desk/import/a", "| legacyId,culture,title,qubitParentSlug", "| 1,en,Minutes,", *blank]
     remarks = f'[{{"kind":2,"row":2}},{{"kind":2,"row":{ROWS}}}]'
     lines = [*first, "| 2,en,Maps,", f'200 {{"changed":0,"new":2,"remarks":{remarks},"same":0,"translations":0}}']
-    more = ["| ,,,", "| 1,fr,Registres,", "| 3,en,Deeds,", "| 3,en,Deeds,slug", "| ,en,Deeds,", "| 1,en,Minutes,", "| 3"]
-    for row, cause in zip([*more, f"| 3,en,{'x' * (BYTES + 1)},"], [9, 9, 9, 8, 6, 7, 5, 9]):
+    more = ["| ,,,", "| 1,fr,Registres,", "| 3,en,Deeds,", "| 3,en,Deeds,slug", "| ,en,Deeds,", "| 1,en,Minutes,"]
+    for row, cause in zip([*more, "| 3", f"| 3,en,{'x' * (BYTES + 1)},"], [9, 9, 9, 8, 6, 7, 5, 9]):
         lines += [*first, "| 4,en,Plans,", row, bad_row(ROWS + 1, cause)]
     last = "| 1,fr,Registres,"
     told = '200 {"changed":0,"new":0,"remarks":[{"kind":2,"row":2}],"same":1,"translations":1}'
@@ -152,7 +160,8 @@ def fields():
     same = '200 {"changed":1,"new":0,"remarks":[{"kind":2,"row":2}],"same":0,"translations":0}'
     new = '200 {"changed":0,"new":1,"remarks":[{"kind":2,"row":2}],"same":0,"translations":0}'
     lines += [*head, f"| 1,, {most} ,,,{most}x", new, *head, f"| 1,,Plans,{most},,", same]
-    for row in (f"| 1,,{most}x,,,", f"| 1,,,{most}x,,", f"| 1,{most}x,,,,", f"| 1{most},,,,,", f"| 1,,,{'|' * (BYTES + 1)},,"):
+    too_long = [f"| 1,,{most}x,,,", f"| 1,,,{most}x,,", f"| 1,{most}x,,,,", f"| 1{most},,,,,"]
+    for row in (*too_long, f"| 1,,,{'|' * (BYTES + 1)},,"):
         lines += [*head, row, bad_row(2, 10)]
     for row, cause in ((f"| 1,,{most}x", 5), (f"| ,,{most}x,,,", 6), (f"| 1,,{most}x,,s,", 8)):
         lines += [*head, row, bad_row(2, cause)]
@@ -163,15 +172,15 @@ def fields():
 
 def messages():
     """The last answer of a connection says that it closes; what was sent after the last request is not read."""
-    lines = answered(head_of(1)) * (MESSAGES - 1)
+    lines = with_answer(head_of(1)) * (MESSAGES - 1)
     return [*lines, *head_of(1), *NOTHING, "< Connection: close", "<", "<| []", *head_of(1)]
 
 
 DAYS = {
     "most_permits": permits(),
-    "most_fields": answered(head_of(FIELDS)),
+    "most_fields": with_answer(head_of(FIELDS)),
     "a_field_more": [*head_of(FIELDS + 1), *REFUSED],
-    "longest_head": answered(head_as_long(HEAD)),
+    "longest_head": with_answer(head_as_long(HEAD)),
     "a_byte_more": [*head_as_long(HEAD + 1), *REFUSED],
     "no_end_of_a_head": [ASKED[0].replace(">", ">|") + "x" * (HEAD - len(ASKED[0]) + 2), *REFUSED],
     "most_messages": messages(),
@@ -183,9 +192,10 @@ DAYS = {
 }
 
 
-def made():
+def make_days():
+    """The days of the table, each with its lines."""
     return days.of_table(DAYS)
 
 
 if __name__ == "__main__":
-    sys.exit(days.play(__doc__, made(), "at a limit"))
+    sys.exit(days.play(__doc__, make_days(), "at a limit"))

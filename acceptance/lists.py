@@ -17,7 +17,10 @@ import client
 
 LISTS = client.TOP / "packaging" / "lists"
 SETTINGS = client.SETTINGS | {"seats": "12", "daily": "8", "hands": "2", "run": "20"}
-COLUMNS = "legacyId,parentId,identifier,title,levelOfDescription,publicationStatus,physicalObjectName,physicalObjectLocation\n"
+COLUMNS = (
+    "legacyId,parentId,identifier,title,levelOfDescription,publicationStatus,"
+    "physicalObjectName,physicalObjectLocation\n"
+)
 MARKUP = "</td></table><script>alert(1)</script>&amp;"
 FORMULA = "=HYPERLINK('http://example.org')"
 FIRST = COLUMNS + f"""1,,A,{MARKUP},Fonds,Published,,
@@ -31,7 +34,9 @@ FIRST = COLUMNS + f"""1,,A,{MARKUP},Fonds,Published,,
 """
 MOVED = COLUMNS + "6,1,4,Deeds,Series,Published,Box 4,Room 9\n"
 OTHER = COLUMNS + "1,,B,Other archive,Fonds,Published,Box 5,Room 1\n"
-NEWEST = COLUMNS + "1,,A,x,Fonds,Published,,\n2,1,1,x,Series,Draft,Box 1,Room 1\n3,1,2,x,Series,Published,NULL|Box 2,|Room 1\n"
+NEWEST = COLUMNS + (
+    "1,,A,x,Fonds,Published,,\n2,1,1,x,Series,Draft,Box 1,Room 1\n3,1,2,x,Series,Published,NULL|Box 2,|Room 1\n"
+)
 COMMANDS = [
     ("register", {"name": "<i>Ann</i>", "until": "2030-12-31"}, 200),
     ("register", {"name": "+Ben", "until": "2030-12-31"}, 200),
@@ -67,6 +72,7 @@ class Shown(html.parser.HTMLParser):
         self.feed(text)
 
     def handle_starttag(self, name, _):
+        """Notes the name of an element; a row or a cell of a table begins a new entry of `rows`."""
         self.elements.add(name)
         if name == "tr":
             self.rows.append([])
@@ -74,13 +80,14 @@ class Shown(html.parser.HTMLParser):
             self.rows[-1].append("")
 
     def handle_data(self, text):
+        """Adds text to the cell that is open."""
         if self.rows and self.rows[-1]:
             self.rows[-1][-1] += text.strip("\n")
 
 
 def make_office(program, room, checks):
     """An office in which each list has something."""
-    office = client.Office.made(program, room / "office.db", SETTINGS)
+    office = client.Office.create(program, room / "office.db", SETTINGS)
     said = [("import/a", FIRST, 200), *COMMANDS]
     ended = office.talk(*(client.post(client.path_of(word), body) for word, body, _ in said))
     statuses = [reply.status for reply in client.replies(ended.output)]
@@ -90,47 +97,52 @@ def make_office(program, room, checks):
 
 
 def make_lists(copy, folder, *words):
+    """Writes the lists of a copy of an office; raises CalledProcessError if record-office-lists fails."""
     command = [LISTS / "record-office-lists", copy, folder, "--sql", LISTS / "lists.sql", *words]
     subprocess.run(command, check=True, capture_output=True)
 
 
 def rows_of(path):
+    """The rows of a CSV file, each by the names of its columns."""
     with path.open(encoding="utf-8-sig", newline="") as lines:
         return list(csv.DictReader(lines))
 
 
-def told(folder, name, *columns):
+def columns_of(folder, name, *columns):
     """Some columns of a list's CSV file."""
     return [tuple(row[column] for column in columns) for row in rows_of(folder / f"{name}.csv")]
 
 
 def check_lists(checks, folder, waiting):
     """Each list against what was done above."""
-    checks.same("drafts", told(folder, "drafts", "Unit", "Source", "legacyId", "Title", "Code"),
+    checks.same("drafts", columns_of(folder, "drafts", "Unit", "Source", "legacyId", "Title", "Code"),
                 [("2", "a", "2", MARKUP, "GB 0999 A/1"), ("5", "a", "5", "A map", "GB 0999 A/3/1")])
-    checks.same("closures that end soon", told(folder, "closures", "Opens on", "Unit", "Title"),
+    checks.same("closures that end soon", columns_of(folder, "closures", "Opens on", "Unit", "Title"),
                 [("2024-04-01", "3", f"'{FORMULA}")])
-    checks.same("permits that end soon", told(folder, "permits", "Last day", "Ticket", "Reader", "Unit", "Closed until"),
+    columns = "Last day", "Ticket", "Reader", "Unit", "Closed until"
+    checks.same("permits that end soon", columns_of(folder, "permits", *columns),
                 [("2024-03-20", "2", "'+Ben", "3", "2024-04-01")])
     columns = ("Order", "Reader", "Why", "Containers of the same name")
-    checks.same("orders that no run can fetch", told(folder, "waiting", *columns), [
+    checks.same("orders that no run can fetch", columns_of(folder, "waiting", *columns), [
         ("1", "<i>Ann</i>", "unit 3 in it is closed until 2024-04-01, and the reader has no permit", ""),
         ("2", "'+Ben", "order 1 is before it and cannot be fetched", ""),
         ("3", "<i>Ann</i>", "unit 5 in it is a draft, or below one", ""),
         ("4", "<i>Ann</i>", "no unit names this container any more", "7"),
     ])
-    checks.same("and these are what the runs left", [int(order) for (order,) in told(folder, "waiting", "Order")], waiting)
-    checks.same("boxes that archives share", told(folder, "shared", "Container", "Name", "Archive", "Unit"),
+    unfetched = [int(order) for (order,) in columns_of(folder, "waiting", "Order")]
+    checks.same("and these are what the runs left", unfetched, waiting)
+    checks.same("boxes that archives share", columns_of(folder, "shared", "Container", "Name", "Archive", "Unit"),
                 [("5", "Box 5", "GB 0999 A", "1"), ("5", "Box 5", "GB 0999 B", "9")])
-    checks.same("who had a box", told(folder, "readers", "Container", "Order", "Ordered on", "Reader", "State"),
+    checks.same("who had a box", columns_of(folder, "readers", "Container", "Order", "Ordered on", "Reader", "State"),
                 [("5", "5", "2024-03-01", "<i>Ann</i>", "returned")])
-    checks.same("figures by month", told(folder, "months", "Month", "Tickets", "Orders", "Cancelled", "Productions"),
+    figures = "Tickets", "Orders", "Cancelled", "Productions"
+    checks.same("figures by month", columns_of(folder, "months", "Month", *figures),
                 [("2024-03", "2", "6", "1", "1")])
-    checks.same("figures by archive", told(folder, "archives", "Archive", "Tickets", "Orders", "Cancelled", "Productions"),
+    checks.same("figures by archive", columns_of(folder, "archives", "Archive", *figures),
                 [("", "1", "1", "0", "0"), ("GB 0999 A", "2", "5", "1", "1"), ("GB 0999 B", "1", "1", "0", "1")])
-    checks.same("units that the file does not name", told(folder, "units-without-row-a", "legacyId"),
+    checks.same("units that the file does not name", columns_of(folder, "units-without-row-a", "legacyId"),
                 [("4",), ("5",), ("6",), ("7",), ("8",)])
-    checks.same("boxes that it does not name", told(folder, "boxes-without-row-a", "Name", "Location"),
+    checks.same("boxes that it does not name", columns_of(folder, "boxes-without-row-a", "Name", "Location"),
                 [("Box 3", "Room 1"), ("Box 5", "Room 1"), ("Box 6", "Room 1"), ("Box 4", "Room 9")])
 
 
@@ -157,6 +169,7 @@ def waiting_orders(office):
 
 
 def main():
+    """Makes an office and its lists, compares them, and returns the exit status."""
     words = client.options(__doc__)
     words.add_argument("--folder", type=pathlib.Path, help="where the lists are written, and stay")
     given, checks = words.parse_args(), client.Checks()
@@ -169,7 +182,7 @@ def main():
         make_lists(office.store, folder)
         check_lists(checks, folder, waiting_orders(office))
         check_pages(checks, folder)
-    return checks.ends()
+    return checks.finish()
 
 
 if __name__ == "__main__":

@@ -3,9 +3,9 @@
 
     acceptance/operating.py [PROGRAM] [--place PLACE] [--shell COMMAND]
 
-In a block of a document, a line that begins with `$ ` (or `# `, for root) is a command. It goes on while its quotes or its
-braces are open. The lines up to the next command are its answer, with standard error. `...` stands for any lines. A comment right before
-a block says what the block is:
+In a block of a document, a line that begins with `$ ` (or `# `, for root) is a command. It goes on while its quotes or
+its braces are open. The lines up to the next command are its answer, with standard error. `...` stands for any lines. A
+comment right before a block says what the block is:
 
     <!-- file NAME -->      a file, which is written in every place
     <!-- package -->        an office of the installed package: run by packaging/try.sh, as root of a machine of its own
@@ -13,11 +13,11 @@ a block says what the block is:
     <!-- package, hand -->  both
     <!-- elsewhere: .. -->  not run here, for the reason given
 
-All other blocks belong to the place `here`: a new folder of this machine, with PROGRAM as `record_office` and a free port for
-each port of the document. `--shell` is the command that starts the shell of another place. A `record_office serve` runs until a
-line `kill $!` ends it. The lines of README run in a folder of their own with the examples; a blank line does not end a block
-there, since answers have some. Its lines without `$ ` are not run: they prove or build. The script prints each line with another answer, the lines that it left out, and last
-`N passed, M failed`.
+All other blocks belong to the place `here`: a new folder of this machine, with PROGRAM as `record_office` and a free
+port for each port of the document. `--shell` is the command that starts the shell of another place. A `record_office
+serve` runs until a line `kill $!` ends it. The lines of README run in a folder of their own with the examples; a blank
+line does not end a block there, since answers have some. Its lines without `$ ` are not run: they prove or build. The
+script prints each line with another answer, the lines that it left out, and last `N passed, M failed`.
 """
 
 import argparse
@@ -63,11 +63,13 @@ class Block:
 
 
 def is_open(command):
+    """Whether a command goes on in the next line, since a quote or a block of bash is not closed."""
     try:
         shlex.split(command, comments=True)
     except ValueError:
         return True
-    told = subprocess.run(["bash", "-n", "-c", command], env={**os.environ, "LC_ALL": "C"}, capture_output=True, text=True)
+    environment = {**os.environ, "LC_ALL": "C"}
+    told = subprocess.run(["bash", "-n", "-c", command], env=environment, capture_output=True, text=True)
     return "unexpected end of file" in told.stderr
 
 
@@ -99,9 +101,8 @@ class Shell:
     """A bash that gets one command after the other; what a command left running goes on."""
 
     def __init__(self, words, folder=None, environment=None):
-        self.process = subprocess.Popen(
-            words, cwd=folder, env=environment, stdin=subprocess.PIPE, stdout=subprocess.PIPE, stderr=subprocess.STDOUT, start_new_session=True
-        )
+        streams = {"stdin": subprocess.PIPE, "stdout": subprocess.PIPE, "stderr": subprocess.STDOUT}
+        self.process = subprocess.Popen(words, cwd=folder, env=environment, start_new_session=True, **streams)
         self.run("exec 2>&1")
 
     def run(self, command):
@@ -114,10 +115,12 @@ class Shell:
         """Begins a server in the background; its answer is its first line."""
         command = command.removesuffix(" &")
         return self.until_end(
-            f"{command} >served.txt 2>&1 </dev/null &\nfor i in $(seq 600); do grep -qs . served.txt && break; sleep 0.1; done; cat served.txt\n"
+            f"{command} >served.txt 2>&1 </dev/null &\n"
+            "for i in $(seq 600); do grep -qs . served.txt && break; sleep 0.1; done; cat served.txt\n"
         )
 
     def until_end(self, text):
+        """Sends lines to the shell and returns what they print; raises RuntimeError if the shell ends."""
         end = f"end-{time.monotonic_ns()}"
         self.process.stdin.write(f"{text}printf '\\n%s\\n' {end}\n".encode())
         self.process.stdin.flush()
@@ -132,23 +135,25 @@ class Shell:
         return said.decode(errors="replace").removesuffix(f"\n{end}\n").removesuffix("\n")
 
     def end(self):
+        """Kills the shell and what it left running."""
         os.killpg(self.process.pid, signal.SIGKILL)
         self.process.wait()
 
 
-def agrees(said, expected):
+def is_expected(said, expected):
     """Whether the lines are these; a line `...` stands for any lines."""
     pattern = "\n".join("(?:.*(?:\n.*)*)" if line.strip() == "..." else re.escape(line) for line in expected)
     return re.fullmatch(pattern, "\n".join(line.rstrip() for line in said.splitlines())) is not None
 
 
 def free_port():
+    """The number of a port that nobody uses now."""
     with socket.socket() as it:
         it.bind(("127.0.0.1", 0))
         return it.getsockname()[1]
 
 
-def here(program, folder):
+def local_shell(program, folder):
     """The shell of this machine, and the texts that replace those of the document."""
     (folder / "bin").mkdir()
     (folder / "bin" / "record_office").symlink_to(program)
@@ -159,10 +164,10 @@ def here(program, folder):
     return shell, lambda text: re.sub(r"\b80[89]\d\b", lambda port: ports[port.group()], text)
 
 
-def here_for_readme(program, folder):
+def readme_shell(program, folder):
     """The same for README: a folder with the examples."""
     folder.mkdir()
-    shell, ours = here(program, folder)
+    shell, ours = local_shell(program, folder)
     (folder / "office" / "examples").symlink_to(TOP / "examples")
     return shell, ours
 
@@ -178,7 +183,7 @@ def run_block(block, shell, ours):
     passed = failed = 0
     for number, command, expected in block.commands():
         said = shell.run(ours(command))
-        if agrees(said, [ours(line) for line in expected]):
+        if is_expected(said, [ours(line) for line in expected]):
             passed += 1
         else:
             failed += 1
@@ -187,10 +192,13 @@ def run_block(block, shell, ours):
 
 
 def write_file(block, shell):
-    shell.run(f"cat >{shlex.quote(block.mark.removeprefix('file '))} <<'END-OF-FILE'\n" + "\n".join(block.lines) + "\nEND-OF-FILE")
+    """Writes the lines of a block to the file that it names, by the shell."""
+    name = shlex.quote(block.mark.removeprefix("file "))
+    shell.run("\n".join([f"cat >{name} <<'END-OF-FILE'", *block.lines, "END-OF-FILE"]))
 
 
 def run(all_blocks, place, shell, ours):
+    """Writes the files and runs the lines of one place; returns how many answered as they should, and how many not."""
     passed = failed = 0
     for block in all_blocks:
         if block.mark.startswith("file "):
@@ -209,10 +217,12 @@ def run_all(all_blocks, place, shell, ours):
         shell.end()
 
 
-def say_left_out(all_blocks, place):
+def print_left_out(all_blocks, place):
+    """Prints how many lines of other places were not run, and the blocks that are run nowhere."""
     for other in PLACES:
-        elsewhere = [block for block in all_blocks if other in places_of(block) and not block.mark.startswith("elsewhere")]
-        many = sum(len(block.commands()) for block in elsewhere if place not in places_of(block))
+        run_there = [block for block in all_blocks if other in places_of(block)]
+        run_there = [block for block in run_there if not block.mark.startswith("elsewhere")]
+        many = sum(len(block.commands()) for block in run_there if place not in places_of(block))
         if other != place and many:
             print(f"left out: {many} lines of the place '{other}'")
     for block in all_blocks:
@@ -220,12 +230,14 @@ def say_left_out(all_blocks, place):
             print(f"left out: {len(block.commands())} lines from line {block.start} on, {block.mark}")
 
 
-def too_long(*_):
+def stop_waiting(*_):
+    """Raises TimeoutError, since a line has not ended in time."""
     raise TimeoutError(f"a line did not end within {LONGEST} s")
 
 
 def main():
-    signal.signal(signal.SIGALRM, too_long)
+    """Runs the lines of the place, prints the counts, and ends the program with 1 if an answer differs."""
+    signal.signal(signal.SIGALRM, stop_waiting)
     words = argparse.ArgumentParser()
     words.add_argument("program", nargs="?", default=BUILT, type=pathlib.Path)
     words.add_argument("--place", choices=PLACES, default="here")
@@ -241,13 +253,13 @@ def main():
         if words.place == "here":
             program, folder = words.program.resolve(), pathlib.Path(folder)
             readme = blocks(README.read_text(encoding="utf-8"), have_blank_lines=True)
-            passed, failed = run_all(readme, "here", *here_for_readme(program, folder / "readme"))
-            shell, ours = here(program, folder)
+            passed, failed = run_all(readme, "here", *readme_shell(program, folder / "readme"))
+            shell, ours = local_shell(program, folder)
         else:
             shell, ours = Shell(shlex.split(words.shell)), lambda text: text
         more, wrong = run_all(all_blocks, words.place, shell, ours)
     passed, failed = passed + more, failed + wrong
-    say_left_out(all_blocks, words.place)
+    print_left_out(all_blocks, words.place)
     print(f"{passed} passed, {failed} failed")
     sys.exit(1 if failed or not passed else 0)
 

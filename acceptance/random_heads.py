@@ -48,6 +48,7 @@ class Input:
         self.said = b"".join(self.request() for _ in range(self.random.randint(1, MOST))) + self.ending()
 
     def happens(self, chance):
+        """Whether something of this chance, from 0 to 1, happens."""
         return self.random.random() < chance
 
     def ends_it(self, chance):
@@ -55,6 +56,7 @@ class Input:
         return not self.is_calm and self.happens(chance)
 
     def one_of(self, pool):
+        """A random one of a pool."""
         return self.random.choice(pool)
 
     def request(self):
@@ -63,19 +65,22 @@ class Input:
         method = method if method and self.happens(0.7) else self.one_of(METHODS)
         version = self.one_of(VERSIONS) if self.ends_it(0.05) else "HTTP/1.1"
         first = f"{method} {self.one_of(ORIGINS)}{self.one_of(paths)}{self.one_of(QUERIES)} {version}"
-        fields = [*self.hosts(), *self.lengths(method, body), *self.some()]
+        fields = [*self.hosts(), *self.lengths(method, body), *self.other_fields()]
         self.random.shuffle(fields)
-        head = "".join(line + self.end() for line in (*self.blank(), first, *fields, "")).encode("latin-1")
+        head = "".join(line + self.line_end() for line in (*self.blank_lines(), first, *fields, "")).encode("latin-1")
         is_sent = any(it.lower().startswith("content-length") for it in fields)
-        return (self.changed(head) if self.ends_it(0.03) else head) + (body if is_sent else b"")
+        return (self.change_byte(head) if self.ends_it(0.03) else head) + (body if is_sent else b"")
 
-    def end(self):
+    def line_end(self):
+        """The end of a line: CR LF, or sometimes LF."""
         return "\n" if self.happens(0.1) else "\r\n"
 
-    def blank(self):
+    def blank_lines(self):
+        """Empty lines before a request, mostly none."""
         return [""] * self.random.randint(1, 3) if self.happens(0.1) else []
 
     def hosts(self):
+        """The fields that name the host: one, or a wrong number of them if the request ends the connection."""
         return self.one_of([[], ["Host: x", "Host: x"]]) if self.ends_it(0.01) else [self.one_of(["Host: x", "hOST:"])]
 
     def lengths(self, method, body):
@@ -85,12 +90,13 @@ class Input:
             return []
         right = [f"Content-Length: {size}"]
         other = [[f"content-length:00{size}"], [*right, f"CONTENT-LENGTH:\t0{size} "]]
-        wrong = [*[f"{LONGEST_BODY + 1}", "99999999999999999999"] * 2, f"{size}, {size}", f"+{size}", "", "x", f"{size} 0"]
+        too_large = [f"{LONGEST_BODY + 1}", "99999999999999999999"]
+        wrong = [*too_large * 2, f"{size}, {size}", f"+{size}", "", "x", f"{size} 0"]
         if self.ends_it(0.06):
             return [*self.one_of([[], [], [], right]), f"Content-Length: {self.one_of(wrong)}"]
         return self.one_of(other) if self.happens(0.2) else right
 
-    def some(self):
+    def other_fields(self):
         """Fields that ask for something, and others."""
         fields = [it for it in OTHERS if self.happens(0.15)]
         fields += [f"Expect: {self.one_of(EXPECTED)}" for _ in range(2) if self.happens(0.2)]
@@ -98,7 +104,7 @@ class Input:
         fields += [f"connection: {self.one_of(CLOSING)}"] if self.ends_it(0.03) else []
         return fields + ([f"Transfer-Encoding: {self.one_of(['chunked', 'identity'])}"] if self.ends_it(0.02) else [])
 
-    def changed(self, head):
+    def change_byte(self, head):
         """A head with a byte more, a byte less, or another byte."""
         place, byte = self.random.randrange(len(head)), bytes([self.one_of(BYTES)])
         return head[:place] + self.one_of([byte, b""]) + head[place + self.one_of([0, 1]) :]
@@ -123,7 +129,8 @@ def is_held(program, seed):
 
 
 def main():
-    given = client.seeded(__doc__, 100).parse_args()
+    """Compares the inputs, prints what came, and returns whether something differs or did not come."""
+    given = client.seeded_options(__doc__, 100).parse_args()
     held = sum(is_held(given.program, seed) for seed in range(given.first, given.first + given.count))
     print(f"of {given.count} random inputs {held} were answered as by a plain office")
     print("what came: " + ", ".join(f"{name} {times}" for name, times in sorted(count.items())))

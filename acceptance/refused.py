@@ -33,7 +33,7 @@ import days
 import failing
 import rounds
 from client import BUSY, NO_MEMORY, Ended, Office
-from stopped import copied
+from stopped import copy_office
 
 HERE = Path(__file__).resolve().parent
 SHIM = client.TOP / "mutation" / "faults" / "shim.c"
@@ -65,15 +65,15 @@ class Tries:
 
     def __init__(self, name, room, before, perform):
         self.name, self.room, self.before, self.perform = name, room, before, perform
-        whole, left = self.played(perform)
+        whole, left = self.run_on_copy(perform)
         if (whole.status, whole.message) != (0, b""):
             raise RuntimeError(f"{name}: {whole}")
-        self.ends = {(NO_MEMORY, self.played(lambda _: NO_MEMORY)[1]): TOLD, (whole, left): UNTOLD}
+        self.ends = {(NO_MEMORY, self.run_on_copy(lambda _: NO_MEMORY)[1]): TOLD, (whole, left): UNTOLD}
         self.lasting = dict(self.ends)
 
-    def played(self, perform, **memory):
+    def run_on_copy(self, perform, **memory):
         """How something ends on a copy of the office, and a look at it afterwards."""
-        office = copied(self.before, self.room)
+        office = copy_office(self.before, self.room)
         ended = perform(office, **memory)
         seen = look(office)
         shutil.rmtree(office.store.parent)
@@ -81,12 +81,12 @@ class Tries:
 
     def requests(self, shim):
         """How many requests for memory it makes."""
-        ended, _ = self.played(self.perform, LD_PRELOAD=shim, SHOW="1")
+        ended, _ = self.run_on_copy(self.perform, LD_PRELOAD=shim, SHOW="1")
         return int(re.search(rb"allocs=(\d+)", ended.message)[1])
 
     def ending(self, shim, number, how):
         """How it ends without that request, in words, or what is wrong."""
-        ended, seen = self.played(self.perform, LD_PRELOAD=shim, FA=str(number), **how)
+        ended, seen = self.run_on_copy(self.perform, LD_PRELOAD=shim, FA=str(number), **how)
         words = (self.lasting if how else self.ends).get((ended, seen))
         return words or f"WRONG {self.name}, request {number}{', lasting' if how else ''}: {ended}, {seen[:2]}"
 
@@ -94,33 +94,33 @@ class Tries:
 # ---- sessions
 
 
-def talked(office, sessions, **memory):
+def run_talk(office, sessions, **memory):
     """How `talk` ends. The output is a list with the answers of its one session."""
     ended = office.talk(*sessions[0], **memory)
     return ended._replace(output=[ended.output])
 
 
-def trialled(office, sessions, **memory):
+def run_trial(office, sessions, **memory):
     """The same of `trial`."""
     words = client.option_words(client.SETTINGS)
     ended = office.program.run("trial", *words, said=b"".join(sessions[0]), **memory)
     return ended._replace(output=[ended.output])
 
 
-def served(office, sessions, **memory):
+def run_serve(office, sessions, **memory):
     """How `serve` ends, and the answers of each session, which is a connection of its own. If the port is taken, it is
     tried again on others."""
     for _ in range(3):
-        with office.served(len(sessions), **memory) as server:
+        with office.serve(len(sessions), **memory) as server:
             listens = server.said == b"listening %d\n" % server.port
             answers = [failing.ask(server, b"".join(it)) for it in sessions] if listens else []
-            ended = server.ended()
+            ended = server.wait_for_end()
         if ended.message != failing.TAKEN:
             break
     return Ended(ended.status, answers, ended.message)
 
 
-def joined(ended):
+def join_answers(ended):
     """How sessions ended, with all answers in one text."""
     return ended._replace(output=b"---- the next connection\n".join(ended.output))
 
@@ -129,20 +129,20 @@ class Sessions(Tries):
     """Sessions one after the other on copies of an office. `play` holds them."""
 
     def __init__(self, name, room, before, play, *sessions):
-        super().__init__(name, room, before, lambda office, **memory: joined(play(office, sessions, **memory)))
+        super().__init__(name, room, before, lambda office, **memory: join_answers(play(office, sessions, **memory)))
         for number, asked in enumerate(sessions):
             for done in range(len(asked) + 1):
                 cut = [*sessions[:number], asked[:done]]
                 later, none = sessions[number + 1 :], [[]] * (len(sessions) - number - 1)
-                self.ends[self.busy(play, [*cut, *later], [number])] = "503"
-                self.lasting[self.busy(play, [*cut, *none], range(number, len(sessions)))] = "503"
+                self.ends[self.end_with_503(play, [*cut, *later], [number])] = "503"
+                self.lasting[self.end_with_503(play, [*cut, *none], range(number, len(sessions)))] = "503"
 
-    def busy(self, play, sessions, numbers):
+    def end_with_503(self, play, sessions, numbers):
         """How these sessions end, and a look at the office, if the sessions of these numbers also have a 503."""
-        ended, left = self.played(lambda office: play(office, sessions))
+        ended, left = self.run_on_copy(lambda office: play(office, sessions))
         for number in numbers:
             ended.output[number] += BUSY
-        return joined(ended), left
+        return join_answers(ended), left
 
 
 # ---- what is tried
@@ -154,7 +154,7 @@ def round_of(number):
     return [[request for request, _ in part] for part in parts]
 
 
-def asked_on(day):
+def requests_of_day(day):
     """The requests of a day."""
     asked = days.Day.of(HERE / "days" / f"{day}.day").asked
     return [client.get(path) if method == "GET" else client.post(path, body) for method, path, body, *_ in asked]
@@ -166,21 +166,22 @@ class Kinds:
     def __init__(self, program, room):
         self.program, self.room, self.units = program, room, room / "units.csv"
         self.units.write_text(FONDS)
-        self.none, self.new = Office(program, room / "none.db"), Office.made(program, room / "new.db")
+        self.none, self.new = Office(program, room / "none.db"), Office.create(program, room / "new.db")
         self.old = Office(program, HERE / "version1.db")
 
-    def made(self, name):
+    def make(self, name):
         """The command or the session of that name."""
         catalogue, desk, questions = round_of(0)
         sessions = {
-            "trial": (self.none, trialled, [failing.ANN, failing.BEN]),
-            "talk": (self.new, talked, [*catalogue, *desk, *questions]),
-            "refusals": (self.new, talked, asked_on("first_refusal")),
-            "serve": (self.new, served, catalogue, desk, questions),
+            "trial": (self.none, run_trial, [failing.ANN, failing.BEN]),
+            "talk": (self.new, run_talk, [*catalogue, *desk, *questions]),
+            "refusals": (self.new, run_talk, requests_of_day("first_refusal")),
+            "serve": (self.new, run_serve, catalogue, desk, questions),
         }
-        return Sessions(name, self.room, *sessions[name]) if name in sessions else self.command(name)
+        return Sessions(name, self.room, *sessions[name]) if name in sessions else self.make_command(name)
 
-    def command(self, name):
+    def make_command(self, name):
+        """The command of that name, on the files that it needs."""
         preview, program = ["preview", "--country", "GB", "--repo", "0999"], self.program
         commands = {
             "preview": (self.none, lambda _, **memory: program.run(*preview, said=FONDS.encode(), **memory)),
@@ -196,7 +197,7 @@ class Kinds:
         return made
 
 
-def built_shim(room):
+def build_shim(room):
     """The library that refuses memory."""
     subprocess.run(["cc", "-shared", "-fPIC", "-O2", "-o", room / "shim.so", SHIM, "-ldl"], check=True)
     return str(room / "shim.so")
@@ -217,6 +218,7 @@ def refuse(it, shim, each, offset):
 
 
 def options():
+    """The parser of the command line."""
     words = client.options(__doc__)
     words.add_argument("--each", type=int, default=EACH, metavar="N", help=f"else {EACH}")
     words.add_argument("--offset", type=int, metavar="K", help="else a random number below N")
@@ -225,12 +227,13 @@ def options():
 
 
 def main():
+    """Refuses memory to what is named, or to all; returns whether a run went wrong."""
     given = options().parse_args()
     offset = random.randrange(given.each) if given.offset is None else given.offset
     print(f"memory is refused by --each {given.each} --offset {offset}", flush=True)
     with client.temporary(given.room) as room:
-        kinds, shim = Kinds(given.program, room), built_shim(room)
-        runs = [refuse(kinds.made(name), shim, given.each, offset) for name in given.names or NAMES]
+        kinds, shim = Kinds(given.program, room), build_shim(room)
+        runs = [refuse(kinds.make(name), shim, given.each, offset) for name in given.names or NAMES]
     print(f"{sum(runs)} runs of {len(runs)} commands and sessions without memory, {runs.count(0)} of these wrong")
     return 0 in runs
 

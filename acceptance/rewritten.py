@@ -32,14 +32,16 @@ ASKED = [
 
 
 def sqlite3(store, *statements):
+    """What SQLite's own tool prints when it performs statements on a store; raises CalledProcessError if it fails."""
     return subprocess.run(["sqlite3", store, *statements], check=True, capture_output=True).stdout
 
 
 def dump(old, new):
+    """Writes a store as SQL, and reads that into a new one."""
     subprocess.run(["sqlite3", new], input=sqlite3(old, ".dump"), check=True)
 
 
-def copied_and(statement):
+def copy_and(statement):
     """A way to write a file again: a statement on a copy of it."""
 
     def way(old, new):
@@ -51,15 +53,15 @@ def copied_and(statement):
 
 # the ways to write a file again: each makes a new one from an old one
 WAYS = {
-    "vacuum": copied_and("VACUUM"),
+    "vacuum": copy_and("VACUUM"),
     "vacuum into": lambda old, new: sqlite3(old, f"VACUUM INTO '{new}'"),
     "dump": dump,
     "backup": lambda old, new: sqlite3(old, f".backup '{new}'"),
-    "reindex": copied_and("REINDEX"),
+    "reindex": copy_and("REINDEX"),
 }
 
 
-def told(store):
+def contents_of(store):
     """The schema and the rows of a file, in the order of the schema."""
     return sqlite3(store, ".dump"), sqlite3(store, "SELECT type, name, tbl_name, sql FROM sqlite_schema ORDER BY rowid")
 
@@ -75,21 +77,23 @@ class Rewritten:
         self.second.write_text(SECOND)
 
     def office(self, name):
+        """The office of this name in the room; it need not exist."""
         return Office(self.program, self.room / f"{name}.db")
 
-    def copied(self, store, name):
+    def copy(self, store, name):
+        """An office of this name on a copy of a store."""
         office = self.office(name)
         shutil.copyfile(store, office.store)
         return office
 
-    def migrated(self):
+    def make_migrated(self):
         """An office with rows in each table: the kept one of version 1, migrated."""
-        office = self.copied(VERSION_1, "office")
+        office = self.copy(VERSION_1, "office")
         self.same("a migration", office.perform("migrate"), MIGRATED)
         self.same("what was made", office.check(), SOUND)
         return office
 
-    def begun(self):
+    def make_new(self):
         """A new office with units in boxes and one reader."""
         office = self.office("new")
         self.same("an office", office.init(), Ended(0, b"", b""))
@@ -99,9 +103,9 @@ class Rewritten:
         self.same("its reader", [it.status for it in client.replies(ended.output)], [200])
         return office
 
-    def each_way(self, office):
+    def try_each_way(self, office):
         """An office that is written again, used, and written again."""
-        plain = self.copied(office.store, "plain")
+        plain = self.copy(office.store, "plain")
         answers, taken = plain.talk(*ASKED), plain.import_file("a", self.second)
         statuses = [it.status for it in client.replies(answers.output)]
         self.same("answers", statuses, [200] * len(ASKED))
@@ -109,7 +113,7 @@ class Rewritten:
         for name, way in WAYS.items():
             new = self.office(f"{office.store.stem} {name}")
             way(office.store, new.store)
-            self.same(f"{name}: the file", told(new.store), told(office.store))
+            self.same(f"{name}: the file", contents_of(new.store), contents_of(office.store))
             self.same(f"{name}", new.check(), SOUND)
             self.same(f"{name}: answers", new.talk(*ASKED), answers)
             self.same(f"{name}: a file", new.import_file("a", self.second), taken)
@@ -117,24 +121,24 @@ class Rewritten:
             sqlite3(new.store, "VACUUM")
             self.same(f"{name}: and vacuumed", new.check(), SOUND)
 
-    def analyzed(self, office):
+    def try_analyze(self, office):
         """ANALYZE adds a table that no office has; without it the office is there again."""
-        new = self.copied(office.store, "analyzed")
+        new = self.copy(office.store, "analyzed")
         sqlite3(new.store, "ANALYZE")
         self.same("ANALYZE", new.check(), STORE_FAULT)
         self.same("ANALYZE: a session", new.talk(*ASKED), STORE_FAULT)
         self.same("ANALYZE: a file", new.import_file("a", self.second), STORE_FAULT)
         sqlite3(new.store, "DROP TABLE sqlite_stat1")
         self.same("ANALYZE undone", new.check(), SOUND)
-        self.same("ANALYZE undone: the file", told(new.store), told(office.store))
-        old = self.copied(VERSION_1, "old analyzed")
+        self.same("ANALYZE undone: the file", contents_of(new.store), contents_of(office.store))
+        old = self.copy(VERSION_1, "old analyzed")
         sqlite3(old.store, "ANALYZE")
         self.same("ANALYZE of version 1", old.perform("migrate"), STORE_FAULT)
         sqlite3(old.store, "DROP TABLE sqlite_stat1")
         self.same("ANALYZE of version 1 undone", old.perform("migrate"), MIGRATED)
-        self.same("ANALYZE of version 1 undone: the file", told(old.store), told(office.store))
+        self.same("ANALYZE of version 1 undone: the file", contents_of(old.store), contents_of(office.store))
 
-    def each_way_to_migrate(self, office):
+    def try_each_way_to_migrate(self, office):
         """The file of version 1, written again and then migrated, gives the same as the file itself."""
         for name, way in WAYS.items():
             new = self.office(f"old {name}")
@@ -142,22 +146,23 @@ class Rewritten:
             self.same(f"{name} of version 1", new.check(), OLD)
             self.same(f"{name} of version 1: migrated", new.perform("migrate"), MIGRATED)
             self.same(f"{name} of version 1: then", new.check(), SOUND)
-            self.same(f"{name} of version 1: its file", told(new.store), told(office.store))
+            self.same(f"{name} of version 1: its file", contents_of(new.store), contents_of(office.store))
             sqlite3(new.store, "VACUUM")
             self.same(f"{name} of version 1: vacuumed", new.check(), SOUND)
 
 
 def main():
+    """Writes the offices again in each way, compares them, and returns the exit status."""
     given = client.options(__doc__).parse_args()
     with client.temporary(given.room) as room:
         it = Rewritten(given.program, room)
-        office = it.migrated()
-        it.each_way(office)
-        it.each_way(it.begun())
-        it.analyzed(office)
-        it.each_way_to_migrate(office)
+        office = it.make_migrated()
+        it.try_each_way(office)
+        it.try_each_way(it.make_new())
+        it.try_analyze(office)
+        it.try_each_way_to_migrate(office)
     print(f"{len(WAYS)} ways to write offices anew, and ANALYZE")
-    return it.checks.ends()
+    return it.checks.finish()
 
 
 if __name__ == "__main__":

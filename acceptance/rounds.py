@@ -20,14 +20,17 @@ BOXES = """legacyId,identifier,title,publicationStatus,physicalObjectName,physic
 
 
 def answer(body, kind=client.JSON):
+    """The bytes of the answer 200 with this body."""
     return client.reply(200, body.encode(), kind)
 
 
-def told(**members):
+def json_answer(**members):
+    """The bytes of an answer with these members as JSON."""
     return answer(json.dumps(members, separators=(",", ":"), sort_keys=True))
 
 
-def asked(path, **members):
+def command(path, **members):
+    """The bytes of a command with these members."""
     return post(path, members)
 
 
@@ -38,20 +41,20 @@ def day_of(round):
 
 
 def in_the_catalogue(round):
-    """What a round does with units. Each of the four rows makes a top, with a remark: a top should have more elements."""
+    """What a round does with units. Each of the four rows makes a top, with a remark that it lacks elements."""
     unit = 4 * round + 1
     remarks = [{"kind": 2, "row": row} for row in (2, 3, 4, 5)]
     day = day_of(round)
     return [
-        (asked("/desk/day", day=day), told(day=day)),
+        (command("/desk/day", day=day), json_answer(day=day)),
         (
             post(f"/desk/import/s{round}", BOXES),
-            told(changed=0, new=4, remarks=remarks, same=0, translations=0),
+            json_answer(changed=0, new=4, remarks=remarks, same=0, translations=0),
         ),
-        (asked("/desk/status", unit=unit, status="published", branch=True), told(units=1)),
-        (asked("/desk/closure", unit=unit, until=None), told(unit=unit)),
-        (asked("/desk/move", unit=unit + 1, parent=unit), told(unit=unit + 1)),
-        (asked("/desk/remove", unit=unit + 3), told(units=1)),
+        (command("/desk/status", unit=unit, status="published", branch=True), json_answer(units=1)),
+        (command("/desk/closure", unit=unit, until=None), json_answer(unit=unit)),
+        (command("/desk/move", unit=unit + 1, parent=unit), json_answer(unit=unit + 1)),
+        (command("/desk/remove", unit=unit + 3), json_answer(units=1)),
     ]
 
 
@@ -60,19 +63,22 @@ def at_the_desk(round):
     unit, ticket = 4 * round + 1, round + 1
     first, second = 2 * round + 1, 2 * round + 2
     return [
-        (asked("/desk/register", name="Ann", until=EVER), told(ticket=ticket)),
-        (asked("/desk/renew", ticket=ticket, until=EVER), told(ticket=ticket)),
-        (asked("/desk/permit", ticket=ticket, unit=unit, until=EVER), told(ticket=ticket, unit=unit, until=EVER)),
-        (asked("/desk/seat", ticket=ticket), told(seat=1)),
-        (asked("/public/orders", ticket=ticket, container=1), told(order=first)),
-        (asked("/public/orders", ticket=ticket, container=2), told(order=second)),
-        (asked("/desk/cancel", order=second), told(order=second)),
-        (post("/desk/run"), told(run=round + 1, taken=1)),
-        (asked("/desk/issue", container=1, ticket=ticket), told(order=first)),
-        (asked("/desk/return", container=1), told(order=first)),
-        (post("/desk/reshelve"), told(containers=[1])),
-        (asked("/desk/leave", ticket=ticket), told(seat=1)),
-        (asked("/desk/revoke", ticket=ticket, unit=unit), told(unit=unit)),
+        (command("/desk/register", name="Ann", until=EVER), json_answer(ticket=ticket)),
+        (command("/desk/renew", ticket=ticket, until=EVER), json_answer(ticket=ticket)),
+        (
+            command("/desk/permit", ticket=ticket, unit=unit, until=EVER),
+            json_answer(ticket=ticket, unit=unit, until=EVER),
+        ),
+        (command("/desk/seat", ticket=ticket), json_answer(seat=1)),
+        (command("/public/orders", ticket=ticket, container=1), json_answer(order=first)),
+        (command("/public/orders", ticket=ticket, container=2), json_answer(order=second)),
+        (command("/desk/cancel", order=second), json_answer(order=second)),
+        (post("/desk/run"), json_answer(run=round + 1, taken=1)),
+        (command("/desk/issue", container=1, ticket=ticket), json_answer(order=first)),
+        (command("/desk/return", container=1), json_answer(order=first)),
+        (post("/desk/reshelve"), json_answer(containers=[1])),
+        (command("/desk/leave", ticket=ticket), json_answer(seat=1)),
+        (command("/desk/revoke", ticket=ticket, unit=unit), json_answer(unit=unit)),
     ]
 
 
@@ -91,8 +97,8 @@ def questions(round):
         (get("/public/fonds"), answer(fonds, client.TEXT)),
         (get(f"/public/aid/{unit}"), answer(aid, client.TEXT)),
         (get(f"/public/units/{unit}"), answer(page, client.TEXT)),
-        (get(f"/desk/readers/{ticket}"), told(**reader)),
-        (get("/desk/queue/1"), told(**queue)),
+        (get(f"/desk/readers/{ticket}"), json_answer(**reader)),
+        (get("/desk/queue/1"), json_answer(**queue)),
         (get(f"/desk/runs/{round + 1}"), answer(slip, client.TEXT)),
         (get("/desk/issued"), answer("[]")),
         (get(f"/desk/permits/{ticket}"), answer("[]")),
@@ -100,8 +106,11 @@ def questions(round):
 
 
 def main():
+    """Plays the fifty rounds; prints the first wrong answer, and returns 1 if there is one."""
     program, at = client.options(__doc__).parse_args().program, 0
-    parts = [part for round in range(ROUNDS) for part in in_the_catalogue(round) + at_the_desk(round) + questions(round)]
+    parts = []
+    for round in range(ROUNDS):
+        parts += in_the_catalogue(round) + at_the_desk(round) + questions(round)
     ended = program.trial(b"".join(request for request, _ in parts), timeout=LONGEST)
     if client.lacked_memory(ended):
         print("WRONG: 503 or no memory, with ample memory")

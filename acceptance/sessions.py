@@ -53,7 +53,8 @@ FEW = {"seats": [1, 1, 2, 3], "daily": [1, 2, 3, 3], "hands": [1, 1, 2, 3], "run
 SEATS, DAILY, HANDS, RUN = ([*few, HIGHEST[name]] for name, few in FEW.items())
 KEPT = Path(__file__).parent / "seeds.txt"
 STATES = ["shelf", "desk", "out"]
-PERMITS = ["new", "longer", "as it was", "expired", "revoked", "gone with its unit", "opens a closure", "below a closure"]
+PERMITS = ["new", "longer", "as it was", "expired", "revoked", "gone with its unit"]
+PERMITS += ["opens a closure", "below a closure"]
 CAUSES = [1, 2, 3, 4, 5, 6, 7, 8, 11, 12]
 LEAST, ENOUGH = 5, 100
 count = collections.Counter()
@@ -69,28 +70,31 @@ class Session:
         self.settings = self.some_settings()
         self.office = self.OFFICE(**self.settings)
         self.numbers = self.random.choice([8, 25, 25, 60])
-        self.pools = {name: pool and self.fewer(pool) for name, pool in COLUMNS.items()}
+        self.pools = {name: pool and self.part_of(pool) for name, pool in COLUMNS.items()}
         self.weights = [often * self.random.choice([0.5, 1, 1, 2]) for often in self.OFTEN.values()]
         self.first = list(self.beginning())
-        self.said = [it for _ in range(COMMANDS + len(self.first)) for it in self.some()]
+        self.said = [it for _ in range(COMMANDS + len(self.first)) for it in self.exchanges()]
 
     def some_settings(self):
         """The usual settings in one session of three, random ones in the others."""
         if self.happens(0.35):
             return dict(client.SETTINGS)
-        chosen = {"seats": SEATS, "daily": DAILY, "hands": HANDS, "run": RUN, "country": ["GB", "DE"], "repo": ["0999", "x/1"]}
+        chosen = {"seats": SEATS, "daily": DAILY, "hands": HANDS, "run": RUN}
+        chosen |= {"country": ["GB", "DE"], "repo": ["0999", "x/1"]}
         return client.SETTINGS | {name: str(self.random.choice(pool)) for name, pool in chosen.items()}
 
-    def fewer(self, pool):
+    def part_of(self, pool):
         """A part of a pool, or all of it."""
         return self.random.sample(pool, self.random.randint((len(pool) + 1) // 2, len(pool)))
 
     # ---- how a session may begin
 
     def beginning(self):
+        """The first commands of the session; seven of ten seeds have none."""
         return self.BEGINNINGS.get(self.seed % 10, lambda _: ())(self)
 
     def a_chain(self):
+        """Yields commands that make a chain of units as deep as it may be, try to make it deeper, and move in it."""
         rows = "".join(f"{n},{n - 1 if n > 1 else ''},Published\n" for n in range(1, DEEPEST + 1))
         yield "/desk/import/chain", f"legacyId,parentId,publicationStatus\n{rows}"
         yield "/desk/import/chain", f"legacyId,parentId\n{DEEPEST + 1},{DEEPEST}\n"
@@ -99,6 +103,7 @@ class Session:
         yield "/desk/move", f'{{"unit":{DEEPEST + 1},"parent":{self.random.randint(DEEPEST - 1, DEEPEST)}}}'
 
     def all_permits(self):
+        """Yields commands that give a ticket as many permits as it may have, and two more."""
         rows = "".join(f"{n},Published\n" for n in range(1, MOST_PERMITS + 3))
         yield "/desk/import/b", f"legacyId,publicationStatus\n{rows}"
         yield "/desk/register", '{"name":"Ann","until":"2030-01-01"}'
@@ -106,6 +111,7 @@ class Session:
             yield "/desk/permit", json.dumps({"ticket": 1, "unit": unit, "until": self.random.choice(LATE)})
 
     def no_file(self):
+        """Yields imports that are refused: bytes that are no text, nothing, and a column twice."""
         yield "/desk/import/a", b"legacyId\n\xff\n"
         yield "/desk/import/a", ""
         yield "/desk/import/a", "legacyId,title,title\n1,,\n"
@@ -113,6 +119,7 @@ class Session:
     BEGINNINGS = {3: a_chain, 5: all_permits, 7: no_file}
 
     def happens(self, chance):
+        """Whether something of this chance, from 0 to 1, happens."""
         return self.random.random() < chance
 
     def one_of(self, pool, among):
@@ -120,7 +127,7 @@ class Session:
         pool = list(pool)
         return self.random.choice(pool) if pool and self.happens(0.9) else self.random.randint(0, among + 1)
 
-    def some(self):
+    def exchanges(self):
         """A command and three questions, each with its bytes and its answer."""
         path, body = self.first.pop(0) if self.first else self.command()
         body, seen = body if isinstance(body, bytes) else body.encode(), Seen(self.office)
@@ -135,6 +142,7 @@ class Session:
 
     @staticmethod
     def answer(status, told):
+        """The bytes of an answer with this status: text for a text, JSON for all else."""
         if isinstance(told, str):
             return client.reply(status, told.encode(), client.TEXT)
         return client.reply(status, plain.as_json(told).encode())
@@ -142,22 +150,27 @@ class Session:
     # ---- files
 
     def cell(self, column, known):
+        """A random cell of a column; an identifier is often one of the units that are known."""
         if column == "legacyId":
             if known and self.happens(0.4):
                 return self.random.choice(known)
-            return str(self.random.randint(1, self.numbers)) if self.happens(0.99) else self.random.choice(["", " ", "\t"])
+            is_right = self.happens(0.99)
+            return str(self.random.randint(1, self.numbers)) if is_right else self.random.choice(["", " ", "\t"])
         if column == "parentId":
             if known and self.happens(0.53):
                 return self.random.choice(known)
             return str(self.random.randint(1, self.numbers)) if self.happens(0.04) else ""
         if column.startswith("physicalObject"):
-            return "|".join(self.random.choice(self.pools[column]) for _ in range(self.random.choice([0, 0, 1, 1, 2, 3])))
+            number = self.random.choice([0, 0, 1, 1, 2, 3])
+            return "|".join(self.random.choice(self.pools[column]) for _ in range(number))
         return self.random.choice(self.pools[column])
 
-    def quoted(self, cell):
+    def quote(self, cell):
+        """A cell as CSV writes it, sometimes in quotes that it does not need."""
         return '"' + cell.replace('"', '""') + '"' if set(cell) & set(',"\n') or self.happens(0.1) else cell
 
     def file(self, source):
+        """A file of random columns and up to seven rows, some of them wrong or blank."""
         known = [it.legacy for it in self.office.units.values() if it.source == source]
         columns = [it for it in COLUMNS if self.happens(0.35 if it in RARE else 0.96 if it == "legacyId" else 0.8)]
         if self.happens(0.01):
@@ -165,14 +178,14 @@ class Session:
         self.random.shuffle(columns)
         lines = [",".join(columns)]
         for _ in range(self.random.randint(0, 7)):
-            cells = [self.quoted(self.cell(it, known)) for it in columns]
+            cells = [self.quote(self.cell(it, known)) for it in columns]
             if self.happens(0.015):
                 cells.pop()
             blank = self.random.choice(["", "," * self.random.randint(1, 5)])
             lines.append(blank if self.happens(0.05) else ",".join(cells))
         return "".join(line + self.random.choice(["\n", "\r\n"]) for line in lines)
 
-    def same_again(self, source):
+    def unchanged_file(self, source):
         """A file with units as they are, sometimes with their boxes in the reverse order."""
         units = [it for it in self.office.units.values() if it.source == source]
         elements = {columns[0]: number for number, _, columns in plain.ELEMENTS if columns[0] in COLUMNS}
@@ -181,15 +194,17 @@ class Session:
             boxes = [self.office.containers[n - 1] for n in it.boxes][:: self.random.choice([1, 1, -1])]
             cells = [it.texts.get(number, "") for number in elements.values()]
             cells += [it.legacy, *("|".join(box[n] for box in boxes) for n in range(3))]
-            lines.append(",".join(map(self.quoted, cells)))
+            lines.append(",".join(map(self.quote, cells)))
         return plain.text(lines)
 
     # ---- commands
 
     def ticket(self):
+        """The number of a ticket, mostly one that was given."""
         return self.one_of(self.office.readers, len(self.office.readers))
 
     def container(self):
+        """The number of a container, mostly one that there is."""
         return self.one_of(range(1, len(self.office.containers) + 1), len(self.office.containers))
 
     def unit(self):
@@ -206,14 +221,17 @@ class Session:
         return self.one_of(units or self.office.units, self.office.next)
 
     def day(self):
+        """The next day, or sometimes any other."""
         later = [it for it in DAYS[:-1] if it > self.office.day]
         return later[0] if later and self.happens(0.8) else self.random.choice(DAYS[:-1])
 
     def import_file(self):
+        """An import, sometimes of units as they are, and rarely from a source with a bad name."""
         source = self.random.choice(["a", "a", "b"]) if self.happens(0.98) else "c,d"
-        return f"import/{source}", (self.same_again if self.happens(0.2) else self.file)(source)
+        return f"import/{source}", (self.unchanged_file if self.happens(0.2) else self.file)(source)
 
     def order(self):
+        """An order, mostly for a container that the reader may have."""
         ticket = self.ticket()
         able = [it for it in range(1, len(self.office.containers) + 1) if self.office.is_open(it, ticket)]
         if not able and self.happens(0.5):
@@ -222,8 +240,8 @@ class Session:
         return "orders", {"ticket": ticket, "container": container}
 
     def issue(self):
-        """An issue to the first reader who waits for a container at the desk; or what that reader lacks for it; or, if no such
-        container is there, what brings one."""
+        """An issue to the first reader who waits for a container at the desk; or what that reader lacks for it; or, if
+        no such container is there, what brings one."""
         office = self.office
         ready = [it for it, place in office.places.items() if place == "desk" and office.queue(it)]
         if not ready and self.happens(0.9):
@@ -242,56 +260,72 @@ class Session:
         return "issue", {"container": container, "ticket": ticket if self.happens(0.8) else self.ticket()}
 
     def leave(self):
+        """A reader leaves; mostly one who has a seat."""
         return "leave", {"ticket": self.one_of(self.office.seated.values(), len(self.office.readers))}
 
     def status(self):
+        """A change of status, more often to published than to draft, of a unit or of its branch."""
         unit, status = (self.withheld_unit(), "published") if self.happens(0.6) else (self.unit(), "draft")
         branch = {"branch": self.happens(0.7)} if self.happens(0.7) else {}
         return "status", {"unit": unit, "status": status, **branch}
 
     def closure(self):
+        """A closure until a random day, or in more than half of the cases the end of one."""
         if self.happens(0.5):
             return "closure", {"unit": self.withheld_unit(), "until": None}
         return "closure", {"unit": self.unit(), "until": self.random.choice([None, *DAYS])}
 
     def move(self):
+        """A move of a unit below another, or to the tops."""
         parent = None if self.happens(0.25) else self.one_of(self.office.units, self.office.next)
         return "move", {"unit": self.unit(), "parent": parent}
 
     def cancel(self):
+        """The cancelling of an order, mostly of one that waits."""
         return "cancel", {"order": self.one_of(self.office.waiting, len(self.office.orders))}
 
     def give_back(self):
+        """The return of a container, mostly of one that is out."""
         return "return", {"container": self.one_of(self.office.out(), len(self.office.containers))}
 
     def register(self):
-        return "register", {"name": self.random.choice(["Ann", "Ben", "Cay", "é", " "]), "until": self.random.choice(LATE)}
+        """The registration of a reader; some names are bad."""
+        name = self.random.choice(["Ann", "Ben", "Cay", "é", " "])
+        return "register", {"name": name, "until": self.random.choice(LATE)}
 
     def renew(self):
+        """The renewal of a ticket."""
         return "renew", {"ticket": self.ticket(), "until": self.random.choice(LATE)}
 
     def seat(self):
+        """A reader takes a seat."""
         return "seat", {"ticket": self.ticket()}
 
     def run(self):
+        """The command that begins a run."""
         return "run", {}
 
     def reshelve(self):
+        """The command that puts boxes back on the shelf."""
         return "reshelve", {}
 
     def next_day(self):
+        """The command that begins a day."""
         return "day", {"day": self.day()}
 
     def remove(self):
+        """The removal of a unit."""
         return "remove", {"unit": self.unit()}
 
     def permit(self):
+        """A permit, often for a unit that is closed."""
         office = self.office
         closed = [it for it in office.units if any(map(office.is_closed, office.path(it)))]
         unit = self.random.choice(closed) if closed and self.happens(0.4) else self.unit()
         return "permit", {"ticket": self.ticket(), "unit": unit, "until": self.random.choice(LATE)}
 
     def revoke(self):
+        """The end of a permit, mostly for a unit for which there is one."""
         granted = [unit for _, unit in self.office.permits]
         return "revoke", {"ticket": self.ticket(), "unit": self.one_of(granted, self.office.next)}
 
@@ -318,12 +352,13 @@ class Session:
     }
 
     def command(self):
-        """The path and the body of a command: an import if there are no units, then a registration if there is no reader."""
+        """The path and body of a command: imports until there are units, then registrations until a reader is there."""
         first = Session.import_file if not self.office.units else Session.register if not self.office.readers else None
         word, members = (first or self.random.choices(list(self.OFTEN), self.weights)[0])(self)
         return client.path_of(word), members if isinstance(members, str) else json.dumps(members)
 
     def questions(self):
+        """The paths of questions that may be asked now, for random units, tickets, containers and runs."""
         office = self.office
         paths = ["/public/fonds", "/desk/issued"]
         for _ in range(3):
@@ -341,6 +376,7 @@ class Seen:
         self.permits = dict(office.permits)
 
     def command(self, office, path, body, told):
+        """Counts a command's refusal, its cause or its remarks, and what it did to permits."""
         for code in [told["code"]] if "code" in told else []:
             count["refusal", code] += 1
         if "cause" in told:
@@ -352,6 +388,7 @@ class Seen:
         self.count_permits(office, path, body, told)
 
     def count_permits(self, office, path, body, told):
+        """Counts permits that are new, longer, as they were, revoked, or gone with their units."""
         gone = self.permits.keys() - office.permits.keys()
         if gone:
             count["permit", "revoked" if path == "/desk/revoke" else "gone with its unit"] += 1
@@ -364,6 +401,7 @@ class Seen:
 
     @staticmethod
     def question(office, path, status, told):
+        """Counts a refused question, the place of a container, and expired permits."""
         word = "/".join(path.split("/")[1:3])
         if status == 404:
             count["refusal", {"desk/runs": 26, "desk/queue": 3}.get(word, 1)] += 1
@@ -384,7 +422,8 @@ def is_held(program, session):
             return False
         place += len(wanted)
     if (ended.status, ended.message, len(ended.output)) != (0, b"", place):
-        print(f"WRONG end of session {session.seed}: {ended.status}, {ended.output[place:place + 400]}, {ended.message}")
+        rest = ended.output[place : place + 400]
+        print(f"WRONG end of session {session.seed}: {ended.status}, {rest}, {ended.message}")
         return False
     return True
 
@@ -395,14 +434,15 @@ def wanted_counts():
     return {f"{name} {it}": count.pop((name, it), 0) for name, pool in kinds.items() for it in pool}
 
 
-def listed(counts):
+def join_counts(counts):
+    """Names and how often each came, in one line."""
     return ", ".join(f"{name} {times}" for name, times in counts)
 
 
-def tell_commands():
+def print_commands():
     """Prints how often each command was accepted, and refused by number."""
     asked = ((f"{path} {code or ''}".strip(), times) for (path, code), times in sorted(count.items()) if path[0] == "/")
-    print(f"commands, and those refused by number: {listed(asked)}")
+    print(f"commands, and those refused by number: {join_counts(asked)}")
 
 
 def is_enough(came, least, number):
@@ -414,14 +454,15 @@ def is_enough(came, least, number):
 
 
 def main():
-    given = client.seeded(__doc__, 200).parse_args()
+    """Compares the sessions, prints the counts, and returns whether something differs or came too seldom."""
+    given = client.seeded_options(__doc__, 200).parse_args()
     kept = {int(it.split()[0]) for it in KEPT.read_text().splitlines() if it and not it.startswith("#")}
     seeds = sorted(kept | set(range(given.first, given.first + given.count)))
     held = sum(is_held(given.program, Session(seed)) for seed in seeds)
     print(f"of {len(seeds)} random sessions, {len(kept)} of kept seeds, {held} were answered as by a plain office")
     came = wanted_counts()
-    tell_commands()
-    print(f"what came: {listed(came.items())}")
+    print_commands()
+    print(f"what came: {join_counts(came.items())}")
     return not is_enough(came, LEAST, given.count) or held != len(seeds)
 
 

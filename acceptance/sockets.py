@@ -59,9 +59,11 @@ class Talk:
         self.connection.close()
 
     def send(self, said):
+        """Sends bytes to the server."""
         self.connection.sendall(said)
 
     def ask(self, request):
+        """Sends a request; returns its reply."""
         self.send(request)
         return client.read_reply(self.answers)
 
@@ -77,19 +79,20 @@ class Tests:
     def server(self, connections, units=1):
         """A server for this many connections, with a new office."""
         with client.temporary(self.room) as room:
-            office, file = client.Office.made(self.program, room / "office.db"), room / "file.csv"
+            office, file = client.Office.create(self.program, room / "office.db"), room / "file.csv"
             file.write_text(rows(units))
             self.same("the end of an import", office.import_file("a", file).status, 0)
-            with office.served(connections, self.port) as server:
+            with office.serve(connections, self.port) as server:
                 self.same("what a server says", server.said, b"listening %d\n" % server.port)
                 yield server
 
-    def ends_well(self, server, what):
-        self.same(what, server.ended(), client.Ended(0, b"", b""))
+    def check_end(self, server, what):
+        """Waits until the server ends, and compares how."""
+        self.same(what, server.wait_for_end(), client.Ended(0, b"", b""))
 
     def next_client(self, server, what, request=FONDS):
         """Asks with a new client, which must be answered; returns the seconds that it took and the answer."""
-        with Talk(server.connected(PATIENCE * 12)) as it:
+        with Talk(server.connect(PATIENCE * 12)) as it:
             begun = time.monotonic()
             answer = it.ask(request)
             self.same(f"{what}: the next client", answer.line, OK)
@@ -100,7 +103,7 @@ class Tests:
     def kept_open(self):
         """1,000 requests on one connection, by Python and by curl."""
         with self.server(9) as server:
-            with Talk(server.connected()) as it:
+            with Talk(server.connect()) as it:
                 it.ask(FONDS)
                 begun = time.monotonic()
                 for _ in range(1000):
@@ -109,9 +112,10 @@ class Tests:
             print(f"an answer on a connection that is kept open, by Python: {taken:.3f} ms")
             self.same("1,000 answers come within 10 seconds", taken < 10, True)
             if shutil.which("curl"):
-                self.kept_open_by_curl(server)
+                self.ask_by_curl(server)
 
-    def kept_open_by_curl(self, server):
+    def ask_by_curl(self, server):
+        """Asks 1,000 times by one call of curl, and compares how long that takes."""
         begun = time.monotonic()
         url = f"http://{HOST}:{server.port}/public/fonds?[1-1000]"
         told = subprocess.run(["curl", "-s", "-S", url], capture_output=True, check=False).stdout
@@ -130,7 +134,7 @@ class Tests:
             words = ["strace", "-f", "-q", "-e", traced, "-o", calls, "-p", str(server.process.pid)]
             tracer = subprocess.Popen(words)
             time.sleep(1)
-            with Talk(server.connected()) as it:
+            with Talk(server.connect()) as it:
                 for request in [FONDS] * 1000 + [AID] * 3:
                     it.ask(request)
             tracer.send_signal(signal.SIGINT)
@@ -145,31 +149,23 @@ class Tests:
         """An answer that closes, to a client that has sent much more than is read."""
         with self.server(6) as server:
             for more in (0, 1, 100_000, 4_000_000, LONGEST_BODY):
-                answer, rest = BROKEN, b""
-                with Talk(server.connected()) as it:
-                    with contextlib.suppress(ConnectionError):
-                        it.send(REFUSED + b"x" * more)
-                    try:
-                        answer = client.read_reply(it.answers)
-                        rest = it.answers.read()
-                    except ConnectionError as error:
-                        rest = str(error).encode()
+                answer, rest = ask_refused(server, more)
                 self.same(f"the answer that closes, with {more} bytes more", answer.line, BAD)
                 whole = b'{"error":"bad request"}', b""
                 self.same(f"all of it, with {more} bytes more", (answer.body, rest), whole)
             _, answer = self.next_client(server, "after these")
             self.same("then the next", answer.body, b"1 GB 0999 HUL [Fonds] Hull Dock Company\n")
-            self.ends_well(server, "the end after these")
+            self.check_end(server, "the end after these")
 
     def trickling(self):
         """After an answer that closes, a client that is silent, and one that sends a byte forty times a second."""
         with self.server(4) as server:
-            with Talk(server.connected()) as it:
+            with Talk(server.connect()) as it:
                 self.same("the answer that closes", it.ask(REFUSED).line, BAD)
                 taken, _ = self.next_client(server, "silent after its last answer")
                 what = f"silent after its last answer: left within {LAST_SILENCE} seconds"
                 self.same(what, taken < LAST_SILENCE, True)
-            with Talk(server.connected()) as it:
+            with Talk(server.connect()) as it:
                 self.same("the answer that closes", it.ask(REFUSED).line, BAD)
                 over = threading.Event()
                 sender = threading.Thread(target=trickle, args=(it, over))
@@ -178,7 +174,7 @@ class Tests:
                 over.set()
                 sender.join()
                 self.same(f"a byte at a time after its last answer: left within {LAST} seconds", taken < LAST, True)
-            self.ends_well(server, "the end after these")
+            self.check_end(server, "the end after these")
 
     # ---- clients that the server leaves
 
@@ -187,14 +183,18 @@ class Tests:
         begun = {"nothing": b"", "a part of a message": REGISTERED[:-5], "one message": REGISTERED}
         with self.server(6) as server:
             for what, said in begun.items():
-                with Talk(server.connected()) as it:
-                    it.send(said)
-                    if what == "one message":
-                        self.same("the first ticket", client.read_reply(it.answers).body, b'{"ticket":1}')
-                    taken, _ = self.next_client(server, what)
-                    is_in_time = PATIENCE - 1 < taken < PATIENCE + LATE
-                    self.same(f"{what}: left after {PATIENCE} seconds", is_in_time, True)
-            self.ends_well(server, "the end after silent clients")
+                self.fall_silent(server, what, said)
+            self.check_end(server, "the end after silent clients")
+
+    def fall_silent(self, server, what, said):
+        """Sends these bytes and then nothing, and compares when the server leaves that client for the next one."""
+        with Talk(server.connect()) as it:
+            it.send(said)
+            if what == "one message":
+                self.same("the first ticket", client.read_reply(it.answers).body, b'{"ticket":1}')
+            taken, _ = self.next_client(server, what)
+            is_in_time = PATIENCE - 1 < taken < PATIENCE + LATE
+            self.same(f"{what}: left after {PATIENCE} seconds", is_in_time, True)
 
     def unread(self):
         """A client that asks for much and reads nothing."""
@@ -208,27 +208,43 @@ class Tests:
             print(f"a client that reads nothing of long answers is left after {taken:.0f} s")
             is_in_time = PATIENCE - 1 < taken < 10 * PATIENCE
             self.same(f"read nothing: left after {PATIENCE} seconds or more", is_in_time, True)
-            self.ends_well(server, "the end after a client that reads nothing")
+            self.check_end(server, "the end after a client that reads nothing")
 
     def nobody_else(self):
         """The server listens on no other address of this machine, and on none after the last connection is taken."""
         with self.server(1) as server:
-            for address in ("127.0.0.2", *others()):
+            for address in ("127.0.0.2", *other_addresses()):
                 where = "of the loop" if address == "127.0.0.2" else "of a card"
                 self.same(f"another address, {where}", is_refused(address, server.port), True)
-            with Talk(server.connected()) as it:
+            with Talk(server.connect()) as it:
                 it.ask(FONDS)
                 self.same("nobody connects once the last is taken", is_refused(HOST, server.port), True)
-            self.ends_well(server, "the end of one connection")
+            self.check_end(server, "the end of one connection")
+
+
+def ask_refused(server, more):
+    """Sends a request that is refused, and this many bytes more; returns the reply, and what follows, or the error."""
+    answer, rest = BROKEN, b""
+    with Talk(server.connect()) as it:
+        with contextlib.suppress(ConnectionError):
+            it.send(REFUSED + b"x" * more)
+        try:
+            answer = client.read_reply(it.answers)
+            rest = it.answers.read()
+        except ConnectionError as error:
+            rest = str(error).encode()
+    return answer, rest
 
 
 def trickle(it, over):
+    """Sends a byte forty times a second, until `over` is set or the connection breaks."""
     with contextlib.suppress(OSError):
         while not over.wait(0.025):
             it.send(b"x")
 
 
 def is_refused(address, port):
+    """Whether nobody accepts a connection at this address and port."""
     try:
         with socket.create_connection((address, port), 5):
             return False
@@ -236,7 +252,7 @@ def is_refused(address, port):
         return True
 
 
-def others():
+def other_addresses():
     """The machine's other addresses, if it has a network card."""
     with contextlib.suppress(OSError):
         found = {it[4][0] for it in socket.getaddrinfo(socket.gethostname(), None, socket.AF_INET)}
@@ -248,6 +264,7 @@ NAMES = ["kept_open", "writes", "not_lost", "trickling", "silent", "unread", "no
 
 
 def main():
+    """Runs the tests that are named, or all, and returns the exit status."""
     words = client.options(__doc__)
     words.add_argument("--port", type=int, default=next(client.PORTS))
     words.add_argument("names", nargs="*", type=client.one_of(NAMES), metavar="NAME", help=", ".join(NAMES))
@@ -255,7 +272,7 @@ def main():
     tests = Tests(given)
     for name in given.names or NAMES:
         getattr(tests, name)()
-    return tests.checks.ends()
+    return tests.checks.finish()
 
 
 if __name__ == "__main__":

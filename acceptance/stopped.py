@@ -52,7 +52,7 @@ def file_of_units():
     return "\n".join([f"{header},physicalObjectName", *rows]) + "\n"
 
 
-def asked(path, body="", name=""):
+def session_of(path, body="", name=""):
     """A session of one command."""
     return Command(["talk"], post(path, body), name)
 
@@ -62,18 +62,18 @@ def day(units):
     return [
         Command(["init", *SETTINGS], name="init"),
         Command(["import", "--source", "a", str(units)], name="import"),
-        asked("/desk/closure", '{"unit":2,"until":"2030-01-01"}', "closure"),
-        asked("/desk/move", '{"unit":3,"parent":2}', "move"),
-        asked("/desk/register", '{"name":"Ann","until":"2024-12-31"}'),
-        asked("/public/orders", '{"ticket":1,"container":9}', "order"),
-        asked("/desk/run", "", "run"),
-        asked("/desk/seat", '{"ticket":1}'),
-        asked("/desk/issue", '{"container":9,"ticket":1}', "issue"),
-        asked("/desk/return", '{"container":9}', "return"),
+        session_of("/desk/closure", '{"unit":2,"until":"2030-01-01"}', "closure"),
+        session_of("/desk/move", '{"unit":3,"parent":2}', "move"),
+        session_of("/desk/register", '{"name":"Ann","until":"2024-12-31"}'),
+        session_of("/public/orders", '{"ticket":1,"container":9}', "order"),
+        session_of("/desk/run", "", "run"),
+        session_of("/desk/seat", '{"ticket":1}'),
+        session_of("/desk/issue", '{"container":9,"ticket":1}', "issue"),
+        session_of("/desk/return", '{"container":9}', "return"),
     ]
 
 
-def copied(office, room):
+def copy_office(office, room):
     """A copy of an office, with the log beside it, in a folder of its own."""
     copy = Office(office.program, Path(tempfile.mkdtemp(dir=room)) / "office.db")
     for end in ("", "-wal"):
@@ -96,9 +96,9 @@ class Stops:
 
     def __init__(self, command, before, shim, room):
         self.command, self.before, self.shim, self.room = command, before, shim, room
-        self.after = copied(before, room)
+        self.after = copy_office(before, room)
         self.status, self.answer, _ = command.perform(self.after)
-        self.found, self.left = (look(copied(it, room)) for it in (before, self.after))
+        self.found, self.left = (look(copy_office(it, room)) for it in (before, self.after))
         self.counts, self.wrong = Counter(), []
 
     def place(self, seen, answered):
@@ -113,7 +113,7 @@ class Stops:
 
     def stop(self, number, kept):
         """Stops the command after this many calls and looks at the office. False if it ended by itself."""
-        office = copied(self.before, self.room)
+        office = copy_office(self.before, self.room)
         status, answer, _ = self.command.perform(office, LD_PRELOAD=self.shim, STOP=str(number), KEPT=kept)
         seen = look(office)
         shutil.rmtree(office.store.parent)
@@ -127,17 +127,20 @@ class Stops:
             self.wrong.append(f"WRONG {self.command.name}, call {number}, kept {kept}: {answer}, {seen[:2]}")
         return True
 
-    def all_stops(self, kept):
+    def stop_everywhere(self, kept):
+        """Stops the command after the first, second, .. call, until it ends by itself."""
         for number in itertools.count(1):
             if not self.stop(number, kept):
                 return
 
     def lines(self):
+        """The lines of the report: the counts of states, and each wrong result."""
         counts = ", ".join(f"{count} {place}" for place, count in sorted(self.counts.items(), key=str))
         return [f"{self.command.name}: {self.counts.total()} stops, {counts}", *self.wrong]
 
 
-def built_shim(room):
+def build_shim(room):
+    """Compiles stop.c in a room; returns the path of the library."""
     subprocess.run(["cc", "-shared", "-fPIC", "-O2", "-o", room / "stop.so", HERE / "stop.c", "-ldl"], check=True)
     return str(room / "stop.so")
 
@@ -155,14 +158,15 @@ def all_commands(program, shim, room):
 
 
 def main():
+    """Stops all commands, with unsynced data as named or in all ways; returns whether a result is wrong."""
     words = client.options(__doc__)
     words.add_argument("kept", nargs="*", type=client.one_of(KEPT), metavar="KEPT", help=", ".join(KEPT))
     given = words.parse_args()
     with client.temporary(given.room) as room:
-        commands = all_commands(given.program, built_shim(room), room)
+        commands = all_commands(given.program, build_shim(room), room)
         with ThreadPoolExecutor(os.cpu_count()) as pool:
             tried = [(command, how) for how in given.kept or KEPT for command in commands]
-            for it in [pool.submit(command.all_stops, how) for command, how in tried]:
+            for it in [pool.submit(command.stop_everywhere, how) for command, how in tried]:
                 it.result()
     for command in commands:
         print("\n".join(command.lines()))

@@ -1,15 +1,16 @@
 #!/usr/bin/env python3
-"""Runs the same load on the built program and on another program with the same command line, each by `talk` on a file of its
-own, and prints tables of markdown with the ratios of their times:
+"""Runs the same load on the built program and on another program with the same command line, each by `talk` on a file
+of its own, and prints tables of markdown with the ratios of their times:
 
     bench/beside.py [--program PROGRAM] [--room FOLDER] [--cpu N] OTHER [UNITS ..]
 
-UNITS is 2000, 20000, 60000 or 200000; by default the last three. Offices are made as real ones are: from files of 20,000
-rows that come by POST, parents first, so that numbers do not rise along the walk, and then some branches are moved.
-Requests go to one program, then the same to the other; each request waits for the answer to the one before. Times are means
-for one answer, of the processor and by the clock. The ratios and the growth are of processor time, which says most on a busy
-machine; the last column has the ratio by the clock. --cpu binds both programs to one processor. With several sizes, a last
-table says how many times as long an answer takes in the largest office as in the smallest.
+UNITS is 2000, 20000, 60000 or 200000; by default the last three. Offices are made as real ones are: from files of
+20,000 rows that come by POST, parents first, so that numbers do not rise along the walk, and then some branches are
+moved. Requests go to one program, then the same to the other; each request waits for the answer to the one before.
+Times are means for one answer, of the processor and by the clock. The ratios and the growth are of processor time,
+which says most on a busy machine; the last column has the ratio by the clock. --cpu binds both programs to one
+processor. With several sizes, a last table says how many times as long an answer takes in the largest office as in the
+smallest.
 """
 import datetime
 import os
@@ -42,7 +43,7 @@ class Side:
 
     def processor(self):
         """Seconds of the processor that the session has taken."""
-        return int(self.session.told("schedstat").split()[0]) / 1e9
+        return int(self.session.proc_file("schedstat").split()[0]) / 1e9
 
     def ask(self, requests, wanted=measure.OK):
         """The mean of an answer, which must have this status."""
@@ -68,23 +69,28 @@ class Bench:
         self.ours, self.other, self.took = ours, other, {}
 
     def say(self, stage, wanted, ours, other):
+        """Prints the line of a stage: our time, the other's, their ratio, what is wanted, and the same by the clock."""
         self.took[stage] = ours
         said = milliseconds(ours.processor), milliseconds(other.processor), f"{ours.processor / other.processor:.1f}"
         by_clock = milliseconds(ours.wall), milliseconds(other.wall), f"{ours.wall / other.wall:.1f}"
         measure.say(stage, *said, "" if wanted is None else f"{wanted}", *by_clock)
 
-    def quietly(self, requests):
+    def ask_unmeasured(self, requests):
+        """Sends requests to both programs; their times are not printed."""
         for side in (self.ours, self.other):
             side.ask(requests)
 
     def stage(self, name, wanted, requests):
+        """Sends requests to one program and then to the other, and prints what they took."""
         self.say(name, wanted, self.ours.ask(requests), self.other.ask(requests))
 
-    def opening(self, wanted):
+    def measure_opening(self, wanted):
+        """Starts both sessions anew, and prints what that took."""
         self.say("opening", wanted, self.ours.reopen(), self.other.reopen())
 
 
 def milliseconds(seconds):
+    """Seconds as a text of milliseconds."""
     return f"{1000 * seconds:.2f} ms"
 
 
@@ -103,9 +109,9 @@ def take_in(bench, archive, room):
         if file in names:
             bench.stage(f"{names[file]}, {archive.rows:,} rows", 2.5, request)
         else:
-            bench.quietly(request)
+            bench.ask_unmeasured(request)
     bench.stage("the first file again", 3, [file_of(archive, 0, room)])
-    bench.quietly([move_to_a_file(archive, n, 20) for n in range(20)])
+    bench.ask_unmeasured([move_to_a_file(archive, n, 20) for n in range(20)])
 
 
 def move_to_a_file(archive, nth, count):
@@ -116,9 +122,11 @@ def move_to_a_file(archive, nth, count):
 
 
 def questions(bench, archive):
+    """Prints what pages, finding aids and lists of fonds take."""
     count = archive.requests
     bench.stage("a page", 2, [get(f"/public/units/{archive.unit(n, count)}") for n in range(count)])
-    bench.stage("an aid of 10 units", 2, [get(f"/public/aid/{archive.unit_with_nine_below(n, count)}") for n in range(count)])
+    aids = [get(f"/public/aid/{archive.unit_with_nine_below(n, count)}") for n in range(count)]
+    bench.stage("an aid of 10 units", 2, aids)
     bench.stage(f"the list of {archive.tops * archive.files} fonds", 2, [get("/public/fonds")] * (count // 10))
 
 
@@ -135,10 +143,10 @@ def desk(bench, archive):
     """A reading room's day, with changes of the catalogue while boxes are out."""
     count = archive.requests
     readers = range(1, count // measure.IN_HANDS + 2)
-    bench.quietly([post("/desk/register", name=f"Reader {n}", until="2024-12-31") for n in readers])
-    bench.quietly(list(past_orders(archive)))
+    bench.ask_unmeasured([post("/desk/register", name=f"Reader {n}", until="2024-12-31") for n in readers])
+    bench.ask_unmeasured(list(past_orders(archive)))
     bench.stage(f"a reader with {PAST:,} past orders", None, [get("/desk/readers/1")] * 100)
-    bench.quietly([post("/desk/seat", ticket=n) for n in readers])
+    bench.ask_unmeasured([post("/desk/seat", ticket=n) for n in readers])
     # the first ticket has placed all orders of its day
     loans = [{"ticket": n // measure.IN_HANDS + 2, "container": archive.ordered_box(n)} for n in range(count)]
     bench.stage("an order", 1.5, [post("/public/orders", **loan) for loan in loans])
@@ -149,19 +157,21 @@ def desk(bench, archive):
     bench.stage(f"a status beside {count:,} containers out", 2, drafts)
     closures = [post("/desk/closure", unit=unit, until="2030-01-01") for unit in units[1::2]]
     bench.stage(f"a closure beside {count:,} containers out", 2, closures)
-    bench.quietly([post("/desk/return", container=archive.ordered_box(n)) for n in range(count)])
+    bench.ask_unmeasured([post("/desk/return", container=archive.ordered_box(n)) for n in range(count)])
 
 
 def placings(bench, archive):
+    """Prints what moves and removals of branches take."""
     branches = [archive.unit_with_nine_below(2 * n + 1, 40) for n in range(20)]
     bench.stage("a move of ten units to the tops", 3, [post("/desk/move", unit=unit, parent=None) for unit in branches])
     if archive.files > 1:
-        bench.stage("a move of ten units to another file", 3, [move_to_a_file(archive, 3 * n + 1, 60) for n in range(20)])
+        moves = [move_to_a_file(archive, 3 * n + 1, 60) for n in range(20)]
+        bench.stage("a move of ten units to another file", 3, moves)
     units = [archive.leaf(3 * n + 1, 60) for n in range(20)]
     bench.stage("a removal", 3, [post("/desk/remove", unit=unit) for unit in units])
 
 
-def beside(ours, other, room, units):
+def compare(ours, other, room, units):
     """Both programs with offices of this many units, and what ours took."""
     archive = Archive(units)
     print(f"\n### {units:,} units, {time.strftime('%Y-%m-%d %H:%M')}, load {os.getloadavg()[0]:.1f}\n")
@@ -174,7 +184,7 @@ def beside(ours, other, room, units):
         measure.say("What", "Ours", "Other", "Ratio", "Wanted", *by_clock)
         measure.say(*["---"] * 8)
         take_in(bench, archive, folder)
-        bench.opening(None)
+        bench.measure_opening(None)
         questions(bench, archive)
         desk(bench, archive)
         placings(bench, archive)
@@ -185,7 +195,8 @@ def beside(ours, other, room, units):
     return bench.took
 
 
-def tell_growth(first, last, few, many):
+def print_growth(first, last, few, many):
+    """Prints, for each stage, how many times as long it takes in the largest office as in the smallest."""
     print(f"\n### Growth: {many / few:g} times the units\n")
     measure.say("What", f"{few:,}", f"{many:,}", "Times")
     measure.say(*["---"] * 4)
@@ -195,6 +206,7 @@ def tell_growth(first, last, few, many):
 
 
 def main():
+    """Measures both programs with offices of each size, and prints the tables."""
     words = client.options(__doc__, in_memory=False)
     words.add_argument("--cpu", metavar="N", help="the processor to which both programs are bound")
     words.add_argument("other", type=client.Program, metavar="OTHER")
@@ -203,9 +215,9 @@ def main():
     bound = ["taskset", "-c", given.cpu] if given.cpu else []
     ours, other = [[*bound, it.path] for it in (given.program, given.other)]
     sizes = sorted(given.units) or SIZES[1:]
-    took = [beside(ours, other, given.room, units) for units in sizes]
+    took = [compare(ours, other, given.room, units) for units in sizes]
     if len(sizes) > 1:
-        tell_growth(took[0], took[-1], sizes[0], sizes[-1])
+        print_growth(took[0], took[-1], sizes[0], sizes[-1])
 
 
 if __name__ == "__main__":

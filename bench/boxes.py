@@ -1,12 +1,13 @@
 #!/usr/bin/env python3
-"""Measures the built program beside another one where a catalogue names its box in every row, and prints tables of markdown:
+"""Measures the built program beside another one where a catalogue names its box in every row, and prints tables of
+markdown:
 
     bench/boxes.py [--program PROGRAM] [--room FOLDER] [--cpu N] [--rounds N] OTHER [SHAPE ..]
 
-SHAPE is one of the offices below; by default all of them. Each is imported from one file. Then come rounds, by default five. In
-a round the boxes are ordered, fetched and issued, and what they slow down is asked: with nothing out, and with them out. Each
-request waits for the answer to the one before. Figures are milliseconds of the processor, the least of the rounds; both
-programs and this script are bound to one processor.
+SHAPE is one of the offices below; by default all of them. Each is imported from one file. Then come rounds, by default
+five. In a round the boxes are ordered, fetched and issued, and what they slow down is asked: with nothing out, and with
+them out. Each request waits for the answer to the one before. Figures are milliseconds of the processor, the least of
+the rounds; both programs and this script are bound to one processor.
 
     1000      1,000 items in one box
     4000      4,000 items in one box
@@ -17,9 +18,9 @@ programs and this script are bound to one processor.
     spread    10,000 items in 1,000 sub-series; a box has one item of each; ten out
     series    ten series in a box each, with 1,000 items, of which every other one has a box of its own; the ten out
 
-A cell of the first table has our figure, the other program's, and the ratio. The second table has our figures with the boxes
-out and with none, and the third says how many times as long an answer takes with 4,000 items in a box as with 1,000. What
-misses its goal is in bold and listed at the end; then the script ends with 1.
+A cell of the first table has our figure, the other program's, and the ratio. The second table has our figures with the
+boxes out and with none, and the third says how many times as long an answer takes with 4,000 items in a box as with
+1,000. What misses its goal is in bold and listed at the end; then the script ends with 1.
 """
 import datetime
 import os
@@ -52,8 +53,8 @@ JUDGED = ["order", "again", "run", "issue", "first", "last"]
 
 
 class Shape:
-    """The units of an office, in the order of their numbers from 1 on: the parent, the level and the boxes of each. `ordered`
-    are the boxes that go out. `moved` are units that staff move to the end of their siblings."""
+    """The units of an office, in the order of their numbers from 1 on: the parent, the level and the boxes of each.
+    `ordered` are the boxes that go out. `moved` are units that staff move to the end of their siblings."""
 
     def __init__(self, name, units, ordered, moved=()):
         self.name, self.units, self.ordered, self.moved = name, units, ordered, moved
@@ -65,6 +66,7 @@ class Shape:
         self.amid = len(ordered) // 2
 
     def write(self, name):
+        """Writes the CSV file of the office."""
         with open(name, "w", encoding="utf-8") as it:
             it.write(measure.HEADER)
             for unit, (parent, level, boxes) in enumerate(self.units, 1):
@@ -99,11 +101,12 @@ class Shape:
 
 
 def box(nth):
+    """The name of the nth box, counted from 0."""
     return f"Box {nth + 1}"
 
 
 def flat(name, items, in_a_box, out, moved=()):
-    """A fonds whose items lie side by side, each with the name of its box. The boxes that go out are spread over all."""
+    """A fonds whose items lie side by side, each naming its box; the boxes that go out are spread over all."""
     units = [(0, "Fonds", []), *[(1, "Item", [box(nth // in_a_box)]) for nth in range(items)]]
     boxes = items // in_a_box
     return Shape(name, units, [box(nth * boxes // out) for nth in range(out)], moved)
@@ -140,7 +143,9 @@ SHAPES = {
     "400x4000": lambda: many_boxes("400 boxes of one unit with 4,000 below it, all out", 400, 4000),
     "sorted": lambda: flat("5,000 items, 1,000 in a box, a hundred moved to the end, five out", 5000, 1000, 5, MOVED),
     "spread": lambda: spread_over_series("10,000 items in 1,000 sub-series, one of each in a box, ten out", 20, 50, 10),
-    "series": lambda: series_in_boxes("ten series in a box each, half of their 1,000 items in others, ten out", 10, 1000),
+    "series": lambda: series_in_boxes(
+        "ten series in a box each, half of their 1,000 items in others, ten out", 10, 1000
+    ),
 }
 
 
@@ -155,7 +160,8 @@ class Office:
         self.tickets = range(1, self.loans[-1]["ticket"] + 1)
         self.day = FIRST_DAY
 
-    def quietly(self, requests):
+    def ask_unmeasured(self, requests):
+        """Sends requests to both programs, one by one, without keeping their times."""
         for side in self.sides:
             for request in requests:
                 side.ask([request])
@@ -166,66 +172,74 @@ class Office:
         self.took[kind] = [min(pair) for pair in zip(each, self.took.get(kind, each))]
 
     def ask(self, kind, request, wanted=OK):
+        """Sends a request to both programs, and keeps what it took; each answer must have this status."""
         self.keep(kind, [side.ask([request], wanted) for side in self.sides])
 
-    def opening(self, kind):
+    def measure_opening(self, kind):
+        """Starts both sessions anew, and keeps what that took."""
         self.keep(kind, [side.reopen() for side in self.sides])
 
     def take_in(self, folder):
+        """Imports the units, moves those that staff have moved, and registers the readers."""
         name = folder / "rows.csv"
         self.shape.write(name)
         rows = client.post("/desk/import/s", name.read_bytes())
         moves = [post("/desk/move", unit=unit, parent=self.shape.units[unit - 1][0]) for unit in self.shape.moved]
         readers = [post("/desk/register", name=f"Reader {n}", until="2030-12-31") for n in self.tickets]
-        self.quietly([rows, *moves, *readers])
+        self.ask_unmeasured([rows, *moves, *readers])
 
-    def harmless(self, kind):
+    def ask_harmless_changes(self, kind):
         """Changes of one unit that withhold nothing: that of status leaves it published, the closure is past."""
         status = post("/desk/status", unit=self.middle, status="published", branch=False)
         closure = post("/desk/closure", unit=self.middle, until="2024-01-01")
-        self.quietly([status, closure])
+        self.ask_unmeasured([status, closure])
         self.ask(f"status{kind}", status)
         self.ask(f"closure{kind}", closure)
 
-    def refused_closures(self):
+    def ask_refused_closures(self):
+        """Measures closures of the first and of the last unit of a box that is out, which are refused."""
         for kind, unit in ("first", self.first), ("last", self.last):
             self.ask(kind, post("/desk/closure", unit=unit, until="2035-01-01"), REFUSED)
 
     def order(self):
+        """Orders all boxes; measures one order amid them, and the same again, which is refused."""
         orders = [post("/public/orders", **loan) for loan in self.loans]
         amid = orders[self.shape.amid]
-        self.quietly(orders[: self.shape.amid])
+        self.ask_unmeasured(orders[: self.shape.amid])
         self.ask("order", amid)
         self.ask("again", amid, REFUSED)
-        self.quietly(orders[self.shape.amid + 1 :])
+        self.ask_unmeasured(orders[self.shape.amid + 1 :])
 
     def fetch(self):
+        """Fetches all boxes by runs of ten, and measures the first run."""
         self.ask("run", post("/desk/run"))
         more = (len(self.loans) - 1) // IN_A_RUN
-        self.quietly([post("/desk/run")] * more)
+        self.ask_unmeasured([post("/desk/run")] * more)
 
     def issue(self):
+        """Issues all boxes, and measures one issue."""
         issues = [post("/desk/issue", **loan) for loan in self.loans]
         self.ask("issue", issues.pop(self.shape.amid))
-        self.quietly(issues)
+        self.ask_unmeasured(issues)
 
     def round(self):
         """A day: with nothing out, then with the boxes out; they are back at its end."""
         self.day += datetime.timedelta(1)
-        self.opening("opening, none")
+        self.measure_opening("opening, none")
         seats = [post("/desk/seat", ticket=ticket) for ticket in self.tickets]
-        self.quietly([post("/desk/day", day=f"{self.day}"), *seats, get("/desk/issued")])
-        self.harmless(", none")
+        self.ask_unmeasured([post("/desk/day", day=f"{self.day}"), *seats, get("/desk/issued")])
+        self.ask_harmless_changes(", none")
         self.order()
         self.fetch()
         self.issue()
-        self.harmless("")
-        self.refused_closures()
-        self.opening("opening")
-        self.quietly([*[post("/desk/return", container=box) for box in self.shape.numbers], post("/desk/reshelve")])
+        self.ask_harmless_changes("")
+        self.ask_refused_closures()
+        self.measure_opening("opening")
+        returns = [post("/desk/return", container=box) for box in self.shape.numbers]
+        self.ask_unmeasured([*returns, post("/desk/reshelve")])
 
 
-def measured(shape, programs, room, rounds):
+def measure_shape(shape, programs, room, rounds):
     """The office of this shape, after so many rounds."""
     with client.temporary(room) as folder:
         sides = []
@@ -247,7 +261,7 @@ class Goals:
     def __init__(self):
         self.missed = []
 
-    def told(self, what, value, most):
+    def judge(self, what, value, most):
         """A ratio, in bold if it is more than `most`."""
         if most is None or value <= most:
             return f"{value:.1f}"
@@ -260,17 +274,17 @@ def milliseconds(value):
     return f"{value:,.0f}" if value >= 100 else f"{value:.1f}" if value >= 10 else f"{value:.2f}"
 
 
-def tell_row(goals, office):
+def print_row(goals, office):
     """A row of the first table."""
     cells = []
     for kind in COLUMNS:
         ours, other = office.took[kind]
-        ratio = goals.told(f"{COLUMNS[kind]}, {office.shape.name}", ours / other, MOST if kind in JUDGED else None)
+        ratio = goals.judge(f"{COLUMNS[kind]}, {office.shape.name}", ours / other, MOST if kind in JUDGED else None)
         cells.append(f"{milliseconds(ours)}; {milliseconds(other)}; {ratio}")
     say(office.shape.name, *cells)
 
 
-def tell_out(goals, offices):
+def print_out(goals, offices):
     """What it costs that boxes are out."""
     say("Ours, with them out; with none; times", *MOST_OUT)
     say(*["---"] * (1 + len(MOST_OUT)))
@@ -278,52 +292,55 @@ def tell_out(goals, offices):
         cells = []
         for kind, most in MOST_OUT.items():
             out, none = office.took[kind][0], office.took[f"{kind}, none"][0]
-            times = goals.told(f"{kind} with boxes out, {office.shape.name}", out / none, most)
+            times = goals.judge(f"{kind} with boxes out, {office.shape.name}", out / none, most)
             cells.append(f"{milliseconds(out)}; {milliseconds(none)}; {times}")
         say(office.shape.name, *cells)
 
 
-def tell_growth(goals, few, many):
+def print_growth(goals, few, many):
     """What it costs that a box holds four times as many items."""
     say("Ours: 1,000 items; 4,000; times", *COLUMNS.values())
     say(*["---"] * (1 + len(COLUMNS)))
     cells = []
     for kind in COLUMNS:
         ours = [office.took[kind][0] for office in (few, many)]
-        times = goals.told(f"{COLUMNS[kind]}, from 1,000 to 4,000 items", ours[1] / ours[0], MOST_GROWTH)
+        times = goals.judge(f"{COLUMNS[kind]}, from 1,000 to 4,000 items", ours[1] / ours[0], MOST_GROWTH)
         cells.append(f"{milliseconds(ours[0])}; {milliseconds(ours[1])}; {times}")
     say("one box", *cells)
 
 
 def options():
+    """Reads the command line."""
     words = client.options(__doc__, in_memory=False)
-    words.add_argument("--cpu", type=int, default=max(os.sched_getaffinity(0)), metavar="N", help="a processor; else the last")
+    last = max(os.sched_getaffinity(0))
+    words.add_argument("--cpu", type=int, default=last, metavar="N", help="a processor; else the last")
     words.add_argument("--rounds", type=int, default=5, metavar="N", help="how many rounds; else 5")
     words.add_argument("other", type=client.Program, metavar="OTHER")
     words.add_argument("shapes", nargs="*", type=client.one_of(SHAPES), metavar="SHAPE", help=", ".join(SHAPES))
     return words.parse_args()
 
 
-def tell(given, goals):
+def print_tables(given, goals):
     """Measures the offices, and prints the tables."""
     say("Ours; the other; ratio", *COLUMNS.values())
     say(*["---"] * (1 + len(COLUMNS)))
     offices = {}
     for name in given.shapes or SHAPES:
-        offices[name] = measured(SHAPES[name](), (given.program, given.other), given.room, given.rounds)
-        tell_row(goals, offices[name])
+        offices[name] = measure_shape(SHAPES[name](), (given.program, given.other), given.room, given.rounds)
+        print_row(goals, offices[name])
     print()
-    tell_out(goals, offices.values())
+    print_out(goals, offices.values())
     if {"1000", "4000"} <= set(offices):
         print()
-        tell_growth(goals, offices["1000"], offices["4000"])
+        print_growth(goals, offices["1000"], offices["4000"])
 
 
 def main():
+    """Binds the script to a processor, prints the tables, and returns whether a goal was missed."""
     given, goals = options(), Goals()
     os.sched_setaffinity(0, {given.cpu})
     print(f"{time.strftime('%Y-%m-%d %H:%M')}, load {os.getloadavg()[0]:.1f}\n")
-    tell(given, goals)
+    print_tables(given, goals)
     print(f"\n{time.strftime('%H:%M')}, load {os.getloadavg()[0]:.1f}")
     for it in goals.missed:
         print(f"missed: {it}")

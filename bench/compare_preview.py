@@ -38,6 +38,7 @@ def field(text, wild=0):
 
 
 def header():
+    """The names of the columns in random order; some files lack one, or have it twice."""
     names = ["legacyId", "parentId", "publicationStatus", "identifier", "title"]
     names += random.sample(READ[2:3] + READ[4:], random.randrange(0, 8)) + random.sample(UNREAD, random.randrange(0, 2))
     names = list(dict.fromkeys(names)) if random.random() < 0.97 else names
@@ -59,6 +60,7 @@ class Made:
         self.ids = []
 
     def value(self, name, number):
+        """A random value for a column of the row of this number; some are wrong."""
         wild = random.random() < self.wild
         if name == "legacyId":
             if wild:
@@ -72,19 +74,22 @@ class Made:
                 return random.choice([str(number), str(number + 1), "nowhere", "1", " "])
             return above[-1] if self.deep and random.random() < 0.99 else random.choice(above + [""])
         if name == "publicationStatus":
-            return random.choice(["Published", "published", " PUBLISHED"]) if random.random() >= self.draft else random.choice(["Draft", "", "Publish"])
+            is_draft = random.random() < self.draft
+            return random.choice(["Draft", "", "Publish"] if is_draft else ["Published", "published", " PUBLISHED"])
         if name == "culture":
             return random.choice(["en", "fr", "en", ""]) if wild else "en"
         if name == "qubitParentSlug":
             return "dock" if wild or random.random() < 0.02 else ""
         if name.startswith("physicalObject"):
-            return "|".join(random.choice(["Box 1", "Box 2", "Box 3", "", "NULL", " Box 1 "]) for _ in range(random.randrange(0, 4)))
+            names = ["Box 1", "Box 2", "Box 3", "", "NULL", " Box 1 "]
+            return "|".join(random.choice(names) for _ in range(random.randrange(0, 4)))
         if wild and random.random() < 0.1:
             return "a" * random.choice([65535, 65536])
         return random.choice(TEXTS)
 
 
 def row(made, names, number):
+    """A random line for the row of this number; some are blank, and some have a field too few or too many."""
     odd = random.random()
     if odd < 0.03:
         return random.choice(["", ",", " , ", ",".join([""] * len(names)), '""'])
@@ -95,6 +100,7 @@ def row(made, names, number):
 
 
 def file():
+    """The bytes of a random file; some are cut, and some have a byte that is no text."""
     made, names, end = Made(), header(), random.choice(["\n", "\n", "\r\n", "\r"])
     rows = random.choice([0, 1, 3, 6, 12, 30, 70, 90])
     lines = [",".join(field(name) for name in names)]
@@ -114,23 +120,25 @@ def file():
     return data
 
 
-def answer(ran):
+def answer_of(ran):
+    """What a program answered: the row and the cause of a fault, or else its exit status and its output."""
     if ran.returncode == 1:
         return [int(number) for number in re.findall(rb"\d+", ran.stderr or ran.stdout)[-2:]]
     return (ran.returncode, ran.stdout)
 
 
 def main():
+    """Compares the two programs, and returns the exit status."""
     words = argparse.ArgumentParser(description=__doc__, formatter_class=argparse.RawDescriptionHelpFormatter)
     words.add_argument("files", type=int, metavar="FILES")
     words.add_argument("seed", type=int, metavar="SEED")
     words.add_argument("plain", metavar="PLAIN")
     words.add_argument("program", nargs=argparse.REMAINDER, metavar="PROGRAM [WORD ..]")
     given = words.parse_args()
-    return compared(given.files, given.seed, given.plain, given.program)
+    return compare(given.files, given.seed, given.plain, given.program)
 
 
-def compared(files, seed, plain, program):
+def compare(files, seed, plain, program):
     """Compares two programs on so many files; returns the exit status."""
     random.seed(seed)
     faults, told, differ = {}, 0, 0
@@ -138,8 +146,8 @@ def compared(files, seed, plain, program):
         path = pathlib.Path(room) / "file.csv"
         for number in range(files):
             path.write_bytes(file())
-            ours = answer(subprocess.run(program, stdin=path.open("rb"), capture_output=True))
-            theirs = answer(subprocess.run([plain, "GB", "0999", path], capture_output=True))
+            ours = answer_of(subprocess.run(program, stdin=path.open("rb"), capture_output=True))
+            theirs = answer_of(subprocess.run([plain, "GB", "0999", path], capture_output=True))
             if ours != theirs:
                 differ += 1
                 kept = pathlib.Path(__file__).parent / f"differs-{seed}-{number}.csv"

@@ -3,12 +3,12 @@
 
     bench/front.py [--program PROGRAM] [--room DIRECTORY] [--port FIRST] [--store STORE] [UNITS]
 
-UNITS is 2000, 20000 (the default) or 200000. STORE is an existing store of this many units, which is copied. Eight clients with
-kept connections ask for pages of units one after the other: undisturbed, while the program ends after every 10,000 answers of
-its only connection, and while it is killed. The limits by address are taken out, since all clients have the same address. An
-answer other than 200 counts as lost. Then readers are registered at the desk, next to eight such clients and a kill: all
-tickets must be there, each once. Nothing else may use the program. The script needs nginx and HAProxy, and ends with 1 if
-anything is lost.
+UNITS is 2000, 20000 (the default) or 200000. STORE is an existing store of this many units, which is copied. Eight
+clients with kept connections ask for pages of units one after the other: undisturbed, while the program ends after
+every 10,000 answers of its only connection, and while it is killed. The limits by address are taken out, since all
+clients have the same address. An answer other than 200 counts as lost. Then readers are registered at the desk, next to
+eight such clients and a kill: all tickets must be there, each once. Nothing else may use the program. The script needs
+nginx and HAProxy, and ends with 1 if anything is lost.
 """
 
 import base64
@@ -17,20 +17,20 @@ import json
 import os
 import shutil
 import socket
-import subprocess
 import sys
 import threading
 import time
 
 sys.dont_write_bytecode = True
 from front_servers import PASSWORD, Office  # noqa: E402
-from measure import SETTINGS, Archive  # noqa: E402
+from measure import Archive  # noqa: E402
 
-from client import options, temporary  # noqa: E402
+import client  # noqa: E402
 
 CLIENTS = 8
 AUTH = {"Authorization": "Basic " + base64.b64encode(":".join(PASSWORD).encode()).decode()}
-NO_LIMITS = [("limit_req zone=record_office_readers burst=200 nodelay;", ""), ("limit_conn record_office_visits 100;", "")]
+NO_LIMITS = [("limit_req zone=record_office_readers burst=200 nodelay;", ""),
+             ("limit_conn record_office_visits 100;", "")]
 LOST = []
 
 
@@ -43,6 +43,7 @@ class Client(threading.Thread):
         self.times, self.lost = [], []
 
     def run(self):
+        """Asks, and keeps the seconds of each answer."""
         connection = http.client.HTTPConnection("127.0.0.1", self.port, timeout=200)
         for path in self.paths:
             began = time.perf_counter()
@@ -58,36 +59,40 @@ class Client(threading.Thread):
             self.times.append(time.perf_counter() - began)
 
 
-def pages(units, client, many):
-    return [f"/public/units/{1 + (i * 37 + client * 2503) % units}" for i in range(many)]
+def pages(units, reader, many):
+    """The paths of so many pages, another row for each client."""
+    return [f"/public/units/{1 + (i * 37 + reader * 2503) % units}" for i in range(many)]
 
 
 def crowd(office, units, many, beside=None):
     """Runs eight clients, and something else meanwhile; returns what the clients took."""
     clients = [Client(office.ports["readers"], pages(units, n, many)) for n in range(CLIENTS)]
     began = time.perf_counter()
-    for client in clients:
-        client.start()
+    for one in clients:
+        one.start()
     if beside:
         beside()
-    for client in clients:
-        client.join()
+    for one in clients:
+        one.join()
     return clients, time.perf_counter() - began
 
 
 def say(what, clients, took, more=""):
-    times = sorted(t for client in clients for t in client.times)
-    lost = [kind for client in clients for kind in client.lost]
+    """Prints a row of the table."""
+    times = sorted(t for one in clients for t in one.times)
+    lost = [kind for one in clients for kind in one.lost]
     LOST.extend(lost)
     kinds = ", ".join(f"{kind} {lost.count(kind)} times" for kind in sorted(set(lost), key=str))
     print(
         f"| {what} | {len(times)} | {len(times) / took:.0f} | {times[len(times) // 2] * 1e3:.1f} ms | "
-        f"{times[int(len(times) * 0.99)] * 1e3:.1f} ms | {times[-1]:.2f} s | {len(lost)}{kinds and ' (' + kinds + ')'}{more} |",
+        f"{times[int(len(times) * 0.99)] * 1e3:.1f} ms | {times[-1]:.2f} s | "
+        f"{len(lost)}{kinds and ' (' + kinds + ')'}{more} |",
         flush=True,
     )
 
 
 def steady(office, units, many):
+    """Eight clients, undisturbed."""
     say("no restart", *crowd(office, units, many))
 
 
@@ -103,6 +108,7 @@ def kills(office, units, many):
     starts = office.starts
 
     def kill():
+        """Kills the program three times."""
         for _ in range(3):
             time.sleep(2.5)
             office.serving.kill()
@@ -114,7 +120,8 @@ def kills(office, units, many):
 
 
 class Desk:
-    """Registers readers at the desk, one after the other. An uncertain command is looked up, as OPERATING says, not sent again."""
+    """Registers readers at the desk, one after the other. An uncertain command is looked up, as OPERATING says, not
+    sent again."""
 
     def __init__(self, office, many):
         self.office, self.many = office, many
@@ -122,14 +129,17 @@ class Desk:
         self.tickets, self.times, self.uncertain = [], [], 0
 
     def ask(self, method, path, body=None):
+        """The status and the members of an answer."""
         self.connection.request(method, path, body, AUTH)
         answer = self.connection.getresponse()
         text = answer.read()
         return answer.status, json.loads(text) if text.startswith((b"{", b"[")) else {}
 
     def register(self, number):
+        """Registers a reader, once."""
         began = time.perf_counter()
-        status, told = self.ask("POST", "/desk/register", json.dumps({"name": f"Reader {number}", "until": "2030-01-01"}))
+        status, told = self.ask("POST", "/desk/register",
+                                json.dumps({"name": f"Reader {number}", "until": "2030-01-01"}))
         self.times.append(time.perf_counter() - began)
         if status == 200:
             self.tickets.append(told["ticket"])
@@ -143,18 +153,22 @@ class Desk:
             self.register(number)
 
     def run(self):
+        """Registers all readers, with a kill of the program half-way."""
         for number in range(self.many):
             if number == self.many // 2:
                 threading.Timer(0.003, self.office.serving.kill).start()
             self.register(number)
 
     def say(self):
+        """Prints a row of the table."""
         times = sorted(self.times)
         wrong = self.tickets != list(range(1, self.many + 1))
         LOST.extend(["a ticket"] * wrong)
         print(
-            f"| {self.many} registrations at the desk beside eight readers, one kill | {len(times)} | | {times[len(times) // 2] * 1e3:.1f} ms | "
-            f"{times[int(len(times) * 0.99)] * 1e3:.1f} ms | {times[-1]:.2f} s | {'tickets are not 1, 2, ..' if wrong else '0'}; {self.uncertain} told as uncertain |",
+            f"| {self.many} registrations at the desk beside eight readers, one kill | {len(times)} | | "
+            f"{times[len(times) // 2] * 1e3:.1f} ms | "
+            f"{times[int(len(times) * 0.99)] * 1e3:.1f} ms | {times[-1]:.2f} s | "
+            f"{'tickets are not 1, 2, ..' if wrong else '0'}; {self.uncertain} told as uncertain |",
             flush=True,
         )
 
@@ -163,20 +177,21 @@ def slow(office, units):
     """What a page takes while a client has sent a part of a file to the desk, and then sends nothing."""
     with socket.create_connection(("127.0.0.1", office.ports["desk"])) as held:
         lines = "".join(f"{name}: {value}\r\n" for name, value in AUTH.items())
-        held.sendall(f"POST /desk/import/a HTTP/1.1\r\nHost: 127.0.0.1\r\n{lines}Content-Length: 1048576\r\n\r\nx".encode())
+        held.sendall(
+            f"POST /desk/import/a HTTP/1.1\r\nHost: 127.0.0.1\r\n{lines}Content-Length: 1048576\r\n\r\nx".encode())
         time.sleep(0.5)
-        client = Client(office.ports["readers"], pages(units, 0, 20))
+        reader = Client(office.ports["readers"], pages(units, 0, 20))
         began = time.perf_counter()
-        client.run()
-        say("beside a slow sender of a file, one client", [client], time.perf_counter() - began)
+        reader.run()
+        say("beside a slow sender of a file, one client", [reader], time.perf_counter() - began)
 
 
 def fill(program, store, units):
-    archive = Archive(units)
-    subprocess.run([program, "init", "--store", store, *SETTINGS], check=True)
+    """Makes an office of so many units."""
+    archive, office = Archive(units), client.Office.create(program, store, client.LARGE | {"run": "1"})
     for file in range(archive.files):
         archive.write(file + 1, f"{store}.csv")
-        subprocess.run([program, "import", "--store", store, "--source", f"a{file + 1}", f"{store}.csv"], check=True, stdout=subprocess.DEVNULL)
+        office.import_file(f"a{file + 1}", f"{store}.csv", timeout=600).expect_success()
 
 
 def measure(given, room):
@@ -185,7 +200,7 @@ def measure(given, room):
     if given.store:
         shutil.copy(given.store, store)
     else:
-        fill(program, store, given.units)
+        fill(given.program, store, given.units)
     many = 600 if given.units > 2000 else 60
     print("| | requests | a second | p50 | p99 | longest | lost |\n|---|---|---|---|---|---|---|", flush=True)
     with Office(program, store, f"{room}/long", given.port, 10000, NO_LIMITS) as office:
@@ -201,13 +216,14 @@ def measure(given, room):
 
 
 def main():
-    words = options(__doc__, in_memory=False)
+    """Measures as the command line says; ends with 1 if anything is lost."""
+    words = client.options(__doc__, in_memory=False)
     words.add_argument("--port", type=int, default=21100, metavar="FIRST", help="the first of some ports; else 21100")
     words.add_argument("--store", help="an office of so many units, which is copied")
     words.add_argument("units", nargs="?", type=int, default=20000, metavar="UNITS")
     given = words.parse_args()
     os.environ["PATH"] += ":/usr/sbin"
-    with temporary(given.room) as room:
+    with client.temporary(given.room) as room:
         measure(given, room)
     sys.exit(1 if LOST else 0)
 

@@ -9,11 +9,13 @@ import urllib.request
 
 TOP = pathlib.Path(__file__).resolve().parent.parent
 SERVER = TOP / "front" / "server"
-PORTS = {"program": "8090", "readers' queue": "8091", "desk's queue": "8092", "gate": "8093", "readers": "8080", "desk": "8081"}
+PORTS = {"program": "8090", "readers' queue": "8091", "desk's queue": "8092", "gate": "8093", "readers": "8080",
+         "desk": "8081"}
 PASSWORD = ("desk", "quiet-paper")
 MAIN = """daemon off; pid nginx.pid; error_log nginx.log warn; worker_processes 1; worker_rlimit_nofile 4096;
 events { worker_connections 768; }
-http { include /etc/nginx/mime.types; access_log off; sendfile on; client_body_temp_path tmp/body; proxy_temp_path tmp/proxy;
+http { include /etc/nginx/mime.types; access_log off; sendfile on;
+client_body_temp_path tmp/body; proxy_temp_path tmp/proxy;
 fastcgi_temp_path tmp/f; uwsgi_temp_path tmp/u; scgi_temp_path tmp/s; include %s; }
 """
 
@@ -28,13 +30,15 @@ class Office:
         self.running, self.starts, self.serving, self.servers = False, 0, None, []
 
     def url(self, of):
+        """The address of a server."""
         return f"http://127.0.0.1:{self.ports[of]}"
 
     def __enter__(self):
         self.configure()
         self.running = True
         threading.Thread(target=self.serve, daemon=True).start()
-        self.servers = [self.begin("haproxy", "-f", self.folder / "haproxy.cfg"), self.begin("nginx", "-p", self.folder, "-c", self.folder / "main.conf")]
+        self.servers = [self.begin("haproxy", "-f", self.folder / "haproxy.cfg"),
+                        self.begin("nginx", "-p", self.folder, "-c", self.folder / "main.conf")]
         for _ in range(100):
             try:
                 urllib.request.urlopen(self.url("readers") + "/public/fonds", timeout=100).read()
@@ -51,12 +55,14 @@ class Office:
             server.wait(90)
 
     def begin(self, name, *words):
+        """Begins a server in the folder; returns its process."""
         with open(self.folder / f"{name}.err", "a", encoding="utf-8") as told:
             return subprocess.Popen([name, *map(str, words)], stdout=subprocess.DEVNULL, stderr=told, cwd=self.folder)
 
     def serve(self):
         """Starts the program again whenever it ends, as a service manager does."""
-        words = [self.program, "serve", "--store", self.store, "--port", str(self.ports["program"]), "--connections", str(self.connections)]
+        words = [self.program, "serve", "--store", self.store, "--port", str(self.ports["program"]), "--connections",
+                 str(self.connections)]
         while self.running:
             with open(self.folder / "program.err", "a", encoding="utf-8") as told:
                 self.serving = subprocess.Popen(words, stdout=subprocess.DEVNULL, stderr=told)
@@ -65,6 +71,7 @@ class Office:
             time.sleep(0.1)
 
     def configure(self):
+        """Writes the configuration and the desk's password into the folder."""
         (self.folder / "tmp").mkdir(parents=True, exist_ok=True)
         for path in SERVER.iterdir():
             (self.folder / path.name).write_bytes(self.placed(path.read_bytes().decode()).encode())
@@ -77,8 +84,11 @@ class Office:
         """A file of the front with this folder's paths, these ports and the given changes; the rest stays."""
         for old, new in self.changes:
             text = text.replace(old, new)
-        text = text.replace("/etc/record-office", str(self.folder)).replace("/usr/share/record-office/front", str(TOP / "front"))
-        text = text.replace("/run/record-office-queue", str(self.folder)).replace("/run/record-office-search/search", str(self.folder / "answers"))
+        for theirs, ours in (("/etc/record-office", self.folder), ("/usr/share/record-office/front", TOP / "front"),
+                             ("/run/record-office-queue", self.folder),
+                             ("/run/record-office-search/search", self.folder / "answers")):
+            text = text.replace(theirs, str(ours))
         for name, port in PORTS.items():
-            text = text.replace(f":{port}", f":{self.ports[name]}").replace(f"listen {port}", f"listen 127.0.0.1:{self.ports[name]}")
+            ours = self.ports[name]
+            text = text.replace(f":{port}", f":{ours}").replace(f"listen {port}", f"listen 127.0.0.1:{ours}")
         return text

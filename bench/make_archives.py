@@ -22,6 +22,7 @@ FONDS = 500
 
 
 def text(words):
+    """A text of so many random words."""
     return " ".join(random.choice(WORDS) for _ in range(words))
 
 
@@ -37,6 +38,7 @@ def place(number, depths):
 
 
 def row(number, parent, depth):
+    """The values of a row, by the names of their columns."""
     box = number // 7 + 1
     year = 1800 + number % 150
     return {
@@ -78,6 +80,7 @@ def row(number, parent, depth):
 
 
 def main():
+    """Writes the file that is asked for."""
     words = argparse.ArgumentParser(description=__doc__, formatter_class=argparse.RawDescriptionHelpFormatter)
     words.add_argument("rows", type=int, metavar="ROWS")
     words.add_argument("path", metavar="FILE")

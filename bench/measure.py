@@ -4,15 +4,15 @@
     bench/measure.py [--program PROGRAM] [--room DIRECTORY] [UNITS ..]
 
 UNITS is 200 (only to try this script), 2000 (with a hundred of each request instead of a thousand), 20000 or 200000; by
-default the last two. The store is made in a new folder of DIRECTORY, by default that of temporary files. On a real disk each
-command waits for the disk, in /dev/shm none does. Files have 340 bytes a row, five elements, a box for two units, and nine
-units below each unit that has any.
+default the last two. The store is made in a new folder of DIRECTORY, by default that of temporary files. On a real disk
+each command waits for the disk, in /dev/shm none does. Files have 340 bytes a row, five elements, a box for two units,
+and nine units below each unit that has any.
 
-Wall and processor are seconds; the latter are of user and system. An import opens the store first. What a session without
-requests takes right before it is printed next to it, and subtracted for the goal. Requests come through a pipe, all at once,
-after one small question. Seconds are counted from its answer to the last one, so they include neither the opening nor the end
-of the session. Memory is the maximum of the process, with the opening. Every answer must be a 200, and every import must
-report the right number of new or same units; otherwise the script ends with 1.
+Wall and processor are seconds; the latter are of user and system. An import opens the store first. What a session
+without requests takes right before it is printed next to it, and subtracted for the goal. Requests come through a pipe,
+all at once, after one small question. Seconds are counted from its answer to the last one, so they include neither the
+opening nor the end of the session. Memory is the maximum of the process, with the opening. Every answer must be a 200,
+and every import must report the right number of new or same units; otherwise the script ends with 1.
 """
 import json
 import os
@@ -62,6 +62,7 @@ class Archive:
         self.boxes_apart = units // 2 // self.requests
 
     def row(self, file, place):
+        """The line of a unit in the CSV file, by the file's number and the unit's place in it."""
         unit = place + 1
         top = place < self.tops
         parent = "" if top else (place - self.tops) // BELOW + 1
@@ -73,6 +74,7 @@ class Archive:
         )
 
     def write(self, file, name):
+        """Writes the file of this number to a path."""
         with open(name, "w", encoding="utf-8") as it:
             it.write(HEADER)
             it.writelines(self.row(file, place) for place in range(self.rows))
@@ -84,6 +86,7 @@ class Archive:
         return file * self.rows + first + place + 1
 
     def unit(self, nth, count):
+        """The nth of `count` units, spread over all."""
         return self.spread(nth, count, 0, self.rows)
 
     def unit_with_nine_below(self, nth, count):
@@ -92,6 +95,7 @@ class Archive:
         return self.spread(nth, count, first, (self.rows - self.tops) // BELOW)
 
     def leaf(self, nth, count):
+        """The nth of `count` units without children, spread over all."""
         return self.spread(nth, count, self.with_some_below, self.rows)
 
     def leaf_on_the_shelf(self, nth, count):
@@ -100,9 +104,11 @@ class Archive:
         return unit if self.box_of(unit) % self.boxes_apart != 1 else unit - 2
 
     def box_of(self, unit):
+        """The number of the box in which a unit lies."""
         return (unit + 1) // 2
 
     def ordered_box(self, nth):
+        """The number of the nth box that is ordered."""
         return nth * self.boxes_apart + 1
 
 
@@ -114,6 +120,7 @@ class Spent:
 
 
 def fail(what):
+    """Ends the program with 1 and says what is wrong."""
     sys.exit(f"WRONG {what}")
 
 
@@ -123,7 +130,7 @@ class Program:
     def __init__(self, program, room):
         self.program, self.room, self.store = program, room, f"{room}/office.db"
 
-    def spent(self, words, status=0):
+    def run(self, words, status=0):
         """Runs the program without input; it must end with this status. Returns what it took and what it printed."""
         times = f"{self.room}/times"
         start = time.perf_counter()
@@ -140,14 +147,16 @@ class Program:
         return Spent(wall, float(user) + float(system), int(kilobytes) * 1024), done.stdout
 
     def begin(self, settings=SETTINGS):
-        self.spent(["init", "--store", self.store, *settings])
+        """Makes the office in its file."""
+        self.run(["init", "--store", self.store, *settings])
 
     def open(self):
         """A session without requests."""
-        return self.spent(["talk", "--store", self.store])[0]
+        return self.run(["talk", "--store", self.store])[0]
 
     def check(self):
-        spent, said = self.spent(["check", "--store", self.store])
+        """Checks the store, which must be sound; returns what that took."""
+        spent, said = self.run(["check", "--store", self.store])
         if said != b"sound\n":
             fail(f"check: {said!r}")
         return spent
@@ -156,7 +165,7 @@ class Program:
         """Imports a file; all of its rows must be reported as `told`, which is `new` or `same`."""
         name = f"{self.room}/rows.csv"
         archive.write(file, name)
-        spent, said = self.spent(["import", "--store", self.store, "--source", f"s{file}", name])
+        spent, said = self.run(["import", "--store", self.store, "--source", f"s{file}", name])
         if json.loads(said)[told] != archive.rows:
             fail(f"import of file {file}: {said[:200]!r}")
         return spent
@@ -190,6 +199,7 @@ class Session:
             fail(f"the end of a session: {self.running.returncode}, {rest[:200]!r}")
 
     def send(self, said):
+        """Sends bytes to the program."""
         self.running.stdin.write(said)
         self.running.stdin.flush()
 
@@ -217,17 +227,19 @@ class Session:
         sender.join()
         return Spent(wall, self.processor() - before, self.memory())
 
-    def told(self, name):
+    def proc_file(self, name):
+        """The text of a file of /proc about the running program."""
         with open(f"/proc/{self.running.pid}/{name}", encoding="utf-8") as it:
             return it.read()
 
     def processor(self):
         """Seconds of user and system: the twelfth and thirteenth words after the name."""
-        words = self.told("stat").rpartition(")")[2].split()
+        words = self.proc_file("stat").rpartition(")")[2].split()
         return (int(words[11]) + int(words[12])) / TICKS
 
     def memory(self):
-        return int(re.search(r"VmHWM:\s*(\d+) kB", self.told("status"))[1]) * 1024
+        """The greatest memory of the program until now, in bytes."""
+        return int(re.search(r"VmHWM:\s*(\d+) kB", self.proc_file("status"))[1]) * 1024
 
 
 def post(path, **members):
@@ -236,10 +248,11 @@ def post(path, **members):
 
 
 def seconds(value):
+    """Seconds as a text with two decimals."""
     return f"{value:.2f} s"
 
 
-def judged(spent, goal):
+def judge(spent, goal):
     """The goal, and whether it is missed."""
     if goal is None:
         return ""
@@ -247,6 +260,7 @@ def judged(spent, goal):
 
 
 def say(*cells):
+    """Prints a line of a table."""
     print("| " + " | ".join(cells) + " |", flush=True)
 
 
@@ -255,10 +269,11 @@ def say_command(what, spent, opening, goal):
     within = seconds(opening.wall) if opening else ""
     alone = spent.wall - (opening.wall if opening else 0)
     memory = f"{spent.memory / 1e6:.0f} MB"
-    say(what, seconds(spent.wall), seconds(spent.processor), within, memory, judged(alone, goal))
+    say(what, seconds(spent.wall), seconds(spent.processor), within, memory, judge(alone, goal))
 
 
-def tell_import(program, archive, file, told, what, goal):
+def print_import(program, archive, file, told, what, goal):
+    """Imports a file, and prints what it took."""
     opening = program.open()
     say_command(what, program.import_file(archive, file, told), opening, goal)
 
@@ -266,18 +281,19 @@ def tell_import(program, archive, file, told, what, goal):
 def fill(program, archive):
     """Imports all files, and prints what the first, the first again and the last took."""
     rows = f"{archive.rows:,} rows"
-    tell_import(program, archive, 0, "new", f"import of {rows} into nothing", 0.7)
-    tell_import(program, archive, 0, "same", "the same again", 0.5)
+    print_import(program, archive, 0, "new", f"import of {rows} into nothing", 0.7)
+    print_import(program, archive, 0, "same", "the same again", 0.5)
     last = archive.files - 1
     for file in range(1, last):
         program.import_file(archive, file, "new")
     if last:
         there = archive.units - archive.rows
-        tell_import(program, archive, last, "new", f"import of {rows} more into {there:,}", 1.5)
-        tell_import(program, archive, last, "same", f"the same again, in {archive.units:,}", 0.5)
+        print_import(program, archive, last, "new", f"import of {rows} more into {there:,}", 1.5)
+        print_import(program, archive, last, "same", f"the same again, in {archive.units:,}", 0.5)
 
 
-def tell_commands(program, archive):
+def print_commands(program, archive):
+    """Makes the office from its files, and prints the table of commands."""
     say("What", "Wall", "Processor", "Of it opening, wall", "Memory", "Goal, opening taken off")
     say(*["---"] * 6)
     program.begin()
@@ -329,7 +345,8 @@ def placings(archive):
     yield "removals", None, [post("/desk/remove", unit=unit) for unit in units[1::2]]
 
 
-def tell_requests(program, archive):
+def print_requests(program, archive):
+    """Sends all kinds of requests, and prints the table of requests."""
     say("What", "Wall", "Processor", "Each", "Memory", "Goal")
     say(*["---"] * 6)
     for kinds in (questions, desk, judged_changes, placings):
@@ -339,17 +356,18 @@ def tell_requests(program, archive):
             whole = None if goal is None else goal * len(requests) / 1000
             memory = f"{spent.memory / 1e6:.0f} MB"
             what = f"{len(requests):,} {name}"
-            say(what, seconds(spent.wall), seconds(spent.processor), each, memory, judged(spent.wall, whole))
+            say(what, seconds(spent.wall), seconds(spent.processor), each, memory, judge(spent.wall, whole))
 
 
 def measure(built, room, units):
+    """Measures an office of this many units in a folder of its own, and prints its tables."""
     archive = Archive(units)
     with client.temporary(room) as folder:
         program = Program(built.path, folder)
         print(f"\n### {units:,} units, {time.strftime('%Y-%m-%d %H:%M')}, load {os.getloadavg()[0]:.1f}\n")
-        tell_commands(program, archive)
+        print_commands(program, archive)
         print()
-        tell_requests(program, archive)
+        print_requests(program, archive)
         program.check()
         size = os.path.getsize(program.store) / 1e6
         print(f"\nThe store has {size:.0f} MB and is sound; {time.strftime('%H:%M')}, load {os.getloadavg()[0]:.1f}.")
@@ -363,6 +381,7 @@ def options(text, sizes):
 
 
 def main():
+    """Measures an office of each size that is named."""
     given = options(__doc__, SIZES).parse_args()
     for units in given.units or SIZES[-2:]:
         measure(given.program, given.room, units)

@@ -3,9 +3,9 @@
 
     bench/search.py [--program PROGRAM] [--room DIRECTORY] [--units N] [--fonds N] [--rest TIMES]
 
-The office has N units in fonds of so many. It prints rows of markdown: how long a first round, a round without changes and one
-after a change take, what a desk command and a reader's page wait beside them, how large index and memory are, and how long
-questions take, without nginx and the service. With --rest 0, rounds ask without a pause."""
+The office has N units in fonds of so many. It prints rows of markdown: how long a first round, a round without changes
+and one after a change take, what a desk command and a reader's page wait beside them, how large index and memory are,
+and how long questions take, without nginx and the service. With --rest 0, rounds ask without a pause."""
 
 import http.client
 import json
@@ -22,11 +22,13 @@ sys.path[:0] = [str(ACCEPTANCE / "front"), str(ACCEPTANCE)]
 
 import client  # noqa: E402
 import searched  # noqa: E402
-from office import fresh  # noqa: E402
+from office import clear  # noqa: E402
 
-SYLLABLES = (("har", "doc", "min", "let", "sto", "bri"), ("a", "e", "o", "u"), ("ter", "kin", "ham", "ley", "mond", "sby", "wick", "ton"))
+SYLLABLES = (("har", "doc", "min", "let", "sto", "bri"), ("a", "e", "o", "u"),
+             ("ter", "kin", "ham", "ley", "mond", "sby", "wick", "ton"))
 WORDS = [a + b + c for a in SYLLABLES[0] for b in SYLLABLES[1] for c in SYLLABLES[2]]
-HEADER = "legacyId,parentId,identifier,title,levelOfDescription,publicationStatus,eventDates,eventActors,scopeAndContent,physicalObjectName\n"
+HEADER = ("legacyId,parentId,identifier,title,levelOfDescription,publicationStatus,eventDates,eventActors,"
+          "scopeAndContent,physicalObjectName\n")
 QUESTIONS = 60
 
 
@@ -49,7 +51,9 @@ def rows(units, fonds):
         else:
             level, parent = "Item", file if file > series else series
         creator = text(3) if place % 7 == 0 else ""
-        yield (f"{number},{parent},{place},{text(4)} n{number},{level},Published,{1600 + number % 350}-{1620 + number % 350},"
+        yield (
+            f"{number},{parent},{place},{text(4)} "
+            f"n{number},{level},Published,{1600 + number % 350}-{1620 + number % 350},"
                f"{creator},{text(25)},Box {number // 9}\n")
 
 
@@ -71,13 +75,15 @@ def probe(port, path, body, stop, out):
 def spread(values):
     """p50, p99 and the most, in milliseconds."""
     values = sorted(values)
-    return " / ".join(f"{value * 1000:.1f}" for value in (values[len(values) // 2], values[int(len(values) * 0.99)], values[-1]))
+    return " / ".join(f"{value * 1000:.1f}"
+                      for value in (values[len(values) // 2], values[int(len(values) * 0.99)], values[-1]))
 
 
 def beside(office, work):
     """Does the work while a clerk and a reader ask: how long it took, and what each of the two waited."""
     stop, probes = multiprocessing.Event(), []
-    for port, path, body in (("8092", "/desk/renew", json.dumps({"ticket": 1, "until": "2099-12-31"})), ("8091", "/public/units/2", None)):
+    for port, path, body in (("8092", "/desk/renew", json.dumps({"ticket": 1, "until": "2099-12-31"})),
+                             ("8091", "/public/units/2", None)):
         out = multiprocessing.Queue()
         process = multiprocessing.Process(target=probe, args=(office.ports[port], path, body, stop, out))
         process.start()
@@ -102,10 +108,13 @@ def aid(ask, number):
 def rounds(office, ask, db, units):
     """Prints a row for each kind of round."""
     def row(name, work):
+        """Prints a row of the table."""
         ask.asked, ask.busy = 0, 0
         took, (desk, reader) = beside(office, work)
         print(f"| {name} | {took:.2f} | {ask.asked} | {ask.busy:.2f} | {desk} | {reader} |", flush=True)
-    print("| | s | requests | s in the office | a desk command waits, ms: p50 / p99 / most | a page waits, ms |\n|---|---|---|---|---|---|")
+    print(
+        "| | s | requests | s in the office | a desk command waits, ms: p50 / p99 / most | a page waits, ms "
+        "|\n|---|---|---|---|---|---|")
     row("nothing, for five seconds", lambda: time.sleep(5))
     row("first round", lambda: searched.Round(db, ask).run())
     row("second round", lambda: searched.Round(db, ask).run())
@@ -113,14 +122,17 @@ def rounds(office, ask, db, units):
     office.tell("/desk/closure", {"unit": units - 1, "until": "2090-01-01"})
     row("round after one change", lambda: searched.Round(db, ask).run())
     size = sum(path.stat().st_size for path in office.folder.glob("index.db*"))
-    print(f"\nindex {size / 1e6:.0f} MB; memory of the rounds {resource.getrusage(resource.RUSAGE_SELF).ru_maxrss / 1024:.0f} MB\n", flush=True)
+    print(
+        f"\nindex {size / 1e6:.0f} MB; memory of the rounds "
+        f"{resource.getrusage(resource.RUSAGE_SELF).ru_maxrss / 1024:.0f} MB\n", flush=True)
 
 
 def questions(office, db, units):
     """Prints a row for each kind of question."""
     chance, ask = random.Random(2), searched.Asking(office.queue)
     kinds = {"rare word": lambda: f"n{chance.randrange(units)}", "word of nearly all units": lambda: WORDS[0],
-             "two common words": lambda: " ".join(chance.sample(WORDS[:40], 2)), "begin*": lambda: WORDS[chance.randrange(99)][:3] + "*",
+             "two common words": lambda: " ".join(chance.sample(WORDS[:40], 2)),
+             "begin*": lambda: WORDS[chance.randrange(99)][:3] + "*",
              "b*": lambda: "b*", "nothing found": lambda: "zzz"}
     print("| a question, ms: p50 / p99 / most | | requests of each |\n|---|---|---|")
     for name, typed in kinds.items():
@@ -137,23 +149,24 @@ def measure(given, office):
     lines = list(rows(given.units, given.fonds))
     for at in range(0, given.units, 20_000):
         (office.folder / "part.csv").write_text(HEADER + "".join(lines[at:at + 20_000]))
-        office.take_in("a", office.folder / "part.csv")
+        office.import_file("a", office.folder / "part.csv", timeout=600).expect_success()
     with office:
         office.tell("/desk/register", {"name": "A reader", "until": "2099-12-31"})
-        ask, db = searched.Asking(office.queue, given.rest), searched.index.made(str(office.index), True)
+        ask, db = searched.Asking(office.queue, given.rest), searched.index.open_or_make(str(office.index), True)
         print(f"{given.units} units in fonds of {given.fonds}; one aid: {aid(searched.Asking(office.queue), 1)}")
         rounds(office, ask, db, given.units)
         questions(office, db, given.units)
 
 
 def main():
+    """Measures as the command line says."""
     words = client.options(__doc__)
     words.add_argument("--units", type=int, default=20_000, metavar="N")
     words.add_argument("--fonds", type=int, default=2_000, metavar="N", help="units of a fonds")
     words.add_argument("--rest", type=float, default=0, metavar="TIMES")
     given = words.parse_args()
     with client.temporary(given.room) as room:
-        measure(given, searched.Searched(fresh(room / "office"), given.program.path).init())
+        measure(given, searched.Searched.create(given.program, clear(room / "office")))
 
 
 if __name__ == "__main__":

@@ -1,10 +1,12 @@
 #!/usr/bin/env python3
-"""Counts the statements of a page, an aid of ten units and a list, in the offices that beside.py makes, and prints a table:
+"""Counts the statements of a page, an aid of ten units and a list, in the offices that beside.py makes, and prints a
+table:
 
     bench/statements.py [UNITS ..]
 
-It repeats the calls of `nested_sets` and `catalogue_store` on numbers in memory, so it must be changed when they are. It reads
-from `neighbours.rt` how far each round of a search goes. It leaves out the three statements of each question for its transaction and the row of the office, and the moves of branches.
+It repeats the calls of `nested_sets` and `catalogue_store` on numbers in memory, so it must be changed when they are.
+It reads from `neighbours.rt` how far each round of a search goes. It leaves out the three statements of each question
+for its transaction and the row of the office, and the moves of branches.
 """
 import argparse
 import re
@@ -37,6 +39,7 @@ class Places:
         self.from_last = {number: unit for unit, number in self.last.items()}
 
     def number(self):
+        """Numbers the first and the last place of each unit along the walk."""
         number, open_units = 0, [(None, iter(self.below[None]))]
         while open_units:
             unit, left = open_units[-1]
@@ -80,10 +83,12 @@ class Places:
 
 
 def mean(numbers):
+    """The mean of some numbers."""
     return sum(numbers) / len(numbers)
 
 
 def count(units):
+    """Prints the table of an office of this many units."""
     archive = Archive(units)
     places = Places(archive)
     tops = len(places.below[None])
@@ -91,7 +96,8 @@ def count(units):
     def say(what, asked, more):
         paths = [places.path(unit) for unit in asked]
         whole = mean([path[0] + more(unit, path[2]) for unit, path in zip(asked, paths)])
-        print(f"| {what} | {whole:.0f} | {mean([path[0] for path in paths]):.0f} | {mean([path[1] for path in paths]):.0f} |")
+        of_path, over = (mean([path[nth] for path in paths]) for nth in (0, 1))
+        print(f"| {what} | {whole:.0f} | {of_path:.0f} | {over:.0f} |")
 
     def page(unit, depth):
         children = len(places.below[unit])
@@ -108,6 +114,7 @@ def count(units):
 
 
 def main():
+    """Prints a table for each number of units."""
     words = argparse.ArgumentParser(description=__doc__, formatter_class=argparse.RawDescriptionHelpFormatter)
     words.add_argument("units", nargs="*", type=int, default=[60000, 200000], metavar="UNITS")
     for units in words.parse_args().units:

@@ -3,9 +3,9 @@
 
     bench/wide.py [--program PROGRAM] [--room DIRECTORY] [EACH]
 
-One fonds has five series, and each of these has EACH files right below it (3998, which makes 19,996 units in one import). For some
-places among the files the script prints the milliseconds that a page takes by the clock and of the processor: the mean of fifty
-requests of one session, without the opening. Every answer must be a 200.
+One fonds has five series, and each of these has EACH files right below it (3998, which makes 19,996 units in one
+import). For some places among the files the script prints the milliseconds that a page takes by the clock and of the
+processor: the mean of fifty requests of one session, without the opening. Every answer must be a 200.
 """
 import os
 import time
@@ -26,12 +26,14 @@ class Wide:
         self.series = [2 + nth * (1 + each) for nth in range(SERIES)]
 
     def row(self, unit, parent, level):
+        """The line of a unit in the CSV file."""
         return (
             f"{unit},{parent},{unit},Minutes of the board {unit},{level},Published,1774-1893,1 volume,"
             f'"{measure.SCOPE}",Box {unit},Strongroom\n'
         )
 
     def write(self, file, name):
+        """Writes the only file of the office to a path."""
         with open(name, "w", encoding="utf-8") as it:
             it.write(measure.HEADER + self.row(1, "", "Fonds"))
             for series in self.series:
@@ -45,6 +47,7 @@ class Wide:
 
 
 def main():
+    """Prints what pages take in an office with so many siblings."""
     words = client.options(__doc__, in_memory=False)
     words.add_argument("each", nargs="?", type=int, default=3998, metavar="EACH")
     given = words.parse_args()
@@ -56,7 +59,8 @@ def main():
         print(f"{office.rows:,} units, {time.strftime('%Y-%m-%d %H:%M')}, load {os.getloadavg()[0]:.1f}")
         for place in (it for it in PLACES if it + REQUESTS // SERIES <= office.each):
             spent = program.ask(office.pages(place))
-            print(f"file {place:,} of {office.each:,}: {spent.wall * 1000 / REQUESTS:.2f} {spent.processor * 1000 / REQUESTS:.2f}")
+            wall, processor = (it * 1000 / REQUESTS for it in (spent.wall, spent.processor))
+            print(f"file {place:,} of {office.each:,}: {wall:.2f} {processor:.2f}")
 
 
 if __name__ == "__main__":

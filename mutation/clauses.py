@@ -43,6 +43,7 @@ import collections
 import os
 import re
 import sys
+from pathlib import Path
 
 HERE = os.path.dirname(os.path.abspath(__file__))
 TOKEN = re.compile(
@@ -60,7 +61,7 @@ class Names:
     def __init__(self, file=None):
         self.crates, self.modules, self.specs, self.words, self.files = {}, {}, {}, {}, {}
         self.reasons, self.above, self.definitions, self.labels, self.functions = {}, [], [], [], {}
-        text = open(file, encoding="utf-8").read() if file else ""
+        text = Path(file).read_text(encoding="utf-8") if file else ""
         for line in re.sub(r"\n[ \t]+", " ", text).split("\n"):
             kind, *rest = line.split("#")[0].split() or [""]
             if kind in ("changed", "gone"):
@@ -97,9 +98,11 @@ class Names:
         return text
 
     def crate(self, old, file=""):
+        """The new name of a crate, or the crate to which one of its files went."""
         return self.files.get((old, file)) or self.crates.get(old, old)
 
     def path(self, found, word):
+        """The path of a definition in the new tree, from a match of GHOST."""
         old, first, *rest = found[1], *found[2].split(".")
         if first == "declared" and rest:
             rest[0] = self.modules.get((old, rest[0]), rest[0])
@@ -139,10 +142,11 @@ def with_definition(text, path, old, new, at_home):
 
 
 def tokens(text):
+    """The tokens of a text without its comments."""
     return [it for it in TOKEN.findall(text) if not it.startswith(("//", "/*"))]
 
 
-def bare(items, at):
+def next_token(items, at):
     """The index of the next token that is no white space."""
     while at < len(items) and items[at].isspace():
         at += 1
@@ -160,7 +164,8 @@ def block_end(items, at):
     return at
 
 
-def said(items):
+def joined_text(items):
+    """The text of some tokens, with a single space for each run of white space."""
     return " ".join("".join(items).split())
 
 
@@ -177,15 +182,15 @@ def imports(uses):
     return paths, {new: f"{path}.{what}" if what in own else what for new, (path, what) in members.items()}
 
 
-def written_out(text, given):
+def write_out_names(text, given):
     """The text without the names that imports give."""
     paths, members = given
 
-    def meant(found):
+    def meaning_of(found):
         path = paths.get(found[1]) if found[2] else None
         return (path or members.get(found[1]) or found[1]) + found[2]
 
-    return re.sub(r"(?<![\w.'@«])([A-Za-z_]\w*)(?![\w'»])((?:\.(?=\S))?)", meant, text)
+    return re.sub(r"(?<![\w.'@«])([A-Za-z_]\w*)(?![\w'»])((?:\.(?=\S))?)", meaning_of, text)
 
 
 def after_angles(items, at):
@@ -202,13 +207,13 @@ def parameters(items):
     names, begin, at = [], 1, after_angles(items, 1)
     while at < len(items):
         if items[at] == "," or at == len(items) - 1:
-            names += said(items[begin:at]).split(":")[0].split()[-1:]
+            names += joined_text(items[begin:at]).split(":")[0].split()[-1:]
             begin = at + 1
         at = after_angles(items, block_end(items, at) if items[at] in CLOSE else at + 1)
     return [it if it.isidentifier() and it != "self" else "" for it in names]
 
 
-def marked(clause, names):
+def mark_parameters(clause, names):
     """The clause with `@NAME` for each parameter; what stands before `=` is the field of a record."""
     head, brace, text = clause.partition("{")
     for name in filter(None, names):
@@ -224,7 +229,8 @@ class Source:
         self.walk(open_to_all=open_to_all)
 
     def note(self, owner, name, text, names=()):
-        self.noted.append((owner, name, written_out(marked(text, names), imports(self.uses)), names))
+        """Notes a clause, a ghost member or a function, with its names written out and its parameters marked."""
+        self.noted.append((owner, name, write_out_names(mark_parameters(text, names), imports(self.uses)), names))
 
     def walk(self, at=0, end=None, owner="", open_to_all=False):
         """owner: the impl, trait or type around; open_to_all: whether each function in it is public, as in a trait."""
@@ -237,7 +243,7 @@ class Source:
                 stop = at
                 while stop < end and self.items[stop] not in ("{", ";", "("):
                     stop = block_end(self.items, stop) if self.items[stop] == "[" else stop + 1
-                at = self.inside(it, head, said(self.items[at + 1 : stop]), stop, owner)
+                at = self.inside(it, head, joined_text(self.items[at + 1 : stop]), stop, owner)
                 begin = at
             elif it == "fn":
                 at = self.function(begin, at, owner, open_to_all)
@@ -271,10 +277,11 @@ class Source:
         return after
 
     def ghost(self, at, owner):
+        """Reads a `ghost use` or a ghost member; returns the index after it."""
         stop = at
         while self.items[stop : stop + 1] not in ([";"], [","], []):
             stop = block_end(self.items, stop) if self.items[stop] in CLOSE else stop + 1
-        text = said(self.items[at:stop])
+        text = joined_text(self.items[at:stop])
         if text.startswith("ghost use"):
             self.uses += f"{text};"
         elif owner:
@@ -284,7 +291,7 @@ class Source:
     def function(self, begin, at, owner, open_to_all):
         """Notes the clauses of a function if it is public; the index after it."""
         public = open_to_all or is_public(self.items[begin:at])
-        at = bare(self.items, at + 1)
+        at = next_token(self.items, at + 1)
         name = self.items[at]
         at = after_angles(self.items, at + 1)
         names = parameters(self.items[at : block_end(self.items, at)])
@@ -297,7 +304,7 @@ class Source:
                     stop += 1
                 stop = block_end(self.items, stop)
                 if public:
-                    self.note(owner, name, said(self.items[at:stop]), names)
+                    self.note(owner, name, joined_text(self.items[at:stop]), names)
                 at = stop
             else:
                 at = block_end(self.items, at) if self.items[at] in ("(", "[") else at + 1
@@ -310,7 +317,7 @@ def is_public(head):
     return bool(re.search(r"\bpub\s+(?:const\s+|unsafe\s+|extern\s+)*$", words + " "))
 
 
-def nested(text):
+def nest_lines(text):
     """The lines of a file of specs without comments: each with its list of deeper lines."""
     top = []
     open_ones = [(-1, top)]
@@ -327,16 +334,18 @@ def nested(text):
     return top
 
 
-def whole(line, inner):
-    return " ".join([line, *(whole(*it) for it in inner)])
+def whole_text(line, inner):
+    """A line of specs and the lines below it, as one text."""
+    return " ".join([line, *(whole_text(*it) for it in inner)])
 
 
 def definitions(text):
     """The definitions of a file of specs, and the parts of records, types and sections: each with its key and text."""
-    return list(parts(nested(text)))
+    return list(parts(nest_lines(text)))
 
 
 def parts(lines, about=""):
+    """Yields the key and the text of each definition, and of each part of records, types and sections."""
     for line, inner in lines:
         if line.startswith(("use ", "pub use ", "pub mod ", "mod ")):
             continue
@@ -350,7 +359,7 @@ def parts(lines, about=""):
             yield name, head
             yield from parts(below, name)
         else:
-            yield f"{about}.{name}" if about else name, whole(line, inner)
+            yield f"{about}.{name}" if about else name, whole_text(line, inner)
 
 
 def split_head(line, inner):
@@ -368,7 +377,7 @@ def name_of(line):
     return re.sub(r"^((abbrev|pub|opaque|record|data|unfoldable) )*", "", line).split()[0].split(".")[0]
 
 
-def importable(text, is_open):
+def importable_names(text, is_open):
     """The names that a file passes on, and those of its own public items if its module is public."""
     for path in re.findall(r"^pub use ([^;]+);", text, re.M):
         for name in re.sub(r"^.*::\{?|\}$", "", " ".join(path.split())).split(","):
@@ -383,7 +392,7 @@ def texts(folder, ending):
     for inside, _, files in sorted(os.walk(folder)):
         for file in sorted(it for it in files if it.endswith(ending)):
             path = os.path.relpath(f"{inside}/{file}", folder)
-            yield os.path.splitext(path.split("/")[0])[0], open(f"{inside}/{file}", encoding="utf-8").read()
+            yield os.path.splitext(path.split("/")[0])[0], Path(inside, file).read_text(encoding="utf-8")
 
 
 def with_new_names(clause, mine, others):
@@ -402,33 +411,43 @@ def promises(tree, names, after):
     those of the functions in the tree after it."""
     found, functions = collections.Counter(), collections.defaultdict(list)
     for crate in sorted(os.listdir(f"{tree}/crates")):
-        files = [(file, names.in_file(text, crate, "")) for file, text in texts(f"{tree}/crates/{crate}/src", ".rt")]
-        root = "".join(text for file, text in files if file in ("lib", "main"))
-        is_program = all(file != "lib" for file, _ in files)
-        for file, text in files:
-            at, is_open = names.crate(crate, file), re.search(rf"^pub mod {file};", root, re.M)
-            passed_on = " ".join(re.findall(rf"^pub use {file}::([^;]+);", root, re.M))
-            for owner, name, clause, mine in Source(text).noted:
-                was, name = name, names.functions.get((crate, name), name)
-                if owner or is_open or is_program or file == "lib" or re.search(rf"\b{was}\b", passed_on):
-                    owner, name, clause, *mine = (names.text(it, crate) for it in (owner, name, clause, *mine))
-                    clause = with_new_names(clause, mine, after.get((at, owner, name), []))
-                    found[at, owner, name, clause] += 1
-                    functions[at, owner, name] += [mine] if clause == "fn" else []
-            for name in importable(text, is_open):
-                found[at, "importable", names.text(names.functions.get((crate, name), name), crate), ""] = 1
-        for file, text in texts(f"{tree}/crates/{crate}/specs", ".antt"):
-            at, spec = names.crate(crate, file), names.specs.get((crate, file), file)
-            text = names.in_file(text, crate, file)
-            given = imports("\n".join(re.findall(r"^(?:pub )?use .*", text, re.M)))
-            for key, line in definitions(text):
-                key = f"{spec}.section" if key == "section" else names.text(key, crate)
-                found[at, "specs", key, names.text(written_out(line, given), crate)] += 1
+        count_code(tree, crate, names, after, found, functions)
+        count_specs(tree, crate, names, found)
     for crate, lower, upper, _ in names.above:
         for (at, owner, key, line), count in list(found.items()):
             if at == crate and owner == "specs" and key.startswith(f"{lower}."):
                 found[at, owner, upper + key.removeprefix(lower), line] += count
     return found, functions
+
+
+def count_code(tree, crate, names, after, found, functions):
+    """Counts the clauses and the importable names of a crate's code in `found`, and adds parameters to `functions`."""
+    files = [(file, names.in_file(text, crate, "")) for file, text in texts(f"{tree}/crates/{crate}/src", ".rt")]
+    root = "".join(text for file, text in files if file in ("lib", "main"))
+    is_program = all(file != "lib" for file, _ in files)
+    for file, text in files:
+        at, is_open = names.crate(crate, file), re.search(rf"^pub mod {file};", root, re.M)
+        passed_on = " ".join(re.findall(rf"^pub use {file}::([^;]+);", root, re.M))
+        for owner, name, clause, mine in Source(text).noted:
+            was, name = name, names.functions.get((crate, name), name)
+            if owner or is_open or is_program or file == "lib" or re.search(rf"\b{was}\b", passed_on):
+                owner, name, clause, *mine = (names.text(it, crate) for it in (owner, name, clause, *mine))
+                clause = with_new_names(clause, mine, after.get((at, owner, name), []))
+                found[at, owner, name, clause] += 1
+                functions[at, owner, name] += [mine] if clause == "fn" else []
+        for name in importable_names(text, is_open):
+            found[at, "importable", names.text(names.functions.get((crate, name), name), crate), ""] = 1
+
+
+def count_specs(tree, crate, names, found):
+    """Counts the definitions of a crate's specs in `found`."""
+    for file, text in texts(f"{tree}/crates/{crate}/specs", ".antt"):
+        at, spec = names.crate(crate, file), names.specs.get((crate, file), file)
+        text = names.in_file(text, crate, file)
+        given = imports("\n".join(re.findall(r"^(?:pub )?use .*", text, re.M)))
+        for key, line in definitions(text):
+            key = f"{spec}.section" if key == "section" else names.text(key, crate)
+            found[at, "specs", key, names.text(write_out_names(line, given), crate)] += 1
 
 
 def key_of(owner, name, text):
@@ -443,7 +462,7 @@ def key_of(owner, name, text):
     return f"{holder[-1]}::{name}.{label}" if holder else f"{name}.{label}"
 
 
-def keyed(counted):
+def group_by_key(counted):
     """The lines by crate and key, each as often as it counts."""
     found = collections.defaultdict(list)
     for (crate, owner, name, text), count in sorted(counted.items()):
@@ -451,14 +470,14 @@ def keyed(counted):
     return found
 
 
-def stays(lines, there, is_clause):
+def is_still_there(lines, there, is_clause):
     """Whether something of the kind of these lines still stands. What is required and ensured may have one label."""
     if not is_clause:
         return bool(there)
     return any(text.partition(" ")[0] == other.partition(" ")[0] for _, _, text in lines for _, _, other in there)
 
 
-def cited_above(lost, more, above):
+def take_out_cited(lost, more, above):
     """Takes out the clauses that cite a record with more fields in place of another; how many."""
     taken = 0
     for _, lower, upper, users in above:
@@ -473,6 +492,7 @@ def cited_above(lost, more, above):
 
 
 def main():
+    """Prints what the new tree has lost; returns 1 if a loss has no reason or a reason explains nothing."""
     words = argparse.ArgumentParser(description=__doc__.split("\n")[0])
     words.add_argument("old")
     words.add_argument("new")
@@ -484,16 +504,16 @@ def main():
     new, functions = promises(given.new, Names(), {})
     old, _ = promises(given.old, names, functions)
     lost, more = old - new, new - old
-    cited = cited_above(lost, more, names.above)
-    lost, more, there = +lost, +more, keyed(new)
-    stands = keyed(more)
+    cited = take_out_cited(lost, more, names.above)
+    lost, more, there = +lost, +more, group_by_key(new)
+    stands = group_by_key(more)
     explained, bare_losses = 0, 0
-    gone = keyed(lost)
+    gone = group_by_key(lost)
     for (crate, key), lines in gone.items():
         kind, why = names.reasons.get((crate, key), ("", ""))
         is_clause = lines[0][0] not in ("specs", "importable")
         enough = len(lines) if is_clause else 1
-        is_gone = kind == "gone" and not stays(lines, there[crate, key], is_clause)
+        is_gone = kind == "gone" and not is_still_there(lines, there[crate, key], is_clause)
         if is_gone or kind == "changed" and len(stands[crate, key]) >= enough:
             explained += len(lines)
             for it in lines if given.why else []:

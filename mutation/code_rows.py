@@ -1,7 +1,8 @@
-"""The public functions of a crate, each with the first sentence of its comment; docs/PROMISES.md lists those that are laws.
+"""The public functions of a crate, each with the first sentence of its comment; docs/PROMISES.md lists those that are
+laws.
 
-A public function is one that other crates can call and that promises something (an ensures). Those named worked_.. are left
-out: they are examples.
+A public function is one that other crates can call and that promises something (an ensures). Those named worked_.. are
+left out: they are examples.
 """
 import pathlib
 import re
@@ -17,16 +18,18 @@ OWNER = re.compile(r"(pub )?(impl|trait)\b(.*?)\{?$")
 
 
 class Function:
-    """A function: its module, the type or trait that it is of, its comment, and whether it is public and promises something."""
+    """A function: its module, its type or trait, its comment, and whether it is public and promises something."""
 
     def __init__(self, module, owner, name, comment, is_public):
         self.module, self.owner, self.name, self.comment, self.is_public = module, owner, name, comment, is_public
         self.promises, self.labels = False, []
 
     def path(self):
+        """The path of the function in its crate, parted by `::`."""
         return "::".join(it for it in (*self.module, self.owner, self.name) if it)
 
     def is_law(self):
+        """Whether the function stands in a module of laws."""
         return any(it.startswith("laws") for it in self.module)
 
     def sentence(self):
@@ -116,13 +119,13 @@ def in_columns(head, text, margin):
         yield f"{INDENT}{'' if number else head:<{margin}}{line}"
 
 
-def described(top, crate):
+def describe(top, crate):
     """A line for each public function of a crate: its path, its sentence, and the names of its clauses."""
     for it in public_functions(top, crate):
         yield f"{it.path()}: {it.sentence()}" + (f" [{' '.join(it.labels)}]" if it.labels else "")
 
 
-def written(top, text):
+def with_laws(top, text):
     """The text of a page, with the lines between each mark and its end as the code gives them. A mark names crates."""
 
     def block(found):

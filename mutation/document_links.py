@@ -1,7 +1,8 @@
 """What the pages of the repository say of other files: links, and excerpts of code.
 
-An excerpt is an indented block right below the mark `<!-- excerpt: FILE -->`. Its lines must stand in the file in this order,
-and without others between them except where the excerpt has a line `...`. How deep they are indented makes no difference.
+An excerpt is an indented block right below the mark `<!-- excerpt: FILE -->`. Its lines must stand in the file in this
+order, and without others between them except where the excerpt has a line `...`. How deep they are indented makes no
+difference.
 """
 import difflib
 import pathlib
@@ -15,7 +16,8 @@ PAGES = ("*.md", "*/*.md")
 def pages(top):
     """The text of each page of the repository, by its path."""
     top = pathlib.Path(top)
-    return {str(it.relative_to(top)): it.read_text(encoding="utf-8") for pattern in PAGES for it in sorted(top.glob(pattern))}
+    paths = [it for pattern in PAGES for it in sorted(top.glob(pattern))]
+    return {str(it.relative_to(top)): it.read_text(encoding="utf-8") for it in paths}
 
 
 def differences(name, text, wanted):
@@ -56,7 +58,7 @@ def wrong_links(top, texts):
                 yield f"{page}:{plain.count(chr(10), 0, found.start()) + 1}: no such place: {found[1]}"
 
 
-def stands_in(lines, code):
+def is_excerpt(lines, code):
     """Whether lines stand in code in their order, one right after the other but where `...` is."""
     parts = [[]]
     for line in (it.strip() for it in lines):
@@ -82,5 +84,5 @@ def wrong_excerpts(top, page, text):
     for name, block in found:
         file = pathlib.Path(top, name)
         code = [it.strip() for it in file.read_text(encoding="utf-8").splitlines()] if file.exists() else []
-        if not stands_in(block.rstrip("\n").split("\n"), code):
+        if not is_excerpt(block.rstrip("\n").split("\n"), code):
             yield f"{page}: {name} has no such lines: {block.strip().splitlines()[0]} .."

@@ -5,19 +5,20 @@
   edits.py --dry
 
 An edit is a file of mutation/edits/CRATE (with --gate: of crates/CRATE/must-fail), written as `rt ci` reads it: lines
-`file: PATH`, `old: TEXT`, `new: TEXT`. It counts as refused if the check does not prove the edited function for a goal of
-its own; of a caller it only says that it calls such a function. A round takes one edit for each function, and none whose
-text another edit of the round changes. What a round did not refuse is tried again by itself, so no edit hides another. An
-edit outside any function (a constant, a definition) is always tried by itself, and is refused if any function or lemma of
-the crate is.
+`file: PATH`, `old: TEXT`, `new: TEXT`. It counts as refused if the check does not prove the edited function for a goal
+of its own; of a caller it only says that it calls such a function. A round takes one edit for each function, and none
+whose text another edit of the round changes. What a round did not refuse is tried again by itself, so no edit hides
+another. An edit outside any function (a constant, a definition) is always tried by itself, and is refused if any
+function or lemma of the crate is.
 
-The copy uses the work that `rt check` kept in out/, so check the crate first. With --over, mutation/check.sh checks over
-the libraries that are there and does not test whether they are current; that saves minutes in the upper crates. Verdicts:
-`refused`, `PROVED` (the contracts let the wrong body through), `unreadable` (its text is gone, or the result does not
-compile). The last line has the counts; the exit status is 1 if one is proved or unreadable, or if none was tried.
+The copy uses the work that `rt check` kept in out/, so check the crate first. With --over, mutation/check.sh checks
+over the libraries that are there and does not test whether they are current; that saves minutes in the upper crates.
+Verdicts: `refused`, `PROVED` (the contracts let the wrong body through), `unreadable` (its text is gone, or the result
+does not compile). The last line has the counts; the exit status is 1 if one is proved or unreadable, or if none was
+tried.
 
-With --dry nothing is checked. Of all edits, inside the gate and outside it, the script prints those whose old text does not
-occur exactly once in its file, or whose crate is not there, and ends with 1 if there is one.
+With --dry nothing is checked. Of all edits, inside the gate and outside it, the script prints those whose old text does
+not occur exactly once in its file, or whose crate is not there, and ends with 1 if there is one.
 """
 
 import argparse
@@ -27,10 +28,13 @@ import shutil
 import subprocess
 import sys
 import tempfile
+from pathlib import Path
 
 TOP = os.path.dirname(os.path.dirname(os.path.abspath(__file__)))
 FN = re.compile(r"^( *)(?:pub(?:\([a-z]+\))? )?(?:const )?(?:unsafe )?fn (\w+)", re.M)
-IMPL = re.compile(r"^(?:impl(?:<[^{\n]*?>)? (?:[\w:<>', ]+ for )?&?(?:'\w+ )?|(?:pub(?:\([a-z]+\))? )?trait )(\w+)", re.M)
+IMPL = re.compile(
+    r"^(?:impl(?:<[^{\n]*?>)? (?:[\w:<>', ]+ for )?&?(?:'\w+ )?|(?:pub(?:\([a-z]+\))? )?trait )(\w+)", re.M
+)
 TOLD = re.compile(r"^(?:fn|struct|enum|impl|trait) (\S+?): (.*)$", re.M)
 FAILED = re.compile(r"not proved|no proof")
 OF_OTHERS = re.compile(r"(?:not proved|no proof)[:;] it (?:calls|passes)")
@@ -40,7 +44,7 @@ UNREAD = re.compile(r"^(?:\./)?((?:src|specs)/\S+?):\d+:\d+: (error.*)$", re.M)
 
 
 class Function:
-    """A function of a file of src/: the path of its module, the type of its impl, its trait or none, its name and its place."""
+    """A function of a file of src/: the path of its module, its type or trait if any, its name and its place."""
 
     def __init__(self, crate, path, text, at):
         inside = os.path.splitext(path)[0].split("/")[1:]
@@ -63,53 +67,63 @@ class Edit:
         self.name, self.why, self.verdict = os.path.basename(file)[: -len(".edit")], "", ""
         self.changes, self.functions = [], []
         path, old, texts = "", None, {}
-        for line in open(file, encoding="utf-8").read().split("\n"):
+        for line in Path(file).read_text(encoding="utf-8").split("\n"):
             if line.startswith("file: "):
                 path = line[len("file: ") :].strip()
-                if path not in texts:
-                    if not os.path.isfile(f"{folder}/{path}"):
-                        return self.fault(f"there is no file {path}")
-                    texts[path] = open(f"{folder}/{path}", encoding="utf-8").read()
+                if not read_into(texts, folder, path):
+                    return self.reject(f"there is no file {path}")
             elif line.startswith("old: "):
                 old = line[len("old: ") :]
             elif line.startswith("new:") and path and old:
                 count = texts[path].count(old)
                 if count != 1:
-                    return self.fault(f"an old text stands {count} times in {path}, and not once: {old}")
+                    return self.reject(f"an old text stands {count} times in {path}, and not once: {old}")
                 new = line[len("new: ") :]
-                self.place(crate, path, texts[path], texts[path].index(old), old)
+                self.note_place(crate, path, texts[path], texts[path].index(old), old)
                 texts[path] = texts[path].replace(old, new)
                 self.changes.append((path, old, new))
                 old = None
         if not self.changes:
-            self.fault("it has no old and new text")
+            self.reject("it has no old and new text")
 
-    def fault(self, why):
+    def reject(self, why):
+        """Makes the edit unreadable, and keeps the reason."""
         self.verdict, self.why = "unreadable", why
 
-    def place(self, crate, path, text, start, old):
+    def note_place(self, crate, path, text, start, old):
+        """Notes the function in which an old text stands, or None if it stands outside any."""
         end = start + len(old)
         found = [Function(crate, path, text, at) for at in FN.finditer(text)] if path.startswith("src/") else []
         inside = [it for it in found if it.start <= start and end <= it.end]
         self.functions.append(inside[-1] if inside else None)
 
-    def alone(self):
+    def is_alone(self):
+        """Whether the edit must be tried by itself, since a change of it is outside any function."""
         return None in self.functions
 
-    def where(self):
+    def places(self):
+        """The names of the edited functions, as one text."""
         names = ["::".join(filter(None, it.key[1:])) if it else "no function" for it in self.functions]
         return ", ".join(dict.fromkeys(names))
 
-    def goes_with(self, other):
+    def is_compatible(self, other):
+        """Whether the edit changes no function that the other one changes."""
         return not {it.key for it in self.functions} & {it.key for it in other.functions}
 
 
-def applied(edits, folder):
+def read_into(texts, folder, path):
+    """Reads a file of a crate into `texts`, unless it is there; returns whether there is such a file."""
+    if path not in texts and os.path.isfile(f"{folder}/{path}"):
+        texts[path] = Path(folder, path).read_text(encoding="utf-8")
+    return path in texts
+
+
+def apply_edits(edits, folder):
     """The texts with all of these edits, by path; or none if the text of an edit no longer occurs once."""
     texts = {}
     for path, old, new in [change for edit in edits for change in edit.changes]:
         if path not in texts:
-            texts[path] = open(f"{folder}/{path}", encoding="utf-8").read()
+            texts[path] = Path(folder, path).read_text(encoding="utf-8")
         if texts[path].count(old) != 1:
             return None
         texts[path] = texts[path].replace(old, new)
@@ -120,8 +134,8 @@ def round_of(edits, folder):
     """As many of the edits as fit together, in their order."""
     taken = []
     for edit in edits:
-        if not taken or not (edit.alone() or taken[0].alone()):
-            if all(edit.goes_with(it) for it in taken) and applied([*taken, edit], folder) is not None:
+        if not taken or not (edit.is_alone() or taken[0].is_alone()):
+            if all(edit.is_compatible(it) for it in taken) and apply_edits([*taken, edit], folder) is not None:
                 taken.append(edit)
     return taken
 
@@ -132,7 +146,8 @@ class Bench:
     def __init__(self, crate, room, words, said):
         self.crate, self.said, self.folder = crate, said, f"{room}/crates/{crate}"
         self.words = [it.format(room=room, crate=crate) for it in words]
-        lines = [it for it in open(f"{TOP}/crates.txt", encoding="utf-8") if re.match(r"\w+", it)]
+        crates = Path(TOP, "crates.txt").read_text(encoding="utf-8")
+        lines = [it for it in crates.splitlines(keepends=True) if re.match(r"\w+", it)]
         below = {it.split(":")[0].split()[0]: it.split(":")[1].split() for it in lines}
         wanted, queue = set(), [crate]
         while queue:
@@ -153,8 +168,8 @@ class Bench:
 
     def check(self, edits):
         """The output of a check of the crate with these edits; afterwards the texts are as they were."""
-        texts = applied(edits, self.folder)
-        before = {path: open(f"{self.folder}/{path}", encoding="utf-8").read() for path in texts}
+        texts = apply_edits(edits, self.folder)
+        before = {path: Path(self.folder, path).read_text(encoding="utf-8") for path in texts}
         try:
             self.write(texts)
             ran = subprocess.run(self.words, cwd=self.folder, stdin=subprocess.DEVNULL, capture_output=True, text=True)
@@ -164,12 +179,14 @@ class Bench:
             self.write(before)
 
     def keep(self, said):
+        """Adds what a check said to the file of the crate, if it is to be kept."""
         if self.said:
             os.makedirs(self.said, exist_ok=True)
             with open(f"{self.said}/{self.crate}.said", "a", encoding="utf-8") as out:
                 out.write(said)
 
     def write(self, texts):
+        """Writes texts to the files of the copy, by their paths."""
         for path, text in texts.items():
             with open(f"{self.folder}/{path}", "w", encoding="utf-8") as out:
                 out.write(text)
@@ -193,16 +210,16 @@ def judge(edit, said):
     """Sets the verdict of an edit from the output of a check."""
     if not TOLD.search(said) or any(path in [it[0] for it in edit.changes] for path, _ in UNREAD.findall(said)):
         why = UNREAD.search(said)
-        return edit.fault(why[0] if why else said.strip().split("\n")[-1])
+        return edit.reject(why[0] if why else said.strip().split("\n")[-1])
     failed = own_failures(said)
     own = [name for name in failed if any(it and it.line.match(name) for it in edit.functions)]
-    if own or edit.alone() and (failed or LEMMA.search(said)):
+    if own or edit.is_alone() and (failed or LEMMA.search(said)):
         edit.verdict, edit.why = "refused", own[0] if own else (failed or LEMMA.findall(said))[0]
         if own and only_names(edit, said):
             edit.why += " (only since a proof file names what the edit took away)"
     else:
         told = f" (only {', '.join(failed[:3])} is told)" if failed else ""
-        edit.verdict, edit.why = "PROVED", edit.where() + told
+        edit.verdict, edit.why = "PROVED", edit.places() + told
 
 
 def try_edits(bench, edits):
@@ -221,10 +238,11 @@ def try_edits(bench, edits):
 
 
 def files_of(folder):
+    """The names of the files of edits in a folder, sorted."""
     return sorted(it for it in os.listdir(folder) if it.endswith(".edit"))
 
 
-def dry():
+def dry_run():
     """Prints the edits that cannot be applied; 1 if there is one."""
     folders = [(f"crates/{it}/must-fail", it) for it in sorted(os.listdir(f"{TOP}/crates"))]
     folders += [(f"mutation/edits/{it}", it) for it in sorted(os.listdir(f"{TOP}/mutation/edits"))]
@@ -241,6 +259,7 @@ def dry():
 
 
 def main():
+    """Tries the edits that are named, or all; returns 1 if one is proved or unreadable, or if none was refused."""
     words = argparse.ArgumentParser(prog="edits.py", description=__doc__.split("\n")[0])
     words.add_argument("--dry", action="store_true", help="only look whether each edit's text stands once in its file")
     words.add_argument("--gate", action="store_true", help="the edits of crates/CRATE/must-fail")
@@ -250,7 +269,7 @@ def main():
     words.add_argument("names", nargs="*", metavar="CRATE | CRATE/EDIT", help="those of a crate, or one edit")
     given = words.parse_args()
     if given.dry:
-        return dry()
+        return dry_run()
     check = ["{room}/mutation/check.sh", "{crate}"] if given.over else ["rt", "check", "--jobs", str(given.jobs)]
     of = (lambda it: f"{TOP}/crates/{it}/must-fail") if given.gate else (lambda it: f"{TOP}/mutation/edits/{it}")
     crates = [it for it in sorted(os.listdir(f"{TOP}/crates")) if os.path.isdir(of(it))]

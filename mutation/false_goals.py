@@ -41,7 +41,8 @@ class Seen(NamedTuple):
     what: object
 
 
-def shown(what, kept, broken):
+def judge(what, kept, broken):
+    """What a run shows of a clause, by comparing what was seen with what shows it kept and what shows it broken."""
     return Seen("kept" if what == kept else "broken" if what == broken else "neither", what)
 
 
@@ -56,18 +57,18 @@ def connection(program, room):
     after a session. Here none was held, so `left` lacks it. Nor could a session explain that a whole request has no
     answer: it would end with a fault or with `Bound`, for which `IsHeard` wants a call that failed or was interrupted,
     or with the input, which has not ended."""
-    office, reply = Office.made(program, room / "office.db"), Reply(0, b"", b"")
+    office, reply = Office.create(program, room / "office.db"), Reply(0, b"", b"")
     office.import_file("a", TOP / "examples" / "fonds.csv")
-    with office.served(1) as server:
-        with contextlib.suppress(ConnectionError), server.connected() as taken:
+    with office.serve(1) as server:
+        with contextlib.suppress(ConnectionError), server.connect() as taken:
             taken.sendall(client.get("/public/fonds"))
             with taken.makefile("rb") as stream:
                 reply = client.read_reply(stream)
-        ended = server.ended()
+        ended = server.wait_for_end()
     done = Ended(0, b"", b"")
     kept = Reply(200, b"HTTP/1.1 200 OK", b"1 GB 0999 HUL [Fonds] Hull Dock Company\n")
     broken = Reply(0, b"", b"")
-    return shown((reply, ended), kept=(kept, done), broken=(broken, done))
+    return judge((reply, ended), kept=(kept, done), broken=(broken, done))
 
 
 def settings(program, room):
@@ -76,7 +77,7 @@ def settings(program, room):
     The clause is `refused` of `program::words::settings`: `AreRefused`, in specs/Tasks.antt. A setting may be refused
     only if the words give a founding (`AreGiven`), and so a day of the calendar. These give none (`IsDay .. None`)."""
     ended = Office(program, room / "office.db").init(client.SETTINGS | {"day": "2024-02-30", "seats": "0"})
-    return shown(ended, kept=Ended(2, b"", b"bad date\n"), broken=Ended(2, b"", b"bad settings\n"))
+    return judge(ended, kept=Ended(2, b"", b"bad date\n"), broken=Ended(2, b"", b"bad settings\n"))
 
 
 def commit(program, room):
@@ -87,11 +88,11 @@ def commit(program, room):
     that has returned what was written (`HasCleanDisk`). This one does: it refuses to make files longer, and loses
     nothing. So if `register` is answered 200, the reader is there when the office is opened again, on a disk with
     room."""
-    before, shim, seen = Office.made(program, room / "office.db"), stopped.built_shim(room), Counter()
+    before, shim, seen = Office.create(program, room / "office.db"), stopped.build_shim(room), Counter()
     for number in itertools.count(1):
-        office, mark = stopped.copied(before, room), room / "failed"
+        office, mark = stopped.copy_office(before, room), room / "failed"
         disk = {"LD_PRELOAD": shim, "FAIL": str(number), "HOW": "full", "KEPT": "all", "FAILED": str(mark)}
-        told = ended_as(office, office.talk(failing.ANN, **disk))
+        told = word_for_end(office, office.talk(failing.ANN, **disk))
         seen[told] += 1
         if told == "lost" or not mark.exists():
             break
@@ -100,7 +101,7 @@ def commit(program, room):
     return Seen("broken" if seen["lost"] else "kept" if is_kept else "neither", dict(seen))
 
 
-def ended_as(office, told):
+def word_for_end(office, told):
     """How a registration ended, in a word. It is `lost` if it was done, and the reader is not there afterwards."""
     if told in (failing.FAULT, Ended(0, BUSY, b"")):
         return "503" if told.output else "store fault"
@@ -117,7 +118,7 @@ RUNS = {
 # ---- programs that are compiled without proof
 
 
-def sources(tree, names):
+def copy_sources(tree, names):
     """A copy of the sources, with the wrong bodies of these edits."""
     shutil.copytree(TOP / "crates", tree / "crates", ignore=shutil.ignore_patterns("out"))
     for name in ("crates.txt", "HANDLES"):
@@ -128,11 +129,11 @@ def sources(tree, names):
         edit = edits.Edit(folder / "must-fail" / f"{name}.edit", crate, folder)
         if edit.verdict:
             raise RuntimeError(f"{name}: {edit.why}")
-        for path, text in edits.applied([edit], folder).items():
+        for path, text in edits.apply_edits([edit], folder).items():
             (folder / path).write_text(text)
 
 
-def opened(pipe, tried, until):
+def open_pipe(pipe, tried, until):
     """The end of a pipe that is written to, as soon as the program reads from the other; nothing if it never does."""
     while tried.poll() is None and time.monotonic() < until:
         with contextlib.suppress(OSError):
@@ -141,10 +142,10 @@ def opened(pipe, tried, until):
     return None
 
 
-def compiled(tree, names, until):
+def compile_program(tree, names, until):
     """The program with the wrong bodies of these edits. `rt try` removes it when it has ended. So it is copied while it
     waits for its file, which is a pipe."""
-    sources(tree, names)
+    copy_sources(tree, names)
     pipe, own, said = tree / "pipe", tree / "own", tree / "said"
     os.mkfifo(pipe)
     own.mkdir()
@@ -153,7 +154,7 @@ def compiled(tree, names, until):
         streams = {"stdin": subprocess.DEVNULL, "stdout": out, "stderr": out}
         tried = subprocess.Popen(["rt", "try", "--", *PREVIEW, pipe], **how, **streams)
     try:
-        writer = opened(pipe, tried, until)
+        writer = open_pipe(pipe, tried, until)
         if writer is None:
             raise RuntimeError(f"no program in time: {said.read_text()}")
         [found] = [it for it in own.rglob("program") if it.is_file()]
@@ -169,7 +170,7 @@ def compiled(tree, names, until):
 # ---- all of them
 
 
-def tell(checks, room, name, kind, program, wanted):
+def compare_run(checks, room, name, kind, program, wanted):
     """Prints what a run of a program shows, and compares it."""
     with client.temporary(room) as offices:
         seen = RUNS[name][1](program, offices)
@@ -178,6 +179,7 @@ def tell(checks, room, name, kind, program, wanted):
 
 
 def main():
+    """Runs the right and the wrong program for each edit, and returns the exit status."""
     words = client.options(__doc__, in_memory=False)
     words.add_argument("--right", action="store_true", help="puts in no wrong body, so that all clauses are kept")
     words.add_argument("names", nargs="*", type=client.one_of(RUNS), metavar="EDIT", help=", ".join(RUNS))
@@ -185,12 +187,12 @@ def main():
     until, checks, is_there = time.monotonic() + LIMIT, client.Checks(), given.program.path.is_file()
     names = given.names or list(RUNS)
     with client.temporary(given.room) as room, ThreadPoolExecutor() as pool:
-        wrong = pool.submit(compiled, room / "wrong", [] if given.right else names, until)
-        right = given.program if is_there else compiled(room / "right", [], until)
+        wrong = pool.submit(compile_program, room / "wrong", [] if given.right else names, until)
+        right = given.program if is_there else compile_program(room / "right", [], until)
         for name in names:
-            tell(checks, room, name, "right", right, "kept")
-            tell(checks, room, name, "wrong", wrong.result(), "broken")
-    return checks.ends()
+            compare_run(checks, room, name, "right", right, "kept")
+            compare_run(checks, room, name, "wrong", wrong.result(), "broken")
+    return checks.finish()
 
 
 if __name__ == "__main__":

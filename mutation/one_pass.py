@@ -1,12 +1,14 @@
 #!/usr/bin/env python3
 """Looks for the random sessions about boxes that find a wrong reading of boxes: mutation/one_pass.py [FIRST [COUNT]]
 
-Makes the sessions of acceptance/boxes.py for COUNT seeds (100) from FIRST (0) on, by the plain office, and replays each with an
-office that is quicker. It reads the units that name a box in walk order, and keeps of the path of each what also lies above the
-next; and its gate asks only for the boxes whose contents a change can withhold. Without a fault it must answer all sessions and
-the day of acceptance/large_box.py, and with each of FAULTS at least one session and the day wrongly. The script prints how many
-seeds find each fault, and the first of them. It ends with 1 if a fault is not found. After a change of what a seed makes, look
-again for the seeds that boxes.py keeps. CI does not run this script: it takes a quarter of an hour."""
+Makes the sessions of acceptance/boxes.py for COUNT seeds (100) from FIRST (0) on, by the plain office, and replays each
+with an office that is quicker. It reads the units that name a box in walk order, and keeps of the path of each what
+also lies above the next; and its gate asks only for the boxes whose contents a change can withhold. Without a fault it
+must answer all sessions and the day of acceptance/large_box.py, and with each of FAULTS at least one session and the
+day wrongly. The script prints how many seeds find each fault, and the first of them. It ends with 1 if a fault is not
+found. After a change of what a seed makes, look again for the seeds that boxes.py keeps. CI does not run this script:
+it takes a quarter of an hour."""
+import argparse
 import sys
 from pathlib import Path
 
@@ -33,8 +35,8 @@ UNIT_ALONE = "the gate looks for what the changed unit lies in, not for what lie
 NAMED_ALONE = "the gate looks for the boxes that changed units name, not for those above that they lie in"
 NOT_LOWEST = "the gate reports the highest box"
 EMPTY_STAYS = "the gate lets a box be emptied"
-FAULTS = [KEEPS, LATE, EARLY, NO_FIRST, NO_LAST, OTHERS_TOO, PERMIT_STAYS, PERMIT_ENDS, BY_NUMBER, ALL_BUT_LAST, ALL_BUT_FIRST]
-FAULTS += [ONE_OF_SIBLINGS, UNIT_ALONE, NAMED_ALONE, NOT_LOWEST, EMPTY_STAYS]
+FAULTS = [KEEPS, LATE, EARLY, NO_FIRST, NO_LAST, OTHERS_TOO, PERMIT_STAYS, PERMIT_ENDS, BY_NUMBER]
+FAULTS += [ALL_BUT_LAST, ALL_BUT_FIRST, ONE_OF_SIBLINGS, UNIT_ALONE, NAMED_ALONE, NOT_LOWEST, EMPTY_STAYS]
 
 
 class Quick(plain.Office):
@@ -45,12 +47,14 @@ class Quick(plain.Office):
     # ---- a box
 
     def is_open(self, container, ticket):
+        """Whether a box may go to a reader, found in one pass over the units that name it."""
         self.known, self.place = [], {unit: place for place, unit in enumerate(boxes.walk(self))}
         self.permit_before = False
         naming = [unit for unit in self.place if container in self.units[unit].boxes]
-        return bool(naming) and all(self.is_clean(unit, ticket) for unit in self.taken(naming))
+        return bool(naming) and all(self.is_clean(unit, ticket) for unit in self.units_to_read(naming))
 
-    def taken(self, naming):
+    def units_to_read(self, naming):
+        """The units that name a box, as the fault reads them: in another order, or some of them only."""
         if self.fault == BY_NUMBER:
             return sorted(naming)
         if self.fault == ALL_BUT_LAST:
@@ -80,11 +84,12 @@ class Quick(plain.Office):
         closed = any(map(self.is_closed, self.known))
         if any(self.units[it].draft for it in self.known) or closed and not permitted:
             return False
-        below = [it for it in self.branch(unit)[1:] if self.fault == OTHERS_TOO or self.housed(it) == unit]
+        below = [it for it in self.branch(unit)[1:] if self.fault == OTHERS_TOO or self.housing_unit(it) == unit]
         below = below[1:] if self.fault == NO_FIRST else below[:-1] if self.fault == NO_LAST else below
-        return not any(self.withholds(unit, it, closed, permitted, ticket) for it in below)
+        return not any(self.is_lower_withheld(unit, it, closed, permitted, ticket) for it in below)
 
-    def withholds(self, unit, lower, closed, permitted, ticket):
+    def is_lower_withheld(self, unit, lower, closed, permitted, ticket):
+        """Whether a unit below another one is withheld, given whether the upper one is closed or permitted."""
         way = self.path(lower)[len(self.path(unit)) :]
         permitted = permitted and self.fault != PERMIT_ENDS or any(self.is_permitted(it, ticket) for it in way)
         return any(self.units[it].draft for it in way) or (closed or any(map(self.is_closed, way))) and not permitted
@@ -92,21 +97,26 @@ class Quick(plain.Office):
     # ---- the gate
 
     def set_status(self, unit, status, branch):
+        """Changes a status as the plain office does, with the unit noted for the gate."""
         return self.change(unit, super().set_status, unit, status, branch)
 
     def set_closure(self, unit, until):
+        """Changes a closure as the plain office does, with the unit noted for the gate."""
         return self.change(unit, super().set_closure, unit, until)
 
     def move(self, unit, parent):
+        """Moves a unit as the plain office does, with the unit noted for the gate."""
         return self.change(unit, super().move, unit, parent)
 
     def change(self, unit, command, *words):
+        """Performs a command, with the unit that it changes noted for the gate meanwhile."""
         self.changed = unit
         told = command(*words)
         self.changed = None
         return told
 
     def gate(self):
+        """Refuses a change that would withhold something in a box from the reader who has it (21)."""
         out = self.out().items()
         for container, ticket in reversed(out) if self.fault == NOT_LOWEST else out:
             contents = self.contents(container)
@@ -143,8 +153,13 @@ def is_day_answered(right, fault):
         return False
 
 
-def main(first=0, number=100):
-    made = [boxes.BoxSession(seed) for seed in range(int(first), int(first) + int(number))]
+def main():
+    """Tries each fault, and returns whether one is not found or the right office answers wrongly."""
+    words = argparse.ArgumentParser(description=__doc__, formatter_class=argparse.RawDescriptionHelpFormatter)
+    words.add_argument("first", nargs="?", type=int, default=0, metavar="FIRST", help="the first seed; else 0")
+    words.add_argument("count", nargs="?", type=int, default=100, metavar="COUNT", help="how many seeds; else 100")
+    given = words.parse_args()
+    made = [boxes.BoxSession(seed) for seed in range(given.first, given.first + given.count)]
     day = large_box.Day(plain.Office(**large_box.SETTINGS))
     wrong = [session.seed for session in made if not is_answered(session, None)]
     wrong += [] if is_day_answered(day, None) else ["the day"]
@@ -159,4 +174,4 @@ def main(first=0, number=100):
 
 
 if __name__ == "__main__":
-    sys.exit(main(*sys.argv[1:]))
+    sys.exit(main())

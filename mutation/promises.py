@@ -1,18 +1,18 @@
 #!/usr/bin/env python3
-"""Looks whether the documents agree with the code: the names and lines of PROMISES, the excerpts of WALK, and all links.
+"""Looks whether the documents agree with the code: names and lines of PROMISES, excerpts of WALK, and all links.
 
     mutation/promises.py [--write] [--list CRATE] [TREE]
 
 What PROMISES has between `<!-- laws: CRATE .. -->` and `<!-- end -->` must be what the comments of the code give
-(code_rows.py); `--write` writes it. WALK's excerpts must be lines of their files, and each link of a page must
-lead to a file and a heading (document_links.py). `--list` prints each public function of a crate with its sentence and its
+(code_rows.py); `--write` writes it. WALK's excerpts must be lines of their files, and each link of a page must lead to
+a file and a heading (document_links.py). `--list` prints each public function of a crate with its sentence and its
 clauses.
 
-In the column "Clause" `crate::module::function`: `clause` names a clause of that function; a function that follows without
-a path is in the same module, or of the same type; names in parentheses are definitions. Each function must be there, each
-clause must be one of the functions before it, and each of these must have one of the clauses. Everywhere else a name in code
-marks must be a file, a name that the crates have, or a word of SQL in capitals. The script prints each problem with its line,
-and ends with 1 if there is one.
+In the column "Clause" `crate::module::function`: `clause` names a clause of that function; a function that follows
+without a path is in the same module, or of the same type; names in parentheses are definitions. Each function must be
+there, each clause must be one of the functions before it, and each of these must have one of the clauses. Everywhere
+else a name in code marks must be a file, a name that the crates have, or a word of SQL in capitals. The script prints
+each problem with its line, and ends with 1 if there is one.
 """
 import argparse
 import collections
@@ -35,7 +35,7 @@ class Tree:
 
     def __init__(self, top):
         self.top, self.clauses, self.names, self.modules = top, collections.defaultdict(set), set(), set()
-        for line in open(f"{top}/crates.txt", encoding="utf-8"):
+        for line in pathlib.Path(top, "crates.txt").read_text(encoding="utf-8").splitlines():
             if not line.startswith("#"):
                 self.names |= set(re.findall(r"\w+", line))
         for crate in sorted(os.listdir(f"{top}/crates")):
@@ -45,6 +45,7 @@ class Tree:
                 self.names |= set(re.findall(r"\w+", text))
 
     def read_code(self, module, text):
+        """Notes the functions, clauses and names in the text of a module."""
         for owner, name, clause, _ in Source(text, open_to_all=True).noted:
             holder = re.sub(r"<[^<>]*>", "", owner).split()
             path = "::".join([module, *holder[-1:], name])
@@ -68,7 +69,7 @@ def texts(folder, ending):
     for inside, _, files in sorted(os.walk(folder)):
         for file in sorted(it for it in files if it.endswith(ending)):
             path = os.path.relpath(f"{inside}/{file}", folder).removesuffix(ending).split(os.sep)
-            yield path, open(f"{inside}/{file}", encoding="utf-8").read()
+            yield path, pathlib.Path(inside, file).read_text(encoding="utf-8")
 
 
 class Cell:
@@ -80,6 +81,7 @@ class Cell:
         self.in_labels, self.deep = False, 0
 
     def read(self, text):
+        """Reads the text of the cell."""
         pieces = PIECE.findall(text)
         if not text.startswith("the same"):
             self.functions = []
@@ -91,20 +93,22 @@ class Cell:
             elif piece == ":":
                 self.in_labels = True
             elif piece.startswith("`"):
-                self.name(piece.strip("`"), pieces[at + 1 : at + 2] == [":"])
+                self.take_name(piece.strip("`"), pieces[at + 1 : at + 2] == [":"])
         self.close()
 
-    def name(self, name, has_labels):
+    def take_name(self, name, has_labels):
+        """Notes a name in code marks: a function or a clause, or in parentheses a definition."""
         if self.deep:
             self.wrong += [] if self.tree.has(name) else [name]
         elif "::" in name or not self.in_labels or has_labels:
             if self.in_labels:
                 self.close()
-            self.function(name if "::" in name else f"{self.base}::{name}")
+            self.take_function(name if "::" in name else f"{self.base}::{name}")
         else:
             self.labels.append(name)
 
-    def function(self, path):
+    def take_function(self, path):
+        """Notes a function by its path; what is no function and no module is wrong."""
         self.base = path.rsplit("::", 1)[0]
         if path in self.tree.clauses:
             self.functions.append(path)
@@ -141,27 +145,28 @@ def wrong_names(tree, text):
 
 
 def problems(tree, pages):
-    """What is wrong with the pages, one line each: names of nothing, lines that the code has otherwise, and broken links."""
+    """Yields what is wrong with the pages: names of nothing, lines that the code has otherwise, broken links."""
     text = pages[PROMISES]
     for number, name in wrong_names(tree, text):
         yield f"{PROMISES}:{number}: no such thing: {name}"
-    yield from document_links.differences(PROMISES, text, code_rows.written(tree.top, text))
+    yield from document_links.differences(PROMISES, text, code_rows.with_laws(tree.top, text))
     yield from document_links.wrong_excerpts(tree.top, WALK, pages[WALK])
     yield from document_links.wrong_links(tree.top, pages)
 
 
 def main():
+    """Prints each problem of the pages, and returns 1 if there is one."""
     words = argparse.ArgumentParser(description=__doc__.split("\n")[0])
     words.add_argument("top", nargs="?", default=TOP, help="the tree; without it the one of this script")
     words.add_argument("--write", action="store_true", help="write what PROMISES has from the code")
     words.add_argument("--list", metavar="CRATE", help="print the public functions of a crate, and look at nothing")
     given = words.parse_args()
     if given.list:
-        print(*code_rows.described(given.top, given.list), sep="\n")
+        print(*code_rows.describe(given.top, given.list), sep="\n")
         return 0
     pages = document_links.pages(given.top)
     if given.write:
-        pages[PROMISES] = code_rows.written(given.top, pages[PROMISES])
+        pages[PROMISES] = code_rows.with_laws(given.top, pages[PROMISES])
         pathlib.Path(given.top, PROMISES).write_text(pages[PROMISES], encoding="utf-8")
     found = list(problems(Tree(given.top), pages))
     print(*found, sep="\n", end="\n" if found else "")

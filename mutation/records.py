@@ -50,7 +50,7 @@ def of_file(path, folder):
         if lines and lines[0].startswith("file: "):
             file = lines.pop(0).removeprefix("file: ")
         if lines:
-            found.append(record(fields_of(lines, path), str(folder), file, path))
+            found.append(make_record(fields_of(lines, path), str(folder), file, path))
     return found
 
 
@@ -73,7 +73,8 @@ def text_in(rest):
     return rest[1:].removesuffix("$")
 
 
-def record(fields, folder, file, path):
+def make_record(fields, folder, file, path):
+    """The record of these fields; raises ValueError if one of the first three is missing."""
     lacking = [key for key in KEYS[:3] if key not in fields]
     if lacking:
         raise ValueError(f"{path}: {fields} has no {lacking}")

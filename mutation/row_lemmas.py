@@ -19,6 +19,7 @@ class Uses:
         self.names, self.modules = {}, {}
 
     def add(self, text):
+        """Adds what a text imports."""
         for module, names, other in USE.findall(text):
             if other:
                 self.modules.setdefault(other, module)
@@ -26,6 +27,7 @@ class Uses:
                 self.names.setdefault(name, module)
 
     def text(self):
+        """The lines of all imports, one for each module."""
         grouped = {}
         for name, module in self.names.items():
             grouped.setdefault(module, []).append(name)
@@ -34,6 +36,7 @@ class Uses:
 
 
 def of_crate(crate, kind, module):
+    """The path of a module of a crate's specs or proofs."""
     return (TOP / "crates" / crate / kind / Path(*module)).with_suffix(".antt")
 
 

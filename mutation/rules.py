@@ -1,6 +1,7 @@
 #!/usr/bin/env python3
-"""Changes the rules of the plain office, one at a time: a fixed day must refuse each change. mutation/rules.py [WORD
-..]
+"""Changes the rules of the plain office, one at a time: a fixed day must refuse each change.
+
+    mutation/rules.py [WORD ..]
 
 The rules are the modules of acceptance/plain, except tables.py and __init__.py. A *turn* is a wrong rule: turning.py
 makes them at each place of the modules; rules/MODULE.rules have more, as records.py reads them. All fixed days of the
@@ -12,6 +13,7 @@ A day fails if an answer differs or is missing. Of the days that call the change
 and the first that fails is named. Turns that mean the same are listed in rules_same.py, with the reason: they must
 pass. A turn that leaves a table unreadable does not count. With words, only turns whose names have one of them are
 tried. Two run at a time. The last line is `N passed, M failed`; the script ends with 1 if one failed."""
+import argparse
 import ast
 import importlib.util
 import itertools
@@ -33,7 +35,7 @@ import rules_same  # noqa: E402
 import turning  # noqa: E402
 
 PLAIN = ROOT / "acceptance" / "plain"
-TURNED = ["answers", "catalogue", "desk", "elements", "files", "heads", "limits", "refusals", "requests", "session", "shown"]
+TURNED = "answers catalogue desk elements files heads limits refusals requests session shown".split()
 OTHERS = ["tables", "__init__"]
 TEXTS = {name: (PLAIN / f"{name}.py").read_text() for name in TURNED + OTHERS}
 COMPILED = {name: compile(text, f"<plain {name}>", "exec") for name, text in TEXTS.items()}
@@ -60,22 +62,27 @@ def another(things, key):
 
 
 def insert_first(things, it):
+    """Puts something before all things of a list, where it should come last."""
     things.insert(0, it)
 
 
 def remove_another(things, it):
+    """Removes another thing from a list, where there is one."""
     things.pop(0 if things[0] != it else -1)
 
 
 def reversed_list(things):
+    """The things in reverse order, as a list."""
     return list(reversed(things))
 
 
 def first_only(things):
+    """The first of some things, as a list."""
     return list(things)[:1]
 
 
 def last_only(things):
+    """The last of some things, as a list."""
     return list(things)[-1:]
 
 
@@ -93,15 +100,18 @@ class Finder:
         self.compiled = compiled
 
     def find_spec(self, name, path=None, target=None):
+        """The spec of a module of `plain`, or None for any other module."""
         head, _, module = name.partition(".")
         if head != "plain":
             return None
         return importlib.util.spec_from_loader(name, self, is_package=not module)
 
     def create_module(self, spec):
+        """None, so that Python makes the module as usual."""
         return None
 
     def exec_module(self, module):
+        """Runs the compiled module, with the functions that a turned rule may call."""
         vars(module).update(CALLED)
         exec(self.compiled[module.__name__.partition(".")[2] or "__init__"], vars(module))
 
@@ -122,7 +132,7 @@ def is_answered(plain, day):
     output, ended = plain.talk(office, day.said)
     if (output, days.ENDED[ended]) != (day.answered, (day.status, day.told)):
         return False
-    return all(tables.kept(office, query) == text for query, text in day.kept)
+    return all(tables.query_rows(office, query) == text for query, text in day.kept)
 
 
 # ---- turns
@@ -132,7 +142,7 @@ def calls_of(day):
     """Whether a day is answered as written, and the functions that it calls, by module and name; none of a long one."""
     called = set()
 
-    def seen(frame, event, _):
+    def note_call(frame, event, _):
         code = frame.f_code
         if event == "call" and code.co_filename.startswith("<plain "):
             called.add(code.co_filename[7:-1] + "." + code.co_qualname.partition(".<locals>")[0])
@@ -142,7 +152,7 @@ def calls_of(day):
     day.weight = time.process_time() - begun
     if day.weight > LONG:
         return is_so, None
-    sys.setprofile(seen)
+    sys.setprofile(note_call)
     try:
         is_answered(plain, day)
     finally:
@@ -150,7 +160,7 @@ def calls_of(day):
     return is_so, called
 
 
-def written():
+def read_rules():
     """The turns that are written by hand: a name, a module, the old text and the new one."""
     modules = {"init": "__init__"}
     for path in sorted((ROOT / "mutation" / "rules").glob("*.rules")):
@@ -161,7 +171,7 @@ def written():
 
 def written_turns():
     """The same, each with what makes its module: its text stands there once."""
-    for name, module, old, new in written():
+    for name, module, old, new in read_rules():
         is_there = TEXTS[module].count(old) == 1
         yield name, module, "", (lambda text=TEXTS[module].replace(old, new): ast.parse(text)) if is_there else None
 
@@ -178,10 +188,10 @@ def made_turns():
 def refuser(module, tree, tried):
     """The name of the first day that fails by a turned module, or none."""
 
-    def late(*_):
+    def give_up(*_):
         raise TimeoutError
 
-    signal.signal(signal.SIGALRM, late)
+    signal.signal(signal.SIGALRM, give_up)
     resource.setrlimit(resource.RLIMIT_AS, (MEMORY, MEMORY))
     compiled = {**COMPILED, module: compile(tree, f"<plain {module}>", "exec")}
     try:
@@ -213,7 +223,7 @@ def begin(module, tree, tried):
     os._exit(0)
 
 
-def ended(running):
+def wait_for_one(running):
     """Waits for the first of these processes: its turn, and the day that it told."""
     child, status = os.wait()
     name, reader = running.pop(child)
@@ -230,9 +240,11 @@ class Trial:
         self.same, self.by = set(), set()
 
     def is_wanted(self, name):
+        """Whether the turn of this name is to be tried."""
         return not self.words or any(it in name for it in self.words)
 
     def take(self, name, day):
+        """Counts the turn of this name by the day that failed, and prints a line for it."""
         if day == NO_RULES:
             self.unread += 1
             return
@@ -249,7 +261,7 @@ class Trial:
             word = f"LISTED AS THE SAME, but refused by {day}"
         print(f"{word} | {name}", flush=True)
 
-    def ends(self):
+    def finish(self):
         """Prints what is listed but is no turn, and the sums."""
         if not self.words:
             for name in sorted(rules_same.SAME.keys() - self.same):
@@ -262,7 +274,8 @@ class Trial:
 
 
 def all_days():
-    return days.written() + limits.made() + heads.made() + filled.made()
+    """All fixed days of the rules."""
+    return days.read_days() + limits.make_days() + heads.make_days() + filled.make_days()
 
 
 def is_reached(function, called):
@@ -270,8 +283,11 @@ def is_reached(function, called):
     return called is None or "." not in function or function in called
 
 
-def main(*words):
-    written, trial = all_days(), Trial(words)
+def main():
+    """Tries the turns whose names have one of the words, or all; returns whether something is wrong."""
+    words = argparse.ArgumentParser(description=__doc__, formatter_class=argparse.RawDescriptionHelpFormatter)
+    words.add_argument("words", nargs="*", metavar="WORD", help="a part of the names of turns")
+    written, trial = all_days(), Trial(words.parse_args().words)
     reached = {day.name: calls_of(day) for day in written}
     other = [name for name, (is_so, _) in reached.items() if not is_so]
     print(f"of {len(written)} days the rules as they are answer {len(written) - len(other)}")
@@ -289,13 +305,13 @@ def main(*words):
             continue
         tried = [day for day in written if is_reached(function, reached[day.name][1])]
         while len(running) >= AT_ONCE:
-            trial.take(*ended(running))
+            trial.take(*wait_for_one(running))
         child, reader = begin(module, tree, tried)
         running[child] = name, reader
     while running:
-        trial.take(*ended(running))
-    return trial.ends()
+        trial.take(*wait_for_one(running))
+    return trial.finish()
 
 
 if __name__ == "__main__":
-    sys.exit(main(*sys.argv[1:]))
+    sys.exit(main())

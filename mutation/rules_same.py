@@ -20,7 +20,7 @@ IN_ELEMENTS = "in ELEMENTS = [('3.1.1', 'Reference code(s)', ['identifier']), ('
 SHOWN = "in refuse(1, any((self.units[it].draft for it in path)) or any(map(self.is_closed, path["
 ROW_REMARKS = "[{'kind': kind, 'row': row.number} for row, it in zip(rows, units) for kind in "
 OF_REMARKS = f"catalogue.Catalogue.import_file: {ROW_REMARKS}self.remark.."
-TOO_MUCH = "catalogue.Catalogue.too_much"
+TOO_MUCH = "catalogue.Catalogue.check_limits"
 IN_HEADS = "Reference code(s)", "Title", "Level of description"
 SETTINGS = ", ".join(f"{name}={most}" for name, most in HIGHEST.items())
 NO_SETTINGS = "`init` checks the settings, and the plain office takes any"
@@ -36,7 +36,11 @@ SAME = {
         "they are the same number",
     f"{OF_REMARKS} -> {ROW_REMARKS}first_only(.. in remarks = [{{'kind'": ONE_REMARK,
     f"{OF_REMARKS} -> {ROW_REMARKS}last_only(s.. in remarks = [{{'kind'": ONE_REMARK,
-    **{f"limits: {it} -> {it + by} in HIGHEST = dict({SETTINGS})": NO_SETTINGS for it in HIGHEST.values() for by in (1, -1)},
+    **{
+        f"limits: {it} -> {it + by} in HIGHEST = dict({SETTINGS})": NO_SETTINGS
+        for it in HIGHEST.values()
+        for by in (1, -1)
+    },
     **{f"{TOO_MUCH}: refuse(23, {later}) before refuse(23, {first})": ALL_FULL for later, first in ROW_FULL},
     **{f"elements: '{it}' -> '{it}x' {IN_ELEMENTS}": HEAD for it in IN_HEADS},
     "catalogue.Catalogue.remarks: '' -> 'x' in own, higher = (rank(self.units[n].texts.get(LEVEL, '')) for n in "
@@ -53,8 +57,8 @@ SAME = {
     "elements: 6 -> 7 in RANKS = {'fonds'": "item has the last rank all the same",
     "files.read_file: refuse(22, legacy in cultures, row=number, cause=7) before "
     "refuse(22, not legacy, row=number, cause=6)": "no row before it has a blank number",
-    f"shown.Shown.shown: 1 -> 2 {SHOWN}": ASKED,
-    "shown.Shown.shown: 1 -> 2 in refuse(1, unit not in self.units)": ASKED,
+    f"shown.Shown.check_shown: 1 -> 2 {SHOWN}": ASKED,
+    "shown.Shown.check_shown: 1 -> 2 in refuse(1, unit not in self.units)": ASKED,
     "shown.Shown.slip: 26 -> 27 in refuse(26, run not in self.runs)": ASKED,
     "shown.Shown.slip: 26 -> 25 in refuse(26, run not in self.runs)": ASKED,
 }

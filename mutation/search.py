@@ -1,13 +1,13 @@
 #!/usr/bin/env python3
 """Plants faults in the search in all archives, one at a time in a copy of front/search, and sees whether a check fails:
 
-    mutation/search.py PROGRAM [--only PART_OF_NAME] [--dry]
+    mutation/search.py [--program PROGRAM] [--only PART_OF_NAME] [--dry]
 
-Each fault names the check that should notice it: a part of acceptance/front/search_checks.py, `sessions` for random sessions or
-`folding` for the table of words. A fault with a reason in place of a check shows nothing wrong; it only makes something late or
-slow. --dry only sees whether each fault can still be planted. It ends with 1 if a fault cannot be planted or was not noticed."""
+Each fault names the check that should notice it: a part of acceptance/front/search_checks.py, `sessions` for random
+sessions or `folding` for the table of words. A fault with a reason in place of a check shows nothing wrong; it only
+makes something late or slow. --dry only sees whether each fault can still be planted. It ends with 1 if a fault cannot
+be planted or was not noticed."""
 
-import argparse
 import os
 import pathlib
 import shutil
@@ -15,7 +15,11 @@ import subprocess
 import sys
 import tempfile
 
+sys.dont_write_bytecode = True
 TOP = pathlib.Path(__file__).resolve().parent.parent
+sys.path.append(str(TOP / "acceptance"))
+import client  # noqa: E402
+
 FRONT_TESTS = TOP / "acceptance" / "front"
 SEEDS = (1, 2, 3)
 STEPS = 500
@@ -23,68 +27,102 @@ STEPS = 500
 LATE = "only late: "
 # name, file, text, what stands in its place, the check that notices it
 FAULTS = [
-    ("a candidate is not looked at for its words", "answers.py", "not self.query.holds(page.head, lines) or", "", "sessions"),
-    ("a candidate is not looked at for its years", "answers.py", " or not self.query.meets(years_of(lines))", "", "sessions"),
-    ("a candidate is not looked at for its archive", "answers.py", "if self.query.top is not None and (way", "if False and (way", "sessions"),
-    ("the way up is taken from the index", "answers.py", "if page is None or all(below != at for below, _ in page.units):", "if page is None:", "sessions"),
-    ("what is found above counts as own", "answers.py", "lines = page and page.own_lines(odd)", "lines = page and page.lines", "sessions"),
+    ("a candidate is not looked at for its words", "answers.py", "not self.query.holds(page.head, lines) or", "",
+     "sessions"),
+    ("a candidate is not looked at for its years", "answers.py", " or not self.query.meets(years_of(lines))", "",
+     "sessions"),
+    ("a candidate is not looked at for its archive", "answers.py", "if self.query.top is not None and (way",
+     "if False and (way", "sessions"),
+    ("the way up is taken from the index", "answers.py",
+     "if page is None or all(below != at for below, _ in page.units):", "if page is None:", "sessions"),
+    ("what is found above counts as own", "answers.py", "lines = page and page.own_lines(odd)",
+     "lines = page and page.lines", "sessions"),
     ("one of the words is enough", "answers.py", "return all(any(folding", "return any(any(folding", "sessions"),
-    ("`more` is told without another hit", "answers.py", "if hit and len(self.units) == self.shown:", "if len(self.units) == self.shown:", "bounds"),
+    ("`more` is told without another hit", "answers.py", "if hit and len(self.units) == self.shown:",
+     "if len(self.units) == self.shown:", "bounds"),
     ("the place to go on tells of a refused candidate", "answers.py",
      "            if hit:\n                self.units.append(hit)\n                self.after = place",
      "            self.after = place\n            if hit:\n                self.units.append(hit)", "pairs"),
     ("no bound on the looks", "answers.py", "if self.looked == LOOKS:", "if False:", "bounds"),
-    ("the list of fonds is not asked", "answers.py", 'self.tops = {top for top, _ in read_fonds(self.ask("/public/fonds") or "")}', "self.tops = set()", "bounds"),
-    ("an excerpt begins after its first mark", "answers.py", "begin = max(0, places[0][0] - BEFORE)", "begin = places[0][1] + 1", "bounds"),
-    ("heads do not come first", "index.py", 'enumerate((in_head, f"({wanted}) NOT {in_head}"))', 'enumerate((wanted, "zzzzzz"))', "sessions"),
+    ("the list of fonds is not asked", "answers.py",
+     'self.tops = {top for top, _ in read_fonds(self.ask("/public/fonds") or "")}', "self.tops = set()", "bounds"),
+    ("an excerpt begins after its first mark", "answers.py", "begin = max(0, places[0][0] - BEFORE)",
+     "begin = places[0][1] + 1", "bounds"),
+    ("heads do not come first", "index.py", 'enumerate((in_head, f"({wanted}) NOT {in_head}"))',
+     'enumerate((wanted, "zzzzzz"))', "sessions"),
     ("the last unit is shown again", "index.py", "words.rowid > ?{limits}", "words.rowid >= ?{limits}", "sessions"),
     ("going on begins with the heads again", "index.py", "if after[0] <= group:", "if True:", "sessions"),
     ("changed words are not written", "index.py", "    if own != node.own:\n", "    if own is None:\n", "sessions"),
-    ("own values that look like others' are forgotten", "index.py", 'return found and (found[0], (found[1] or "").split("\\n"))', "return found and (found[0], [])", "sessions"),
-    ("years change places", "index.py", '("unit.last >= ?", first), ("unit.first <= ?", last)', '("unit.first >= ?", first), ("unit.last <= ?", last)', "sessions"),
+    ("own values that look like others' are forgotten", "index.py",
+     'return found and (found[0], (found[1] or "").split("\\n"))', "return found and (found[0], [])", "sessions"),
+    ("years change places", "index.py", '("unit.last >= ?", first), ("unit.first <= ?", last)',
+     '("unit.first >= ?", first), ("unit.last <= ?", last)', "sessions"),
     ("what is gone stays", "index.py", 'db.execute("DELETE FROM unit WHERE gone")', "pass", "sessions"),
-    ("words of what is gone stay", "index.py", 'db.execute("DELETE FROM words WHERE rowid IN (SELECT n FROM unit WHERE gone)")', "pass", "sessions"),
-    ("archives that are gone stay", "index.py", 'db.execute("UPDATE unit SET gone = 1 WHERE top NOT IN now")', "pass", "sessions"),
-    ("what is below a lost unit stays", "index.py", 'db.execute(LOST + "UPDATE unit SET gone = 1 WHERE n IN lost")', "pass", "sessions"),
+    ("words of what is gone stay", "index.py",
+     'db.execute("DELETE FROM words WHERE rowid IN (SELECT n FROM unit WHERE gone)")', "pass", "sessions"),
+    ("archives that are gone stay", "index.py", 'db.execute("UPDATE unit SET gone = 1 WHERE top NOT IN now")', "pass",
+     "sessions"),
+    ("what is below a lost unit stays", "index.py", 'db.execute(LOST + "UPDATE unit SET gone = 1 WHERE n IN lost")',
+     "pass", "sessions"),
     ("the index can be read by all", "index.py", "0o600", "0o644", "kills"),
     ("damage is not looked for", "index.py", "if sound and check:", "if False:", "files"),
-    ("an index of another kind is kept", "index.py", 'sound = db.execute("PRAGMA user_version").fetchone()[0] == VERSION', "sound = True", "files"),
+    ("an index of another kind is kept", "index.py",
+     'sound = db.execute("PRAGMA user_version").fetchone()[0] == VERSION', "sound = True", "files"),
     ("numbers are taken without a look at the heads", "rounds.py",
-     "if page is None or [head for _, head in page.units] != [unit.head for unit in node.units]:", "if page is None:", "sessions"),
-    ("a branch is kept whatever its texts", "rounds.py", "(old[1], old[3]) != (parent, node.branch)", "old[1] != parent", "sessions"),
-    ("a branch is kept wherever it is", "rounds.py", "(old[1], old[3]) != (parent, node.branch)", "old[3] != node.branch", "sessions"),
-    ("an unsure aid counts as read", "rounds.py", "self.note(number, seen if sure else None, node.size)", "self.note(number, seen, node.size)", "sessions"),
-    ("an aid of the same bytes counts as known wherever it is", "rounds.py", "AND top = ? AND parent IS ? \"\n                               \"AND NOT gone", "AND ? AND (1 OR ?) \"\n \"", "sessions"),
+     "if page is None or [head for _, head in page.units] != [unit.head for unit in node.units]:", "if page is None:",
+     "sessions"),
+    ("a branch is kept whatever its texts", "rounds.py", "(old[1], old[3]) != (parent, node.branch)",
+     "old[1] != parent", "sessions"),
+    ("a branch is kept wherever it is", "rounds.py", "(old[1], old[3]) != (parent, node.branch)",
+     "old[3] != node.branch", "sessions"),
+    ("an unsure aid counts as read", "rounds.py", "self.note(number, seen if sure else None, node.size)",
+     "self.note(number, seen, node.size)", "sessions"),
+    ("an aid of the same bytes counts as known wherever it is", "rounds.py",
+     "AND top = ? AND parent IS ? \"\n                               \"AND NOT gone", "AND ? AND (1 OR ?) \"\n \"",
+     "sessions"),
     ("nothing is looked at in turn", "rounds.py", "        self.look_around()\n", "", "files"),
     ("what a large archive has lost stays", "rounds.py", "if n not in now]", "if False]", "sessions"),
-    ("the aid of a large archive is asked", "rounds.py", "if size is None or size > self.large:", "if False:", "bounds"),
-    ("a closed list of fonds ends the index", "rounds.py", "index.forget_gone(self.db, tops)", "index.forget_gone(self.db, [])", "sessions"),
+    ("the aid of a large archive is asked", "rounds.py", "if size is None or size > self.large:", "if False:",
+     "bounds"),
+    ("a closed list of fonds ends the index", "rounds.py", "index.forget_gone(self.db, tops)",
+     "index.forget_gone(self.db, [])", "sessions"),
     ("rounds do not rest", "asking.py", "time.sleep(took * self.rest)", "pass", "questions"),
     ("rounds ask as readers do", "asking.py", '{"Record-Office-Round": "yes"}', "{}", "questions"),
     ("an error counts as not shown", "asking.py", "if status not in (200, 404):", "if False:", "questions"),
-    ("a reader's time has no end", "asking.py", "        if left <= 0:\n            raise Slow(path)\n", "        left = max(left, 1)\n", "questions"),
-    ("nothing counts as found above", "texts.py", 'if not line.endswith(")") or not FOUND_ABOVE.match(line):', "if True:", "sessions"),
+    ("a reader's time has no end", "asking.py", "        if left <= 0:\n            raise Slow(path)\n",
+     "        left = max(left, 1)\n", "questions"),
+    ("nothing counts as found above", "texts.py", 'if not line.endswith(")") or not FOUND_ABOVE.match(line):',
+     "if True:", "sessions"),
     ("a year may be in the midst of digits", "texts.py", 'r"(?<![0-9])[0-9]{4}(?![0-9])"', 'r"[0-9]{4}"', "sessions"),
-    ("lines end where Unicode says", "texts.py", 'return text.split("\\n")[:-1]', "return text.splitlines()", "sessions"),
+    ("lines end where Unicode says", "texts.py", 'return text.split("\\n")[:-1]', "return text.splitlines()",
+     "sessions"),
     ("accents count", "folding.py", "[{MARKS}{UNSEEN}]|", "[{UNSEEN}]|", "folding"),
     ("\u0142 counts", "folding.py", '"\u0142": "l", ', "", "folding"),
     ("an apostrophe may be a letter", "folding.py", " and chr(code) not in APOSTROPHES", "", "folding"),
     ("curly quotation marks are nothing", "folding.py", "\u201c\u201d", "", "folding"),
-    ("the index is not checked any more", "rounds.py", "self.damaged or self.unchecked == CHECKED", "self.damaged", "kills"),
-    ("a damaged index is not told", "service.py", "            self.say(0)\n", "", LATE + "the index is checked every sixty rounds"),
-    ("too many names are an error", "service.py", "    except ValueError:\n        return {}", "    except KeyError:\n        return {}", "hostile"),
+    ("the index is not checked any more", "rounds.py", "self.damaged or self.unchecked == CHECKED", "self.damaged",
+     "kills"),
+    ("a damaged index is not told", "service.py", "            self.say(0)\n", "",
+     LATE + "the index is checked every sixty rounds"),
+    ("too many names are an error", "service.py", "    except ValueError:\n        return {}",
+     "    except KeyError:\n        return {}", "hostile"),
     ("numbers of other scripts are read", "service.py", '"[0-9]{1,10}", text)', '"[0-9x-]{0,10}", text)', "hostile"),
-    ("what was found late is not told", "service.py", "            self.say(number)\n", "            pass\n", LATE + "the rounds look at all pages in turn"),
-    ("phrases reach from one value into the next", "index.py", 'BETWEEN = " \\ue000 "', 'BETWEEN = " "', "only slow: the index proposes more, and the office refuses it"),
-    ("a unit that comes elsewhere leaves its old aid unread", "index.py", "if before != [top, parent] and not gone:", "if False:",
+    ("what was found late is not told", "service.py", "            self.say(number)\n", "            pass\n",
+     LATE + "the rounds look at all pages in turn"),
+    ("phrases reach from one value into the next", "index.py", 'BETWEEN = " \\ue000 "', 'BETWEEN = " "',
+     "only slow: the index proposes more, and the office refuses it"),
+    ("a unit that comes elsewhere leaves its old aid unread", "index.py", "if before != [top, parent] and not gone:",
+     "if False:",
      LATE + "until that aid changes, or the look around has come by; random sessions of thousands of steps find it"),
-    ("units are gone before an aid is sure", "rounds.py", "            if sure:\n", "            if True:\n", LATE + "the digest is dropped, so the next round reads the aid again"),
-    ("a doubt leaves the branch as it was", "index.py", 'db.execute(ABOVE + "UPDATE unit SET branch = NULL WHERE n IN above", (number,))', "pass",
+    ("units are gone before an aid is sure", "rounds.py", "            if sure:\n", "            if True:\n",
+     LATE + "the digest is dropped, so the next round reads the aid again"),
+    ("a doubt leaves the branch as it was", "index.py",
+     'db.execute(ABOVE + "UPDATE unit SET branch = NULL WHERE n IN above", (number,))', "pass",
      LATE + "the look around has come by when its turn is over"),
 ]
 
 
-def planted(folder, file, text, other):
+def plant(folder, file, text, other):
     """A copy of the service with the fault in it, or None if the text is not there once."""
     shutil.copytree(TOP / "front" / "search", folder, ignore=shutil.ignore_patterns("__pycache__"))
     path = folder / file
@@ -97,44 +135,51 @@ def planted(folder, file, text, other):
 
 def commands(by, program, room):
     """What is run for a check; a failure of one of them notices the fault."""
-    python = [sys.executable, "-B"]
+    python, given = [sys.executable, "-B"], ["--program", program.path, room / "office"]
     if by == "sessions":
-        return [[*python, FRONT_TESTS / "search_sessions.py", program, room / "office", "--steps", str(STEPS), "--seed", str(seed)] for seed in SEEDS]
+        more = ["--steps", str(STEPS), "--seed"]
+        return [[*python, FRONT_TESTS / "search_sessions.py", *given, *more, str(seed)] for seed in SEEDS]
     if by == "folding":
         return [[*python, FRONT_TESTS / "foldings.py"]]
-    return [[*python, FRONT_TESTS / "search_checks.py", program, room / "office", by]]
+    return [[*python, FRONT_TESTS / "search_checks.py", *given, by]]
 
 
 def is_noticed(service, by, program, room):
-    environment = {**os.environ, "SEARCH_SERVICE": str(service)}
+    """Whether a check fails with this copy of the service, or does not end within ten minutes."""
+    how = {"env": {**os.environ, "SEARCH_SERVICE": str(service)}, "timeout": 600, "check": False}
     for words in commands(by, program, room):
         try:
-            if subprocess.run(words, env=environment, stdout=subprocess.DEVNULL, stderr=subprocess.DEVNULL, timeout=600, check=False).returncode:
-                return True
+            done = subprocess.run(words, stdout=subprocess.DEVNULL, stderr=subprocess.DEVNULL, **how)
         except subprocess.TimeoutExpired:
+            return True
+        if done.returncode:
             return True
     return False
 
 
+def try_fault(fault, given, room):
+    """What came of a fault, in words; in capital letters if something is wrong."""
+    _, file, text, other, by = fault
+    service = plant(room / "search", file, text, other)
+    if service is None:
+        return "CANNOT BE PLANTED"
+    if given.dry or by.startswith("only "):
+        return f"not run: {by}"
+    return f"noticed by {by}" if is_noticed(service, by, given.program, room) else f"NOT NOTICED by {by}"
+
+
 def main():
-    words = argparse.ArgumentParser(description=__doc__, formatter_class=argparse.RawDescriptionHelpFormatter)
-    words.add_argument("program", nargs="?")
-    words.add_argument("--only", default="")
-    words.add_argument("--dry", action="store_true")
-    words = words.parse_args()
-    wrong = 0
-    for name, file, text, other, by in [fault for fault in FAULTS if words.only in fault[0]]:
-        with tempfile.TemporaryDirectory() as room:
-            room = pathlib.Path(room)
-            service = planted(room / "search", file, text, other)
-            if service is None:
-                told = "CANNOT BE PLANTED"
-            elif words.dry or by.startswith("only "):
-                told = f"not run: {by}"
-            else:
-                told = f"noticed by {by}" if is_noticed(service, by, pathlib.Path(words.program).resolve(), room) else f"NOT NOTICED by {by}"
-        wrong += told[0].isupper()
-        print(f"{name}: {told}", flush=True)
+    """Tries the faults that the command line names; returns the exit status."""
+    words = client.program_options(__doc__)
+    words.add_argument("--only", default="", metavar="PART_OF_NAME", help="faults whose name has this in it")
+    words.add_argument("--dry", action="store_true", help="only see whether each fault can be planted")
+    given, wrong = words.parse_args(), 0
+    for fault in FAULTS:
+        if given.only in fault[0]:
+            with tempfile.TemporaryDirectory() as room:
+                told = try_fault(fault, given, pathlib.Path(room))
+            wrong += told[0].isupper()
+            print(f"{fault[0]}: {told}", flush=True)
     print(f"{len(FAULTS)} faults, {wrong} wrong")
     return 1 if wrong else 0
 

@@ -14,8 +14,8 @@ The columns:
     source     lines of src
     ratio      lines of proofs for each line of source
 
-With --against, each number that differs from that checkout's has the one of there before it, with an arrow. With CRATE, only
-these crates are counted.
+With --against, each number that differs from that checkout's has the one of there before it, with an arrow. With CRATE,
+only these crates are counted.
 """
 import argparse
 import pathlib
@@ -33,6 +33,7 @@ def texts(folder, ending):
 
 
 def lines(text):
+    """How many lines a text has."""
     return text.count("\n")
 
 
@@ -66,7 +67,7 @@ def counts(crate):
     ]
 
 
-def shown(numbers):
+def cells_of(numbers):
     """The cells of a row: the last number, the lines of proofs, is shown for each line of source."""
     *rest, source, proofs = numbers
     return [*map(str, (*rest, source)), f"{proofs / source:.2f}" if source else "-"]
@@ -77,7 +78,7 @@ def table(top, only):
     crates = sorted(it.parent for it in (top / "crates").glob("*/src") if not only or it.parent.name in only)
     rows = {it.name: counts(it) for it in crates}
     rows["in all"] = [sum(column) for column in zip(*rows.values())]
-    return {name: shown(row) for name, row in rows.items()}
+    return {name: cells_of(row) for name, row in rows.items()}
 
 
 def side_by_side(before, after):
@@ -86,8 +87,10 @@ def side_by_side(before, after):
 
 
 def main():
+    """Prints the table of all crates, or of those that are named."""
     words = argparse.ArgumentParser(description=__doc__.split("\n")[0])
-    words.add_argument("--against", metavar="CHECKOUT", type=pathlib.Path, help="another checkout, whose numbers come first")
+    other = "another checkout, whose numbers come first"
+    words.add_argument("--against", metavar="CHECKOUT", type=pathlib.Path, help=other)
     words.add_argument("crates", metavar="CRATE", nargs="*", help="only these crates")
     given = words.parse_args()
     rows = table(TOP, given.crates)

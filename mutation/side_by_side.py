@@ -1,14 +1,16 @@
 """Many changed definitions in one check, each in its own copies of the modules that depend on it.
 
-A case is a changed text of one module of specs/, and the proof files that must fail. All modules between the two are copied
-into a crate for this check, under the name of the case: those that depend on the changed module, and on which the proof files
-depend. The others come from the libraries that are there. So no case touches another, no library is built again, and the
-check starts once for many cases."""
+A case is a changed text of one module of specs/, and the proof files that must fail. All modules between the two are
+copied into a crate for this check, under the name of the case: those that depend on the changed module, and on which
+the proof files depend. The others come from the libraries that are there. So no case touches another, no library is
+built again, and the check starts once for many cases."""
 
+import itertools
 import os
 import re
 import shutil
 import subprocess
+from pathlib import Path
 
 KIT = "/opt/rattle"
 CRATE = "turned_rules"
@@ -20,35 +22,38 @@ ANY_ERROR = re.compile(r"^\S.*: error(?:\[[\w-]+\])?: |^error(?:\[[\w-]+\])?: ",
 OF_PROOFS = ("Answers.antt", "Invariants.antt", "Proof.antt")
 
 
+def files_of_modules(top):
+    """Yields the name and the path of each module of the specs and proofs, except of the proofs of goals."""
+    for crate, kind in itertools.product(sorted(os.listdir(f"{top}/crates")), ("specs", "proofs")):
+        root = Path(top, "crates", crate, kind)
+        for path in sorted(root.rglob("*.antt")):
+            if kind == "specs" or path.name not in OF_PROOFS:
+                yield ".".join(["Rattle", crate, kind, *path.relative_to(root).with_suffix("").parts]), str(path)
+
+
 class Modules:
     """The modules of the specs and proofs of the crates, by name: the file of each, and what it names."""
 
     def __init__(self, top):
         self.top, self.path, self.text = top, {}, {}
-        for crate in sorted(os.listdir(f"{top}/crates")):
-            for kind in ("specs", "proofs"):
-                root = f"{top}/crates/{crate}/{kind}"
-                for folder, _, files in os.walk(root):
-                    for file in files:
-                        path = f"{folder}/{file}"
-                        if file.endswith(".antt") and (kind == "specs" or file not in OF_PROOFS):
-                            inner = os.path.relpath(path, root)[: -len(".antt")].replace("/", ".")
-                            self.add(f"Rattle.{crate}.{kind}.{inner}", path)
-        self.names = {name: self.named(text) for name, text in self.text.items()}
+        for name, path in files_of_modules(top):
+            self.add(name, path)
+        self.names = {name: self.modules_in(text) for name, text in self.text.items()}
         self.users = {name: set() for name in self.names}
         for name, named in self.names.items():
             for it in named:
                 self.users[it].add(name)
 
     def add(self, name, path):
+        """Adds the module of a file."""
         self.path[name] = path
-        self.text[name] = NODE.sub("", open(path, encoding="utf-8").read())
+        self.text[name] = NODE.sub("", Path(path).read_text(encoding="utf-8"))
 
     def make(self, name, text):
         """Adds a module that no file has."""
         if name not in self.path:
             self.path[name], self.text[name] = "", text
-            self.names[name], self.users[name] = self.named(text), set()
+            self.names[name], self.users[name] = self.modules_in(text), set()
             for it in self.names[name]:
                 self.users[it].add(name)
         return name
@@ -61,10 +66,12 @@ class Modules:
             word = word.rsplit(".", 1)[0]
         return None
 
-    def named(self, text):
+    def modules_in(self, text):
+        """The modules that a text names."""
         return {it for it in map(self.longest, (at[0] for at in NAME.finditer(text))) if it}
 
     def reach(self, starts, edges):
+        """All modules that are reached from some modules over edges, with these."""
         seen, queue = set(), list(starts)
         while queue:
             name = queue.pop()
@@ -84,7 +91,7 @@ class Modules:
         if kind != "src":
             return f"Rattle.{crate}.{kind}.{inner.replace('/', '.')}"
         name = f"Rattle.{crate}{DECLARED}{inner}"
-        self.make(name, open(f"{self.top}/{path}", encoding="utf-8").read())
+        self.make(name, Path(self.top, path).read_text(encoding="utf-8"))
         for user, text in self.text.items():
             if f"{name}." in text:
                 self.names[user].add(name)
@@ -92,7 +99,7 @@ class Modules:
         return name
 
 
-def flat(name):
+def flat_name(name):
     """The name of a copy in its folder."""
     _, crate, _, *inner = name.split(".")
     return "_".join([crate, *inner])
@@ -109,6 +116,7 @@ class Bench:
         self.cases, self.said = [], ""
 
     def write(self, path, text):
+        """Writes a text to a file of the crate, and makes its folder."""
         os.makedirs(os.path.dirname(f"{self.folder}/{path}"), exist_ok=True)
         with open(f"{self.folder}/{path}", "w", encoding="utf-8") as out:
             out.write(text)
@@ -123,8 +131,8 @@ class Bench:
             if DECLARED in name:
                 self.declare(case, name, own)
                 continue
-            self.write(f"{kind}/{case}/{flat(name)}.antt", self.renamed(own, case, copies))
-            inside[kind].append(flat(name))
+            self.write(f"{kind}/{case}/{flat_name(name)}.antt", self.rename(own, case, copies))
+            inside[kind].append(flat_name(name))
         for kind, names in inside.items():
             self.write(f"{kind}/{case}.antt", "".join(f"pub mod {it}\n" for it in names))
         self.cases.append(case)
@@ -136,7 +144,8 @@ class Bench:
         with open(f"{self.folder}/src/lib.rt", "a", encoding="utf-8") as lib:
             lib.write(f"pub mod code_{case};\n")
 
-    def renamed(self, text, case, copies):
+    def rename(self, text, case, copies):
+        """A text that names the copies of a case in place of the modules that were copied."""
         def new(at):
             module = self.modules.longest(at[0])
             if module not in copies:
@@ -144,13 +153,14 @@ class Bench:
             if DECLARED in module:
                 return f"Rattle.{CRATE}{DECLARED}code_{case}{at[0][len(module):]}"
             kind = module.split(".")[2]
-            return f"Rattle.{CRATE}.{kind}.{case}.{flat(module)}{at[0][len(module):]}"
+            return f"Rattle.{CRATE}.{kind}.{case}.{flat_name(module)}{at[0][len(module):]}"
 
         return NAME.sub(new, text)
 
     def words(self):
+        """The words of the command line by which `rattle check` finds the libraries."""
         needs = {}
-        for line in open(f"{self.over}/crates.txt", encoding="utf-8"):
+        for line in Path(self.over, "crates.txt").read_text(encoding="utf-8").splitlines():
             if re.match(r"\w+", line):
                 needs[line.split(":")[0].split()[0]] = line.split(":")[1].split()
         folder = {it: f"{self.over}/crates/{it}/out/rlib" for it in needs}
@@ -165,12 +175,13 @@ class Bench:
         return words
 
     def check(self):
-        """The errors of each case, as (kind, module, place, text); none if the check did not end or has other errors."""
+        """The errors of each case, as (kind, module, place, text); None if the check did not end or has others."""
         for kind in ("specs", "proofs"):
             self.write(f"{kind}/Lib.antt", "".join(f"pub mod {it}\n" for it in self.cases))
         project = f"{KIT}/rattle/logic/antt-project.json"
         words = [f"{KIT}/bin/rattle", "check", "--crate-name", CRATE, "src/lib.rt", *self.words()]
-        words += ["--antt-project", project, "--logic-built", f"{KIT}/logic_built", "--links", f"{CRATE}=", "--jobs", "1"]
+        words += ["--antt-project", project, "--logic-built", f"{KIT}/logic_built"]
+        words += ["--links", f"{CRATE}=", "--jobs", "1"]
         ran = subprocess.run(words, cwd=self.folder, stdin=subprocess.DEVNULL, capture_output=True, text=True)
         self.said = said = ran.stdout + ran.stderr
         self.write("said", said)

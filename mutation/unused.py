@@ -18,6 +18,7 @@ is left for which the table EXPLAINED has no reason, or if an entry of that tabl
 --fix deletes the items of list 1 from specs/ and proofs/ with the comment above each, the imports of list 3, and
 files that are empty then, with their `mod` lines; it repeats that until nothing changes. --fix-imports deletes the
 imports alone. Code in src/ loses imports, and no function. Afterwards: rt fmt and rt check in each crate."""
+import argparse
 import os
 import re
 import sys
@@ -29,10 +30,12 @@ EXPLAINED = {
     ('crates/catalogue_core/proofs/DistinctLists.antt', 'all_so'):
         'atom_csv has it for itself: no crate below it has lemmas on lists',
     # Short lemmas that a lower crate has for its own proofs. To be shared, they would have to become public there.
-    ('crates/refinement/proofs/BranchesApart.antt', 'housed_more'): 'of catalogue_core, by recursion on the units above',
+    ('crates/refinement/proofs/BranchesApart.antt', 'housed_more'):
+        'of catalogue_core, by recursion on the units above',
     ('crates/refinement/proofs/HoldingRows.antt', 'greater'): 'of office_tables, on numbers in cells',
     ('crates/nested_sets/proofs/SpanTests.antt', 'not_before'): 'of catalogue_statements, on numbers in cells',
-    ('crates/nested_sets/proofs/SpanQueries.antt', 'all_first'): 'of catalogue_statements, on the first of some records',
+    ('crates/nested_sets/proofs/SpanQueries.antt', 'all_first'):
+        'of catalogue_statements, on the first of some records',
     ('crates/nested_sets/proofs/SpanRepresentation.antt', 'none_repeated'): 'of catalogue_statements: no units',
     ('crates/tree_core/proofs/TopsLemmas.antt', 'last_two'): 'nested_sets has it, too, for places',
     ('crates/tree_core/proofs/Whole.antt', 'behind_all'): 'nested_sets has it, too, for spans',
@@ -40,6 +43,8 @@ EXPLAINED = {
 
 # The entries of that table for which something was found.
 EXPLAINING = set()
+
+RUST_USE = re.compile(r'use ((?:\w+::)*)(?:\{([^{}]*)\}|(\w+(?: as \w+)?));$')
 
 # Names of Rust that a file may import for their methods: a trait can be used although no line has its name.
 PLAIN_TYPES = {'AllocError', 'Global', 'Vec', 'Box', 'String', 'Ordering', 'PhantomData', 'Infallible', 'Duration'}
@@ -55,11 +60,13 @@ class Found:
         self.follow()
 
     def mark(self, item):
+        """Marks an item as named; what it names is looked at later."""
         if item is not None and id(item) not in self.named:
             self.named.add(id(item))
             self.waiting.append(item)
 
     def follow(self):
+        """Marks the public items of proofs of goals, the worked rows and what code names, and all that these name."""
         for file in self.all.files.values():
             for item in file.items:
                 # a worked row is a theorem by itself
@@ -67,21 +74,21 @@ class Found:
                     self.mark(item)
         for code in self.all.codes:
             for _, _, it in code.ghosts:
-                for name in self.taken(it, code.tokens, code.code):
+                for name in self.taken_names(it, code.tokens, code.code):
                     self.mark(self.all.target(self.all.file_of(it.path), name))
             self.mark_paths(code.text, code.crate)
         while self.waiting:
-            self.names_of(self.waiting.pop())
+            self.mark_names_of(self.waiting.pop())
 
-    def taken(self, it, tokens, code):
+    def taken_names(self, it, tokens, code):
         """The names of an import that a text uses, as their own file calls them."""
         if it.has_names:
-            return [there for there, here in it.names if reader.uses(here, tokens, code)]
+            return [there for there, here in it.names if reader.is_used(here, tokens, code)]
         file = self.all.file_of(it.path)
-        if file is None or it.here() not in tokens:
+        if file is None or it.local_name() not in tokens:
             return []
         passed = [here for other in file.imports if other.is_public for _, here in other.names]
-        return [n for n in [*file.by_name, *passed] if reader.uses(n, tokens, code)]
+        return [n for n in [*file.by_name, *passed] if reader.is_used(n, tokens, code)]
 
     def mark_paths(self, text, crate):
         """Whole paths, as a tactic of a function or a term names a lemma."""
@@ -91,22 +98,24 @@ class Found:
         for m in re.finditer(r'\bRattle\.((?:\w+\.)+)([^\s(){}.;,]+)', text):
             self.mark(self.all.target(self.all.file_of(m[1].rstrip('.').split('.')), m[2]))
 
-    def names_of(self, item):
+    def mark_names_of(self, item):
+        """Marks the items that an item names."""
         file = item.file
         tokens, code = item.tokens, item.code
         if item.around:
             code = item.around + ' ' + code
             tokens = tokens | set(reader.TOKEN.findall(item.around))
         for name, other in file.by_name.items():
-            if other is not item and reader.uses(name, tokens, code):
+            if other is not item and reader.is_used(name, tokens, code):
                 self.mark(other)
         for it in file.imports:
-            for name in self.taken(it, tokens, code):
+            for name in self.taken_names(it, tokens, code):
                 self.mark(self.all.target(self.all.file_of(it.path), name))
         if 'Rattle.' in code:
             self.mark_paths(code, file.crate)
 
-    def unnamed(self):
+    def unnamed_items(self):
+        """The items that were not marked, in the order of the files."""
         return [item for file in self.all.files.values() for item in file.items if id(item) not in self.named]
 
 
@@ -121,7 +130,7 @@ def kept_text(file, gone):
 def unused_imports(repository, gone):
     """The names that files import and do not use: file, line, import, names; no names for a whole module."""
     found = []
-    asked = passed_names(repository, gone)
+    asked = passed_names(repository)
     for file in repository.files.values():
         tokens, code = kept_text(file, gone)
         for it in file.imports:
@@ -129,45 +138,50 @@ def unused_imports(repository, gone):
                 continue
             if it.is_public:
                 # a name that is passed on: used here, or asked for elsewhere
-                left = [n for n in it.names if not reader.uses(n[1], tokens, code) and (file.path, n[1]) not in asked]
+                left = [n for n in it.names if not reader.is_used(n[1], tokens, code)]
+                left = [n for n in left if (file.path, n[1]) not in asked]
             elif it.has_names:
-                left = [n for n in it.names if not reader.uses(n[1], tokens, code)]
+                left = [n for n in it.names if not reader.is_used(n[1], tokens, code)]
             else:
-                left = [] if it.here() in tokens else [(it.here(), it.here())]
+                left = [] if it.local_name() in tokens else [(it.local_name(), it.local_name())]
             if left or it.has_names and not it.names:
                 found.append((file, it, left))
     return found
 
 
-def passed_names(repository, gone):
+def passed_names(repository):
     """The names that other files import from a file although another file has them."""
     asked = set()
-
-    def ask(path, name, seen=()):
-        file = repository.file_of(path)
-        if file is None or file.path in seen or name in file.by_name:
-            return
-        asked.add((file.path, name))
-        for it in file.imports:
-            if it.is_public and it.has_names:
-                for there, here in it.names:
-                    if here == name:
-                        ask(it.path, there, (*seen, file.path))
     for holder in [*repository.files.values(), *repository.codes]:
         imports = holder.imports if isinstance(holder, reader.File) else [g[2] for g in holder.ghosts]
         for it in imports:
-            for there, _ in it.names:
-                ask(it.path, there)
-            if not it.has_names:
-                file = repository.file_of(it.path)
-                for other in file.imports if file else []:
-                    for _, here in other.names if other.is_public else []:
-                        if isinstance(holder, reader.File) or here in holder.tokens:
-                            ask(it.path, here)
+            names = [there for there, _ in it.names] if it.has_names else names_through(repository, holder, it)
+            for name in names:
+                ask_for(repository, it.path, name, asked)
     return asked
 
 
+def ask_for(repository, path, name, asked, seen=()):
+    """Adds a name that the file at this path passes on to `asked`, and follows it to the file that has it."""
+    file = repository.file_of(path)
+    if file is None or file.path in seen or name in file.by_name:
+        return
+    asked.add((file.path, name))
+    for it in file.imports:
+        for there, here in it.names if it.is_public else []:
+            if here == name:
+                ask_for(repository, it.path, there, asked, (*seen, file.path))
+
+
+def names_through(repository, holder, it):
+    """The names that a whole imported file passes on; to a file of code, only those that stand in it."""
+    file = repository.file_of(it.path)
+    passed = [here for other in file.imports if other.is_public for _, here in other.names] if file else []
+    return [here for here in passed if isinstance(holder, reader.File) or here in holder.tokens]
+
+
 def traits_and_types(repository):
+    """The names of types that are no traits."""
     traits, types = set(), set(PLAIN_TYPES)
     for code in repository.codes:
         traits |= set(re.findall(r'\btrait (\w+)', code.text))
@@ -184,35 +198,42 @@ def unused_code_imports(repository):
             globbed.setdefault(code.crate, set()).update(code.tokens)
     found = []
     for code in repository.codes:
-        if not code.path.startswith('crates/'):
-            continue
-        tokens = code.tokens
-        for first, last, it in code.ghosts:
-            if it.is_public:
-                continue
-            if it.has_names:
-                left = [n for n in it.names if not reader.uses(n[1], tokens, code.code)]
-            else:
-                left = [] if it.here() in tokens else [(it.here(), it.here())]
-            if left:
-                found.append((code, first, last, it, left))
-        for first, last, whole in code.imports:
-            if whole.startswith('pub'):
-                continue
-            left = []
-            m = re.match(r'use ((?:\w+::)*)(?:\{([^{}]*)\}|(\w+(?: as \w+)?));$', whole)
-            for name in re.split(r',\s*', (m[2] or m[3]).strip()) if m else []:
-                here = name.split(' as ')[-1].strip()
-                if here == 'self' and m[1]:
-                    here = m[1].split('::')[-2]
-                if not here or here == '_' or here in tokens or here in globbed.get(code.crate, ()):
-                    continue
-                if here[0].isupper() and here not in plain and not here.isupper():
-                    continue
-                left.append((name, here))
-            if left:
-                found.append((code, first, last, whole, left))
+        if code.path.startswith('crates/'):
+            named = code.tokens | globbed.get(code.crate, set())
+            found += [(code, *it) for it in (*unused_ghosts(code), *unused_uses(code, named, plain))]
     return found
+
+
+def unused_ghosts(code):
+    """Yields the ghost imports of a file of code that it does not use: first line, line after it, import, names."""
+    for first, last, it in code.ghosts:
+        if it.is_public:
+            continue
+        if it.has_names:
+            left = [n for n in it.names if not reader.is_used(n[1], code.tokens, code.code)]
+        else:
+            left = [] if it.local_name() in code.tokens else [(it.local_name(), it.local_name())]
+        if left:
+            yield first, last, it, left
+
+
+def unused_uses(code, named, plain):
+    """Yields the same of Rust's imports: names that are not among the named ones. A trait counts as used; `plain` has
+    the names of types that are none."""
+    for first, last, whole in code.imports:
+        if whole.startswith('pub'):
+            continue
+        left = []
+        m = RUST_USE.match(whole)
+        for name in re.split(r',\s*', (m[2] or m[3]).strip()) if m else []:
+            here = name.split(' as ')[-1].strip()
+            if here == 'self' and m[1]:
+                here = m[1].split('::')[-2]
+            is_trait = here[:1].isupper() and here not in plain and not here.isupper()
+            if here and here != '_' and here not in named and not is_trait:
+                left.append((name, here))
+        if left:
+            yield first, last, whole, left
 
 
 def unnamed_code(repository):
@@ -241,6 +262,7 @@ def unnamed_code(repository):
 
 
 def is_short_name(item):
+    """Whether an item is an abbreviation of one line."""
     lines = [line for line in item.code.split('\n') if line.strip()]
     return len(lines) <= 2 and re.match(r'\s*(pub )?abbrev ', lines[0]) is not None
 
@@ -257,7 +279,7 @@ def copies(repository, gone):
                 item = repository.target(repository.file_of(it.path), there)
                 led[here] = id(item) if item else ('.'.join(it.path), there)
             if not it.has_names:
-                led[it.here()] = '.'.join(it.path)
+                led[it.local_name()] = '.'.join(it.path)
         for item in file.items:
             if item in gone or len(item.names) != 1 or is_short_name(item):
                 continue
@@ -272,6 +294,7 @@ def copies(repository, gone):
 
 
 def is_explained(path, name=None):
+    """Whether EXPLAINED has a reason for a path, or for a name there; notes the entry."""
     there = [it for it in (path, (path, name)) if it in EXPLAINED]
     EXPLAINING.update(there)
     return bool(there)
@@ -311,6 +334,7 @@ def fix_sections(file, gone):
 
 
 def fix_antt(repository, gone, imports):
+    """Deletes items and imports from specs and proofs, and emptied files; returns how many files changed."""
     lines = {}
     for item in gone:
         lines.setdefault(item.file, (set(), {}))[0].update(range(item.start, item.end))
@@ -345,25 +369,29 @@ def fix_antt(repository, gone, imports):
 
 
 def rewrite(path, before, after):
+    """Writes a file if its text has changed."""
     if before != after:
         with open(path, 'w', encoding='utf-8') as f:
             f.write(after)
 
 
 def fix_code(found):
+    """Deletes imports from files of code; returns how many files."""
     by_file = {}
     for code, first, last, it, left in found:
         by_file.setdefault(code.path, (code, set(), {}))
         _, away, changed = by_file[code.path]
         away |= set(range(first + 1, last))
         if isinstance(it, str):
-            m = re.match(r'use ((?:\w+::)*)(?:\{([^{}]*)\}|(\w+(?: as \w+)?));$', it)
+            m = RUST_USE.match(it)
             names = [n.strip() for n in (m[2] or m[3]).split(',') if n.strip()]
             kept = [n for n in names if n not in [l[0] for l in left]]
-            text = f'use {m[1]}' + (kept[0] if len(kept) == 1 and kept[0] != 'self' else '{' + ', '.join(kept) + '}') + ';'
+            is_bare = len(kept) == 1 and kept[0] != 'self'
+            text = f'use {m[1]}' + (kept[0] if is_bare else '{' + ', '.join(kept) + '}') + ';'
         else:
             kept = [n for n in it.names if n not in left]
-            m = reader.IMPORT.match(' '.join(l.strip() for l in code.lines[first:last]).replace('{ ', '{').replace(', }', '}'))
+            line = ' '.join(l.strip() for l in code.lines[first:last])
+            m = reader.IMPORT.match(line.replace('{ ', '{').replace(', }', '}'))
             text = it.line('ghost use ', ';', kept)
         if kept:
             indent = ' ' * reader.indent_of(code.lines[first])
@@ -376,50 +404,59 @@ def fix_code(found):
 
 
 def look():
+    """The repository as it is now, and the items that nothing names and nothing explains."""
     repository = reader.Repository()
-    found = Found(repository)
-    return repository, [i for i in found.unnamed() if not is_explained(i.file.path, i.names[0] if i.names else None)]
+    unnamed = Found(repository).unnamed_items()
+    return repository, [i for i in unnamed if not is_explained(i.file.path, i.names[0] if i.names else None)]
 
 
-def main():
-    top = os.path.dirname(os.path.dirname(os.path.abspath(__file__)))
-    os.chdir(top)
-    flags = set(sys.argv[1:])
-    if flags - {'--fix', '--fix-imports'}:
-        sys.exit(__doc__)
-    while flags:
+def fix(with_items):
+    """Deletes what is unused until nothing changes, imports alone or also items, and prints the counts each time."""
+    changed = True
+    while changed:
         repository, gone = look()
-        if '--fix' not in flags:
-            gone = []
+        gone = gone if with_items else []
         imports = unused_imports(repository, set(gone))
         code = unused_code_imports(repository)
         changed = fix_antt(repository, set(gone), imports) + fix_code(code)
-        print(f'items={len(gone)} imports={sum(len(i[2]) for i in imports)} in_code={sum(len(i[4]) for i in code)} files={changed}')
-        if not changed:
-            break
+        counts = f'items={len(gone)} imports={sum(len(i[2]) for i in imports)}'
+        print(f'{counts} in_code={sum(len(i[4]) for i in code)} files={changed}')
+
+
+def problems():
+    """Yields a line for each thing that is unused or copied without a reason, and for each reason without a thing."""
     repository, gone = look()
-    left = 0
     for item in gone:
-        left += 1
-        print(f'{item.file.path}:{item.start + 1}: nothing names {" ".join(item.names)}')
+        yield f'{item.file.path}:{item.start + 1}: nothing names {" ".join(item.names)}'
     for path, at, what in unnamed_code(repository):
         if not is_explained(path, what):
-            left += 1
-            print(f'{path}:{at}: nothing names {what}')
+            yield f'{path}:{at}: nothing names {what}'
     for group in copies(repository, set(gone)):
         places = [f'{i.file.path}:{i.start + 1} {i.names[0]}' for i in group]
         if not all(is_explained(i.file.path, i.names[0]) for i in group[1:]):
-            left += 1
-            print('copies: ' + ', '.join(places))
+            yield 'copies: ' + ', '.join(places)
     for file, it, names in unused_imports(repository, set(gone)):
-        left += 1
-        print(f'{file.path}:{it.at + 1}: unused import of {", ".join(n[1] for n in names)}')
+        yield f'{file.path}:{it.at + 1}: unused import of {", ".join(n[1] for n in names)}'
     for code, first, _, _, names in unused_code_imports(repository):
-        left += 1
-        print(f'{code.path}:{first + 1}: unused import of {", ".join(n[1] for n in names)}')
+        yield f'{code.path}:{first + 1}: unused import of {", ".join(n[1] for n in names)}'
     for entry in [it for it in EXPLAINED if it not in EXPLAINING]:
-        left += 1
-        print(f'EXPLAINED has a reason for {entry}, which is neither unnamed nor a copy')
+        yield f'EXPLAINED has a reason for {entry}, which is neither unnamed nor a copy'
+
+
+def main():
+    """Deletes what is unused if asked to, prints what is left, and ends the program with 1 if something is."""
+    words = argparse.ArgumentParser(
+        description=__doc__, formatter_class=argparse.RawDescriptionHelpFormatter, allow_abbrev=False
+    )
+    words.add_argument('--fix', action='store_true', help='delete unused items and imports')
+    words.add_argument('--fix-imports', action='store_true', help='delete unused imports alone')
+    given = words.parse_args()
+    os.chdir(os.path.dirname(os.path.dirname(os.path.abspath(__file__))))
+    if given.fix or given.fix_imports:
+        fix(with_items=given.fix)
+    left = 0
+    for left, line in enumerate(problems(), 1):
+        print(line)
     print(f'left={left}')
     sys.exit(1 if left else 0)
 

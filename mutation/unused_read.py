@@ -19,6 +19,7 @@ CODE_WORD = re.compile(r'\w+')
 
 
 def read(path):
+    """The text of a file."""
     with open(path, encoding='utf-8') as f:
         return f.read()
 
@@ -61,17 +62,19 @@ class Import:
                 there, _, here = name.strip().partition(' as ')
                 self.names.append((there.strip('«»'), (here or there).strip().strip('«»')))
 
-    def here(self):
+    def local_name(self):
         """The name by which the file calls the module that it imports whole."""
         return self.alias or self.path[-1]
 
     def line(self, start, end, kept):
+        """The line with only these names, between this beginning and this end."""
         names = ', '.join(a if a == b else f'{a} as {b}' for a, b in kept)
         path = '.'.join(['Rattle', *self.path] if self.path[0] else self.path[1:])
         return f'{start}{path}.{{{names}}}{end}'
 
 
 def indent_of(line):
+    """How many spaces a line begins with."""
     return len(line) - len(line.lstrip(' '))
 
 
@@ -126,6 +129,7 @@ class File:
         return last
 
     def take(self, first, at, last, indent, around):
+        """Notes the import, module, section or declaration that begins at a line; returns the index after it."""
         head = self.lines[at][indent:]
         if head.startswith(('use ', 'pub use ')):
             m = IMPORT.match(head)
@@ -148,15 +152,18 @@ class File:
         return last
 
     def declaration(self, first, at, last, indent, around):
+        """Notes a declaration with its clauses; returns the index after it."""
         head = self.lines[at][indent:]
         typed = TYPE.match(head)
         if typed:
             names = [typed[2].strip('«»')]
             if typed[1] == 'data':
-                names += re.findall(rf'^ {{{indent + 2}}}([^{DELIMITERS}]+)(?: [^{DELIMITERS}:]+)* :', '\n'.join(self.lines[at + 1:last]), re.M)
+                case = rf'^ {{{indent + 2}}}([^{DELIMITERS}]+)(?: [^{DELIMITERS}:]+)* :'
+                names += re.findall(case, '\n'.join(self.lines[at + 1:last]), re.M)
                 names += re.findall(r'[|=] ([^\s(){}|]+)', head)
         elif BLOCK.match(head):
-            names = re.findall(rf'^ +{MARKS}([^{DELIMITERS}]+)(?: \{{[^}}:]*\}})? :', '\n'.join(self.lines[at + 1:last]), re.M)
+            member = rf'^ +{MARKS}([^{DELIMITERS}]+)(?: \{{[^}}:]*\}})? :'
+            names = re.findall(member, '\n'.join(self.lines[at + 1:last]), re.M)
         else:
             signature = SIGNATURE.match(head)
             if not signature:
@@ -184,7 +191,7 @@ class File:
         return last
 
 
-def uses(name, tokens, code):
+def is_used(name, tokens, code):
     """Whether a text may use a name; of an operator, each of its parts."""
     if '◌' not in name:
         return name in tokens
@@ -208,25 +215,30 @@ class Code:
         self.ghosts, self.imports = [], []
         kept, at = [], 0
         while at < len(self.lines):
-            line, last = self.lines[at], at + 1
-            if re.match(r'\s*(pub(\([a-z]+\))? )?(ghost )?use ', line):
-                while last < len(self.lines) and ';' not in self.lines[last - 1]:
-                    last += 1
-                whole = ' '.join(l.strip() for l in self.lines[at:last])
-                whole = re.sub(r'\{ ', '{', re.sub(r',? \}', '}', whole))
-                if ' use ' in ' ' + whole and 'ghost use ' in whole:
-                    m = IMPORT.match(whole)
-                    if m:
-                        self.ghosts.append((at, last, Import(at, m)))
-                    else:
-                        kept.append(whole)
-                else:
-                    self.imports.append((at, last, whole))
+            if re.match(r'\s*(pub(\([a-z]+\))? )?(ghost )?use ', self.lines[at]):
+                at = self.take_import(at, kept)
             else:
-                kept.append(line)
-            at = last
+                kept.append(self.lines[at])
+                at += 1
         self.code = without_comments('\n'.join(kept), '//')
         self.tokens = set(TOKEN.findall(self.code)) | set(CODE_WORD.findall(self.code))
+
+    def take_import(self, at, kept):
+        """Notes the import that begins at a line; returns the index after it. A ghost import that cannot be read goes
+        to `kept`, as if it were code."""
+        last = at + 1
+        while last < len(self.lines) and ';' not in self.lines[last - 1]:
+            last += 1
+        whole = ' '.join(l.strip() for l in self.lines[at:last])
+        whole = re.sub(r'\{ ', '{', re.sub(r',? \}', '}', whole))
+        m = IMPORT.match(whole)
+        if 'ghost use ' not in whole:
+            self.imports.append((at, last, whole))
+        elif m:
+            self.ghosts.append((at, last, Import(at, m)))
+        else:
+            kept.append(whole)
+        return last
 
 
 class Repository:
@@ -255,7 +267,7 @@ class Repository:
             return None
         lib = self.files.get((path[0], path[1], 'Lib'))
         for it in lib.imports if lib else []:
-            if it.is_public and not it.has_names and it.here() == path[2]:
+            if it.is_public and not it.has_names and it.local_name() == path[2]:
                 return self.file_of(it.path + path[3:], (*seen, key))
         return None
 
@@ -266,8 +278,7 @@ class Repository:
         if name in file.by_name:
             return file.by_name[name]
         for it in file.imports:
-            if it.is_public and it.has_names:
-                for there, here in it.names:
-                    if here == name:
-                        return self.target(self.file_of(it.path), there, (*seen, file.path))
+            for there, here in it.names if it.is_public else []:
+                if here == name:
+                    return self.target(self.file_of(it.path), there, (*seen, file.path))
         return None

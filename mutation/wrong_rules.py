@@ -13,11 +13,11 @@ fail. What these let through is tried by all worked rows, and then by all laws. 
 the change counts. The libraries are those in crates/*/out/rlib of --over, or of this checkout, as `rt check` and
 `rt ci` leave them.
 
-A line says for each rule that it is `refused`, with the rows or lemmas that fail; `refused elsewhere`, if its record names
-a row that lets it through; `LET THROUGH`; `unreadable`, if the wrong text does not parse; `not applied`, if the old text
-does not occur once in its file; or `no verdict`. With --log
-these lines are added to FILE, and rules that are refused in FILE are skipped. --jobs checks run at once, each of
---cases rules. The last line has the counts; the script ends with 1 if a rule was not refused.
+A line says for each rule that it is `refused`, with the rows or lemmas that fail; `refused elsewhere`, if its record
+names a row that lets it through; `LET THROUGH`; `unreadable`, if the wrong text does not parse; `not applied`, if the
+old text does not occur once in its file; or `no verdict`. With --log these lines are added to FILE, and rules that are
+refused in FILE are skipped. --jobs checks run at once, each of --cases rules. The last line has the counts; the script
+ends with 1 if a rule was not refused.
 
 With --dry it only looks for the old texts, also of the records with `seen in`, which the prover does not try, and for
 the row, the law or the day that is named there, and counts them. With --covered it counts for each crate how many
@@ -63,7 +63,7 @@ def path_of(record):
     return f"crates/{record.folder}/{record.file}"
 
 
-def lacking(record):
+def why_not_applied(record):
     """Why a rule cannot be made, or nothing."""
     times = Path(TOP, path_of(record)).read_text(encoding="utf-8").count(record.old)
     if times != 1 or record.old == record.new:
@@ -85,13 +85,13 @@ class Rule:
         self.label, self.module, self.verdict, self.why = record.name, modules.of_path(file), "", ""
         self.key = key_of(record)
         self.named, _, self.row = record.refused_by.partition(" ")
-        self.crate = over(record)
-        self.why = lacking(record)
+        self.crate = library_crate(record)
+        self.why = why_not_applied(record)
         self.verdict = "not applied" if self.why else ""
         text = Path(TOP, file).read_text(encoding="utf-8")
-        self.text = modules.text[self.module].replace(record.old, readable(record.new, text), 1)
+        self.text = modules.text[self.module].replace(record.old, with_whole_names(record.new, text), 1)
 
-    def asked(self, modules, what):
+    def modules_to_ask(self, modules, what):
         """The modules that are tried: what is named for the rule; all rows; or all laws."""
         if what == "laws":
             return tuple(all_laws(modules, self.crate))
@@ -102,10 +102,11 @@ class Rule:
         return tuple(all_rows(modules, self.crate))
 
     def line(self):
+        """The line that is printed for the rule: its verdict, its name, and why."""
         return f"{self.verdict} | {self.label} | {self.why}"
 
 
-def over(record):
+def library_crate(record):
     """The crate over whose libraries a rule is tried."""
     named = record.refused_by.split("::")[0]
     if OF_CAUSES.search(path_of(record)):
@@ -127,7 +128,7 @@ def all_rows(modules, crate):
     return [lemmas_of_rows(modules, it) for it in row_lemmas.functions(crate)]
 
 
-def readable(new, text):
+def with_whole_names(new, text):
     """The new text; truth values have their whole names if the file does not import them."""
     imports = "\n".join(it for it in text.split("\n") if it.startswith("use "))
     for word in ("true", "false"):
@@ -139,7 +140,7 @@ def readable(new, text):
 def of_function(name):
     """The modules of the lemmas that prove the rows of a function, or its law."""
     crate, *path = name.split("::")
-    text = open(f"{TOP}/crates/{crate}/proofs/{'/'.join(path)}/Answers.antt", encoding="utf-8").read()
+    text = Path(TOP, "crates", crate, "proofs", *path, "Answers.antt").read_text(encoding="utf-8")
     named = re.findall(r"^use (Rattle\.(?:\w+\.)+)(?:\{| as )", text.replace(" as ", ". as "), re.M)
     return [it.rstrip(".") for it in named if ".proofs." in it and not re.search(r"\.std\.|\.Goals\.$", it)]
 
@@ -155,7 +156,7 @@ def all_laws(modules, crate):
     return sorted(set(found))
 
 
-def breaks(row, fails):
+def is_broken(row, fails):
     """Whether a row fails, or a lemma on which the rows stand."""
     return f"Rows.row_{row}" in fails or not all(it.startswith("Rows.") for it in fails)
 
@@ -182,22 +183,23 @@ class Run:
     def ask(self, rules, what):
         """Gives each rule a verdict from the modules that are tried."""
         self.what = what
-        asked = [rule.asked(self.modules, what) for rule in rules]
+        asked = [rule.modules_to_ask(self.modules, what) for rule in rules]
         grounds = [(rule.crate, rule.module, it) for rule, it in zip(rules, asked)]
         unturned = [it for it in dict.fromkeys(grounds) if it not in self.clean]
         as_it_is = [(None, crate, module, self.modules.text[module], it) for crate, module, it in unturned]
-        self.go(f"{what}_as_it_is", as_it_is)
-        self.go(what, [(rule, rule.crate, rule.module, rule.text, it) for rule, it in zip(rules, asked)])
+        self.run_checks(f"{what}_as_it_is", as_it_is)
+        self.run_checks(what, [(rule, rule.crate, rule.module, rule.text, it) for rule, it in zip(rules, asked)])
 
-    def go(self, sign, cases):
+    def run_checks(self, sign, cases):
+        """Runs the checks of some cases: each of one crate, and of as many cases as one check may have."""
         parts = []
         for crate in sorted({it[1] for it in cases}):
             mine = [it for it in cases if it[1] == crate]
             parts += [(crate, mine[at : at + self.given.cases]) for at in range(0, len(mine), self.given.cases)]
         with ThreadPoolExecutor(self.given.jobs) as pool:
-            list(pool.map(lambda it: self.part(f"{sign}{it[0]}", *it[1]), enumerate(parts)))
+            list(pool.map(lambda it: self.run_check(f"{sign}{it[0]}", *it[1]), enumerate(parts)))
 
-    def part(self, sign, crate, cases):
+    def run_check(self, sign, crate, cases):
         """One check of some cases: what is proved without a change, or the verdicts of rules."""
         names = [f"{sign}_{n}" for n in range(len(cases))]
         told = self.check(sign, crate, [(name, *it[2:]) for name, it in zip(names, cases)])
@@ -210,13 +212,14 @@ class Run:
                     print(f"  NOT PROVED with nothing turned: {module} {error[:2]} {error[3][:200]}", flush=True)
 
     def judge(self, rule, errors, asked):
+        """Gives a rule its verdict from the errors of its case, and prints it."""
         wrong = [f"{it[1]}:{it[2]} {it[3]}" for it in errors if it[0] == "specs"]
         fails = [f"{it[1].rsplit('_', 1)[-1]}.{it[3].split('`')[1]}" for it in errors if it[3].startswith("`")]
         if not self.clean.get((rule.crate, rule.module, asked)):
             rule.verdict, rule.why = "no verdict", "what is asked is not proved with nothing turned"
         elif wrong:
             rule.verdict, rule.why = "unreadable", wrong[0][:300]
-        elif errors and self.what == "beside" and rule.row and not breaks(rule.row, fails):
+        elif errors and self.what == "beside" and rule.row and not is_broken(rule.row, fails):
             rule.verdict, rule.why = "LET THROUGH", f"but for other rows: {', '.join(dict.fromkeys(fails))}"
         elif errors:
             rule.verdict = "refused elsewhere" if rule.row and self.what != "beside" else "refused"
@@ -226,15 +229,16 @@ class Run:
         self.say(rule)
 
     def say(self, rule):
+        """Prints the line of a rule, and adds it to the log if there is one."""
         print(rule.line(), flush=True)
         if self.given.log:
             with open(self.given.log, "a", encoding="utf-8") as out:
                 out.write(f"{rule.line()} | {rule.key}\n")
 
 
-def written(words=()):
+def read_rules(words=()):
     """All rules, or those with one of these words in their names: those that the prover tries, and the others."""
-    every = records.read(Path(TOP, "mutation", "wrong_rules")) + wrong_rules_made.made()
+    every = records.read(Path(TOP, "mutation", "wrong_rules")) + wrong_rules_made.make_rules()
     wanted = [it for it in every if not words or any(word in it.name for word in words)]
     for it in wanted:
         if bool(it.refused_by) == bool(it.seen_in):
@@ -246,7 +250,7 @@ def not_refused_before(rules, log):
     """The rules that an earlier run has not seen refused with the same texts."""
     done = set()
     if log and os.path.isfile(log):
-        lines = [it.split(" | ") for it in open(log, encoding="utf-8")]
+        lines = [it.split(" | ") for it in Path(log).read_text(encoding="utf-8").splitlines()]
         done = {it[-1].strip() for it in lines if it[0] == "refused"}
     return [it for it in rules if key_of(it) not in done]
 
@@ -261,7 +265,7 @@ def days_of_acceptance():
     import heads
     import limits
 
-    return {day.name for day in days.written() + heads.made() + limits.made()}
+    return {day.name for day in days.read_days() + heads.make_days() + limits.make_days()}
 
 
 def is_there(record, named_days):
@@ -280,7 +284,7 @@ def look_for(rules):
     """Prints the rules that do not apply, or whose row, law or day is not there; says whether all do."""
     named_days, wrong = days_of_acceptance(), []
     for it in rules:
-        why = lacking(it)
+        why = why_not_applied(it)
         if not why and not is_there(it, named_days):
             why = f"there is no {it.refused_by or it.seen_in}"
         if why:
@@ -305,7 +309,7 @@ def definitions(path):
 def changed_definitions():
     """The definitions that some rule changes, as (file, name)."""
     changed = set()
-    for it in itertools.chain(*written()):
+    for it in itertools.chain(*read_rules()):
         path = Path(TOP, path_of(it))
         place = path.read_text(encoding="utf-8").find(it.old)
         before = [name for begin, name in definitions(path) if begin < place + len(it.old)]
@@ -329,14 +333,13 @@ def cover(crates):
         total = [total[0] + len(names), total[1] + len(mine)]
         if mine and not crates:
             print(f"{crate}: {len(mine)} of {len(names)}")
-        if crate in crates:
-            for file, name in names:
-                if (file, name) not in changed:
-                    print(f"{crate}/{file.relative_to(folder)}: {name}")
+        for file, name in [it for it in names if it not in changed] if crate in crates else []:
+            print(f"{crate}/{file.relative_to(folder)}: {name}")
     print(f"{total[1]} of {total[0]} definitions are changed by a rule")
 
 
 def options():
+    """Reads the command line."""
     words = argparse.ArgumentParser(prog="wrong_rules.py", description=__doc__.split("\n")[0])
     words.add_argument("--dry", action="store_true", help="only look whether each old text stands once in its file")
     words.add_argument("--covered", action="store_true", help="count the definitions that some rule changes")
@@ -349,7 +352,7 @@ def options():
     return words.parse_args()
 
 
-def tried(given, modules, rules):
+def try_rules(given, modules, rules):
     """Gives each rule a verdict, and prints it."""
     with tempfile.TemporaryDirectory(prefix="rules-") as room:
         run = Run(modules, given, given.keep or room)
@@ -366,15 +369,16 @@ def tried(given, modules, rules):
 
 
 def main():
+    """Tries the rules that are wanted, and returns 1 if one was not refused; --dry and --covered only count."""
     given = options()
     if given.covered:
         return cover(given.words)
-    of_prover, others = written(given.words)
+    of_prover, others = read_rules(given.words)
     if given.dry:
         return 0 if look_for(of_prover + others) else 1
     modules = side_by_side.Modules(TOP)
     rules = [Rule(modules, it) for it in not_refused_before(of_prover, given.log)]
-    tried(given, modules, rules)
+    try_rules(given, modules, rules)
     before, counts = len(of_prover) - len(rules), Counter(it.verdict for it in rules)
     said = ", ".join(f"{number} {verdict}" for verdict, number in counts.items())
     print(f"{len(rules)} tried: {said or 'none'}" + (f"; {before} were refused before" if before else ""))

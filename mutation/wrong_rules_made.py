@@ -9,8 +9,8 @@ from records import Record
 TOP = Path(__file__).resolve().parents[1]
 LIMITS = [
     "most_units", "most_unit_numbers", "most_deep", "most_bytes", "most_rows", "most_source_bytes", "most_containers",
-    "most_name_bytes", "most_seats", "most_daily", "most_hands", "most_run_size", "most_tickets", "most_permits", "most_orders",
-    "most_runs", "most_connections",
+    "most_name_bytes", "most_seats", "most_daily", "most_hands", "most_run_size", "most_tickets", "most_permits",
+    "most_orders", "most_runs", "most_connections",
 ]  # fmt: skip
 # the members of each form, and the row that has a body of that form
 MEMBERS = {
@@ -33,6 +33,7 @@ MEMBERS = {
 
 
 def text_of(crate, file):
+    """The text of a file of a crate."""
     return Path(TOP, "crates", crate, file).read_text(encoding="utf-8")
 
 
@@ -63,5 +64,6 @@ def of_members():
     return made
 
 
-def made():
+def make_rules():
+    """The rules of limits and of members."""
     return of_limits() + of_members()

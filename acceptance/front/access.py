@@ -1,5 +1,6 @@
-"""Access by the rules of WCAG 2.2, level AA, that a script can judge, on every kind of page of both sites; front/README.md says
-what only a person can. The numbers in the names of checks are those of the success criteria. measures.js does the measuring."""
+"""Access by the rules of WCAG 2.2, level AA, that a script can judge, on every kind of page of both sites;
+front/README.md says what only a person can. The numbers in the names of checks are those of the success criteria.
+measures.js does the measuring."""
 
 import json
 import pathlib
@@ -14,13 +15,17 @@ DESK, ZOOMED = (1280, 800), (320, 256)  # a window of 1280 x 1024 at 400 % is th
 WIDTHS = (1280, 640, 320)
 FAR = "2030-12-31"
 # Roles of what can have the focus, as the browser tells them to a screen reader.
-ROLES = {"link", "button", "textbox", "searchbox", "checkbox", "radio", "combobox", "option", "Date", "spinbutton", "DisclosureTriangle", "heading", "group", "region",
-         "RootWebArea", "dialog"}
-FOUND = {"state": "done", "units": [{"unit": 5, "way": [{"unit": 4, "head": "GB 0999 HUL [Fonds] Hull Dock Company"}], "head": ["GB 0999 HUL/1 [Series] ", "Minutes", ""],
-                                     "lines": [{"name": "3.3.1 Scope and content", "text": ["The ", "minutes", " of the board"]}]}], "more": True, "after": "0-5"}
+ROLES = {"link", "button", "textbox", "searchbox", "checkbox", "radio", "combobox", "option", "Date", "spinbutton",
+         "DisclosureTriangle", "heading", "group", "region", "RootWebArea", "dialog"}
+HIT = {"unit": 5, "way": [{"unit": 4, "head": "GB 0999 HUL [Fonds] Hull Dock Company"}],
+       "head": ["GB 0999 HUL/1 [Series] ", "Minutes", ""],
+       "lines": [{"name": "3.3.1 Scope and content", "text": ["The ", "minutes", " of the board"]}]}
+FOUND = {"state": "done", "units": [HIT], "more": True, "after": "0-5"}
 
 
 class Access:
+    """Both sites of a running office, each in a browser's tab."""
+
     def __init__(self, checks, office, browser, shot):
         self.checks, self.asks, self.shot = checks, Asks(office), shot
         self.readers, self.desk = browser.page(), browser.page(SIGNED_IN)
@@ -31,48 +36,62 @@ class Access:
     def settle(self):
         """An office in which each page has something to show."""
         for name in ("Ann <b>Smith</b>", "Ben O'Neill"):
-            self.asks.done("/desk/register", name=name, until=FAR)
-        self.asks.done("/desk/register", name="Old", until="2020-01-01")
+            self.asks.command("/desk/register", name=name, until=FAR)
+        self.asks.command("/desk/register", name="Old", until="2020-01-01")
         fonds = self.asks.text("/public/fonds").splitlines()
         self.fonds = int(next(line for line in fonds if "HUL" in line).split()[0])
         page = self.asks.text(f"/public/units/{self.fonds}").splitlines()
-        numbers = {name: next(int(line.split()[1].rstrip(":")) for line in page if line.endswith(f"] {name}")) for name in ("Minutes", "Plans of the locks", ODD["hebrew"], ODD["accents"])}
+        numbers = {name: next(int(line.split()[1].rstrip(":")) for line in page if line.endswith(f"] {name}"))
+                   for name in ("Minutes", "Plans of the locks", ODD["hebrew"], ODD["accents"])}
         self.minutes, self.plans, self.hebrew, closed = numbers.values()
-        self.asks.done("/desk/closure", unit=closed, until="2040-01-01")
-        boxes = [int(line.split()[1].rstrip(":")) for line in self.asks.text(f"/public/units/{self.plans}").splitlines() if line.startswith("  Container")]
+        self.asks.command("/desk/closure", unit=closed, until="2040-01-01")
+        boxes = [int(line.split()[1].rstrip(":")) for line in self.asks.text(f"/public/units/{self.plans}").splitlines()
+                 if line.startswith("  Container")]
         self.closed, self.box = closed, boxes[0]
         for ticket, container in ((1, boxes[0]), (2, boxes[0]), (1, boxes[1])):
-            self.asks.done("/public/orders", ticket=ticket, container=container)
-        self.asks.done("/desk/run")
-        self.asks.done("/desk/seat", ticket=1)
-        self.asks.done("/desk/issue", ticket=1, container=boxes[1])
-        self.asks.done("/desk/permit", ticket=1, unit=self.minutes, until=FAR)
+            self.asks.command("/public/orders", ticket=ticket, container=container)
+        self.asks.command("/desk/run")
+        self.asks.command("/desk/seat", ticket=1)
+        self.asks.command("/desk/issue", ticket=1, container=boxes[1])
+        self.asks.command("/desk/permit", ticket=1, unit=self.minutes, until=FAR)
 
     def states(self):
         """site, name, address, what is done there before it is measured."""
         return [
-            ("readers", "archives", "/", None), ("readers", "fonds", f"/unit/{self.fonds}", self.all_open), ("readers", "order", f"/unit/{self.plans}", self.ordered),
-            ("readers", "text from right to left", f"/unit/{self.hebrew}", self.all_open), ("readers", "closed", f"/unit/{self.closed}", None),
-            ("readers", "finding aid", f"/aid/{self.fonds}?q=dock", None), ("readers", "changed", f"/aid/{self.fonds}/9.9", None), ("readers", "help", "/help", None),
-            ("readers", "not found", "/unit/9999", None), ("readers", "no page", "/no/such/page", None), ("readers", "list of orders", "/ordered", None),
+            ("readers", "archives", "/", None), ("readers", "fonds", f"/unit/{self.fonds}", self.open_all),
+            ("readers", "order", f"/unit/{self.plans}", self.order_nothing),
+            ("readers", "text from right to left", f"/unit/{self.hebrew}", self.open_all),
+            ("readers", "closed", f"/unit/{self.closed}", None),
+            ("readers", "finding aid", f"/aid/{self.fonds}?q=dock", None),
+            ("readers", "changed", f"/aid/{self.fonds}/9.9", None), ("readers", "help", "/help", None),
+            ("readers", "not found", "/unit/9999", None), ("readers", "no page", "/no/such/page", None),
+            ("readers", "list of orders", "/ordered", None),
             ("readers", "found", "/search?q=minutes&from=1800", None),
-            ("desk", "today", "/", None), ("desk", "counter", "/counter", self.refused), ("desk", "container", f"/counter/{self.box}", None), ("desk", "label", f"/counter/{self.box}/label", None),
-            ("desk", "readers", "/readers", self.found_readers), ("desk", "card", "/readers/1", None), ("desk", "ticket", "/readers/1/ticket", None), ("desk", "orders", "/orders", self.waits),
-            ("desk", "runs", "/runs", None), ("desk", "slip", "/runs/1", self.all_open), ("desk", "call slips", "/runs/1/slips", None), ("desk", "out", "/out", None),
-            ("desk", "units", "/units", None), ("desk", "unit", f"/units/{self.minutes}", self.permits), ("desk", "question", f"/units/{self.minutes}", self.question),
-            ("desk", "held", "/readers", self.held), ("desk", "wrong scan", "/counter", self.wrong_scan), ("desk", "import", "/import", self.chosen), ("desk", "no page", "/none", None)]
+            ("desk", "today", "/", None), ("desk", "counter", "/counter", self.meet_refusal),
+            ("desk", "container", f"/counter/{self.box}", None), ("desk", "label", f"/counter/{self.box}/label", None),
+            ("desk", "readers", "/readers", self.find_readers), ("desk", "card", "/readers/1", None),
+            ("desk", "ticket", "/readers/1/ticket", None), ("desk", "orders", "/orders", self.await_list),
+            ("desk", "runs", "/runs", None), ("desk", "slip", "/runs/1", self.open_all),
+            ("desk", "call slips", "/runs/1/slips", None), ("desk", "out", "/out", None),
+            ("desk", "units", "/units", None), ("desk", "unit", f"/units/{self.minutes}", self.list_permits),
+            ("desk", "question", f"/units/{self.minutes}", self.ask_to_remove),
+            ("desk", "held", "/readers", self.hold_form), ("desk", "wrong scan", "/counter", self.scan_wrongly),
+            ("desk", "import", "/import", self.choose_file), ("desk", "no page", "/none", None)]
 
-    def all_open(self, page):
+    def open_all(self, page):
+        """Opens all that is folded."""
         page.js("document.querySelectorAll('details').forEach((one) => { one.open = true; })")
 
-    def ordered(self, page):
+    def order_nothing(self, page):
+        """Sends the order form with no container chosen."""
         page.press_starting("Order")
         page.wait("document.querySelector('details.order form')")
         page.fill("Number of your reader\u2019s ticket", "99")
         page.press("Order these containers")
         page.see("No container is chosen.")
 
-    def refused(self, page):
+    def meet_refusal(self, page):
+        """Issues a container that there is not."""
         page.fill("Ticket", "1", "Issue")
         page.js("document.querySelector('[name=ticket]').dispatchEvent(new Event('change'))")
         page.see("Ready at the desk", ".about")
@@ -80,23 +99,28 @@ class Access:
         page.press("Issue", "Issue")
         page.see("There is no container with this number.")
 
-    def found_readers(self, page):
+    def find_readers(self, page):
+        """Finds two readers by a letter."""
         page.fill("Name or ticket number", "n")
         page.press("Find")
         page.see("2 readers with", ".told")
 
-    def waits(self, page):
+    def await_list(self, page):
+        """Waits for the list of what waits."""
         page.see("2 orders wait.")
 
-    def permits(self, page):
+    def list_permits(self, page):
+        """Asks for the permits of the unit."""
         page.press("Who has a permit for it?")
         page.see("1 permit.")
 
-    def question(self, page):
+    def ask_to_remove(self, page):
+        """Opens the question that comes before a removal."""
         page.press("Remove \u2026", "Remove")
         page.see("for good?", "dialog")
 
-    def held(self, page):
+    def hold_form(self, page):
+        """Registers a reader, is not told whether it was done, and looks."""
         page.answer_with("*/desk/register", 503, b'{"error":"busy"}')
         page.fill("Name", "Cid", "Register a reader")
         page.fill("Last day of the ticket", FAR, "Register a reader")
@@ -106,11 +130,13 @@ class Access:
         page.press("Look now")
         page.see("The newest tickets:")
 
-    def wrong_scan(self, page):
+    def scan_wrongly(self, page):
+        """Scans what is no ticket."""
         page.scan("0")
         page.see("digits alone", ".wrong")
 
-    def chosen(self, page):
+    def choose_file(self, page):
+        """Chooses a file whose header would empty units."""
         path = self.asks.office.folder / "few.csv"
         path.write_text("legacyId,title\n1,Hull Dock Company\n")
         page.file(path)
@@ -119,18 +145,20 @@ class Access:
     # What is measured
 
     def play(self, only=None):
+        """Measures all pages, or those of one site, or one page."""
         for site, name, address, prepare in self.states():
             if only in (None, site, name.replace(" ", "_")):
                 self.checks.part(f"access: {site}, {name}", self.measure, site, name, address, prepare)
         if only in (None, "signed_out"):
-            self.checks.part("access: signed out", self.signed_out)
+            self.checks.part("access: signed out", self.signed_out_page)
 
-    def again(self, checks, only):
+    def play_again(self, checks, only):
         """The same with other checks."""
         self.checks = checks
         self.play(only)
 
     def show(self, site, address, prepare):
+        """Loads a page and prepares it; returns its tab."""
         page = getattr(self, site)
         page.size(*DESK)
         if address.startswith("/search"):
@@ -146,6 +174,7 @@ class Access:
         return page
 
     def measure(self, site, name, address, prepare):
+        """Measures one page in all sizes, colours and media."""
         page = self.show(site, address, prepare)
         at = f"{site}, {name}"
         self.structure(page, at)
@@ -154,19 +183,22 @@ class Access:
         for scheme in ("light", "dark"):
             page.call("Emulation.setEmulatedMedia", features=[{"name": "prefers-color-scheme", "value": scheme}])
             if site == "readers":
-                self.same(f"the {scheme} colours: {at}", page, "getComputedStyle(document.body).backgroundColor", {"light": "rgb(246, 242, 234)", "dark": "rgb(26, 25, 22)"}[scheme])
-            self.none("1.4.3 contrast in " + scheme, page, "contrast", at)
-            self.none("1.4.11 contrast of edges in " + scheme, page, "edges", at)
+                self.same(f"the {scheme} colours: {at}", page, "getComputedStyle(document.body).backgroundColor",
+                          {"light": "rgb(246, 242, 234)", "dark": "rgb(26, 25, 22)"}[scheme])
+            self.find_none("1.4.3 contrast in " + scheme, page, "contrast", at)
+            self.find_none("1.4.11 contrast of edges in " + scheme, page, "edges", at)
         page.call("Emulation.setEmulatedMedia", features=[{"name": "forced-colors", "value": "active"}])
-        self.none("edges in forced colours", page, "forced", at)
-        page.call("Emulation.setEmulatedMedia", media="print", features=[{"name": "prefers-color-scheme", "value": "dark"}])
+        self.find_none("edges in forced colours", page, "forced", at)
+        page.call("Emulation.setEmulatedMedia", media="print",
+                  features=[{"name": "prefers-color-scheme", "value": "dark"}])
         if "question" != name:  # nobody prints a dialog
-            self.none("what is printed", page, "printed", at)
+            self.find_none("what is printed", page, "printed", at)
             page.js("document.querySelectorAll('details.above').forEach((one) => { one.open = false; })")
             page.js("window.dispatchEvent(new Event('beforeprint'))")
-            self.same(f"what is folded is printed too: {at}", page, "document.querySelectorAll('details.above:not([open])').length", 0)
+            self.same(f"what is folded is printed too: {at}", page,
+                      "document.querySelectorAll('details.above:not([open])').length", 0)
         page.call("Emulation.setEmulatedMedia", media="", features=[])
-        self.none("2.3.3 nothing moves", page, "moving", at)
+        self.find_none("2.3.3 nothing moves", page, "moving", at)
         for size in (DESK, ZOOMED):
             page.size(*size)
             self.walk(page, f"{at}, {size[0]} wide")
@@ -174,42 +206,52 @@ class Access:
         page.answer_with(None, 0, b"")
         page.js("sessionStorage.clear()")  # no form stays held
 
-    def value(self, page, measure):
+    def run_measure(self, page, measure):
+        """What a measure of measures.js finds on the page."""
         return page.js(f"(window.measures ??= {MEASURES}).{measure}()")
 
-    def none(self, what, page, measure, at):
-        self.checks.same(f"{what}: {at}", self.value(page, measure), [])
+    def find_none(self, what, page, measure, at):
+        """Checks that a measure finds nothing on the page."""
+        self.checks.same(f"{what}: {at}", self.run_measure(page, measure), [])
 
     def same(self, what, page, code, wanted):
+        """Compares the value of a script on the page."""
         self.checks.same(what, page.js(code), wanted)
 
     def structure(self, page, at):
-        wanted = {"language": "en", "title": True, "zoom": True, "lacking": [], "mains": 1, "h1": 1, "headings": True, "ids": [], "order": [], "silent": [],
-                  "unlabelled": [], "loose": [], "groups": [], "tables": [], "pictures": [], "names": [], "fixed": [], "directions": []}
-        self.checks.same(f"1.3.1, 2.4.2, 3.1.1, 4.1.3 parts of a page: {at}", self.value(page, "structure"), wanted)
+        """Checks the parts of a page: language, title, headings, labels, tables and the like."""
+        wanted = {"language": "en", "title": True, "zoom": True, "lacking": [], "mains": 1, "h1": 1, "headings": True,
+                  "ids": [], "order": [], "silent": [],
+                  "unlabelled": [], "loose": [], "groups": [], "tables": [], "pictures": [], "names": [], "fixed": [],
+                  "directions": []}
+        self.checks.same(f"1.3.1, 2.4.2, 3.1.1, 4.1.3 parts of a page: {at}", self.run_measure(page, "structure"),
+                         wanted)
 
     def names(self, page, at):
         """4.1.2: what can have the focus has a role and a name for a screen reader."""
         page.call("Accessibility.enable")
-        told = until(lambda: len(found := focusable_nodes(page)) > 3 and found, f"what can have the focus is told: {at}")
+        told = until(lambda: len(found := focusable_nodes(page)) > 3 and found,
+                     f"what can have the focus is told: {at}")
         self.checks.same(f"4.1.2 roles: {at}", sorted({role for role, _ in told} - ROLES), [])
         self.checks.same(f"4.1.2 names: {at}", [role for role, name in told if not name], [])
         page.call("Accessibility.disable")
 
     def sizes(self, page, at):
+        """Checks that nothing runs over and that targets are large enough, at each width."""
         for width in WIDTHS:
             page.size(width, 800, 1, width == 320)
             page.wait(f"innerWidth === {width}")
-            self.same(f"1.4.10 nothing runs over at {width}: {at}", page, f"Math.max(0, (window.measures ??= {MEASURES}).over())", 0)
-            self.none(f"2.5.8 targets at {width}", page, "targets", at)
+            self.same(f"1.4.10 nothing runs over at {width}: {at}", page,
+                      f"Math.max(0, (window.measures ??= {MEASURES}).over())", 0)
+            self.find_none(f"2.5.8 targets at {width}", page, "targets", at)
             if width == 320:
-                self.none("1.4.12 wider apart", page, "spaced", at)
+                self.find_none("1.4.12 wider apart", page, "spaced", at)
                 self.shot(page, f"phone-{at.replace(', ', '-').replace(' ', '-')}")
         page.size(*DESK)
 
     def walk(self, page, at):
-        """2.1.1, 2.4.7, 2.4.11: Tab comes to all that can be used, each with a ring that is seen, and nothing lies over it; and so
-        on the way back, where something stays at the top of the window."""
+        """2.1.1, 2.4.7, 2.4.11: Tab comes to all that can be used, each with a ring that is seen, and nothing lies over
+        it; and so on the way back, where something stays at the top of the window."""
         self.walk_one_way(page, at, False)
         if page.js("document.querySelector('.search.bar') !== null"):
             self.walk_one_way(page, f"{at}, back", True)
@@ -218,29 +260,33 @@ class Access:
                       "document.querySelector('.search.bar').getBoundingClientRect().bottom <= innerHeight / 2", True)
 
     def walk_one_way(self, page, at, back):
-        wanted, met = self.value(page, "stops"), []
+        """Checks the stops of Tab from the top of the page, or back from its end."""
+        wanted, met = self.run_measure(page, "stops"), []
         page.js("document.activeElement.blur(), scrollTo(0, 0)")
         for _ in range(len(wanted) + 12):  # a date has several stops
             page.key("Tab", shift=back)
-            now = self.value(page, "focus")
+            now = self.run_measure(page, "focus")
             if met and now["key"] == met[0]["key"]:
                 break
             if not now["isBody"] and (not met or met[-1]["key"] != now["key"]):
                 met.append(now)
         self.checks.same(f"2.1.1 Tab comes to everything: {at}", sorted(set(wanted) - {one["key"] for one in met}), [])
-        self.checks.same(f"2.4.7 what has the focus shows it: {at}", [one["key"] for one in met if not one["hasRing"]], [])
-        self.checks.same(f"2.4.11 what has the focus is not covered: {at}", [one["key"] for one in met if not one["isFree"]], [])
+        self.checks.same(f"2.4.7 what has the focus shows it: {at}", [one["key"] for one in met if not one["hasRing"]],
+                         [])
+        self.checks.same(f"2.4.11 what has the focus is not covered: {at}",
+                         [one["key"] for one in met if not one["isFree"]], [])
 
-    def signed_out(self):
+    def signed_out_page(self):
         """The page without styles that is shown after signing out."""
         page = self.desk
         page.open(self.sites["desk"], "/")
         page.answer_with("*/sign-out", 200, (FRONT / "desk/signed-out.html").read_bytes())
         page.visit(self.sites["desk"] + "/sign-out", "document.querySelector('h1')")
         page.answer_with(None, 0, b"")
-        self.none("1.4.3 contrast", page, "contrast", "signed out")
+        self.find_none("1.4.3 contrast", page, "contrast", "signed out")
         self.same("1.4.10 nothing runs over", page, "document.documentElement.scrollWidth - innerWidth", 0)
-        self.same("2.4.2, 3.1.1 title and language", page, "[document.documentElement.lang, document.title]", ["en", "Signed out \u2013 The desk"])
+        self.same("2.4.2, 3.1.1 title and language", page, "[document.documentElement.lang, document.title]",
+                  ["en", "Signed out \u2013 The desk"])
 
 
 def focusable_nodes(page):
@@ -251,13 +297,15 @@ def focusable_nodes(page):
 
 
 def play(checks, program, folder, browser, shot, only=None):
+    """Plays all pages over an office of its own, or those that are named."""
     folder.mkdir(parents=True, exist_ok=True)
-    office = Office(folder / "office", program).init()
+    office = Office.create(program, folder / "office")
     (folder / "dock.csv").write_text("".join(dock_company()))
-    office.take_in("archives", TOP / "examples/archives.csv")
-    office.take_in("catalogue", folder / "dock.csv")
+    office.import_file("archives", TOP / "examples/archives.csv").expect_success()
+    office.import_file("catalogue", folder / "dock.csv").expect_success()
     with office:
         access = Access(checks, office, browser, shot)
         access.settle()
         access.play(only)
-        checks.same("the browser complains of nothing", [said for page in (access.readers, access.desk) for said in page.complaints()], [])
+        checks.same("the browser complains of nothing",
+                    [said for page in (access.readers, access.desk) for said in page.complaints()], [])

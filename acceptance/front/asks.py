@@ -1,40 +1,68 @@
-"""Asks the front as a program would: with the desk's password where `desk` is true."""
+"""Asks both sites of an office as a program would, by the requests of acceptance/client.py."""
 
+import itertools
 import json
-import urllib.error
-import urllib.request
 
 from office import SIGNED_IN
 
+import client
+
+PATIENCE = 90  # seconds
+
 
 class Asks:
+    """Asks the front of an office: at the desk's site, with its password, where `desk` is true. Each request has a
+    connection of its own."""
+
     def __init__(self, office):
         self.office = office
 
-    def get(self, path, desk=False):
-        return self.call("GET", path, None, desk)
+    def send(self, method, path, body=None, desk=False, fields=()):
+        """Sends a request with these fields; returns the status and the text of its answer. Raises ConnectionError if
+        there is none."""
+        port = self.office.ports["8081" if desk else "8080"]
+        fields = {**(SIGNED_IN if desk else {}), **dict(fields), "Connection": "close"}
+        told = client.ask(port, client.request(method, path, body, f"{client.HOST}:{port}", fields), PATIENCE)
+        if not told.status:
+            raise ConnectionError(f"{path} is not answered: {told.line}")
+        return told.status, told.body.decode()
 
-    def post(self, path, members, desk=True):
-        return self.call("POST", path, json.dumps(members).encode(), desk)
+    def question(self, path, desk=False):
+        """The status and the text of the answer to a question."""
+        return self.send("GET", path, None, desk)
 
-    def call(self, method, path, body, desk, headers=()):
-        base = self.office.staff if desk else self.office.public
-        request = urllib.request.Request(base + path, body, {**(SIGNED_IN if desk else {}), **dict(headers)}, method=method)
-        try:
-            with urllib.request.urlopen(request, timeout=90) as answer:
-                return answer.status, answer.read().decode()
-        except urllib.error.HTTPError as refused:
-            return refused.code, refused.read().decode()
+    def text(self, path, desk=False):
+        """The text of an answer. Raises AssertionError if its status is not 200."""
+        status, body = self.question(path, desk)
+        if status != 200:
+            raise AssertionError(f"{path}: {status} {body}")
+        return body
 
-    def done(self, path, **members):
-        """A command of the desk's that has to be done; its reply."""
-        status, body = self.post(path, members)
+    def read(self, path):
+        """What the desk's site tells as JSON. Raises AssertionError if the status is not 200."""
+        return json.loads(self.text(path, True))
+
+    def try_command(self, path, members, desk=True):
+        """Sends a command with these members; returns the status and the text of its answer."""
+        return self.send("POST", path, members, desk)
+
+    def command(self, path, **members):
+        """Sends a command of the desk; returns the members of its reply. Raises AssertionError if it is not done."""
+        status, body = self.try_command(path, members)
         if status != 200:
             raise AssertionError(f"{path} {members}: {status} {body}")
         return json.loads(body)
 
-    def text(self, path, desk=False):
-        status, body = self.get(path, desk)
+    def import_text(self, source, text):
+        """Imports a file of this source at the desk's site. Raises AssertionError if it is refused."""
+        status, body = self.send("POST", f"/desk/import/{source}", text, True)
         if status != 200:
-            raise AssertionError(f"{path}: {status} {body}")
-        return body
+            raise AssertionError(f"import of {source}: {status} {body}")
+
+    def next_ticket(self):
+        """The number of the ticket that the next reader gets."""
+        return self.next_number("/desk/readers")
+
+    def next_number(self, path):
+        """The first number below this path of the desk of which nothing is known."""
+        return next(number for number in itertools.count(1) if self.question(f"{path}/{number}", True)[0] == 404)

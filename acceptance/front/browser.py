@@ -9,12 +9,15 @@ import subprocess
 
 from waits import settings, until
 
-FLAGS = ["--headless=new", "--remote-debugging-pipe", "--no-sandbox", "--disable-gpu", "--hide-scrollbars", "--no-first-run",
+FLAGS = ["--headless=new", "--remote-debugging-pipe", "--no-sandbox", "--disable-gpu", "--hide-scrollbars",
+         "--no-first-run",
          "--disable-extensions", "--disable-background-networking", "--disable-component-update", "--disable-sync",
-         "--disable-renderer-backgrounding", "--disable-background-timer-throttling", "--disable-backgrounding-occluded-windows",
+         "--disable-renderer-backgrounding", "--disable-background-timer-throttling",
+         "--disable-backgrounding-occluded-windows",
          "--force-prefers-reduced-motion"]
 
-# A page that is left asks no more. On a busy machine it goes on for seconds, but without the headers of its tab: then the browser
+# A page that is left asks no more. On a busy machine it goes on for seconds, but without the headers of its tab: then
+# the browser
 # would wait for a password, on each of the connections that the next page needs.
 LEAVE = "window.isLeft = true; window.fetch = () => new Promise(() => {}); 0"
 ANSWERED_HERE = "/no/such/file/of/the/front"
@@ -24,23 +27,28 @@ TWO_FRAMES = "new Promise((done) => requestAnimationFrame(() => requestAnimation
 
 
 class Browser:
+    """A running Chromium. `answer`: what it answers paused requests with; `on_event`: is called with each event."""
+
     def __init__(self, profile, binary="chromium"):
         out, self.write = os.pipe()
         self.read, into = os.pipe()
         shell = f'exec "$0" "$@" 3<&{out} 4>&{into}'
-        self.process = subprocess.Popen(["bash", "-c", shell, binary, *FLAGS, f"--user-data-dir={profile}", "about:blank"],
+        self.process = subprocess.Popen(["bash", "-c", shell, binary, *FLAGS, f"--user-data-dir={profile}",
+                                         "about:blank"],
                                         pass_fds=(out, into), stdout=subprocess.DEVNULL, stderr=subprocess.DEVNULL)
         os.close(out)
         os.close(into)
         self.rest, self.last, self.events, self.answer, self.on_event = b"", 0, [], None, None
 
     def call(self, method, session=None, **params):
+        """Calls a method of the protocol; returns its result. Raises RuntimeError if it fails."""
         self.last += 1
         message = {"id": self.last, "method": method, "params": params, **({"sessionId": session} if session else {})}
         os.write(self.write, json.dumps(message).encode() + b"\0")
         return self._until(self.last, method)
 
     def _until(self, number, method):
+        """Reads messages up to the reply of this number; returns its result."""
         while True:
             got = self._message()
             if got.get("id") == number:
@@ -51,6 +59,7 @@ class Browser:
                 self._event(got)
 
     def _event(self, got):
+        """Keeps an event, and answers a request that is paused."""
         self.events.append(got)
         if self.on_event:
             self.on_event(got)
@@ -63,6 +72,7 @@ class Browser:
                                              "sessionId": got["sessionId"]}).encode() + b"\0")
 
     def _message(self):
+        """The next message. Raises RuntimeError if none comes."""
         while b"\0" not in self.rest:
             ready = select.select([self.read], [], [], 2 * settings.patience)[0]
             piece = os.read(self.read, 1 << 20) if ready else b""
@@ -73,11 +83,13 @@ class Browser:
         return json.loads(one)
 
     def page(self, headers=None):
+        """Opens a tab that sends these headers with each request."""
         target = self.call("Target.createTarget", url="about:blank")["targetId"]
         session = self.call("Target.attachToTarget", targetId=target, flatten=True)["sessionId"]
         return Page(self, session, headers)
 
     def end(self):
+        """Ends the browser."""
         with contextlib.suppress(RuntimeError, OSError):
             self.call("Browser.close")
         try:
@@ -88,6 +100,8 @@ class Browser:
 
 
 class Page:
+    """A tab of the browser."""
+
     def __init__(self, browser, session, headers):
         self.browser, self.session, self.opened = browser, session, 0
         for domain in ("Page", "Runtime", "Log", "Network"):
@@ -97,16 +111,21 @@ class Page:
             self.call("Network.setExtraHTTPHeaders", headers=headers)
         if settings.slower > 1:
             self.call("Emulation.setCPUThrottlingRate", rate=settings.slower)
-            self.call("Network.emulateNetworkConditions", offline=False, latency=LATENCY * settings.slower, downloadThroughput=-1, uploadThroughput=-1)
+            self.call("Network.emulateNetworkConditions", offline=False, latency=LATENCY * settings.slower,
+                      downloadThroughput=-1, uploadThroughput=-1)
         self.size(1200, 850)
 
     def call(self, method, **params):
+        """Calls a method of the protocol for this tab."""
         return self.browser.call(method, self.session, **params)
 
     def size(self, width, height, scale=1, mobile=False):
-        self.call("Emulation.setDeviceMetricsOverride", width=width, height=height, deviceScaleFactor=scale, mobile=mobile)
+        """Gives the window this size in pixels."""
+        self.call("Emulation.setDeviceMetricsOverride", width=width, height=height, deviceScaleFactor=scale,
+                  mobile=mobile)
 
     def js(self, code):
+        """Runs a script; returns its value, awaited. Raises RuntimeError if it throws."""
         got = self.call("Runtime.evaluate", expression=code, awaitPromise=True, returnByValue=True)
         if "exceptionDetails" in got:
             raise RuntimeError(f"{code}: {got['exceptionDetails']['exception'].get('description')}")
@@ -138,19 +157,23 @@ class Page:
         self.call("Page.bringToFront")
         self.js(LEAVE)
         self.call("Page.navigate", url=address)
-        self.arrive(condition)
+        self.await_page(condition)
 
     def reload(self, condition="document.querySelector('main h1')"):
+        """Loads the page again."""
         self.js(LEAVE)
         self.call("Page.reload")
-        self.arrive(condition)
+        self.await_page(condition)
 
-    def arrive(self, condition):
+    def await_page(self, condition):
+        """Waits until a new page is loaded and the condition holds there."""
         self.wait(f"!window.isLeft && document.readyState === 'complete' && {condition}")
 
     def turn(self, address, condition="true", waits=True):
         """To another page of the readers' site, as a link does it; `waits`: until it is shown."""
-        self.js(f"import('/shared/router.js').then((router) => {{ const shown = router.go({json.dumps(address)}); return {json.dumps(waits)} && shown; }})")
+        self.js(
+            f"import('/shared/router.js').then((router) => "
+            f"{{ const shown = router.go({json.dumps(address)}); return {json.dumps(waits)} && shown; }})")
         self.wait(condition)
 
     def go(self, hash_, condition="true"):
@@ -158,23 +181,31 @@ class Page:
         self.js(f"location.hash = {json.dumps(hash_)}")
         self.wait(condition)
 
-    def quoted(self, text):
+    def quote(self, text):
+        """A text as a string of JavaScript."""
         return json.dumps(text)
 
     def text(self, selector="main"):
+        """The text that an element shows; nothing if there is no such element."""
         return self.js(f"document.querySelector({json.dumps(selector)})?.innerText ?? ''")
 
     def see(self, words, selector="main"):
+        """Waits until an element shows these words."""
         quoted, place = json.dumps(words), json.dumps(selector)
         self.wait(f"(document.querySelector({place})?.innerText ?? '').includes({quoted})")
 
     def fill(self, label, value, card=None):
-        self.js(f"({FIND})({json.dumps(label)}, {json.dumps(card)}, (input) => {{ input.focus(); input.value = {json.dumps(value)}; }})")
+        """Writes a value into the field with this label, which gets the focus."""
+        self.js(
+            f"({FIND})({json.dumps(label)}, {json.dumps(card)}, (input) => "
+            f"{{ input.focus(); input.value = {json.dumps(value)}; }})")
 
     def choose(self, label, card=None):
+        """Clicks the field with this label."""
         self.js(f"({FIND})({json.dumps(label)}, {json.dumps(card)}, (input) => input.click())")
 
     def press(self, button, card=None):
+        """Clicks the button, link or summary with these words."""
         self.js(f"({PRESS})({json.dumps(button)}, {json.dumps(card)})")
 
     def insist(self, button, words, selector="main", card=None):
@@ -184,18 +215,23 @@ class Page:
         until(said, f"{button} leads to: {words}")
 
     def pass_pause(self):
-        """Waits, by the page's clock, until no form takes what is done now for a repetition of what it answered last."""
+        """Waits, by the page's clock, until no form takes what is done now for a repetition of what it answered
+        last."""
         began = self.js("performance.now()")
         self.wait(f"performance.now() > {began} + {PAUSE}")
 
     def press_starting(self, words):
-        self.js(f"[...document.querySelectorAll('summary, button, a')].find((one) => one.textContent.startsWith({json.dumps(words)})).click()")
+        """Clicks the first button, link or summary whose text begins with these words."""
+        self.js(
+            f"[...document.querySelectorAll('summary, button, a')].find((one) => "
+            f"one.textContent.startsWith({json.dumps(words)})).click()")
 
     def second_click(self, button):
         """Sends the second click of two to this button, wherever the first one was."""
-        self.js("window.clicked = false; document.addEventListener('click', () => { window.clicked = true; }, { once: true, capture: true })")
+        self.js(WATCH_CLICK)
 
         def clicked():  # a page that moves just then takes none
+            """Sends the click; says whether it was received."""
             place = self.js(f"({PLACE})({json.dumps(button)})")
             for kind in ("mousePressed", "mouseReleased"):
                 self.call("Input.dispatchMouseEvent", type=kind, button="left", clickCount=2, x=place[0], y=place[1])
@@ -203,6 +239,7 @@ class Page:
         until(clicked, f"{button} can be clicked")
 
     def key_in(self, label, key, card=None):
+        """Presses a key in the field with this label."""
         self.js(f"({FIND})({json.dumps(label)}, {json.dumps(card)}, (input) => input.focus())")
         self.key(key)
 
@@ -212,28 +249,38 @@ class Page:
         self.key("Enter")
 
     def digits(self, digits):
+        """Presses the keys of these digits."""
         for digit in digits:
             for kind in ("keyDown", "keyUp"):
-                self.call("Input.dispatchKeyEvent", type=kind, key=digit, code=f"Digit{digit}", windowsVirtualKeyCode=ord(digit),
+                self.call("Input.dispatchKeyEvent", type=kind, key=digit, code=f"Digit{digit}",
+                          windowsVirtualKeyCode=ord(digit),
                           **({"text": digit} if kind == "keyDown" else {}))
 
     def key(self, key, repeat=False, shift=False):
+        """Presses a key; `repeat`: as one that is held down."""
         code = {"Enter": 13, "Tab": 9, "Escape": 27, " ": 32}[key]
         text = {"text": "\r"} if key == "Enter" else {}
-        self.call("Input.dispatchKeyEvent", type="keyDown", key=key, code=key, windowsVirtualKeyCode=code, autoRepeat=repeat, modifiers=8 * shift, **text)
-        self.call("Input.dispatchKeyEvent", type="keyUp", key=key, code=key, windowsVirtualKeyCode=code, modifiers=8 * shift)
+        self.call("Input.dispatchKeyEvent", type="keyDown", key=key, code=key, windowsVirtualKeyCode=code,
+                  autoRepeat=repeat, modifiers=8 * shift, **text)
+        self.call("Input.dispatchKeyEvent", type="keyUp", key=key, code=key, windowsVirtualKeyCode=code,
+                  modifiers=8 * shift)
 
     def type(self, text):
+        """Types a text where the focus is."""
         self.call("Input.insertText", text=text)
 
-    def focused(self):
-        return self.js("document.activeElement.innerText || document.activeElement.name || document.activeElement.tagName")
+    def focus_name(self):
+        """What has the focus: its text, its name or its tag."""
+        return self.js(
+            "document.activeElement.innerText || document.activeElement.name || document.activeElement.tagName")
 
     def file(self, path):
+        """Chooses a file in the page's field for files."""
         found = self.call("Runtime.evaluate", expression="document.querySelector('input[type=file]')")
         self.call("DOM.setFileInputFiles", files=[str(path)], objectId=found["result"]["objectId"])
 
     def shot(self, path, full=True):
+        """Writes a picture of the page, or of the window alone, as PNG."""
         self.js(TWO_FRAMES)
         height = self.js("document.documentElement.scrollHeight")
         width = self.js("innerWidth")
@@ -242,20 +289,22 @@ class Page:
         path.write_bytes(base64.b64decode(got["data"]))
 
     def pdf(self, path):
+        """Writes the page as it would be printed, as PDF."""
         got = self.call("Page.printToPDF", preferCSSPageSize=True, paperWidth=8.27, paperHeight=11.69)
         path.write_bytes(base64.b64decode(got["data"]))
 
     def answer_with(self, pattern, status, body):
-        """The browser itself answers requests like `pattern`, or no more where it is None. It tells that it will before it does,
-        so a request of ours is put until it is answered so."""
+        """The browser itself answers requests like `pattern`, or no more where it is None. It tells that it will before
+        it does, so a request of ours is put until it is answered so."""
         self.browser.answer = (status, body)
         if pattern is None:
             self.call("Fetch.disable")
             return
         self.call("Fetch.enable", patterns=[{"urlPattern": pattern}, {"urlPattern": f"*{ANSWERED_HERE}"}])
-        until(lambda: self.js(f"fetch('{ANSWERED_HERE}').then((answer) => answer.status)") == status, f"the browser answers {pattern}")
+        until(lambda: self.js(f"fetch('{ANSWERED_HERE}').then((answer) => answer.status)") == status,
+              f"the browser answers {pattern}")
 
-    def sent(self, method, part):
+    def count_sent(self, method, part):
         """How many requests with this method, and this part in their addresses, the page has sent so far."""
         self.js("0")  # what was told before this is read
         requests = [event["params"]["request"] for event in self.browser.events
@@ -263,21 +312,26 @@ class Page:
         return sum(one["method"] == method and part in one["url"] for one in requests)
 
     def complaints(self):
-        """What the browser said of the pages: blocked by their policy, scripts that failed, files that were not there."""
+        """What the browser said of the pages: blocked by their policy, scripts that failed, files that were not
+        there."""
         said = []
         for event in self.browser.events:
             if event.get("sessionId") != self.session:
                 continue
             if event["method"] == "Log.entryAdded":
                 entry = event["params"]["entry"]
-                if entry["source"] not in ("network", "violation", "intervention"):  # the last two are of a slow machine
+                # the last two are of a slow machine
+                if entry["source"] not in ("network", "violation", "intervention"):
                     said.append(entry["text"])
             if event["method"] == "Runtime.exceptionThrown":
                 said.append(event["params"]["exceptionDetails"]["exception"].get("description", "exception"))
         return said
 
 
-SCOPE = """const named = (card) => [...document.querySelectorAll('.card')].find((one) => one.querySelector('h2')?.innerText === card);
+WATCH_CLICK = """window.clicked = false;
+  document.addEventListener('click', () => { window.clicked = true; }, { once: true, capture: true })"""
+SCOPE = """const named = (card) => [...document.querySelectorAll('.card')]
+    .find((one) => one.querySelector('h2')?.innerText === card);
   const scope = card === null ? document : card === 'dialog' ? document.querySelector('dialog') : named(card);"""
 FIND = """(label, card, act) => { %s
   const found = [...scope.querySelectorAll('label')].find((one) => one.innerText === label);

@@ -23,19 +23,24 @@ ODD = {
 
 
 def row(**values):
+    """A line of CSV with these values."""
     return ",".join('"' + values.get(column, "").replace('"', '""') + '"' for column in COLUMNS) + "\n"
 
 
 def dock_company():
     """A fonds with a draft, containers, what is found above, and each odd text as title, value, code and name."""
     yield ",".join(COLUMNS) + "\n"
-    yield row(legacyId="1", identifier="HUL", title="Hull Dock Company", levelOfDescription="Fonds", publicationStatus="Published",
+    yield row(legacyId="1", identifier="HUL", title="Hull Dock Company", levelOfDescription="Fonds",
+              publicationStatus="Published",
               eventDates="1774-1893", extentAndMedium="6 linear metres", eventActors="Hull Dock Company",
               archivalHistory="Kept at the dock office until 1893, then by the railway; transferred in 1977.",
-              scopeAndContent="Minutes, plans and letters of the company that built the first enclosed dock of the port.",
+              scopeAndContent="Minutes, plans and letters of the company that built the first enclosed dock of the "
+              "port.",
               accessConditions="Open to the public.")
-    yield row(legacyId="2", parentId="1", identifier="1", title="Minutes", levelOfDescription="Series", publicationStatus="Published",
-              eventDates="1774-1850", extentAndMedium="12 volumes", physicalObjectName="Box 1", physicalObjectLocation="Strongroom 2")
+    yield row(legacyId="2", parentId="1", identifier="1", title="Minutes", levelOfDescription="Series",
+              publicationStatus="Published",
+              eventDates="1774-1850", extentAndMedium="12 volumes", physicalObjectName="Box 1",
+              physicalObjectLocation="Strongroom 2")
     yield row(legacyId="3", parentId="1", identifier="2", title="Plans of the locks", levelOfDescription="Series",
               publicationStatus="Published", eventDates="1803-1829", physicalObjectName="Box 2|Roll 7",
               physicalObjectLocation="Strongroom 1|Plan chest")
@@ -47,12 +52,17 @@ def dock_company():
         yield row(legacyId=name, parentId="1", identifier=f"X{place}", title=text, levelOfDescription="Series",
                   publicationStatus="Published", eventActors=f"{text} (from GB 0999 HUL)", scopeAndContent=text,
                   physicalObjectName=text.replace("|", "/"), physicalObjectLocation=text.replace("|", "/"))
-    yield row(legacyId="code", parentId="1", identifier="<b>[Series] x", title="Its code is odd", levelOfDescription="[File] <i>",
+    yield row(legacyId="code", parentId="1", identifier="<b>[Series] x", title="Its code is odd",
+              levelOfDescription="[File] <i>",
               publicationStatus="Published")
-    yield row(legacyId="blank", parentId="1", publicationStatus="Published", scopeAndContent="Neither code, title nor level.")
-    yield row(legacyId="rank", parentId="3", identifier="1", title="Of a level above", levelOfDescription="Subfonds", publicationStatus="Published")
-    yield row(legacyId="lacks", identifier="LCK", title="It lacks dates", levelOfDescription="Fonds", publicationStatus="Published")
-    yield row(legacyId="below blank", parentId="blank", identifier="Y", title="Below a blank one", levelOfDescription="File",
+    yield row(legacyId="blank", parentId="1", publicationStatus="Published",
+              scopeAndContent="Neither code, title nor level.")
+    yield row(legacyId="rank", parentId="3", identifier="1", title="Of a level above", levelOfDescription="Subfonds",
+              publicationStatus="Published")
+    yield row(legacyId="lacks", identifier="LCK", title="It lacks dates", levelOfDescription="Fonds",
+              publicationStatus="Published")
+    yield row(legacyId="below blank", parentId="blank", identifier="Y", title="Below a blank one",
+              levelOfDescription="File",
               publicationStatus="Published")
 
 
@@ -63,36 +73,51 @@ def deep(levels):
     """A chain of units, each below the one before."""
     yield ",".join(COLUMNS) + "\n"
     for level in range(1, levels + 1):
-        yield row(legacyId=str(level), parentId=str(level - 1) if level > 1 else "", identifier="D", title=f"Level {level}",
+        yield row(legacyId=str(level), parentId=str(level - 1) if level > 1 else "", identifier="D",
+                  title=f"Level {level}",
                   levelOfDescription="Other", publicationStatus="Published")
 
 
 def many(count):
+    """So many top units, each with a container."""
     yield ",".join(COLUMNS) + "\n"
     for number in range(1, count + 1):
-        yield row(legacyId=str(number), identifier=f"M{number}", title=f"Unit {number}", levelOfDescription="Fonds", publicationStatus="Published",
+        yield row(legacyId=str(number), identifier=f"M{number}", title=f"Unit {number}", levelOfDescription="Fonds",
+                  publicationStatus="Published",
                   physicalObjectName=f"Carton {number}", physicalObjectLocation="Strongroom 9")
 
 
 def harbour():
-    """A fonds with a series of 120 files, one of which is in two cartons and has a word with a combining accent; and a fonds
-    without containers."""
+    """A fonds with a series of 120 files, one of which is in two cartons and has a word with a combining accent; and a
+    fonds without containers."""
     yield ",".join(COLUMNS) + "\n"
-    yield row(legacyId="top", identifier="HAR", title="Harbour Board", levelOfDescription="Fonds", publicationStatus="Published",
-              eventDates="1800-1950", extentAndMedium="30 metres", eventActors="Harbour Board", archivalHistory="Kept at the harbour until 1950.")
-    yield row(legacyId="letters", parentId="top", identifier="1", title="Letters", levelOfDescription="Series", publicationStatus="Published",
+    yield row(legacyId="top", identifier="HAR", title="Harbour Board", levelOfDescription="Fonds",
+              publicationStatus="Published",
+              eventDates="1800-1950", extentAndMedium="30 metres", eventActors="Harbour Board",
+              archivalHistory="Kept at the harbour until 1950.")
+    yield row(legacyId="letters", parentId="top", identifier="1", title="Letters", levelOfDescription="Series",
+              publicationStatus="Published",
               eventDates="1850-1899", extentAndMedium="120 files")
-    yield row(legacyId="plans", parentId="top", identifier="2", title="Plans of caf\u00e9s", levelOfDescription="Series", publicationStatus="Published",
+    yield row(legacyId="plans", parentId="top", identifier="2", title="Plans of caf\u00e9s",
+              levelOfDescription="Series", publicationStatus="Published",
               eventDates="1860", extentAndMedium="40 sheets")
-    yield row(legacyId="lists", parentId="letters", identifier="lists", title="Lists", levelOfDescription="Subseries", publicationStatus="Published")
+    yield row(legacyId="lists", parentId="letters", identifier="lists", title="Lists", levelOfDescription="Subseries",
+              publicationStatus="Published")
     for number in range(1, 121):
         wanted = number == 77
-        yield row(legacyId=f"file {number}", parentId="letters", identifier=str(number), levelOfDescription="File", publicationStatus="Published",
+        yield row(legacyId=f"file {number}", parentId="letters", identifier=str(number), levelOfDescription="File",
+                  publicationStatus="Published",
                   title="Logbook of the Cafe\u0301 Zum Anker" if wanted else f"Letters of captain {number}",
                   eventDates=str(1800 + number), extentAndMedium="1 bundle",
-                  scopeAndContent="Guests, sailors and debts. " * 20 if wanted else "Ships, cargoes and the duties that were paid on them.",
-                  physicalObjectName="Carton 77a|Carton 77b" if wanted else f"Carton {number}", physicalObjectLocation="Strongroom 2|Strongroom 2")
-    yield row(legacyId="bare", identifier="BAR", title="Photographs", levelOfDescription="Fonds", publicationStatus="Published", eventDates="1900-1910")
+                  scopeAndContent="Guests, sailors and debts. " * 20 if wanted
+                  else "Ships, cargoes and the duties that were paid on them.",
+                  physicalObjectName="Carton 77a|Carton 77b" if wanted else f"Carton {number}",
+                  physicalObjectLocation="Strongroom 2|Strongroom 2")
+    yield row(legacyId="bare", identifier="BAR", title="Photographs", levelOfDescription="Fonds",
+              publicationStatus="Published", eventDates="1900-1910")
+
+
+SHIPS = "Ships, cargoes and the duties that were paid on them. "
 
 
 def long_aid(units):
@@ -101,5 +126,5 @@ def long_aid(units):
     for number in range(1, units + 1):
         yield f"  GB 0999 HAR/{number} [File] Letters of captain {number}\n    3.1.3 Date(s): {1700 + number % 250}\n"
         yield "    3.1.5 Extent and medium of the unit of description: 1 bundle\n"
-        yield f"    3.3.1 Scope and content: {'Ships, cargoes and the duties that were paid on them. ' * (number % 5 + 1)}\n"
+        yield f"    3.3.1 Scope and content: {SHIPS * (number % 5 + 1)}\n"
         yield f"    Container {number}: Carton {number}\n"

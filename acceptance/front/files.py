@@ -1,7 +1,7 @@
 """Files as people save them, each with what the program answers and the advice that fits.
 
-A file is a name, its bytes, the refusal of `preview` as (row, cause) or None, and its advice: names of rules.json in the
-order in which they are found, each with a part of what it says or what to do, or with an empty text.
+A file is a name, its bytes, the refusal of `preview` as (row, cause) or None, and its advice: names of rules.json in
+the order in which they are found, each with a part of what it says or what to do, or with an empty text.
 """
 
 import csv
@@ -49,13 +49,16 @@ COLUMNS = (
 
 @dataclass
 class File:
+    """A file as somebody saved it: its name, its bytes, the refusal as (row, cause) or None, and the advice by
+    names."""
+
     name: str
     data: bytes
     refused: tuple = None
     advice: dict = field(default_factory=dict)
 
 
-def whole(*rows, columns=COLUMNS, **how):
+def csv_text(*rows, columns=COLUMNS, **how):
     """A file with these columns; each row is a dict, or a text that stands there as it is."""
     text = io.StringIO(newline="")
     write = csv.writer(text, **how)
@@ -69,19 +72,22 @@ def whole(*rows, columns=COLUMNS, **how):
 
 
 def unit(legacy, parent="", title="Papers", **values):
+    """The row of a published unit, as its columns with their values."""
     return {"legacyId": legacy, "parentId": parent, "title": title, "publicationStatus": "Published", **values}
 
 
-def renamed(**names):
+def rename_columns(**names):
+    """All columns, of which these have other names."""
     return tuple(names.get(column, column) for column in COLUMNS)
 
 
-def without(*names):
+def leave_out(*names):
+    """All columns without these."""
     return tuple(column for column in COLUMNS if column not in names)
 
 
 TWO = (unit("1", identifier="HUL"), unit("2", "1", "Minutes é", identifier="1"))
-GOOD = whole(*TWO)
+GOOD = csv_text(*TWO)
 SHORT = "legacyId,parentId,title,publicationStatus\r\n1,,Docks,Published\r\n2,1,Minutes,Published\r\n"
 EMPTIED = {"emptied": "Scope and content (scopeAndContent)"}
 BOX = {"physicalObjectName": "Box 1", "physicalObjectLocation": "Strongroom 2", "physicalObjectType": "Box"}
@@ -90,7 +96,7 @@ KINDS = [
     File("as Excel saves CSV UTF-8: a mark at the beginning, CRLF", b"\xef\xbb\xbf" + GOOD.encode()),
     File(
         "as LibreOffice saves it: LF, every text in quotation marks",
-        whole(*TWO, quoting=csv.QUOTE_ALL, lineterminator="\n").encode(),
+        csv_text(*TWO, quoting=csv.QUOTE_ALL, lineterminator="\n").encode(),
     ),
     File("as an old Mac saves it: CR", GOOD.replace("\r\n", "\r").encode()),
     File("without a line end after the last row", GOOD.rstrip("\r\n").encode()),
@@ -126,7 +132,8 @@ KINDS = [
         (0, 1),
         {"not_utf8": "in line 3: “2,1,,1,Minutes \u201cé\u201d"},
     ),
-    File("cut off within a letter", GOOD.rstrip("\r\n,").encode() + "é".encode()[:1], (0, 1), {"not_utf8": "in line 3"}),
+    File("cut off within a letter", GOOD.rstrip("\r\n,").encode() + "é".encode()[:1], (0, 1),
+         {"not_utf8": "in line 3"}),
     File("a PDF", b"%PDF-1.7\n%\xe2\xe3\xcf\xd3\n", (0, 1), {"other_kind": "This is a PDF"}),
     File(
         "a finding aid in EAD",
@@ -141,17 +148,19 @@ KINDS = [
         {"other_kind": "XML or HTML"},
     ),
     File("a document of a word processor", b"{\\rtf1\\ansi legacyId,title}", (1, 3), {"other_kind": "word processor"}),
-    File("semicolons, as a European Excel saves it", GOOD.replace(",", ";").encode(), (1, 3), {"separator": "by semicolons"}),
+    File("semicolons, as a European Excel saves it", GOOD.replace(",", ";").encode(), (1, 3),
+         {"separator": "by semicolons"}),
     File(
         "semicolons and quotation marks",
-        whole(*TWO, delimiter=";", quoting=csv.QUOTE_ALL).encode(),
+        csv_text(*TWO, delimiter=";", quoting=csv.QUOTE_ALL).encode(),
         (1, 3),
         {"separator": "semicolons"},
     ),
     File("tabs", GOOD.replace(",", "\t").encode(), (1, 3), {"separator": "by tabs"}),
     File("vertical bars", GOOD.replace(",", "|").encode(), (1, 3), {"separator": "by vertical bars"}),
     File("Excel's line about separators", ("sep=,\r\n" + GOOD).encode(), (1, 3), {"sep_line": "“sep=,”"}),
-    File("the same with semicolons", ("SEP=;\r\n" + GOOD.replace(",", ";")).encode(), (1, 3), {"sep_line": "Delete this line"}),
+    File("the same with semicolons", ("SEP=;\r\n" + GOOD.replace(",", ";")).encode(), (1, 3),
+         {"sep_line": "Delete this line"}),
     File(
         "a title above the header",
         ("Finding aid of the Docks,,,\r\n" + GOOD).encode(),
@@ -171,7 +180,8 @@ KINDS = [
         {"title_line": "row 2"},
     ),
     File("no header", b"1,,HUL,Docks\r\n2,1,1,Minutes\r\n", (1, 3), {"no_legacy_id": "It begins: 1, , HUL, Docks."}),
-    File("another database's header", b"Ref,Name,Date\r\nHUL,Docks,1774\r\n", (1, 3), {"no_legacy_id": "Ref, Name, Date."}),
+    File("another database's header", b"Ref,Name,Date\r\nHUL,Docks,1774\r\n", (1, 3),
+         {"no_legacy_id": "Ref, Name, Date."}),
 ]
 
 HEADERS = [
@@ -180,24 +190,26 @@ HEADERS = [
     File("two marks at the beginning", b"\xef\xbb\xbf\xef\xbb\xbf" + GOOD.encode(), (1, 3), {"spelling": ""}),
     File("spaces around names", GOOD.replace("legacyId,parentId", " legacyId ,\tparentId").encode()),
     File("an empty line above the header", ("\r\n" + GOOD).encode()),
-    File("a column twice", whole(*TWO, columns=(*COLUMNS, "title")).encode(), (1, 4), {"header_twice": "twice: title"}),
+    File("a column twice", csv_text(*TWO, columns=(*COLUMNS, "title")).encode(), (1, 4),
+         {"header_twice": "twice: title"}),
     File(
         "a column twice that is not read",
-        whole(*TWO, columns=(*COLUMNS, "repository", "repository")).encode(),
+        csv_text(*TWO, columns=(*COLUMNS, "repository", "repository")).encode(),
         None,
         {"unread": "columns: repository."},
     ),
     File(
         "columns of AtoM that are not read",
-        whole(*TWO, columns=(*COLUMNS, "accessionNumber", "nameAccessPoints")).encode(),
+        csv_text(*TWO, columns=(*COLUMNS, "accessionNumber", "nameAccessPoints")).encode(),
         None,
         {"unread": "accessionNumber, nameAccessPoints"},
     ),
-    File("number and title alone", b"legacyId,title\r\n1,Docks\r\n", None, {**EMPTIED, "no_parents": "", "no_status": ""}),
+    File("number and title alone", b"legacyId,title\r\n1,Docks\r\n", None,
+         {**EMPTIED, "no_parents": "", "no_status": ""}),
     File("a few columns", SHORT.encode(), None, EMPTIED),
     File(
         "Title",
-        whole(*TWO, columns=renamed(title="Title")).encode(),
+        csv_text(*TWO, columns=rename_columns(title="Title")).encode(),
         None,
         {
             "similar": "“Title”. If it is meant as title",
@@ -206,31 +218,33 @@ HEADERS = [
     ),
     File(
         "scopeAndContents",
-        whole(*TWO, columns=renamed(scopeAndContent="scopeAndContents")).encode(),
+        csv_text(*TWO, columns=rename_columns(scopeAndContent="scopeAndContents")).encode(),
         None,
         {"similar": "meant as scopeAndContent", "emptied": "columns: Scope and content (scopeAndContent)."},
     ),
     File(
         "parentID",
-        whole(unit("1"), {**unit("2"), "parentID": "1"}, columns=renamed(parentId="parentID")).encode(),
+        csv_text(unit("1"), {**unit("2"), "parentID": "1"}, columns=rename_columns(parentId="parentID")).encode(),
         None,
         {"similar": "meant as parentId", "no_parents": "every new unit becomes a top unit"},
     ),
     File(
         "words of the standard",
-        whole(*TWO, columns=renamed(levelOfDescription="Level of description", identifier="Reference code")).encode(),
+        csv_text(*TWO,
+                 columns=rename_columns(levelOfDescription="Level of description",
+                                        identifier="Reference code")).encode(),
         None,
         {"similar": "", "emptied": "Reference code(s) (identifier), Level of description (levelOfDescription)."},
     ),
     File(
         "no places of containers",
-        whole(unit("1", **BOX), columns=without("physicalObjectLocation", "physicalObjectType")).encode(),
+        csv_text(unit("1", **BOX), columns=leave_out("physicalObjectLocation", "physicalObjectType")).encode(),
         None,
         {"emptied": "Locations of containers (physicalObjectLocation), Kinds of containers (physicalObjectType)."},
     ),
     File(
         "no publicationStatus",
-        whole(*TWO, columns=without("publicationStatus")).encode(),
+        csv_text(*TWO, columns=leave_out("publicationStatus")).encode(),
         None,
         {"no_status": "every new unit is a draft"},
     ),
@@ -242,9 +256,10 @@ ROWS = [
     File("a row of commas alone", (GOOD + "," * (len(COLUMNS) - 1) + "\r\n").encode()),
     File(
         "an empty line, and a row with a field too many",
-        whole(TWO[0], "\r\n2,1,a,b\r\n").encode(),
+        csv_text(TWO[0], "\r\n2,1,a,b\r\n").encode(),
         (3, 5),
-        {"fault": "Row 3 (4 in the spreadsheet), legacyId 2: the row has more or fewer fields than the header (4, not 35)"},
+        {"fault": "Row 3 (4 in the spreadsheet), legacyId 2: the row has more or fewer fields than the header (4, not "
+         "35)"},
     ),
     File(
         "a comma without quotation marks",
@@ -254,76 +269,77 @@ ROWS = [
     ),
     File(
         "lines within a field",
-        whole(unit("1", scopeAndContent="One\nTwo"), unit("2", "1"), unit("1", "", "Again")).encode(),
+        csv_text(unit("1", scopeAndContent="One\nTwo"), unit("2", "1"), unit("1", "", "Again")).encode(),
         (4, 7),
         {"fault": "Row 4 (4 in the spreadsheet), legacyId 1, “Again”: another row further up has the same legacyId"},
     ),
     File(
         "a quotation mark that is never closed",
-        whole(TWO[0], '2,1,,1,"Minutes\r\n3,1,,2,Plans\r\n').encode(),
+        csv_text(TWO[0], '2,1,,1,"Minutes\r\n3,1,,2,Plans\r\n').encode(),
         (3, 5),
         {"unclosed": "of row 3 (3 in the spreadsheet)", "fault": "(5, not 35)"},
     ),
     File(
         "no legacyId, twice",
-        whole(*TWO, unit("", "1"), unit("", "1")).encode(),
+        csv_text(*TWO, unit("", "1"), unit("", "1")).encode(),
         (4, 6),
         {"fault": "legacyId is blank. Give the unit a legacyId of its own. 1 row more"},
     ),
     File(
         "a parent by its slug",
-        whole(TWO[0], unit("2", qubitParentSlug="docks")).encode(),
+        csv_text(TWO[0], unit("2", qubitParentSlug="docks")).encode(),
         (3, 8),
         {"fault": "qubitParentSlug is filled in"},
     ),
     File(
         "a field that is too long",
-        whole(unit("1", scopeAndContent="é" * 33000)).encode(),
+        csv_text(unit("1", scopeAndContent="é" * 33000)).encode(),
         (2, 10),
         {"fault": "Row 2 (2 in the spreadsheet), column scopeAndContent, legacyId 1"},
     ),
     File(
         "too many rows",
-        whole(*(unit(str(number)) for number in range(1, 20002)), columns=COLUMNS).encode(),
+        csv_text(*(unit(str(number)) for number in range(1, 20002)), columns=COLUMNS).encode(),
         (20002, 9),
         {"fault": "Row 20002 (20002 in the spreadsheet)"},
     ),
     File(
         "a parent further down",
-        whole(unit("2", "1"), unit("1")).encode(),
+        csv_text(unit("2", "1"), unit("1")).encode(),
         (2, 11),
         {"parents_below": "In 1 row, the parent is in a row further down"},
     ),
-    File("a parent that is elsewhere", whole(unit("2", "77")).encode(), (2, 11), {"parents_elsewhere": "parentId 77"}),
-    File("a unit that is its own parent", whole(unit("2", "2")).encode(), (2, 11), {"parents_below": ""}),
+    File("a parent that is elsewhere", csv_text(unit("2", "77")).encode(), (2, 11),
+         {"parents_elsewhere": "parentId 77"}),
+    File("a unit that is its own parent", csv_text(unit("2", "2")).encode(), (2, 11), {"parents_below": ""}),
     File(
         "zeros that the spreadsheet dropped",
-        whole(unit("007"), unit("8", "7")).encode(),
+        csv_text(unit("007"), unit("8", "7")).encode(),
         (3, 11),
         {"parents_zeros": "parentId 7"},
     ),
-    File("007 and 7", whole(unit("007"), unit("7")).encode(), None, {"zeros": "007 and 7"}),
+    File("007 and 7", csv_text(unit("007"), unit("7")).encode(), None, {"zeros": "007 and 7"}),
     File(
         "numbers that the spreadsheet rounded",
-        whole(unit("1.20E+15"), unit("2", "1.20E+15")).encode(),
+        csv_text(unit("1.20E+15"), unit("2", "1.20E+15")).encode(),
         None,
         {"rounded": "In 2 rows"},
     ),
     File(
         "sixty-five levels",
-        whole(*(unit(str(level), str(level - 1) if level > 1 else "") for level in range(1, 66))).encode(),
+        csv_text(*(unit(str(level), str(level - 1) if level > 1 else "") for level in range(1, 66))).encode(),
         (66, 12),
         {"deep": "Row 66 (66 in the spreadsheet)"},
     ),
     File(
         "nothing is published",
-        whole(unit("1", publicationStatus="Draft"), unit("2", "1", publicationStatus="")).encode(),
+        csv_text(unit("1", publicationStatus="Draft"), unit("2", "1", publicationStatus="")).encode(),
         None,
         {"all_drafts": ""},
     ),
     File(
         "other words for published",
-        whole(
+        csv_text(
             unit("1", publicationStatus="PUBLISHED"),
             unit("2", "1", publicationStatus="Publi\u00e9"),
             unit("3", "1", publicationStatus="yes"),
@@ -331,24 +347,25 @@ ROWS = [
         None,
         {"odd_status": "“Publi\u00e9”, “yes”"},
     ),
-    File("a translation", whole(unit("1", culture="en"), unit("1", title="Quais", culture="fr")).encode()),
-    File("the French rows alone", whole(unit("1", title="Quais", culture="fr")).encode(), None, {"one_language": "“fr”"}),
+    File("a translation", csv_text(unit("1", culture="en"), unit("1", title="Quais", culture="fr")).encode()),
+    File("the French rows alone", csv_text(unit("1", title="Quais", culture="fr")).encode(), None,
+         {"one_language": "“fr”"}),
     File(
         "whole codes in identifier",
-        whole(unit("1", identifier="HUL"), unit("2", "1", identifier="HUL/1")).encode(),
+        csv_text(unit("1", identifier="HUL"), unit("2", "1", identifier="HUL/1")).encode(),
         None,
         {"full_codes": "becomes “HUL/HUL/1”"},
     ),
     File(
         "UTF-8 that was opened as Windows-1252",
-        whole(unit("1", title="Caf\u00c3\u00a9 des quais")).encode(),
+        csv_text(unit("1", title="Caf\u00c3\u00a9 des quais")).encode(),
         None,
         {"garbled": "“Caf\u00c3\u00a9”"},
     ),
-    File("letters that were lost", whole(unit("1", title="Caf\ufffd")).encode(), None, {"garbled": ""}),
+    File("letters that were lost", csv_text(unit("1", title="Caf\ufffd")).encode(), None, {"garbled": ""}),
     File(
         "Box 1, box 1 and Box  1",
-        whole(
+        csv_text(
             unit("1", **BOX),
             unit(
                 "2",
@@ -361,13 +378,14 @@ ROWS = [
     ),
     File(
         "a box of two archives",
-        whole(unit("1", **BOX), unit("2", **BOX), unit("3", "2", **BOX)).encode(),
+        csv_text(unit("1", **BOX), unit("2", **BOX), unit("3", "2", **BOX)).encode(),
         None,
         {"boxes_shared": "Box 1, Strongroom 2, Box"},
     ),
     File(
         "NULL as AtoM exports it",
-        whole(unit("1", eventDates="NULL|1774", physicalObjectName="NULL|Box 1", physicalObjectLocation="A|B")).encode(),
+        csv_text(unit("1", eventDates="NULL|1774", physicalObjectName="NULL|Box 1",
+                      physicalObjectLocation="A|B")).encode(),
     ),
 ]
 

@@ -1,20 +1,27 @@
-"""What a small office stumbles over in its first year, at the desk: files that are looked at before they are sent, drafts that
-are published from the report of their import, call slips, wrong scans, duplicate names, days that are past, a queue that is
-away, a page that fails."""
+"""What a small office stumbles over in its first year, at the desk: files that are looked at before they are sent,
+drafts that are published from the report of their import, call slips, wrong scans, duplicate names, days that are past,
+a queue that is away, a page that fails."""
 
-import json
 import pathlib
 import shutil
 import subprocess
 
 import files
 from catalogue import ODD
+from desk_state import ANN, FAR
 
-FAR = "2030-12-31"
 EMPTYING = b"legacyId,title\r\n1,Hull Dock Company\r\n"
 # From now on the page keeps how many of its requests were under way at a time.
+# The first three cells of each draft.
+DRAFTS = """[...document.querySelectorAll('.drafts tbody tr')]
+  .map((row) => [...row.cells].slice(0, 3).map((cell) => cell.innerText))"""
+PLACES = """[...document.querySelectorAll('.card, h2, pre.page')]
+  .map((one) => [one.innerText.split('\\n')[0], one.getBoundingClientRect().top])"""
+WIDTHS = """import('/barcode.js')
+  .then((codes) => ['T1', 'B20', 'T3456789'].map((code) => [code, codes.widthsOf(code)]))"""
 COUNTED = """(() => { const send = window.fetch; let now = 0; window.most = 0;
-  window.fetch = (...given) => { now += 1; window.most = Math.max(now, window.most); return send(...given).finally(() => { now -= 1; }); }; })()"""
+  window.fetch = (...given) => { now += 1; window.most = Math.max(now, window.most);
+    return send(...given).finally(() => { now -= 1; }); }; })()"""
 PATTERNS = {
     "nnnwwnwnn": "0",
     "wnnwnnnnw": "1",
@@ -33,30 +40,22 @@ PATTERNS = {
 
 
 class FirstYear:
-    def __init__(self, checks, asks, page, day, shot, folder):
-        self.checks, self.asks, self.page, self.day, self.shot, self.folder = checks, asks, page, day, shot, folder
+    """The desk's pages in the tab of a Day. Each part sets up what it needs, and can be played by itself."""
+
+    def __init__(self, checks, asks, day, shot, folder):
+        self.checks, self.asks, self.desk, self.shot, self.folder = checks, asks, day.desk, shot, folder
         self.at = day.at
 
-    def play(self, last=None):
-        """All parts, or those up to one."""
-        for part in (
-            self.bad_files,
-            self.emptying,
-            self.same_boxes,
-            self.drafts,
-            self.asked,
-            self.slips,
-            self.scans,
-            self.passed_over,
-            self.incomplete,
-            self.fails,
-            self.queue_away,
-        ):
-            self.checks.part(f"first year: {part.__name__}", part)
-            if part.__name__ == last:
-                return
+    def play(self, only=None):
+        """Plays all parts in an office that has its descriptions, or one of them."""
+        for part in (self.bad_files, self.emptying, self.same_boxes, self.drafts, self.questions, self.slips,
+                     self.scans,
+                     self.passed_over_orders, self.incomplete_list, self.failed_page, self.queue_away):
+            if only in (None, part.__name__):
+                self.checks.part(f"first year: {part.__name__}", part)
 
-    def chosen(self, name, data):
+    def choose_file(self, name, data):
+        """Chooses a file with these bytes at the page of imports; returns the tab once its advice is shown."""
         page = self.at("/import")
         path = self.folder / name
         path.write_bytes(data)
@@ -77,19 +76,19 @@ class FirstYear:
             "an empty line, and a row with a field too many",
         ):
             file = next(one for one in files.FILES if one.name == name)
-            page = self.chosen("file.csv", file.data)
+            page = self.choose_file("file.csv", file.data)
             for told in file.advice.values():
                 page.see(told, ".seen-in-file .note.refused")
             page.press("Import the file")
             page.see("The file was not sent: the office would refuse it.", ".outcome")
         self.shot(page, "desk-import-stopped")
-        self.checks.same("nothing of bad files came to the office", self.asks.get("/public/units/200")[0], 404)
+        self.checks.same("nothing of bad files came to the office", self.asks.question("/public/units/200")[0], 404)
 
     def emptying(self):
         """A header that would empty the units of an office is not sent before somebody has agreed."""
-        fonds = self.day.unit("fonds")
+        fonds = self.desk.fonds()
         before = self.asks.text(f"/public/units/{fonds}")
-        page = self.chosen("few.csv", EMPTYING)
+        page = self.choose_file("few.csv", EMPTYING)
         page.see("will be emptied", ".seen-in-file")
         page.see("Scope and content (scopeAndContent)", ".seen-in-file")
         page.press("Import the file")
@@ -101,7 +100,7 @@ class FirstYear:
     def same_boxes(self):
         """Containers that another archive in the office names too."""
         box = {"physicalObjectName": "Box 2", "physicalObjectLocation": "Strongroom 1"}
-        page = self.chosen("boxes.csv", files.whole(files.unit("1", title="Another archive", **box)).encode())
+        page = self.choose_file("boxes.csv", files.csv_text(files.unit("1", title="Another archive", **box)).encode())
         page.press("Do other archives in the office name these containers?")
         page.see("1 name is in other archives too.", ".seen-in-file")
         page.see("Box 2: GB 0999 HUL [Fonds] Hull Dock Company", ".same-boxes")
@@ -115,7 +114,7 @@ class FirstYear:
             files.unit("3", "2", "Diary of 1801", publicationStatus="Draft"),
             files.unit("4", "1", "Accounts"),
         )
-        page = self.chosen("port.csv", files.whole(*rows).encode())
+        page = self.choose_file("port.csv", files.csv_text(*rows).encode())
         self.checks.same(
             "the counts of the file",
             page.js("document.querySelector('.seen-in-file tbody').innerText.split('\\t')"),
@@ -125,12 +124,11 @@ class FirstYear:
         page.press("Import the file")
         page.see("2 new units are drafts.", ".outcome")
         self.shot(page, "desk-import-drafts")
-        told = page.js(
-            "[...document.querySelectorAll('.drafts tbody tr')].map((row) => [...row.cells].slice(0, 3).map((cell) => cell.innerText))"
-        )
-        top = int(next(line for line in self.asks.text("/public/fonds").splitlines() if "PRT" in line).split(" ", 1)[0])
+        told = page.js(DRAFTS)
+        top = self.desk.fonds("PRT")
         self.checks.same(
-            "the drafts by number", told, [[f"unit {top + 1}", "2", "Diaries"], [f"unit {top + 2}", "3", "Diary of 1801"]]
+            "the drafts by number", told,
+            [[f"unit {top + 1}", "2", "Diaries"], [f"unit {top + 2}", "3", "Diary of 1801"]]
         )
         page.press(f"Publish with all below unit {top + 1}")
         page.see("2 units were set to published.", ".drafts")
@@ -139,16 +137,18 @@ class FirstYear:
 
     def more_drafts(self, rows, top):
         """A file with known rows too, after units were removed: the numbers are told, the rows are not guessed."""
-        self.asks.done("/desk/remove", unit=top + 3)
-        page = self.chosen("port.csv", files.whole(*rows, files.unit("5", "1", "Maps", publicationStatus="Draft")).encode())
+        self.asks.command("/desk/remove", unit=top + 3)
+        page = self.choose_file("port.csv",
+                                files.csv_text(*rows, files.unit("5", "1", "Maps", publicationStatus="Draft")).encode())
         page.fill("Source", "port")
         page.press("Import the file")
         page.see("1 new unit is a draft.", ".outcome")
-        cells = page.js("[...document.querySelector('.drafts tbody tr').cells].slice(0, 3).map((cell) => cell.innerText)")
-        self.checks.same("a draft among known rows", cells, [f"unit {top + 5}", "", "not shown to the public"])
+        draft = [f"unit {top + 5}", "", "not shown to the public"]
+        self.checks.same("a draft among known rows", page.js(DRAFTS), [draft])
 
-    def asked(self):
+    def questions(self):
         """A name that is known, and days that are past, are asked about."""
+        self.desk.readers()
         page = self.at("/readers")
         for name, until, question in (
             (" ANN  <b>smith</b> ", FAR, "There is a reader of this name"),
@@ -165,7 +165,7 @@ class FirstYear:
         page.fill("Last day of the ticket", FAR, "Register a reader")
         page.press("Register", "Register a reader")
         page.see("Registered: Eva Blank, ticket", ".outcome")
-        page = self.at(f"/units/{self.day.unit('plans')}")
+        page = self.at(f"/units/{self.desk.unit('Plans of the locks')}")
         page.fill("Closed until", "2001-01-01", "Closure")
         page.press("Set the closure", "Closure")
         page.see("A unit that is closed until a past day is open.", "dialog")
@@ -176,9 +176,7 @@ class FirstYear:
         page.press("Who has a permit for it?")
         page.see("Nobody has a permit")
         self.checks.same("cards are asked for four at a time", page.js("window.most"), 4)
-        places = page.js(
-            "[...document.querySelectorAll('.card, h2, pre.page')].map((one) => [one.innerText.split('\\n')[0], one.getBoundingClientRect().top])"
-        )
+        places = page.js(PLACES)
         below = next(top for words, top in places if words == "What the public sees")
         self.checks.check(
             "what can be done stands above what the public sees",
@@ -190,11 +188,9 @@ class FirstYear:
 
     def slips(self):
         """A run's call slips: one for each order, with codes that a barcode reader reads."""
-        box, roll = self.day.container("Box 2"), self.day.container("Roll 7")
-        self.orders = [
-            self.asks.done("/public/orders", ticket=ticket, container=int(container))["order"]
-            for ticket, container in ((1, box), (2, roll))
-        ]
+        ann, ben, *_ = self.desk.start()
+        box, roll = self.desk.container("Box 2"), self.desk.container("Roll 7")
+        orders = [self.desk.order(ann, box), self.desk.order(ben, roll)]
         page = self.at("/runs")
         page.press("Begin a run")
         page.see("Call slips to cut")
@@ -202,26 +198,18 @@ class FirstYear:
         run = page.js("location.hash").split("/")[-1]
         page.press("Call slips to cut")
         page.wait("document.querySelectorAll('.call-slip').length === 2")
-        page.see("Ann <b>Smith</b>, ticket 1", ".call-slips")
+        page.see(f"{ANN}, ticket {ann}", ".call-slips")
         told = page.text(".call-slips")
-        self.checks.check(
-            "location, container, order and day stand on a slip",
-            all(
-                part in told
-                for part in ("Strongroom 1", "Box 2", "Plan chest", f"Order {self.orders[0]}, run {run}, 2024-03-0")
-            ),
-            told,
-        )
-        bars = page.js(
-            "import('/barcode.js').then((codes) => ['T1', 'B20', 'T3456789'].map((code) => [code, codes.widthsOf(code)]))"
-        )
-        self.checks.same(
-            "the codes by the table of Code 39", [decoded(widths) for _, widths in bars], [f"*{code}*" for code, _ in bars]
-        )
+        parts = ("Strongroom 1", "Box 2", "Plan chest", f"Order {orders[0]}, run {run}, 2024-03-0")
+        self.checks.check("location, container, order and day stand on a slip", all(part in told for part in parts),
+                          told)
+        bars = page.js(WIDTHS)
+        wanted = [f"*{code}*" for code, _ in bars]
+        self.checks.same("the codes by the table of Code 39", [decode(widths) for _, widths in bars], wanted)
         self.shot(page, "desk-call-slips")
         self.shot(page, "desk-call-slips-printed", printed=True)
-        self.read_codes(page, {f"T{ticket}" for ticket in (1, 2)} | {f"B{container}" for container in (box, roll)})
-        for hash_, code in (("/readers/1/ticket", "T1"), (f"/counter/{box}/label", f"B{box}")):
+        self.read_codes(page, {f"T{ann}", f"T{ben}", f"B{box}", f"B{roll}"})
+        for hash_, code in ((f"/readers/{ann}/ticket", f"T{ann}"), (f"/counter/{box}/label", f"B{box}")):
             page = self.at(hash_)
             page.see(code, ".code")
         self.checks.check("tickets and labels have their codes", True)
@@ -235,45 +223,47 @@ class FirstYear:
         page.shot(path)
         page.size(1200, 850)
         done = subprocess.run(
-            ["zbarimg", "-q", "--raw", "-Sdisable", "-Scode39.enable", path], capture_output=True, text=True, check=False
+            ["zbarimg", "-q", "--raw", "-Sdisable", "-Scode39.enable", path], capture_output=True, text=True,
+            check=False
         )
         self.checks.same("zbarimg reads the codes", set(done.stdout.split()), wanted)
 
     def scans(self):
         """The code of a container is not taken for a ticket, nor the other way round."""
-        box = self.day.container("Box 2")
+        ann, *_ = self.desk.start()
+        box = self.desk.container("Box 2")
+        self.desk.fetch((ann, box))
         page = self.at("/counter")
         scan(page, f"B{box}")
         page.see("This is the code of a container. Scan a ticket.", ".wrong")
         self.checks.same("the field is marked", page.js("document.querySelector('[aria-invalid=true]').name"), "ticket")
-        scan(page, "T0001")
+        scan(page, f"T{ann:04}")
         page.wait("document.activeElement.name === 'container'")
         self.checks.same("the mark ends", page.js("document.querySelectorAll('[aria-invalid=true]').length"), 0)
         page.see("Ready at the desk: Box 2", ".about")
-        scan(page, "T1")
+        scan(page, f"T{ann}")
         page.see("This is the code of a ticket. Scan a container.", "form.command")
         self.shot(page, "desk-wrong-scan", full=False)
-        self.checks.same("nothing was issued", json.loads(self.asks.text("/desk/issued", True)), [])
-        self.asks.done("/desk/seat", ticket=1)
+        self.checks.same("nothing was issued", self.asks.read("/desk/issued"), [])
+        self.asks.command("/desk/seat", ticket=ann)
         scan(page, f"B{box}")
         page.see("Issued: Box 2, container")
         page.js("[...document.querySelectorAll('.card')][1].querySelector('input').focus()")
         scan(page, f"b{box}")
         page.see("Back: Box 2, container", ".back")
         self.checks.check("a day's round by codes", True)
-        self.asks.done("/desk/leave", ticket=1)
 
-    def passed_over(self):
+    def passed_over_orders(self):
         """After a run the desk says why an order still waits."""
-        closed, open_ = self.day.container(ODD["accents"]), self.day.container(ODD["quotes"])
-        unit = self.day.unit_of(ODD["accents"])
-        waits = self.asks.done("/public/orders", ticket=3, container=int(closed))["order"]
+        _, _, zoe, _ = self.desk.start()
+        closed, open_ = self.desk.container(ODD["accents"]), self.desk.container(ODD["quotes"])
+        unit = self.desk.unit(ODD["accents"])
+        self.desk.order(zoe, closed)
         page = self.at("/orders")
         page.see("on its shelf: a run fetches it if it is open to this reader")
         page.see("As of ", ".told")
-        self.asks.done("/desk/closure", unit=unit, until="2031-01-01")
-        self.asks.done("/public/orders", ticket=3, container=int(open_))
-        self.asks.done("/desk/run")
+        self.asks.command("/desk/closure", unit=unit, until="2031-01-01")
+        self.desk.fetch((zoe, open_))
         page.press("Show what waits now")
         page.see("passed it over. Probably it is not open to this reader")
         self.shot(page, "desk-passed-over")
@@ -282,22 +272,22 @@ class FirstYear:
         page.go("#/orders")
         page.see("passed it over")
         self.checks.check("an order that a run passed over is told, also later", True)
-        self.asks.done("/desk/cancel", order=waits)
-        self.asks.done("/desk/closure", unit=unit, until=None)
+        self.asks.command("/desk/closure", unit=unit, until=None)
 
     # What goes wrong
 
-    def incomplete(self):
+    def incomplete_list(self):
         """A list of what waits that lacks a card is not shown as one."""
+        _, ben, *_ = self.desk.start()
         page = self.at("/orders")
         page.see("As of ", ".told")
-        page.answer_with("*/desk/readers/2", 502, b'{"error":"not answered"}')
+        page.answer_with(f"*/desk/readers/{ben}", 502, b'{"error":"not answered"}')
         page.press("Read every card again")
         page.see("The office stopped answering. Try again in a minute.", ".told")
         page.answer_with(None, 0, b"")
         self.checks.check("a card that is not answered ends the list", True)
 
-    def fails(self):
+    def failed_page(self):
         """A page that fails says what to do, and not “Waiting” for ever."""
         page = self.at("/readers")
         page.answer_with("*/desk/issued", 200, b'{"no":"list"}')
@@ -309,21 +299,23 @@ class FirstYear:
 
     def queue_away(self):
         """With HAProxy away nothing is sent: the form stays open."""
+        ann, *_ = self.desk.start()
         office, page = self.asks.office, self.at("/readers")
         with office.without_queue():
             self.checks.same(
                 "what was not sent is told",
-                self.asks.post("/desk/register", {"name": "No", "until": FAR}),
+                self.asks.try_command("/desk/register", {"name": "No", "until": FAR}),
                 (503, '{"error":"not reached"}'),
             )
             page.go("#/counter")
-            page.fill("Ticket", "1", "A reader arrives")
+            page.fill("Ticket", ann, "A reader arrives")
             page.press("Give a seat")
             page.see("Your request was not passed on, and nothing was changed.")
-        self.checks.same("the form is open", page.js("document.querySelectorAll('form [aria-disabled=true]').length"), 0)
+        self.checks.same("the form is open", page.js("document.querySelectorAll('form [aria-disabled=true]').length"),
+                         0)
 
 
-def decoded(widths):
+def decode(widths):
     """What the bars and spaces of Code 39 say: nine for each character, and a narrow space after each."""
     kinds = "".join("w" if width > 1 else "n" for width in widths)
     return "".join(PATTERNS.get(kinds[place : place + 9], "?") for place in range(0, len(kinds), 10))

@@ -1,5 +1,5 @@
-"""How much one address may ask, how much may be under way at once, and how long a client may take. And what the numbers of nginx's
-configuration and of the queue's must be to one another, where waiting to see it would take minutes."""
+"""How much one address may ask, how much may be under way at once, and how long a client may take. And what the numbers
+of nginx's configuration and of the queue's must be to one another, where waiting to see it would take minutes."""
 
 import collections
 import contextlib
@@ -12,81 +12,91 @@ import threading
 import time
 
 from office import FRONT, TOP, Office
-from rules import raw
+from rules import exchange
 from stand_in import StandIn, in_place_of_program
 from waits import until
 
-PARTS = ("questions_in_a_row", "orders_in_a_row", "searches_in_a_row", "pages_at_once", "questions_at_once", "aids_at_once", "searches_at_once", "slow", "numbers")
+import client
+
+PARTS = ("questions_in_a_row", "orders_in_a_row", "searches_in_a_row", "pages_at_once", "questions_at_once",
+         "aids_at_once", "searches_at_once", "slow", "numbers")
 LARGE = 24_000_000  # more bytes than sockets hold
 
 
 def play(checks, program, folder, only=None):
+    """Plays all parts, each over an office of its own, or one of them."""
     for name in PARTS:
         if only not in (None, name):
             continue
         with contextlib.ExitStack() as stack:  # an office each: what was asked before counts too
-            office = Office(folder / name, program).init()
-            office.take_in("archives", TOP / "examples/archives.csv")
-            checks.part(f"limits: {name}", globals()[name], checks, stack.enter_context(office) if name != "numbers" else None)
+            office = Office.create(program, folder / name)
+            office.import_file("archives", TOP / "examples/archives.csv").expect_success()
+            checks.part(f"limits: {name}", globals()[name], checks,
+                        stack.enter_context(office) if name != "numbers" else None)
 
 
 # How many in a row
 
 class Row:
-    """Requests one behind the other on one connection, from an address that asked nothing before: how many of them were let through,
-    and from when to when."""
+    """Requests one behind the other on one connection, from an address that asked nothing before: how many of them were
+    let through, and from when to when."""
 
-    def __init__(self, office, request, many, body="", source="127.0.0.2"):
+    def __init__(self, office, asked, many, source="127.0.0.2"):
         self.began = time.monotonic()
-        head = f"{request} HTTP/1.1\r\nHost: x\r\nContent-Length: {len(body)}\r\n"
-        last = f"{head}Connection: close\r\n\r\n{body}"
-        got = raw(office.ports["8080"], f"{head}\r\n{body}" * (many - 1) + last, source=source)
+        last = client.request(*asked, fields={"Connection": "close"})
+        got = exchange(office.ports["8080"], client.request(*asked) * (many - 1) + last, source)
         self.ended = time.monotonic()
         statuses = [int(one) for one in re.findall(rb"HTTP/1.1 (\d{3}) ", got)]
         self.through = sum(one != 429 for one in statuses)
         self.many, self.whole = many, len(statuses) == many
 
 
-def in_a_row(checks, office, request, burst, rate, rests, body=""):
-    """`burst` and one more at once, and then `rate` a second. Were those over `rate` kept waiting, none would be answered by 429: each
-    of a row is sent on after the one before it is answered."""
-    first = Row(office, request, int(burst + 10 + 15 * rate), body)  # more than can come through in 15 seconds
-    checks.check("all are answered, and some of them by 429 and not later", first.whole and first.through < first.many, (first.through, first.many))
+def check_row(checks, office, asked, burst, rate, rests):
+    """`burst` requests and one more at once, and then `rate` a second, with a rest of so many seconds between two rows;
+    `asked`: method, path and body. Were those over `rate` kept waiting, none would be answered by 429: each of a row is
+    sent on after the one before it is answered."""
+    first = Row(office, asked, int(burst + 10 + 15 * rate))  # more than can come through in 15 seconds
+    checks.check("all are answered, and some of them by 429 and not later", first.whole and first.through < first.many,
+                 (first.through, first.many))
     most = burst + 1 + rate * (first.ended - first.began)
     checks.check(f"{burst + 1} at once, and no more", burst + 1 <= first.through <= most + 1, (first.through, most))
-    checks.same("another address has its own", Row(office, request, burst, body, "127.0.0.3").through, burst)
+    checks.same("another address has its own", Row(office, asked, burst, "127.0.0.3").through, burst)
     time.sleep(rests)  # how many are let through after a time is what is measured
-    second = Row(office, request, int(rate * (time.monotonic() - first.ended)) + 40, body)
+    second = Row(office, asked, int(rate * (time.monotonic() - first.ended)) + 40)
     least = rate * (second.began - first.ended)
     most = burst + 1 + rate * (second.ended - first.began) - first.through
-    checks.check(f"and then {rate} a second", min(least - 1, burst) <= second.through <= most + 1, (second.through, least, most))
+    checks.check(f"and then {rate} a second", min(least - 1, burst) <= second.through <= most + 1,
+                 (second.through, least, most))
 
 
 def questions_in_a_row(checks, office):
-    """With the queue away nginx answers all of them itself, so that they come faster than any machine's program would answer them."""
+    """With the queue away nginx answers all of them itself, so that they come faster than any machine's program would
+    answer them."""
     with office.without_queue():
-        in_a_row(checks, office, "GET /public/units/1", 200, 50, 1.5)
+        check_row(checks, office, ("GET", "/public/units/1"), 200, 50, 1.5)
 
 
 def orders_in_a_row(checks, office):
-    in_a_row(checks, office, "POST /public/orders", 11, 0.1, 11, '{"ticket":999,"container":1}')
+    """A dozen orders at once, then one in ten seconds."""
+    check_row(checks, office, ("POST", "/public/orders", '{"ticket":999,"container":1}'), 11, 0.1, 11)
 
 
 def searches_in_a_row(checks, office):
-    in_a_row(checks, office, "GET /public/search?q=x", 20, 2, 3)
+    """Some twenty searches at once, then two a second."""
+    check_row(checks, office, ("GET", "/public/search?q=x"), 20, 2, 3)
 
 
 # How many at once
 
 class Crowd:
-    """Clients who each send one request, and wait for its answer."""
+    """Clients who each send the same bytes, and wait for an answer."""
 
-    def __init__(self, port, request, many):
-        self.sockets = [socket.create_connection(("127.0.0.1", port), 90) for _ in range(many)]
+    def __init__(self, port, sent, many):
+        self.sockets = [socket.create_connection((client.HOST, port), 90) for _ in range(many)]
         for one in self.sockets:
-            one.sendall(f"{request}\r\n\r\n".encode())
+            one.sendall(sent)
 
-    def answered(self):
+    def count_answered(self):
         """How many have an answer."""
         return len(select.select(self.sockets, [], [], 0)[0])
 
@@ -100,25 +110,27 @@ class Crowd:
 
 def pages_at_once(checks, office):
     """Clients who have not sent what they announced count, though they are answered."""
-    crowd = Crowd(office.ports["8080"], "POST / HTTP/1.1\r\nHost: x\r\nContent-Length: 4000", 115)
+    crowd = Crowd(office.ports["8080"], client.post("/", b"x" * 4000)[:-4000], 115)
     checks.same("a hundred at once from one address", crowd.statuses(), {403: 100, 429: 15})
 
 
 def questions_at_once(checks, office):
-    at_once(checks, office, "GET /public/units/1", 115, 100)
+    """A hundred questions at once from one address."""
+    check_at_once(checks, office, "/public/units/1", 115, 100)
 
 
 def aids_at_once(checks, office):
-    at_once(checks, office, "GET /public/aid/1", 14, 10)
+    """Ten finding aids at once from one address."""
+    check_at_once(checks, office, "/public/aid/1", 14, 10)
 
 
-def at_once(checks, office, path, many, most):
+def check_at_once(checks, office, path, many, most):
     """So many clients ask while the program is stopped."""
     stopped = office.serving
     os.kill(stopped.pid, signal.SIGSTOP)
-    crowd = Crowd(office.ports["8080"], f"{path} HTTP/1.1\r\nHost: x", many)
-    until(lambda: crowd.answered() >= many - most, "those over the limit are answered")
-    checks.same("the others are not", crowd.answered(), many - most)
+    crowd = Crowd(office.ports["8080"], client.get(path), many)
+    until(lambda: crowd.count_answered() >= many - most, "those over the limit are answered")
+    checks.same("the others are not", crowd.count_answered(), many - most)
     os.kill(stopped.pid, signal.SIGCONT)
     checks.same(f"{most} at once from one address", crowd.statuses(), {200: most, 429: many - most})
 
@@ -127,9 +139,9 @@ def searches_at_once(checks, office):
     """So many clients search, whoever they are, while the service answers none of them."""
     with StandIn(office.folder / "answers.sock", silent=True, at_once=20) as service:
         os.chmod(office.folder / "answers.sock", 0o666)
-        crowd = Crowd(office.ports["8080"], "GET /public/search?q=x HTTP/1.1\r\nHost: x", 20)
-        until(lambda: crowd.answered() >= 4 and len(service.requests) >= 16, "those over the limit are answered")
-        checks.same("sixteen at once", (crowd.answered(), len(service.requests)), (4, 16))
+        crowd = Crowd(office.ports["8080"], client.get("/public/search?q=x"), 20)
+        until(lambda: crowd.count_answered() >= 4 and len(service.requests) >= 16, "those over the limit are answered")
+        checks.same("sixteen at once", (crowd.count_answered(), len(service.requests)), (4, 16))
     checks.same("the others are told that there is none", crowd.statuses(), {502: 16, 429: 4})
 
 
@@ -138,15 +150,16 @@ def searches_at_once(checks, office):
 class Slow(threading.Thread):
     """A client who begins a request and then does nothing: after how many seconds it is left, and how."""
 
-    def __init__(self, port, begins):
+    def __init__(self, port, sent):
         super().__init__(daemon=True)
-        self.port, self.begins, self.took, self.how = port, begins, None, None
+        self.port, self.sent, self.took, self.how = port, sent, None, None
 
     def run(self):
+        """Sends the beginning, and waits for a minute at most until the front leaves."""
         with socket.socket() as it:
             it.setsockopt(socket.SOL_SOCKET, socket.SO_RCVBUF, 4096)
-            it.connect(("127.0.0.1", self.port))
-            it.sendall(self.begins.encode())
+            it.connect((client.HOST, self.port))
+            it.sendall(self.sent)
             began, watch = time.monotonic(), select.poll()
             watch.register(it, select.POLLHUP | select.POLLERR | select.POLLRDHUP)
             seen = watch.poll(60_000)
@@ -154,26 +167,28 @@ class Slow(threading.Thread):
             self.how = "reset" if seen and seen[0][1] & select.POLLERR else "closed" if seen else "kept"
 
 
-SLOW = {"head": ("GET / HTTP/1.1\r\nHost", 10), "body": ("POST /public/orders HTTP/1.1\r\nHost: x\r\nContent-Length: 20\r\n\r\n{", 10),
-        "answer": ("GET /public/aid/1 HTTP/1.1\r\nHost: x\r\n\r\n", 20)}
+# what a client sends before it stops, and the seconds after which it is left
+SLOW = {"head": (client.get("/")[:20], 10), "body": (client.post("/public/orders", b"{" * 20)[:-19], 10),
+        "answer": (client.get("/public/aid/1"), 20)}
 
 
 def slow(checks, office):
     """Who sends no more, or takes no more, is left after a time, and nothing of it stays."""
     with in_place_of_program(office, body=b"x" * LARGE):
-        clients = {what: Slow(office.ports["8080"], begins) for what, (begins, _) in SLOW.items()}
-        for client in clients.values():
-            client.start()
-        for what, client in clients.items():
-            client.join(90)
+        clients = {what: Slow(office.ports["8080"], sent) for what, (sent, _) in SLOW.items()}
+        for one in clients.values():
+            one.start()
+        for what, one in clients.items():
+            one.join(90)
             wanted = SLOW[what][1]
-            checks.check(f"who does not go on with the {what} is left after {wanted} s", client.how == "reset" and wanted - 1 < client.took < wanted + 6,
-                         (client.how, client.took))
+            checks.check(f"who does not go on with the {what} is left after {wanted} s",
+                         one.how == "reset" and wanted - 1 < one.took < wanted + 6, (one.how, one.took))
 
 
 # What the numbers must be to one another
 
 def seconds(name, text, which=0):
+    """The seconds that a setting of HAProxy has in this text."""
     return int(re.findall(rf"^\s*{name} (\d+)s", text, re.M)[which])
 
 
@@ -183,21 +198,28 @@ def numbers(checks, _):
     queue, gate = texts["haproxy.cfg"].split("\ndefaults\n")[1:]
     for name, at in (("the queue", queue), ("the gate", gate)):
         kept = max(int(one) for one in re.findall(r"keepalive_timeout (\d+)s", texts["common.conf"]))
-        checks.check(f"{name} keeps idle connections longer than who asks it", seconds("timeout http-keep-alive", at) > kept, kept)
+        checks.check(f"{name} keeps idle connections longer than who asks it",
+                     seconds("timeout http-keep-alive", at) > kept, kept)
     reads = int(re.search(r"proxy_read_timeout (\d+)s", texts["proxy.conf"])[1])
     whole = seconds("timeout queue", queue) + seconds("timeout server", queue)
     checks.check("nginx waits longer than the queue", reads > whole, (reads, whole))
     checks.check("the queue waits for nginx longer than that", seconds("timeout client", queue) > reads, reads)
     checks.check("an import or a removal has two minutes", seconds("timeout server", queue) >= 120)
     checks.check("and so has what waits behind one", seconds("timeout queue", queue) >= 120)
-    checks.check("the gate waits longer than the queue", min(seconds(f"timeout {side}", gate) for side in ("client", "server")) > seconds("timeout server", queue))
+    checks.check("the gate waits longer than the queue",
+                 min(seconds(f"timeout {side}", gate)
+                     for side in ("client", "server")) > seconds("timeout server", queue))
     tries = int(re.search(r"retries (\d+)", gate)[1])
-    checks.check("the gate says that it did not reach the program before the queue gives up", 100 <= tries < seconds("timeout server", queue), tries)
+    checks.check("the gate says that it did not reach the program before the queue gives up",
+                 100 <= tries < seconds("timeout server", queue), tries)
     most = [int(one) for one in re.findall(r"maxconn (\d+)", re.sub(r"server .*", "", texts["haproxy.cfg"]))]
     every, *ways, gates = most
-    checks.check("there is room for a connection to the gate for each request", gates >= sum(ways) and every >= sum(ways) + gates, most)
+    checks.check("there is room for a connection to the gate for each request",
+                 gates >= sum(ways) and every >= sum(ways) + gates, most)
     checks.check("readers of many addresses fill no way but theirs", len(ways) == 3 and ways[0] >= 100, ways)
     binds = re.findall(r"bind (\S+)", texts["haproxy.cfg"])
-    checks.check("the queue is reached from this machine alone", all(re.match(r"127\.0\.0\.1:|unix@/", one) for one in binds), binds)
+    checks.check("the queue is reached from this machine alone",
+                 all(re.match(r"127\.0\.0\.1:|unix@/", one) for one in binds), binds)
     desk = texts["nginx.conf"].split("# Staff")[1]
-    checks.check("and so is the desk without TLS", all(one.startswith("127.0.0.1:") for one in re.findall(r"listen (\S+)", desk)), desk)
+    checks.check("and so is the desk without TLS",
+                 all(one.startswith("127.0.0.1:") for one in re.findall(r"listen (\S+)", desk)), desk)

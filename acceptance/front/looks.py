@@ -2,7 +2,6 @@
 
 import base64
 import json
-import subprocess
 import sys
 
 from files import FILES
@@ -15,28 +14,26 @@ RULES = read_rules()
 LOOK = """import('/look/look.js').then(async ({ look, readRules, adviceWords }) => {
   const rules = await readRules();
   const seen = look(Uint8Array.from(atob(%s), (letter) => letter.charCodeAt(0)), rules);
-  const told = seen.advice.map((one) => adviceWords(rules, one)).map(({ name, level, says, todo }) => [name, level, says, todo]);
+  const told = seen.advice.map((one) => adviceWords(rules, one))
+    .map(({ name, level, says, todo }) => [name, level, says, todo]);
   return [told, seen.counts];
 })"""
 
 
-def at_shell(data):
+def look_by_shell(data):
     """The advice of record-office-look as [name, level, what it says, what to do], and its counts."""
     seen = Look(RULES).at(data)
     return [[[name, *words(RULES, name, values)] for name, values in seen.advice], seen.counts or None]
 
 
-def on_page(page, data):
+def look_by_page(page, data):
     """The same by the modules of the import page."""
     return page.js(LOOK % json.dumps(base64.b64encode(data).decode()))
 
 
-def by_program(program, data):
+def preview(program, data):
     """The refusal of `preview` as (row, cause), or None."""
-    done = subprocess.run(
-        [program, "preview", "--country", "GB", "--repo", "0999"], input=data, capture_output=True, check=False
-    )
-    told = done.stderr.decode().split()
+    told = program.run("preview", "--country", "GB", "--repo", "0999", said=data).message.decode().split()
     return (int(told[4]), int(told[6])) if told else None
 
 
@@ -47,25 +44,28 @@ def fits(advice, wanted):
 
 
 def play(checks, program, page=None):
+    """Looks at each file by the shell and by the program; with a page, also by the page's modules."""
     for file in FILES:
-        told = at_shell(file.data)
+        told = look_by_shell(file.data)
         checks.check(f"the advice fits: {file.name}", fits(told[0], file.advice), told)
-        checks.same(f"the program's answer: {file.name}", by_program(program, file.data), file.refused)
+        checks.same(f"the program's answer: {file.name}", preview(program, file.data), file.refused)
         if page:
-            checks.same(f"the page gives the same advice: {file.name}", on_page(page, file.data), told)
-    labels(checks)
-    every_rule(checks)
+            checks.same(f"the page gives the same advice: {file.name}", look_by_page(page, file.data), told)
+    check_labels(checks)
+    check_rules(checks)
 
 
-def labels(checks):
+def check_labels(checks):
     """The names of elements are those of the table in docs/RULES.md."""
     rows = [
-        line.strip("| ").split(" | ") for line in (TOP / "docs/RULES.md").read_text().splitlines() if line.startswith("| 3.")
+        line.strip("| ").split(" | ") for line in (TOP / "docs/RULES.md").read_text().splitlines()
+        if line.startswith("| 3.")
     ]
     wanted = {row[2]: row[1] for row in rows if "," not in row[2]}
     checks.same("the elements' names", {name: RULES["elements"][name] for name in wanted}, wanted)
 
 
-def every_rule(checks):
+def check_rules(checks):
     """Each advice of the rules is given for a file of the table."""
-    checks.same("advice that no file gets", sorted(set(RULES["advice"]) - {name for file in FILES for name in file.advice}), [])
+    checks.same("advice that no file gets",
+                sorted(set(RULES["advice"]) - {name for file in FILES for name in file.advice}), [])

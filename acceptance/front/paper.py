@@ -1,68 +1,83 @@
 #!/usr/bin/env python3
-"""What the desk prints, and what stays in view: nine boxes with long names, nine readers with longer ones, a unit with sixty
-below it; and the office's own words.
+"""What the desk prints, and what stays in view: nine boxes with long names, nine readers with longer ones, a unit with
+sixty below it; and the office's own words.
 
-    paper.py PROGRAM FOLDER
+    paper.py [--program PROGRAM] FOLDER
 
 FOLDER is made anew, and gets the pages that were printed. The last line is `N passed, M failed`.
 """
 
-import argparse
 import json
-import pathlib
 import sys
 
 sys.dont_write_bytecode = True
 from asks import Asks  # noqa: E402
 from browser import Browser  # noqa: E402
 from checks import Checks  # noqa: E402
-from files import unit, whole  # noqa: E402
-from office import SIGNED_IN, Office, fresh  # noqa: E402
+from files import csv_text, unit  # noqa: E402
+from office import SIGNED_IN, Office, clear, folder_options  # noqa: E402
 
 BOXES, BELOW = 9, 60
 PAPER = 718  # the width of A4 without its margins, in the pixels of a browser
-WIDE = """[...document.querySelectorAll('main, .call-slip, main td, main th, main p')].filter((one) => one.getClientRects().length)
-  .filter((one) => one.scrollWidth > one.clientWidth + 1 && getComputedStyle(one).display !== 'inline').map((one) => one.outerHTML.slice(0, 90))"""
+WIDE = """[...document.querySelectorAll('main, .call-slip, main td, main th, main p')]
+  .filter((one) => one.getClientRects().length)
+  .filter((one) => one.scrollWidth > one.clientWidth + 1 && getComputedStyle(one).display !== 'inline')
+  .map((one) => one.outerHTML.slice(0, 90))"""
+UNIT_LINKS = """[...document.querySelectorAll('main a')].map((one) => one.getAttribute('href'))
+  .filter((one) => one.startsWith('#/units/'))"""
+BOTTOMS = """[...document.querySelectorAll('.card button')]
+  .map((one) => [one.innerText, one.getBoundingClientRect().bottom])"""
 TOPS = "[...document.querySelectorAll('.card')].map((one) => Math.round(one.getBoundingClientRect().top + scrollY))"
 BUTTONS = """[...document.querySelectorAll('dialog button')].map((one) => one.getBoundingClientRect())
   .every((box) => box.top >= 0 && box.bottom <= innerHeight)"""
 
 
 def catalogue():
-    boxes = [unit(str(2 + box), "1", f"Registers of incoming letters, part {box}", identifier=str(box), levelOfDescription="Series",
-                  physicalObjectName=f"Deed box with iron bands, number {box}", physicalObjectLocation=f"Strongroom below the north tower, bay {box}")
+    """The file of the archive."""
+    boxes = [unit(str(2 + box), "1", f"Registers of incoming letters, part {box}", identifier=str(box),
+                  levelOfDescription="Series",
+                  physicalObjectName=f"Deed box with iron bands, number {box}",
+                  physicalObjectLocation=f"Strongroom below the north tower, bay {box}")
              for box in range(1, BOXES + 1)]
-    below = [unit(str(100 + file), "3", f"Letter {file}", identifier=str(file), levelOfDescription="Item") for file in range(BELOW)]
-    return whole(unit("1", identifier="HUL", title="Hull Dock Company", levelOfDescription="Fonds"), *boxes, *below)
+    below = [unit(str(100 + file), "3", f"Letter {file}", identifier=str(file), levelOfDescription="Item")
+             for file in range(BELOW)]
+    return csv_text(unit("1", identifier="HUL", title="Hull Dock Company", levelOfDescription="Fonds"), *boxes, *below)
 
 
 def fill(office, folder):
+    """Imports the archive."""
     path = folder / "catalogue.csv"
     path.write_text(catalogue(), encoding="utf-8")
-    office.take_in("catalogue", path)
+    office.import_file("catalogue", path).expect_success()
 
 
-def orders(asks):
+def place_orders(asks):
     """Nine readers with long names, each with an order, and a run that fetches them all."""
     for ticket in range(1, BOXES + 1):
-        asks.done("/desk/register", name=f"Wilhelmina Featherstonehaugh-Cholmondeley of {ticket} Quay", until="2030-12-31")
-        asks.done("/public/orders", ticket=ticket, container=ticket)
-    asks.done("/desk/run")
+        asks.command("/desk/register", name=f"Wilhelmina Featherstonehaugh-Cholmondeley of {ticket} Quay",
+                     until="2030-12-31")
+        asks.command("/public/orders", ticket=ticket, container=ticket)
+    asks.command("/desk/run")
 
 
 class Paper:
+    """The desk's pages, and in `hall` those of the readers, over an office with a run."""
+
     def __init__(self, checks, asks, page, hall, folder):
         self.checks, self.asks, self.page, self.hall, self.folder = checks, asks, page, hall, folder
 
     def play(self):
-        for part in (self.slip, self.call_slips, self.tickets_and_labels, self.today, self.unit, self.removal, self.notes, self.own_words):
+        """Plays all parts."""
+        for part in (self.slip, self.call_slips, self.tickets_and_labels, self.today, self.unit, self.removal,
+                     self.notes, self.own_words):
             self.checks.part(f"paper: {part.__name__}", part)
 
     def at(self, hash_, words):
+        """Loads a page of the desk that shows these words."""
         self.page.open(self.asks.office.staff, hash_)
         self.page.see(words)
 
-    def prints(self, name, most):
+    def print_page(self, name, most):
         """The page as it would be printed: how many sheets, and whether anything runs over."""
         self.page.size(PAPER, 1000)
         self.page.call("Emulation.setEmulatedMedia", media="print")
@@ -75,33 +90,38 @@ class Paper:
         self.checks.check(f"sheets: {name}", 1 <= sheets <= most, sheets)
 
     def slip(self):
+        """The slip of a run fits on one sheet."""
         self.at("/runs/1", "What to fetch, and for whom")
         self.page.see("Wilhelmina Featherstonehaugh-Cholmondeley of 9 Quay")
-        self.prints("slip", 1)
+        self.print_page("slip", 1)
 
     def call_slips(self):
+        """Nine call slips fit on two sheets."""
         self.at("/runs/1/slips", "Call slips of run 1")
         self.page.wait(f"document.querySelectorAll('.call-slip').length === {BOXES}")
         self.page.see("Wilhelmina Featherstonehaugh-Cholmondeley of 9 Quay")
-        self.prints("call slips", 2)
+        self.print_page("call slips", 2)
 
     def tickets_and_labels(self):
+        """A ticket and a label fit on one sheet each."""
         self.at("/readers/3/ticket", "Wilhelmina")
-        self.prints("ticket", 1)
+        self.print_page("ticket", 1)
         self.at("/counter/3/label", "Deed box")
-        self.prints("label", 1)
+        self.print_page("label", 1)
 
     def today(self):
+        """The first page says what can be known of the day."""
         self.at("/", "The newest is run 1 of 2024-03-01: this day is open, or a later one.")
         self.checks.check("today says what can be known of the day", True)
 
     def unit(self):
         """A unit with many below it: each is there once, and what can be done stands before them."""
         self.at("/units/2", "What the public sees")
-        shown = self.page.js("[...document.querySelectorAll('main a')].map((one) => one.getAttribute('href')).filter((one) => one.startsWith('#/units/'))")
+        shown = self.page.js(UNIT_LINKS)
         self.checks.same("each unit below is a link once", (len(shown), len(set(shown))), (BELOW, BELOW))
-        bottoms = self.page.js("[...document.querySelectorAll('.card button')].map((one) => [one.innerText, one.getBoundingClientRect().bottom])")
-        late = [words for words, bottom in bottoms if words in ("Set the status", "Set the closure", "Move", "Remove …") and bottom > 850]
+        bottoms = self.page.js(BOTTOMS)
+        early = ("Set the status", "Set the closure", "Move", "Remove …")
+        late = [words for words, bottom in bottoms if words in early and bottom > 850]
         self.checks.same("status, closure, move and removal are on the first screen", late, [])
 
     def removal(self):
@@ -126,7 +146,8 @@ class Paper:
 
     def own_words(self):
         """The office's name, address, hours, and what happens after an order."""
-        words = {"name": "Archive of the harbour", "address": "1 Quay Street\nHull", "hours": "Monday to Friday, 9 to 5"}
+        words = {"name": "Archive of the harbour", "address": "1 Quay Street\nHull",
+                 "hours": "Monday to Friday, 9 to 5"}
         self.hall.open(self.asks.office.public, "/help")
         self.checks.check("without an address none is shown", "Address" not in self.hall.text())
         self.hall.answer_with("*/office.json", 200, json.dumps(words).encode())
@@ -139,29 +160,28 @@ class Paper:
 
 
 def play(checks, program, folder, browser):
-    office = Office(folder, program).init()
+    """Plays all parts over an office of its own."""
+    office = Office.create(program, folder)
     fill(office, office.folder)
     with office:
         asks = Asks(office)
-        orders(asks)
+        place_orders(asks)
         page, hall = browser.page(SIGNED_IN), browser.page()
         Paper(checks, asks, page, hall, office.folder).play()
         checks.same("the browser complains of nothing", page.complaints() + hall.complaints(), [])
 
 
 def main():
-    words = argparse.ArgumentParser(description=__doc__, formatter_class=argparse.RawDescriptionHelpFormatter)
-    words.add_argument("program", type=pathlib.Path)
-    words.add_argument("folder", type=pathlib.Path)
-    words = words.parse_args()
-    folder, checks = fresh(words.folder), Checks()
+    """Plays all parts; returns the exit status."""
+    given, checks = folder_options(__doc__).parse_args(), Checks()
+    folder = clear(given.folder)
     folder.mkdir(parents=True)
     browser = Browser(folder / "profile")
     try:
-        play(checks, words.program, folder / "office", browser)
+        play(checks, given.program, folder / "office", browser)
     finally:
         browser.end()
-    return checks.end()
+    return checks.finish()
 
 
 if __name__ == "__main__":

@@ -1,5 +1,5 @@
-"""What the queue and nginx pass on, in which order, over which connections, and what they say when nothing answers. Where the
-order of requests or their bytes matter, a stand-in has the program's place."""
+"""What the queue and nginx pass on, in which order, over which connections, and what they say when nothing answers.
+Where the order of requests or their bytes matter, a stand-in has the program's place."""
 
 import contextlib
 import http.client
@@ -11,31 +11,36 @@ import time
 
 from asks import Asks
 from office import SIGNED_IN, TOP, Office
-from restarts import UNANSWERED, Client, registration, unread
-from rules import policy_of, raw, status
+from restarts import UNANSWERED, Sender, count_unread, registration
+from rules import ask_once, check_policy, status
 from stall import Socket
 from stand_in import StandIn, in_place_of_program
 from waits import until
 
+import client
+
 ROUND = {"Record-Office-Round": "yes"}
-HALF = b"POST /desk/run HTTP/1.1\r\nHost: office\r\nContent-Length: 100\r\n\r\n"
-QUESTION = b"GET /public/fonds HTTP/1.1\r\nHost: office\r\nConnection: close\r\n\r\n"
-SHORT = (("timeout queue 120s", "timeout queue 2s"), ("timeout server 120s", "timeout server 5s"), ("retries 110", "retries 2"))
+HALF = client.post("/desk/run", b" " * 100)[:-100]  # without its body
+QUESTION = client.request("GET", "/public/fonds", fields={"Connection": "close"})
+SHORT = (("timeout queue 120s", "timeout queue 2s"), ("timeout server 120s", "timeout server 5s"),
+         ("retries 110", "retries 2"))
 NOT_REACHED = (503, b'{"error":"not reached"}')
 LARGE = 24_000_000  # more bytes than sockets hold
 IDLE = 9  # seconds after which the program is about to close an idle connection
-PARTS = ("order", "heads", "bodies_first", "slow_reader", "one_connection", "idle", "never_twice", "left_behind", "ways_in", "logs", "late")
+PARTS = ("order", "heads", "bodies_first", "slow_reader", "one_connection", "idle", "never_twice", "left_behind",
+         "ways_in", "logs", "late")
 
 
 def play(checks, program, folder, only=None):
-    office = Office(folder, program).init()
-    office.take_in("archives", TOP / "examples/archives.csv")
+    """Plays all parts over one office, or one of them."""
+    office = Office.create(program, folder)
+    office.import_file("archives", TOP / "examples/archives.csv").expect_success()
     with office:
         for name in PARTS[:-1]:
             if only in (None, name):
                 checks.part(f"queue: {name}", globals()[name], checks, office)
     if only in (None, "late"):
-        with Office(folder / "late", program, changes=SHORT).init() as hasty:
+        with Office.create(program, folder / "late", changes=SHORT) as hasty:
             checks.part("queue: late", late, checks, hasty)
 
 
@@ -43,63 +48,74 @@ class Way:
     """A way into the queue, and what is asked there. Each request has a connection of its own, and ends in `got`."""
 
     def __init__(self, office, side, method, path, heads=None):
-        self.client = Client(office.ports["8092" if side == "desk" else "8091"], [(method, path, "{}" if method == "POST" else None, heads or {})])
+        self.sender = Sender(office.ports["8092" if side == "desk" else "8091"],
+                             [(method, path, "{}" if method == "POST" else None, heads or {})])
         if side == "search":
-            self.client.run = lambda: self.ask_socket(office, path, heads or {})
+            self.sender.run = lambda: self.ask_socket(office, path, heads or {})
         self.path = path
 
     def ask_socket(self, office, path, heads):
+        """Asks at the search's socket, and keeps the status of the answer."""
         with contextlib.closing(Socket(office.folder / "search.sock")) as connection:
             connection.request("GET", path, headers=heads)
-            self.client.got.append((connection.getresponse().status, b""))
+            self.sender.got.append((connection.getresponse().status, b""))
 
 
 def order(checks, office):
-    """Who waits longest does not go first: the desk, then pages, orders, what the search asks for readers, finding aids, rounds."""
-    asked = [("readers", "GET", "/public/units/1"), ("search", "GET", "/public/fonds", ROUND), ("readers", "GET", "/public/aid/1"), ("search", "GET", "/public/units/2"),
-             ("readers", "POST", "/public/orders"), ("readers", "GET", "/public/units/3"), ("desk", "POST", "/desk/run")]
+    """Who waits longest does not go first: the desk, then pages, orders, what the search asks for readers, finding
+    aids, rounds."""
+    asked = [("readers", "GET", "/public/units/1"), ("search", "GET", "/public/fonds", ROUND),
+             ("readers", "GET", "/public/aid/1"), ("search", "GET", "/public/units/2"),
+             ("readers", "POST", "/public/orders"), ("readers", "GET", "/public/units/3"),
+             ("desk", "POST", "/desk/run")]
     ways = [Way(office, *one) for one in asked]
     with office.without_program():
         for many, way in enumerate(ways):
-            way.client.start()
+            way.sender.start()
             # The first is given to the gate, which waits for the program; each other one waits in the queue.
-            until(lambda: office.queued() == many and office.queue_state()["scur"] == "1", f"{many} requests wait")
+            until(lambda: office.count_queued() == many and office.queue_state()["scur"] == "1",
+                  f"{many} requests wait")
         with StandIn(office.ports["8090"]) as program:
             for way in ways:
-                way.client.join(60)
-            wanted = ["/public/units/1", "/desk/run", "/public/units/3", "/public/orders", "/public/units/2", "/public/aid/1", "/public/fonds"]
+                way.sender.join(60)
+            wanted = ["/public/units/1", "/desk/run", "/public/units/3", "/public/orders", "/public/units/2",
+                      "/public/aid/1", "/public/fonds"]
             checks.same("each waits behind those that go first", program.paths, wanted)
-    checks.same("each is answered", [way.client.got[0][0] for way in ways], [200] * len(ways))
+    checks.same("each is answered", [way.sender.got[0][0] for way in ways], [200] * len(ways))
 
 
 def heads(checks, office):
     """Nothing that a client writes in the head of a request comes to the program."""
-    sent = {**SIGNED_IN, **ROUND, "Cookie": "a=b", "X-Forwarded-For": "192.0.2.1", "User-Agent": "x", "Expect": "100-continue"}
+    sent = {**SIGNED_IN, **ROUND, "Cookie": "a=b", "X-Forwarded-For": "192.0.2.1", "User-Agent": "x",
+            "Expect": "100-continue"}
     with in_place_of_program(office) as program:
-        for port, method, path in (("8080", "GET", "/public/units/1"), ("8081", "GET", "/desk/issued"), ("8081", "POST", "/desk/run"), ("8080", "HEAD", "/public/fonds")):
-            client = Client(office.ports[port], [(method, path, "{}" if method == "POST" else None, sent)])
-            client.start()
-            client.join(60)
-            checks.same(f"{method} {path} is answered", client.got[0][0], 200)
+        for port, method, path in (("8080", "GET", "/public/units/1"), ("8081", "GET", "/desk/issued"),
+                                   ("8081", "POST", "/desk/run"), ("8080", "HEAD", "/public/fonds")):
+            sender = Sender(office.ports[port], [(method, path, "{}" if method == "POST" else None, sent)])
+            sender.start()
+            sender.join(60)
+            checks.same(f"{method} {path} is answered", sender.got[0][0], 200)
         lines = [head.lower().split("\r\n") for head, _ in program.requests]
     checks.same("the lines that come to the program", [sorted(head) for head in lines], [
         ["get /public/units/1 http/1.1", "host: office"], ["get /desk/issued http/1.1", "host: office"],
-        ["content-length: 2", "host: office", "post /desk/run http/1.1"], ["get /public/fonds http/1.1", "host: office"]])
+        ["content-length: 2", "host: office", "post /desk/run http/1.1"],
+        ["get /public/fonds http/1.1", "host: office"]])
 
 
 def bodies_first(checks, office):
     """A client who has not sent all of a command keeps nobody waiting."""
     body = b'{"ticket":1,"container":1}'
-    with in_place_of_program(office) as program, socket.create_connection(("127.0.0.1", office.ports["8080"]), 90) as slow:
-        slow.sendall(b"POST /public/orders HTTP/1.1\r\nHost: x\r\nConnection: close\r\nContent-Length: %d\r\n\r\n%s" % (len(body), body[:9]))
-        got = http_get(office, "/public/fonds")
+    command = client.request("POST", "/public/orders", body, fields={"Connection": "close"})
+    with in_place_of_program(office) as program, send(office, "8080", command[:9 - len(body)]) as slow:
+        got = ask(office, "/public/fonds")
         checks.same("another client is answered meanwhile", (got.status, program.paths), (200, ["/public/fonds"]))
-        slow.sendall(body[9:])
+        slow.sendall(command[9 - len(body):])
         checks.check("and then the command", b"200 OK" in slow.recv(4096))
         checks.same("which comes whole", program.requests[-1][1], body)
 
 
-def http_get(office, path, port="8080", headers=None):
+def ask(office, path, port="8080", headers=None):
+    """The answer to a question; its body is not read yet."""
     connection = http.client.HTTPConnection("127.0.0.1", office.ports[port], timeout=60)
     connection.request("GET", path, headers=headers or {})
     return connection.getresponse()
@@ -108,7 +124,7 @@ def http_get(office, path, port="8080", headers=None):
 def slow_reader(checks, office):
     """A reader who takes nothing of a large answer keeps nobody waiting: nginx has taken it from the queue."""
     with in_place_of_program(office, body=b"x" * LARGE) as program:
-        slow = http_get(office, "/public/aid/1")
+        slow = ask(office, "/public/aid/1")
         until(lambda: program.requests, "the aid is asked for")
         connection = http.client.HTTPConnection("127.0.0.1", office.ports["8092"], timeout=60)
         program.body = b"[]"
@@ -120,27 +136,29 @@ def slow_reader(checks, office):
 def one_connection(checks, office):
     """The program gets all requests over one connection, from whichever client they come."""
     with in_place_of_program(office) as program:
-        clients = [Client(office.ports[port], [("GET", path, None, SIGNED_IN)] * 20) for port, path in
+        senders = [Sender(office.ports[port], [("GET", path, None, SIGNED_IN)] * 20) for port, path in
                    [("8080", "/public/units/1"), ("8081", "/desk/issued"), ("8080", "/public/aid/1")] * 4]
-        before, kept = office.connections_made(), connections_of_nginx(office)
-        for client in clients:
-            client.start()
-        for client in clients:
-            client.join(60)
-        checks.same("all are answered", [got[0] for client in clients for got in client.got], [200] * 240)
+        before, kept = office.count_connections(), connections_of_nginx(office)
+        for sender in senders:
+            sender.start()
+        for sender in senders:
+            sender.join(60)
+        checks.same("all are answered", [got[0] for sender in senders for got in sender.got], [200] * 240)
         checks.same("connections to the program", program.connections, 1)
-        checks.check("and to the gate", office.connections_made() - before <= 1, office.connections_made() - before)
-        checks.check("nginx keeps its own to the queue", connections_of_nginx(office) - kept <= 24, connections_of_nginx(office) - kept)
+        checks.check("and to the gate", office.count_connections() - before <= 1, office.count_connections() - before)
+        checks.check("nginx keeps its own to the queue", connections_of_nginx(office) - kept <= 24,
+                     connections_of_nginx(office) - kept)
 
 
 def connections_of_nginx(office):
+    """How many connections nginx has made to the queue so far."""
     return sum(int(office.queue_state(side, "FRONTEND")["conn_tot"]) for side in ("readers", "desk"))
 
 
 def idle(checks, office):
     """The queue closes a connection that is idle before the program does, and not at once."""
     with in_place_of_program(office) as program:
-        http_get(office, "/public/fonds").read()
+        ask(office, "/public/fonds").read()
         began = time.monotonic()
         until(lambda: program.closed, "the idle connection is closed")
         took = program.closed[0] - began
@@ -149,14 +167,15 @@ def idle(checks, office):
 
 def never_twice(checks, office):
     """nginx sends no command twice, even if the queue closes the connection without an answer."""
-    with office.without_queue(), StandIn(office.ports["8092"], at_once=4, drops=lambda head: "/desk/run" in head) as queue:
-        http_get(office, "/desk/issued", "8081", SIGNED_IN).read()  # now there is a connection that is kept
-        client = Client(office.ports["8081"], [("POST", "/desk/run", "{}", SIGNED_IN)])
-        client.start()
-        client.join(60)
-        checks.same("the command is not answered", client.got, [UNANSWERED])
+    with office.without_queue(), StandIn(office.ports["8092"], at_once=4,
+                                         drops=lambda head: "/desk/run" in head) as queue:
+        ask(office, "/desk/issued", "8081", SIGNED_IN).read()  # now there is a connection that is kept
+        command = Sender(office.ports["8081"], [("POST", "/desk/run", "{}", SIGNED_IN)])
+        command.start()
+        command.join(60)
+        checks.same("the command is not answered", command.got, [UNANSWERED])
         checks.same("and was sent once", queue.paths, ["/desk/issued", "/desk/run"])
-        question = Client(office.ports["8081"], [("GET", "/desk/run", None, SIGNED_IN)])
+        question = Sender(office.ports["8081"], [("GET", "/desk/run", None, SIGNED_IN)])
         question.start()
         question.join(60)
         checks.same("a question too is put again by the queue alone", queue.paths.count("/desk/run"), 2)
@@ -164,40 +183,47 @@ def never_twice(checks, office):
 
 def ways_in(checks, office):
     """What each way into the queue lets through, and who may come to the search's."""
-    for port, path, wanted in (("8091", "/desk/issued", 404), ("8091", "/public/fonds", 200), ("8092", "/desk/issued", 200)):
-        got = raw(office.ports[port], f"GET {path} HTTP/1.1\r\nHost: x\r\nConnection: close\r\n\r\n")
-        checks.same(f"{path} at {port}", status(got), wanted)
-    for method, path, wanted in (("GET", "/public/fonds", 200), ("GET", "/public/units/1", 200), ("GET", "/public/aid/1", 200), ("POST", "/public/fonds", 404),
-                                 ("GET", "/public/orders", 404), ("POST", "/public/orders", 404), ("GET", "/desk/issued", 404)):
+    for port, path, wanted in (("8091", "/desk/issued", 404), ("8091", "/public/fonds", 200),
+                               ("8092", "/desk/issued", 200)):
+        checks.same(f"{path} at {port}", status(ask_once(office.ports[port], "GET", path)), wanted)
+    for method, path, wanted in (("GET", "/public/fonds", 200), ("GET", "/public/units/1", 200),
+                                 ("GET", "/public/aid/1", 200), ("POST", "/public/fonds", 404),
+                                 ("GET", "/public/orders", 404), ("POST", "/public/orders", 404),
+                                 ("GET", "/desk/issued", 404)):
         with socket.socket(socket.AF_UNIX) as it:
             it.connect(str(office.folder / "search.sock"))
-            it.sendall(f"{method} {path} HTTP/1.1\r\nHost: x\r\nContent-Length: 2\r\n\r\n{{}}".encode())
+            it.sendall(client.request(method, path, {}))
             checks.same(f"{method} {path} at the search's socket", status(it.recv(65536)), wanted)
-    for port, side, path in (("8080", "readers", "/public/fonds"), ("8081", "desk", "/public/fonds"), ("8081", "desk", "/desk/issued")):
+    for port, side, path in (("8080", "readers", "/public/fonds"), ("8081", "desk", "/public/fonds"),
+                             ("8081", "desk", "/desk/issued")):
         before = int(office.queue_state(side, "FRONTEND")["req_tot"])
-        http_get(office, path, port, SIGNED_IN).read()
-        checks.same(f"{path} at {port} comes by the way of the {side}", int(office.queue_state(side, "FRONTEND")["req_tot"]) - before, 1)
+        ask(office, path, port, SIGNED_IN).read()
+        checks.same(f"{path} at {port} comes by the way of the {side}",
+                    int(office.queue_state(side, "FRONTEND")["req_tot"]) - before, 1)
     checks.same("any user may use it", stat.S_IMODE((office.folder / "search.sock").stat().st_mode), 0o666)
     with office.without_queue():
         for path in ("/public/fonds", "/public/units/1"):
-            got = raw(office.ports["8080"], f"GET {path} HTTP/1.1\r\nHost: x\r\nConnection: close\r\n\r\n")
+            got = ask_once(office.ports["8080"], "GET", path)
             checks.same(f"{path} without the queue", (status(got), body_of(got)), NOT_REACHED)
-            policy_of(checks, f"{path} without the queue", got, "application/json", None)
+            check_policy(checks, f"{path} without the queue", got, "application/json", None)
 
 
 def body_of(answer):
+    """The body of an answer's bytes."""
     return answer.split(b"\r\n\r\n", 1)[1]
 
 
 def logs(checks, office):
     """What readers look for stands in no log, and the queue tells only what went wrong."""
-    statuses = {http_get(office, "/public/search?q=nobodyelsesbusiness").status for _ in range(30)}
+    statuses = {ask(office, "/public/search?q=nobodyelsesbusiness").status for _ in range(30)}
     with StandIn(office.folder / "answers.sock", body=b"{}"):
         os.chmod(office.folder / "answers.sock", 0o666)
-        statuses.add(until(lambda: (got := http_get(office, "/public/search?q=nobodyelsesbusiness").status) == 200 and got, "the search answers"))
+        statuses.add(until(lambda: (got := ask(office, "/public/search?q=nobodyelsesbusiness").status) == 200 and got,
+                           "the search answers"))
     checks.same("searches without and with their service, and too many", statuses, {503, 429, 200})
-    http_get(office, "/public/units/1?seen").read()
-    until(lambda: "/public/units/1?seen" in (office.folder / "access.log").read_text(), "other questions are logged by nginx")
+    ask(office, "/public/units/1?seen").read()
+    until(lambda: "/public/units/1?seen" in (office.folder / "access.log").read_text(),
+          "other questions are logged by nginx")
     for name in ("access.log", "nginx.log", "haproxy.told"):
         told = (office.folder / name).read_text()
         checks.check(f"no searches in {name}", "nobodyelsesbusiness" not in told, told[-300:])
@@ -205,42 +231,44 @@ def logs(checks, office):
 
 
 def late(checks, office):
-    """The front's own answers where the program is away, or does not answer, for longer than it is waited for (here seconds)."""
+    """The front's own answers where the program is away, or does not answer, for longer than it is waited for (here
+    seconds)."""
     with office.without_program():
-        client = registration(office, "Nobody")
-        client.start()
-        client.join(60)
-        checks.same("the program is away", client.got, [NOT_REACHED])
+        sender = registration(office, "Nobody")
+        sender.start()
+        sender.join(60)
+        checks.same("the program is away", sender.got, [NOT_REACHED])
     office.wait_for(office.public + "/public/fonds")
     os.kill(office.serving.pid, signal.SIGSTOP)
-    asks, waits = Client(office.ports["8080"], [("GET", "/public/fonds", None, {})]), registration(office, "Nobody")
+    asks, waits = Sender(office.ports["8080"], [("GET", "/public/fonds", None, {})]), registration(office, "Nobody")
     asks.start()
-    until(lambda: unread(office.ports["8090"]), "the program has a question before it")
+    until(lambda: count_unread(office.ports["8090"]), "the program has a question before it")
     waits.start()
     waits.join(60)
     checks.same("what waited too long in the queue", waits.got, [NOT_REACHED])
     asks.join(60)
     checks.same("what the program did not answer", asks.got, [UNANSWERED])
-    got = raw(office.ports["8080"], "GET /public/fonds HTTP/1.1\r\nHost: x\r\nConnection: close\r\n\r\n")
-    policy_of(checks, "a program that does not answer", got, "application/json", "no-store")
+    got = ask_once(office.ports["8080"], "GET", "/public/fonds")
+    check_policy(checks, "a program that does not answer", got, "application/json", "no-store")
     os.kill(office.serving.pid, signal.SIGCONT)
-    checks.same("nobody was registered", Asks(office).get("/desk/readers/1", True)[0], 404)
+    checks.same("nobody was registered", Asks(office).question("/desk/readers/1", True)[0], 404)
 
 
-def sent(office, port, request):
-    """A connection on which a request was sent."""
-    connection = socket.create_connection(("127.0.0.1", office.ports[port]), 5)
+def send(office, port, request):
+    """Sends a request; returns its connection."""
+    connection = socket.create_connection((client.HOST, office.ports[port]), 90)
     connection.sendall(request)
     return connection
 
 
 def left_behind(checks, office):
-    """Who leaves while the program is away keeps nobody waiting: the backup leaves half a request and a question behind, readers
-    others. The next question is answered as soon as the program is there."""
+    """Who leaves while the program is away keeps nobody waiting: the backup leaves half a request and a question
+    behind, readers others. The next question is answered as soon as the program is there."""
     for leave in range(4):
-        senders = [sent(office, "8092", HALF), sent(office, "8093", QUESTION), *(sent(office, "8091", QUESTION) for _ in range(3))]
+        senders = [send(office, "8092", HALF), send(office, "8093", QUESTION),
+                   *(send(office, "8091", QUESTION) for _ in range(3))]
         with office.without_program():
             for sender in senders[leave % 2:] + senders[:leave % 2]:
                 time.sleep(0.3)  # the gate tries once a second, and is to be left at several moments
                 sender.close()
-        checks.same(f"a question after senders left, {leave}", Asks(office).get("/public/fonds")[0], 200)
+        checks.same(f"a question after senders left, {leave}", Asks(office).question("/public/fonds")[0], 200)

@@ -18,12 +18,16 @@ AWAY = 6  # seconds: longer than a queue that tries three or four times to reach
 UNANSWERED = (502, b'{"error":"not answered"}')
 
 
-class Client(threading.Thread):
+class Sender(threading.Thread):
+    """A client that sends requests one after the other, over a connection that it keeps. `got`: status and body of each
+    answer; or in place of the status what went wrong."""
+
     def __init__(self, port, requests):
         super().__init__(daemon=True)
         self.port, self.requests, self.got = port, requests, []
 
     def run(self):
+        """Sends all requests."""
         connection = http.client.HTTPConnection("127.0.0.1", self.port, timeout=90)
         for method, path, body, headers in self.requests:
             try:
@@ -35,7 +39,9 @@ class Client(threading.Thread):
     @staticmethod
     def answer(connection, method, path, body, headers):
         """Returns the answer. If the front says that this address asks too often, it asks again."""
+
         def put():
+            """The answer, or None if there were too many questions."""
             connection.request(method, path, body, headers)
             answer = connection.getresponse()
             got = answer.status, answer.read()
@@ -43,40 +49,41 @@ class Client(threading.Thread):
         return until(put, f"{path} is let through")
 
 
-def looks(port, first):
-    return Client(port, [("GET", f"/public/units/{1 + (first + 7 * one) % 40}", None, {}) for one in range(MANY)])
+def reader(port, first):
+    """A client that asks for pages of units, in an order of its own."""
+    return Sender(port, [("GET", f"/public/units/{1 + (first + 7 * one) % 40}", None, {}) for one in range(MANY)])
 
 
 def registration(office, name, port="8081"):
+    """A client that registers a reader of this name."""
     body = json.dumps({"name": name, "until": "2030-01-01"})
-    return Client(office.ports[port], [("POST", "/desk/register", body, SIGNED_IN)])
-
-
-def next_ticket(asks):
-    return next(n for n in range(1, 99) if asks.get(f"/desk/readers/{n}", True)[0] == 404)
+    return Sender(office.ports[port], [("POST", "/desk/register", body, SIGNED_IN)])
 
 
 def play(checks, asks, only=None):
-    for part in (killed, away, command_cut_off, question_cut_off):
+    """Plays all parts over a running office, or one of them."""
+    for part in (killed_program, away, command_cut_off, question_cut_off):
         if only in (None, part.__name__):
             checks.part(f"restarts: {part.__name__}", part, checks, asks)
 
 
-def killed(checks, asks):
+def killed_program(checks, asks):
     """The program is killed twice while clients ask."""
     office = asks.office
-    wanted = {f"/public/units/{unit}": asks.get(f"/public/units/{unit}")[1].encode() for unit in range(1, 41)}
-    clients = [looks(office.ports["8080"], k) for k in range(CLIENTS)]
+    wanted = {f"/public/units/{unit}": asks.question(f"/public/units/{unit}")[1].encode() for unit in range(1, 41)}
+    clients = [reader(office.ports["8080"], k) for k in range(CLIENTS)]
     starts = office.starts
     for client in clients:
         client.start()
     for share in (0.25, 0.6):
-        until(lambda: sum(len(client.got) for client in clients) >= share * CLIENTS * MANY, f"{share} of the answers are there")
+        until(lambda: sum(len(client.got) for client in clients) >= share * CLIENTS * MANY,
+              f"{share} of the answers are there")
         office.kill_program()
     for client in clients:
         client.join(90)
     answers = [(request[1], got) for client in clients for request, got in zip(client.requests, client.got)]
-    lost = [got for path, got in answers if got != (200, wanted[path]) and not (got[0] == 404 and got[1] == wanted[path])]
+    lost = [got
+            for path, got in answers if got != (200, wanted[path]) and not (got[0] == 404 and got[1] == wanted[path])]
     checks.same("requests that were answered", len(answers), CLIENTS * MANY)
     checks.same("requests that were lost or answered otherwise", lost[:3], [])
     checks.check("the program was begun again", office.starts >= starts + 2, office.starts - starts)
@@ -84,51 +91,53 @@ def killed(checks, asks):
 
 def away(checks, asks):
     """Commands that come while the program is away are held, and each is done once."""
-    office, first = asks.office, next_ticket(asks)
+    office, first = asks.office, asks.next_ticket()
     clients = [registration(office, "Held") for _ in range(CLIENTS)]
     with office.without_program():
         for client in clients:
             client.start()
-        until(lambda: office.queued() == CLIENTS - 1, "all but one wait in the queue")
+        until(lambda: office.count_queued() == CLIENTS - 1, "all but one wait in the queue")
         time.sleep(AWAY)  # how long they are held is what is measured
         checks.same("nothing is answered while it is away", [got for client in clients for got in client.got], [])
     for client in clients:
         client.join(90)
-    tickets = sorted(json.loads(answer)["ticket"] for client in clients for status, answer in client.got if status == 200)
+    tickets = sorted(json.loads(answer)["ticket"]
+                     for client in clients for status, answer in client.got if status == 200)
     checks.same("each was done once", tickets, list(range(first, first + CLIENTS)))
-    checks.same("and no other", asks.get(f"/desk/readers/{first + CLIENTS}", True)[0], 404)
+    checks.same("and no other", asks.question(f"/desk/readers/{first + CLIENTS}", True)[0], 404)
 
 
 def command_cut_off(checks, asks):
-    """A command that the program has received, and not answered, is not answered by the front either, and not sent again: over
-    connections that are kept, over new ones to the program, and over one that is new to the queue too."""
-    office, first = asks.office, next_ticket(asks)
+    """A command that the program has received, and not answered, is not answered by the front either, and not sent
+    again: over connections that are kept, over new ones to the program, and over one that is new to the queue too."""
+    office, first = asks.office, asks.next_ticket()
     for new, port in (("nothing", "8081"), ("the program", "8081"), ("the queue", "8092")):
         if new != "nothing":
             await_idle(office)
         client = registration(office, "Cut off", port)
         kill_with_request_of(client, office)
         checks.same(f"the command is not answered, the connection to {new} being new", client.got, [UNANSWERED])
-        checks.same("and not repeated: there is no ticket", asks.get(f"/desk/readers/{first}", True)[0], 404)
-    done = json.loads(asks.post("/desk/register", {"name": "Next", "until": "2030-01-01"})[1])
+        checks.same("and not repeated: there is no ticket", asks.question(f"/desk/readers/{first}", True)[0], 404)
+    done = json.loads(asks.try_command("/desk/register", {"name": "Next", "until": "2030-01-01"})[1])
     checks.same("the next ticket has its number", done, {"ticket": first})
 
 
 def question_cut_off(checks, asks):
     """A question that the program has received, and not answered, is put again."""
     office = asks.office
-    wanted = asks.get("/public/fonds")
+    wanted = asks.question("/public/fonds")
     for kept in (True, False):
         if not kept:
             await_idle(office)
-        client = Client(office.ports["8080"], [("GET", "/public/fonds", None, {})])
+        client = Sender(office.ports["8080"], [("GET", "/public/fonds", None, {})])
         kill_with_request_of(client, office)
         checks.same(f"the question is answered, kept: {kept}", client.got, [(wanted[0], wanted[1].encode())])
 
 
 def await_idle(office):
     """Waits until queue and gate have closed the connections that they kept."""
-    until(lambda: not any(int(office.queue_state(*server)["idle_conn_cur"]) for server in (("office", "gate"), ("gate", "program"))), "no connection is kept")
+    until(lambda: not any(int(office.queue_state(*server)["idle_conn_cur"])
+                          for server in (("office", "gate"), ("gate", "program"))), "no connection is kept")
 
 
 def kill_with_request_of(client, office):
@@ -136,12 +145,12 @@ def kill_with_request_of(client, office):
     stopped = office.serving
     os.kill(stopped.pid, signal.SIGSTOP)
     client.start()
-    until(lambda: unread(office.ports["8090"]) > 0, "the request has come to the program's socket")
+    until(lambda: count_unread(office.ports["8090"]) > 0, "the request has come to the program's socket")
     stopped.kill()
     client.join(90)
 
 
-def unread(port):
+def count_unread(port):
     """How many bytes have come to the connections of this port of 127.0.0.1 that nobody has read yet."""
     end, found = f":{port:04X}", 0
     for line in pathlib.Path("/proc/net/tcp").read_text().splitlines()[1:]:

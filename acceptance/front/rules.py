@@ -11,34 +11,45 @@ from http.server import BaseHTTPRequestHandler, ThreadingHTTPServer
 from office import PASSWORD, SIGNED_IN
 from waits import until
 
+import client
+
 # Ways to write the path of a desk route that a careless server might pass on.
 ODD_PATHS = [form.format(way) for way in ("desk/issued", "desk/run", "desk/register") for form in (
-    "/{}", "//{}", "/./{}", "/public/../{}", "/public/..%2f{}", "/public/..%2F{}", "/public/%2e%2e/{}", "/public/%2e%2e%2f{}",
-    "/public/..;/{}", "/public/.%2e/{}", "/public/units/../../{}", "/public/units/..%2f..%2f{}", "/public/aid/1/../../../{}",
-    "/public\\..\\{}", "/public/%5c..%5c{}", "/%2f{}", "/shared/../{}", "http://x/{}")] + [
-    "/%64esk/issued", "/DESK/issued", "/desk%2fissued", "/desk/issued%00", "/desk/issued?x=/public/fonds", "/public/units/1/..%2f..%2f..%2fdesk/issued"]
+    "/{}", "//{}", "/./{}", "/public/../{}", "/public/..%2f{}", "/public/..%2F{}", "/public/%2e%2e/{}",
+    "/public/%2e%2e%2f{}", "/public/..;/{}", "/public/.%2e/{}", "/public/units/../../{}", "/public/units/..%2f..%2f{}",
+    "/public/aid/1/../../../{}", "/public\\..\\{}", "/public/%5c..%5c{}", "/%2f{}", "/shared/../{}", "http://x/{}")] + [
+    "/%64esk/issued", "/DESK/issued", "/desk%2fissued", "/desk/issued%00", "/desk/issued?x=/public/fonds",
+    "/public/units/1/..%2f..%2f..%2fdesk/issued"]
+UNKNOWN_ORDER = {"ticket": 999, "container": 1}
 
 
-def raw(port, text, body=b"", source="127.0.0.1"):
-    with socket.create_connection(("127.0.0.1", port), 90, (source, 0)) as it:
-        it.sendall(text.encode("latin-1") + body)
+def exchange(port, sent, source=client.HOST):
+    """Sends bytes over a connection of its own; returns all that comes until the other side closes it."""
+    with socket.create_connection((client.HOST, port), 90, (source, 0)) as it:
+        it.sendall(sent)
         got = b""
         while piece := it.recv(65536):
             got += piece
     return got
 
 
-def all_at_once(port, text, many):
-    """The status of each of so many requests that are sent at the same time, and after how many seconds its answer came."""
-    clients, found = [socket.create_connection(("127.0.0.1", port), 90) for _ in range(many)], []
+def ask_once(port, method, path, body=None, host="x", fields=()):
+    """Sends a request after which the connection is to be closed; returns the bytes of its answer."""
+    return exchange(port, client.request(method, path, body, host, {**dict(fields), "Connection": "close"}))
+
+
+def send_at_once(port, sent, many):
+    """The status of each of so many requests that are sent at the same time, and after how many seconds its answer
+    came."""
+    connections, found = [socket.create_connection((client.HOST, port), 90) for _ in range(many)], []
     began = time.monotonic()
-    for client in clients:
-        client.sendall(text.encode())
-    while clients:
-        for client in select.select(clients, [], [], 90)[0]:
-            found.append((status(client.recv(65536)), time.monotonic() - began))
-            clients.remove(client)
-            client.close()
+    for connection in connections:
+        connection.sendall(sent)
+    while connections:
+        for connection in select.select(connections, [], [], 90)[0]:
+            found.append((status(connection.recv(65536)), time.monotonic() - began))
+            connections.remove(connection)
+            connection.close()
     return found
 
 
@@ -46,25 +57,39 @@ HTML, SCRIPT, STYLE = (f"{kind}; charset=utf-8" for kind in ("text/html", "appli
 TEXT, JSON = "text/plain; charset=utf-8", "application/json"
 # Of each kind of answer: the site, the path, the status, what it is, and how long it is kept.
 ANSWERS = (
-    ("readers", "/", 200, HTML, "no-cache"), ("readers", "/unit/1", 200, HTML, "no-cache"), ("readers", "/no", 404, HTML, "no-cache"),
+    ("readers", "/", 200, HTML, "no-cache"), ("readers", "/unit/1", 200, HTML, "no-cache"),
+    ("readers", "/no", 404, HTML, "no-cache"),
     ("readers", "/main.js", 200, SCRIPT, "no-cache"), ("readers", "/shared/dom.js", 200, SCRIPT, "no-cache"),
     ("readers", "/public.css", 200, STYLE, "no-cache"), ("readers", "/shared/base.css", 200, STYLE, "no-cache"),
     ("readers", "/public/fonds", 200, TEXT, "no-store"), ("readers", "/public/units/999999", 404, JSON, "no-store"),
     ("readers", "/public/none", 404, JSON, None), ("readers", "/public/search?q=x", 503, JSON, None),
-    ("readers", "/public/orders", 405, JSON, "no-store"), ("desk", "/", 200, HTML, "no-cache"), ("desk", "/desk.css", 200, STYLE, "no-cache"),
+    ("readers", "/public/orders", 405, JSON, "no-store"), ("desk", "/", 200, HTML, "no-cache"),
+    ("desk", "/desk.css", 200, STYLE, "no-cache"),
     ("desk", "/shared/dom.js", 200, SCRIPT, "no-cache"), ("desk", "/desk/issued", 200, JSON, "no-store"),
     ("desk", "/desk/a/b/c", 404, JSON, None), ("desk", "/sign-out", 401, HTML, "no-cache"))
-# Commands that do not come to the program: the site, the path, a field, how many bytes, the status, how long the answer is kept.
+# Commands that do not come to the program: the site, the path, a field, how many bytes, the status, how long the answer
+# is kept.
 REFUSED = (
-    ("readers", "/public/orders", "Origin: http://evil.example\r\n", 2, 403, "no-store"), ("readers", "/public/orders", "", 6000, 413, None),
-    ("desk", "/desk/run", "Origin: http://evil.example\r\n", 2, 403, "no-store"),
-    ("desk", "/desk/import/x", "Sec-Fetch-Site: cross-site\r\n", 2, 403, "no-store"))
+    ("readers", "/public/orders", {"Origin": "http://evil.example"}, 2, 403, "no-store"),
+    ("readers", "/public/orders", {}, 6000, 413, None),
+    ("desk", "/desk/run", {"Origin": "http://evil.example"}, 2, 403, "no-store"),
+    ("desk", "/desk/import/x", {"Sec-Fetch-Site": "cross-site"}, 2, 403, "no-store"))
 POLICY = {
-    "content-security-policy": "default-src 'none'; script-src 'self'; style-src 'self'; img-src 'self'; connect-src 'self'; form-action 'none'; "
-                               "base-uri 'none'; frame-ancestors 'none'; require-trusted-types-for 'script'",
+    "content-security-policy":
+        "default-src 'none'; script-src 'self'; style-src 'self'; img-src 'self'; connect-src 'self'; form-action "
+    "'none'; "
+        "base-uri 'none'; frame-ancestors 'none'; require-trusted-types-for 'script'",
     "x-content-type-options": "nosniff", "referrer-policy": "same-origin", "cross-origin-opener-policy": "same-origin",
-    "cross-origin-resource-policy": "same-origin", "permissions-policy": "camera=(), microphone=(), geolocation=()", "server": "nginx",
+    "cross-origin-resource-policy": "same-origin", "permissions-policy": "camera=(), microphone=(), geolocation=()",
+    "server": "nginx",
 }
+# A page whose form and script send commands to the desk at %s.
+FOREIGN_PAGE = """<!doctype html><title>x</title><form method=post action='%s/desk/register' enctype=text/plain>
+<input name='{"name":"Stray","until":"2030-01-01","x":"' value='"}'></form><script>
+const send = (path) => fetch('%s' + path, {method: 'POST', body: '{"name":"Stray","until":"2030-01-01"}',
+  mode: 'no-cors', credentials: 'include'}).catch(() => 0);
+Promise.all([send('/desk/register'), send('/desk/run'), send('/desk/reshelve')])
+  .finally(() => document.forms[0].submit())</script>"""
 
 
 def fields_of(answer):
@@ -76,157 +101,179 @@ def fields_of(answer):
     return found
 
 
-def policy_of(checks, what, answer, kind, kept, transport=None):
-    """Each part of the policy once, and no more; the kind of the answer; and how long it is kept (None: it does not say)."""
-    found = fields_of(answer)
-    wanted = {name: [value] for name, value in POLICY.items()} | {"content-type": [kind], "cache-control": [kept] if kept else None,
-                                                                  "strict-transport-security": [transport] if transport else None}
+def check_policy(checks, what, answer, kind, kept, transport=None):
+    """Each part of the policy once, and no more; the kind of the answer; and how long it is kept (None: it does not
+    say)."""
+    found, wanted = fields_of(answer), {name: [value] for name, value in POLICY.items()}
+    wanted |= {"content-type": [kind], "cache-control": [kept] if kept else None,
+               "strict-transport-security": [transport] if transport else None}
     checks.same(f"what a browser is told of {what}", {name: found.get(name) for name in wanted}, wanted)
 
 
 def status(answer):
+    """The status of an answer's bytes, or 0 if they are none."""
     return int(answer.split(b" ", 2)[1]) if answer.startswith(b"HTTP/") else 0
 
 
 class Rules:
+    """The rules of a running front. `page`: a browser's tab that is signed in, or None."""
+
     def __init__(self, checks, asks, page):
         self.checks, self.asks, self.page = checks, asks, page
         self.public, self.staff = (asks.office.ports[name] for name in ("8080", "8081"))
         self.ports = {"readers": self.public, "desk": self.staff}
 
     def play(self, only=None):
-        for part in (self.odd_paths, self.readers_limits, self.password, self.staffs_limits, self.other_sites, self.other_names,
-                     self.heads, self.pages_alone, self.lists, self.questions_of_heads, self.no_page, self.limit_of_orders,
-                     self.orders_from_elsewhere, *([self.foreign_page] if self.page else [])):
+        """Plays all parts, or one; foreign_page only where there is a browser."""
+        parts = [self.odd_paths, self.readers_limits, self.password, self.staffs_limits, self.other_sites,
+                 self.other_names, self.heads, self.pages_alone, self.lists, self.questions_of_heads, self.no_page,
+                 self.limit_of_orders, self.orders_from_elsewhere, *([self.foreign_page] if self.page else [])]
+        for part in parts:
             if only in (None, part.__name__):
                 self.checks.part(f"rules: {part.__name__}", part)
 
     def state(self):
         """What a stray command would change: tickets and runs."""
-        tickets = next(n for n in range(1, 99) if self.asks.get(f"/desk/readers/{n}", True)[0] == 404)
-        runs = next(n for n in range(1, 99) if self.asks.get(f"/desk/runs/{n}", True)[0] == 404)
-        return tickets, runs
+        return self.asks.next_ticket(), self.asks.next_number("/desk/runs")
 
     def odd_paths(self):
+        """However a reader writes the path of a desk route, it does not come to the desk."""
         before = self.state()
-        body = json.dumps({"name": "Stray", "until": "2030-01-01"}).encode()
+        body = json.dumps({"name": "Stray", "until": "2030-01-01"})
         for path in ODD_PATHS:
             for method in ("GET", "POST"):
-                sent = body if method == "POST" else b""
-                got = raw(self.public, f"{method} {path} HTTP/1.1\r\nHost: x\r\nConnection: close\r\nContent-Length: {len(sent)}\r\n\r\n", sent)
+                got = ask_once(self.public, method, path, body if method == "POST" else "")
                 page = got.split(b"\r\n\r\n", 1)[-1]
                 safe = status(got) in (400, 403, 404, 405) and b'"ticket"' not in page and page.strip() != b"[]"
                 self.checks.check(f"a reader's {method} {path} does not come to the desk", safe, got[:200])
         self.checks.same("no odd path did anything", self.state(), before)
 
     def readers_limits(self):
+        """What readers may ask for, and how long their requests may be."""
         for path, wanted in (("/public/units/1", 200), ("/public/units/01", 404), ("/public/units/1/", 404),
-                             ("/public/units/99999999999", 404), ("/public/fonds/", 404), ("/public/orders", 405), ("/public/", 404)):
-            self.checks.same(f"readers and {path}", self.asks.get(path)[0], wanted)
+                             ("/public/units/99999999999", 404), ("/public/fonds/", 404), ("/public/orders", 405),
+                             ("/public/", 404)):
+            self.checks.same(f"readers and {path}", self.asks.question(path)[0], wanted)
         for size, wanted in ((4_000, 409), (4_200, 413)):
-            got = self.asks.call("POST", "/public/orders", b'{"ticket":999,"container":1}'.ljust(size), False)[0]
+            got = self.asks.send("POST", "/public/orders", b'{"ticket":999,"container":1}'.ljust(size), False)[0]
             self.checks.same(f"an order of {size} bytes", got, wanted)
-        for what, head, wanted in (("a long address", f"GET /{'a' * 7000} HTTP/1.1\r\n", 404), ("a longer one", f"GET /{'a' * 9000} HTTP/1.1\r\n", 414),
-                                   ("a long line", f"GET / HTTP/1.1\r\nX: {'a' * 7000}\r\n", 200), ("a longer line", f"GET / HTTP/1.1\r\nX: {'a' * 9000}\r\n", 400),
+        for what, head, wanted in (("a long address", f"GET /{'a' * 7000} HTTP/1.1\r\n", 404),
+                                   ("a longer one", f"GET /{'a' * 9000} HTTP/1.1\r\n", 414),
+                                   ("a long line", f"GET / HTTP/1.1\r\nX: {'a' * 7000}\r\n", 200),
+                                   ("a longer line", f"GET / HTTP/1.1\r\nX: {'a' * 9000}\r\n", 400),
                                    ("many long lines", "GET / HTTP/1.1\r\n" + f"X: {'a' * 7000}\r\n" * 5, 400)):
-            self.checks.same(f"{what} in a request", status(raw(self.public, f"{head}Host: x\r\nConnection: close\r\n\r\n")), wanted)
+            got = exchange(self.public, f"{head}Host: x\r\nConnection: close\r\n\r\n".encode())
+            self.checks.same(f"{what} in a request", status(got), wanted)
 
     def password(self):
+        """The desk's site asks for the password on each path, and takes no other."""
         for path in ("/", "/main.js", "/desk/issued", "/public/fonds"):
-            got = raw(self.staff, f"GET {path} HTTP/1.1\r\nHost: 127.0.0.1:{self.staff}\r\nConnection: close\r\n\r\n")
-            self.checks.same(f"no password, no {path}", status(got), 401)
+            self.checks.same(f"no password, no {path}", status(self.ask_without_password(path)), 401)
         wrong = base64.b64encode(f"{PASSWORD[0]}:wrong".encode()).decode()
-        got, late = self.timed("/desk/issued", f"Basic {wrong}")
+        got, late = self.time_password("/desk/issued", f"Basic {wrong}")
         self.checks.same("a wrong password", status(got), 401)
-        self.checks.same("the right password", self.asks.get("/desk/issued", True), (200, "[]"))
+        self.checks.same("the right password", self.asks.question("/desk/issued", True), (200, "[]"))
         for path, given in (("/", ""), ("/sign-out", ""), ("/sign-out", SIGNED_IN["Authorization"])):
-            got, took = self.timed(path, given)
-            self.checks.same(f"{path} asks for a password", (status(got), "www-authenticate" in fields_of(got)), (401, True))
+            got, took = self.time_password(path, given)
+            self.checks.same(f"{path} asks for a password", (status(got), "www-authenticate" in fields_of(got)),
+                             (401, True))
             self.checks.check(f"at once at {path} {'with a right one' * bool(given)}", took < late - 1, (took, late))
-        self.checks.same("what is shown after signing out has no other way in", status(self.of(self.staff, "GET", "/signed-out.html")), 404)
+        self.checks.same("what is shown after signing out has no other way in",
+                         status(self.ask_as_staff(self.staff, "GET", "/signed-out.html")), 404)
         self.guesses(wrong)
-        status_, page = self.asks.get("/sign-out", True)
-        self.checks.check("signing out refuses the right password", status_ == 401 and "You have signed out" in page, (status_, page))
+        status_, page = self.asks.question("/sign-out", True)
+        self.checks.check("signing out refuses the right password", status_ == 401 and "You have signed out" in page,
+                          (status_, page))
 
-    def timed(self, path, given):
+    def time_password(self, path, given):
         """The desk's answer to who gives this for a password (nothing: does not), and how many seconds it takes."""
         began = time.monotonic()
-        got = raw(self.staff, f"GET {path} HTTP/1.1\r\nHost: 127.0.0.1:{self.staff}\r\nAuthorization: {given}\r\nConnection: close\r\n\r\n"
-                  .replace("Authorization: \r\n", ""))
-        return got, time.monotonic() - began
+        return self.ask_without_password(path, {"Authorization": given} if given else {}), time.monotonic() - began
+
+    def ask_without_password(self, path, fields=()):
+        """The bytes of the desk's answer to a question with these fields alone."""
+        return ask_once(self.staff, "GET", path, host=f"{client.HOST}:{self.staff}", fields=fields)
 
     def guesses(self, wrong):
         """A wrong password is answered late, and one address has a limited number of them at a time."""
-        request = (f"GET /desk/issued HTTP/1.1\r\nHost: 127.0.0.1:{self.staff}\r\nAuthorization: Basic {wrong}\r\nConnection: close\r\n\r\n")
-        answers = all_at_once(self.staff, request, 140)
-        self.checks.check("100 guesses take five seconds", sum(one == 401 for one, _ in answers) <= 100
-                          and all(took > 4.5 for one, took in answers if one == 401), sorted(answers)[:3])
+        fields = {"Authorization": f"Basic {wrong}", "Connection": "close"}
+        request = client.request("GET", "/desk/issued", host=f"{client.HOST}:{self.staff}", fields=fields)
+        answers = send_at_once(self.staff, request, 140)
+        times = [took for one, took in answers if one == 401]
+        slow = len(times) <= 100 and all(took > 4.5 for took in times)
+        self.checks.check("100 guesses take five seconds", slow, sorted(answers)[:3])
         self.checks.same("and more are turned away", {one for one, _ in answers}, {401, 429})
 
     def staffs_limits(self):
         """A command has up to 64 KiB, and a file 8 MiB."""
-        for path, size, wanted in (("/desk/cancel", 60_000, 409), ("/desk/cancel", 70_000, 413), ("/desk/import/x", 70_000, 409),
+        for path, size, wanted in (("/desk/cancel", 60_000, 409), ("/desk/cancel", 70_000, 413),
+                                   ("/desk/import/x", 70_000, 409),
                                    ("/desk/import/x", 8 << 20, 409), ("/desk/import/x", (8 << 20) + 1, 413)):
             body = b'{"order":1000}'.ljust(size)
-            self.checks.same(f"{size} bytes to {path}", self.asks.call("POST", path, body, True)[0], wanted)
+            self.checks.same(f"{size} bytes to {path}", self.asks.send("POST", path, body, True)[0], wanted)
 
     def other_sites(self):
+        """Commands and orders that a browser sends for another site's page are turned away."""
         own = f"http://127.0.0.1:{self.staff}"
         before = self.state()
-        for fields, wanted in (([("Origin", own), ("Sec-Fetch-Site", "same-origin")], 200), ([("Origin", "http://evil.example")], 403),
-                               ([("Origin", "null")], 403), ([("Sec-Fetch-Site", "cross-site")], 403), ([("Sec-Fetch-Site", "same-site")], 403),
+        for fields, wanted in (([("Origin", own), ("Sec-Fetch-Site", "same-origin")], 200),
+                               ([("Origin", "http://evil.example")], 403),
+                               ([("Origin", "null")], 403), ([("Sec-Fetch-Site", "cross-site")], 403),
+                               ([("Sec-Fetch-Site", "same-site")], 403),
                                ([("Origin", f"http://127.0.0.1:{self.public}")], 403)):
-            got, _ = self.asks.call("POST", "/desk/cancel", b'{"order":1000}', True, fields)
+            got, _ = self.asks.send("POST", "/desk/cancel", b'{"order":1000}', True, fields)
             self.checks.same(f"a command with {dict(fields)}", got, 409 if wanted == 200 else wanted)
         self.checks.same("nothing was changed", self.state(), before)
         self.questions_and_files(own)
         here = f"http://127.0.0.1:{self.public}"
-        for fields, wanted in (([("Origin", "http://evil.example")], [403]), ([("Sec-Fetch-Site", "cross-site")], [403]),
+        for fields, wanted in (([("Origin", "http://evil.example")], [403]),
+                               ([("Sec-Fetch-Site", "cross-site")], [403]),
                                ([("Origin", here), ("Sec-Fetch-Site", "same-origin")], [409, 429])):
-            got = self.asks.call("POST", "/public/orders", b'{"ticket":999,"container":1}', False, fields)[0]
+            got = self.asks.send("POST", "/public/orders", UNKNOWN_ORDER, False, fields)[0]
             self.checks.check(f"an order with {dict(fields)}", got in wanted, got)
 
     def questions_and_files(self, own):
         """What other sites' pages ask at the desk, and the files that they send there."""
-        for field, let_in in ((("Sec-Fetch-Site", "none"), True), (("Sec-Fetch-Site", "cross-site"), False), (("Origin", own), True),
+        for field, let_in in ((("Sec-Fetch-Site", "none"), True), (("Sec-Fetch-Site", "cross-site"), False),
+                              (("Origin", own), True),
                               (("Origin", "http://evil.example"), False)):
-            asked = self.asks.call("GET", "/desk/issued", None, True, [field])[0]
-            sent = self.asks.call("POST", "/desk/import/x", b"legacyId", True, [field])[0]
+            asked = self.asks.send("GET", "/desk/issued", None, True, [field])[0]
+            sent = self.asks.send("POST", "/desk/import/x", b"legacyId", True, [field])[0]
             self.checks.same(f"a question and a file with {field}", [asked != 403, sent != 403], [let_in] * 2)
 
     def other_names(self):
-        password = SIGNED_IN["Authorization"]
-        got = raw(self.staff, f"GET /desk/issued HTTP/1.1\r\nHost: evil.example\r\nAuthorization: {password}\r\nConnection: close\r\n\r\n")
+        """The desk answers by its own name alone."""
+        got = ask_once(self.staff, "GET", "/desk/issued", host="evil.example", fields=SIGNED_IN)
         self.checks.same("another name for the desk", status(got), 421)
 
     def heads(self):
         """What each answer tells a browser: scripts from here alone, and none made from texts; and what it is."""
         for site, path, wanted, kind, kept in ANSWERS:
-            got = self.of(self.ports[site], "GET", path)
+            got = self.ask_as_staff(self.ports[site], "GET", path)
             self.checks.same(f"status of {path}", status(got), wanted)
-            policy_of(self.checks, path, got, kind, kept)
+            check_policy(self.checks, path, got, kind, kept)
         for site, path, fields, size, wanted, kept in REFUSED:
-            got = self.of(self.ports[site], "POST", path, b"{}".rjust(size), fields)
+            got = self.ask_as_staff(self.ports[site], "POST", path, b"{}".rjust(size), fields)
             self.checks.same(f"status of {size} bytes to {path} {fields}", status(got), wanted)
-            policy_of(self.checks, f"{size} bytes to {path} {fields}", got, JSON, kept)
-        got = raw(self.staff, f"GET / HTTP/1.1\r\nHost: 127.0.0.1:{self.staff}\r\nConnection: close\r\n\r\n")
-        policy_of(self.checks, "no password", got, HTML, None)
+            check_policy(self.checks, f"{size} bytes to {path} {fields}", got, JSON, kept)
+        check_policy(self.checks, "no password", self.ask_without_password("/"), HTML, None)
 
-    def of(self, port, method, path, body=b"", fields=""):
-        """The answer to a request of a member of staff, to either site."""
-        return raw(port, f"{method} {path} HTTP/1.1\r\nHost: 127.0.0.1:{port}\r\nAuthorization: {SIGNED_IN['Authorization']}\r\n{fields}"
-                         f"Content-Length: {len(body)}\r\nConnection: close\r\n\r\n", body)
+    def ask_as_staff(self, port, method, path, body=b"", fields=()):
+        """The bytes of the answer to a request of a member of staff, to either site."""
+        return ask_once(port, method, path, body, f"{client.HOST}:{port}", {**SIGNED_IN, **dict(fields)})
 
     def pages_alone(self):
         """Files are asked for, and asked for again only if they have changed; nothing is sent to them."""
-        for port, path in ((self.public, "/"), (self.public, "/main.js"), (self.public, "/shared/dom.js"), (self.staff, "/"), (self.staff, "/shared/dom.js"),
+        for port, path in ((self.public, "/"), (self.public, "/main.js"), (self.public, "/shared/dom.js"),
+                           (self.staff, "/"), (self.staff, "/shared/dom.js"),
                            (self.staff, "/lists/a.html")):
-            self.checks.same(f"nothing is posted to {path}", status(self.of(port, "POST", path)), 403)
+            self.checks.same(f"nothing is posted to {path}", status(self.ask_as_staff(port, "POST", path)), 403)
         for port, path in ((self.public, "/main.js"), (self.staff, "/main.js"), (self.public, "/unit/1")):
-            tag = fields_of(self.of(port, "GET", path)).get("etag", ["none"])[0]
-            self.checks.same(f"an unchanged {path} is not sent again", status(self.of(port, "GET", path, fields=f"If-None-Match: {tag}\r\n")), 304)
+            tag = fields_of(self.ask_as_staff(port, "GET", path)).get("etag", ["none"])[0]
+            again = self.ask_as_staff(port, "GET", path, fields={"If-None-Match": tag})
+            self.checks.same(f"an unchanged {path} is not sent again", status(again), 304)
         for path in ("/main.js", "/public.css", "/public/aid/1"):
-            got = fields_of(self.of(self.public, "GET", path, fields="Accept-Encoding: gzip\r\n"))
+            got = fields_of(self.ask_as_staff(self.public, "GET", path, fields={"Accept-Encoding": "gzip"}))
             self.checks.same(f"{path} is sent packed", got.get("content-encoding"), ["gzip"])
 
     def lists(self):
@@ -235,87 +282,95 @@ class Rules:
         folder.mkdir(parents=True, exist_ok=True)
         for name in ("drafts.csv", "drafts.html"):
             (folder / name).write_text("caf\u00e9\n", "utf-8")
-        for path, kind in (("/lists/drafts.csv", "text/csv; charset=utf-8"), ("/lists/drafts.html", "text/html; charset=utf-8")):
-            got = self.of(self.staff, "GET", path)
-            self.checks.same(f"status of {path}", (status(got), got.split(b"\r\n\r\n", 1)[1]), (200, "caf\u00e9\n".encode()))
-            policy_of(self.checks, path, got, kind, "no-cache")
-            self.checks.same(f"readers do not reach {path}", status(self.of(self.public, "GET", path)), 404)
-        got = raw(self.staff, f"GET /lists/drafts.csv HTTP/1.1\r\nHost: 127.0.0.1:{self.staff}\r\nConnection: close\r\n\r\n")
+        for path, kind in (("/lists/drafts.csv", "text/csv; charset=utf-8"),
+                           ("/lists/drafts.html", "text/html; charset=utf-8")):
+            got = self.ask_as_staff(self.staff, "GET", path)
+            self.checks.same(f"status of {path}", (status(got), got.split(b"\r\n\r\n", 1)[1]),
+                             (200, "caf\u00e9\n".encode()))
+            check_policy(self.checks, path, got, kind, "no-cache")
+            self.checks.same(f"readers do not reach {path}", status(self.ask_as_staff(self.public, "GET", path)), 404)
+        got = self.ask_without_password("/lists/drafts.csv")
         self.checks.same("nor does anybody without the password", status(got), 401)
 
     def questions_of_heads(self):
         """HEAD: the head of the answer to GET, and the connection goes on."""
-        for path in ("/public/fonds", "/public/units/1", "/public/aid/1", "/", "/unit/1", "/robots.txt", "/public/units/999999"):
-            wanted = self.asks.get(path)[0]
-            got = raw(self.public, f"HEAD {path} HTTP/1.1\r\nHost: x\r\n\r\nHEAD {path} HTTP/1.1\r\nHost: x\r\nConnection: close\r\n\r\n")
-            heads = got.decode().split("\r\n\r\n")
-            self.checks.same(f"HEAD {path}", ([int(head.split()[1]) for head in heads[:-1]], heads[-1]), ([wanted, wanted], ""))
-        self.checks.same("an order is no question", self.asks.call("HEAD", "/public/orders", None, False)[0], 405)
+        for path in ("/public/fonds", "/public/units/1", "/public/aid/1", "/", "/unit/1", "/robots.txt",
+                     "/public/units/999999"):
+            wanted = self.asks.question(path)[0]
+            two = client.request("HEAD", path) + client.request("HEAD", path, fields={"Connection": "close"})
+            heads = exchange(self.public, two).decode().split("\r\n\r\n")
+            self.checks.same(f"HEAD {path}", ([int(head.split()[1]) for head in heads[:-1]], heads[-1]),
+                             ([wanted, wanted], ""))
+        self.checks.same("an order is no question", self.asks.send("HEAD", "/public/orders", None, False)[0], 405)
 
     def no_page(self):
         """What is no page says so in words, with 404; pages' addresses are the same file."""
         page = self.asks.text("/")
         for path in ("/unit/1", "/aid/1", "/help", "/unit/4711"):
-            self.checks.same(f"{path} is a page", self.asks.get(path), (200, page))
+            self.checks.same(f"{path} is a page", self.asks.question(path), (200, page))
         for path in ("/no/such/page", "/unit/x", "/unit/", "/shared/none.js", "/.well-known/x"):
-            self.checks.same(f"{path} is none", self.asks.get(path), (404, page))
+            self.checks.same(f"{path} is none", self.asks.question(path), (404, page))
         self.checks.check("robots are told", "User-agent: *" in self.asks.text("/robots.txt"))
 
-    def order(self):
-        return self.asks.post("/public/orders", {"ticket": 999, "container": 1}, desk=False)
+    def try_order(self):
+        """The status and the text of the answer to a reader's order, which the program refuses if it gets it."""
+        return self.asks.try_command("/public/orders", UNKNOWN_ORDER, desk=False)
 
     def limit_of_orders(self):
         """A dozen orders at once from one address, then a few a minute; pages go on, and so does the desk."""
         began = time.monotonic()
-        got = [self.order()[0] for _ in range(20)]
+        got = [self.try_order()[0] for _ in range(20)]
         most = 12 + (time.monotonic() - began) / 10
         self.checks.same("orders end in 429", set(got) - {409}, {429})
         self.checks.check("at most a dozen orders are taken at once", got.count(409) <= most, (got, most))
-        got = until(lambda: status(answer := self.of(self.public, "POST", "/public/orders", b"{}")) == 429 and answer, "there is one too many")
+        got = until(lambda: status(answer := self.ask_as_staff(self.public, "POST", "/public/orders", b"{}")) == 429
+                    and answer, "there is one too many")
         self.checks.same("the answer to one too many", got.split(b"\r\n\r\n", 1)[1], b'{"error":"too many"}')
-        policy_of(self.checks, "one too many", got, "application/json", None)
-        self.checks.same("pages are not held up by orders", self.asks.get("/public/fonds")[0], 200)
-        self.checks.same("the desk orders on", self.asks.post("/public/orders", {"ticket": 999, "container": 1})[0], 409)
+        check_policy(self.checks, "one too many", got, "application/json", None)
+        self.checks.same("pages are not held up by orders", self.asks.question("/public/fonds")[0], 200)
+        self.checks.same("the desk orders on",
+                         self.asks.try_command("/public/orders", UNKNOWN_ORDER)[0], 409)
 
     def orders_from_elsewhere(self):
         """Orders from listed addresses alone."""
         office = self.asks.office
-        with office.changed("orders-from.conf", "default 1;", "default 0; 192.0.2.0/24 1;"):
-            self.checks.same("no order from elsewhere", self.order(), (403, '{"error":"not from here"}'))
-            self.checks.same("pages from elsewhere", self.asks.get("/public/fonds")[0], 200)
-            self.checks.same("the desk's orders are not asked where from", self.asks.post("/public/orders", {"ticket": 999, "container": 1})[0], 409)
-        with office.changed("orders-from.conf", "default 1;", "default 0; 127.0.0.1 1;"):
-            self.checks.check("orders from a listed address", self.order()[0] in (409, 429))
+        with office.change_file("orders-from.conf", "default 1;", "default 0; 192.0.2.0/24 1;"):
+            self.checks.same("no order from elsewhere", self.try_order(), (403, '{"error":"not from here"}'))
+            self.checks.same("pages from elsewhere", self.asks.question("/public/fonds")[0], 200)
+            self.checks.same("the desk's orders are not asked where from",
+                             self.asks.try_command("/public/orders", UNKNOWN_ORDER)[0], 409)
+        with office.change_file("orders-from.conf", "default 1;", "default 0; 127.0.0.1 1;"):
+            self.checks.check("orders from a listed address", self.try_order()[0] in (409, 429))
 
     def foreign_page(self):
         """A page of another site, open in the browser of a member of staff who is signed in."""
         before = self.state()
         site = self.asks.office.staff
-        html = ("<!doctype html><title>x</title><form method=post action='%s/desk/register' enctype=text/plain>"
-                "<input name='{\"name\":\"Stray\",\"until\":\"2030-01-01\",\"x\":\"' value='\"}'></form><script>"
-                "const send = (path) => fetch('%s' + path, {method: 'POST', body: '{\"name\":\"Stray\",\"until\":\"2030-01-01\"}',"
-                "mode: 'no-cors', credentials: 'include'}).catch(() => 0);"
-                "Promise.all([send('/desk/register'), send('/desk/run'), send('/desk/reshelve')]).finally(() => document.forms[0].submit())"
-                "</script>" % (site, site)).encode()
-        other = serve(html)
+        other = serve((FOREIGN_PAGE % (site, site)).encode())
         self.page.call("Page.navigate", url=f"http://127.0.0.1:{other.server_port}/")
         self.page.wait(f"location.href.startsWith('{site}')")
         told = self.page.text("body")
-        self.checks.check("what another site's page sends is turned away", "another site" in told or "403" in told, told)
+        self.checks.check("what another site's page sends is turned away", "another site" in told or "403" in told,
+                          told)
         self.checks.same("and nothing was done", self.state(), before)
         other.shutdown()
 
 
 def serve(html):
+    """Starts a server that answers each question with this page, on a free port; returns it."""
+
     class Handler(BaseHTTPRequestHandler):
+        """Answers with the page, and logs nothing."""
+
         def do_GET(self):
+            """Sends the page."""
             self.send_response(200)
             self.send_header("Content-Type", "text/html")
             self.end_headers()
             self.wfile.write(html)
 
         def log_message(self, *_):
-            pass
+            """Writes nothing."""
 
     server = ThreadingHTTPServer(("127.0.0.1", 0), Handler)  # a browser keeps connections open that it does not use
     threading.Thread(target=server.serve_forever, daemon=True).start()

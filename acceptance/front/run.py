@@ -1,18 +1,17 @@
 #!/usr/bin/env python3
 """Plays all parts in a real browser, or only those that are named:
 
-    run.py PROGRAM FOLDER SHOTS [--first] [--patience SECONDS] [--slower TIMES] [--faults FILE] [PART ..]
+    run.py [--program PROGRAM] [--first] [--patience SECONDS] [--slower TIMES] [--faults FILE] FOLDER SHOTS [PART ..]
 
-FOLDER is made anew and kept; SHOTS gets pictures of the pages. PART is one of looks, pages, access, rules, restarts, limits, queue,
-encrypted, stall, search, refusals, journeys, paper, tickets; or GROUP:PART, one part of a group with an office of its own: of visit,
-day, first_year, access, rules, restarts, limits, queue, refusals, journeys, search, search_pages. A part that goes on from others is
-played after those.
---first ends at the first check that does not hold; --patience is how long anything is waited for (60). With --slower, pages run so many
-times slower, and what they ask for comes later: a check that holds on a fast machine only is found there. With --faults, PART is access,
-visit, rules, queue or restarts, and mutation/front.py tells which faults are to be planted in a copy of front/.
-The last line is `N passed, M failed`; the exit status is 0 where none failed."""
+FOLDER is made anew and kept; SHOTS gets pictures of the pages. PART is one of looks, pages, access, rules, restarts,
+limits, queue, encrypted, stall, search, refusals, journeys, paper, tickets; or GROUP:PART, one part of a group with an
+office of its own: of visit, day, first_year, access, rules, restarts, limits, queue, refusals, journeys, search,
+search_pages. In refusals a part is played after those that it goes on from.
+--first ends at the first check that does not hold; --patience is how long anything is waited for (60). With --slower,
+pages run so many times slower, and what they ask for comes later: a check that holds on a fast machine only is found
+there. With --faults, PART is access, visit, rules, queue or restarts, and mutation/front.py tells which faults are to
+be planted in a copy of front/. The last line is `N passed, M failed`; the exit status is 0 where none failed."""
 
-import argparse
 import contextlib
 import itertools
 import json
@@ -25,7 +24,6 @@ import time
 
 sys.dont_write_bytecode = True
 import access  # noqa: E402
-import catalogue  # noqa: E402
 import encrypted  # noqa: E402
 import foldings  # noqa: E402
 import journeys  # noqa: E402
@@ -44,22 +42,29 @@ import tickets  # noqa: E402
 import waits  # noqa: E402
 from asks import Asks  # noqa: E402
 from browser import Browser  # noqa: E402
+from catalogue import dock_company  # noqa: E402
 from checks import Checks, Enough  # noqa: E402
 from day import Day  # noqa: E402
 from first_year import FirstYear  # noqa: E402
-from office import FRONT, SIGNED_IN, TOP, Office, fresh  # noqa: E402
+from office import FRONT, SIGNED_IN, TOP, Office, clear, folder_options  # noqa: E402
 from rules import Rules  # noqa: E402
 from visit import Visit  # noqa: E402
 
-PARTS = ("looks", "pages", "access", "rules", "restarts", "limits", "queue", "encrypted", "stall", "search", "refusals", "journeys", "paper",
-         "tickets")
+import client  # noqa: E402
+
+PARTS = ("looks", "pages", "access", "rules", "restarts", "limits", "queue", "encrypted", "stall", "search", "refusals",
+         "journeys", "paper", "tickets")
+ARCHIVES = TOP / "examples/archives.csv"
 PATIENT = 60
 WITHOUT_PAGES = {"rules", "restarts", "limits", "queue", "encrypted", "stall", "search"}  # need no browser
 
 
 def pictures(folder):
-    """shot(page, name): the whole page, what the window shows (full=False), or what would be printed."""
+    """Returns a function that keeps a picture of a page in this folder: of all of it, of what the window shows
+    (full=False), or of what would be printed."""
+
     def shot(page, name, full=True, printed=False):
+        """Keeps a picture under this name."""
         if printed:
             page.pdf(folder / f"{name}.pdf")
         else:
@@ -89,13 +94,14 @@ class Run:
     # The office that several parts share
 
     def first_office(self, parts):
-        with Office(self.folder / "first", self.program).init() as office:
+        """Plays these parts in one office."""
+        with Office.create(self.program, self.folder / "first") as office:
             if "looks" in parts:
-                self.checks.part("looks", self.looks_at_files, office)
+                self.checks.part("looks", self.looks, office)
             if "pages" in parts:
                 self.pages(office)
             else:
-                Asks(office).call("POST", "/desk/import/archives", (TOP / "examples/archives.csv").read_bytes(), True)
+                Asks(office).import_text("archives", ARCHIVES.read_bytes())
             if "rules" in parts:
                 self.rules(office)
                 if self.browser:
@@ -103,101 +109,124 @@ class Run:
             if "restarts" in parts:
                 restarts.play(self.checks, Asks(office))
 
-    def looks_at_files(self, office):
+    def looks(self, office):
+        """Looks at the files of files.py, in the browser too if there is one."""
         page = self.browser and self.browser.page(SIGNED_IN)
         if page:
             page.open(office.staff, "/import")
         looks.play(self.checks, office.program, page)
 
     def pages(self, office):
-        hall, desk = self.browser.page(), self.browser.page(SIGNED_IN)
-        visit, day = self.people(office, hall, desk)
+        """Plays the days of readers and desk through the pages, in an office without descriptions."""
+        hall, imports = self.browser.page(), self.browser.page(SIGNED_IN)
+        visit, day = self.people(office, hall, imports)
         hall.open(office.public, "/help")
         self.checks.part("folding of words", foldings.play, self.checks, hall)
         self.checks.part("day: imports", day.imports)
         # Chromium no longer sends keys to a tab in which a file was chosen once another tab was in front.
-        imports, desk = desk, self.browser.page(SIGNED_IN)
-        day.page = desk
+        day.page = self.browser.page(SIGNED_IN)
         visit.play()
         day.play()
-        FirstYear(self.checks, Asks(office), desk, day, self.shot, self.folder).play()
-        self.complaints(hall, imports, desk)
+        FirstYear(self.checks, Asks(office), day, self.shot, self.folder).play()
+        self.complaints(hall, imports, day.page)
 
     def people(self, office, hall, desk):
+        """A Visit and a Day in these two tabs."""
         visit = Visit(self.checks, Asks(office), hall, self.shot)
         return visit, Day(self.checks, Asks(office), desk, visit, self.shot, self.folder)
 
     def rules(self, office, only=None):
+        """Asks the front's rules, all parts or one."""
         Rules(self.checks, Asks(office), self.browser and self.browser.page(SIGNED_IN)).play(only)
 
     def complaints(self, *seen):
-        self.checks.same("the browser complains of nothing", [said for page in seen for said in page.complaints()], [])
+        """Checks that the browser said nothing of these tabs."""
+        said = [words for page in seen for words in page.complaints()]
+        self.checks.same("the browser complains of nothing", said, [])
 
     # Parts with an office of their own
 
     def access(self, only=None):
+        """Plays the rules of access for all pages, those of a site, or one."""
         access.play(self.checks, self.program, self.folder / "access", self.browser, self.shot, only)
 
     def limits(self, only=None):
+        """Plays the limits of the front, or one of them."""
         limits.play(self.checks, self.program, self.folder / "limits", only)
 
     def queue(self, only=None):
+        """Plays the checks of the queue, or one of them."""
         queue_checks.play(self.checks, self.program, self.folder / "queue", only)
 
     def encrypted(self):
+        """Plays the front with TLS."""
         encrypted.play(self.checks, self.program, self.folder / "encrypted")
 
     def stall(self):
-        self.checks.part("stall: commands beside aids whose readers lag", stall.play, self.checks, self.program, self.folder / "stall")
+        """Plays commands beside finding aids whose readers lag."""
+        name = "stall: commands beside aids whose readers lag"
+        self.checks.part(name, stall.play, self.checks, self.program, self.folder / "stall")
 
     def search(self):
-        folder = self.folder / "search"
-        search_checks.play(self.checks, self.program, folder)
-        self.checks.part("search: random sessions", search_sessions.play, self.checks, self.program, folder / "sessions", 60, 7)
+        """Plays the search in all archives, in the browser too if there is one."""
+        checks, program, folder = self.checks, self.program, self.folder / "search"
+        search_checks.play(checks, program, folder)
+        checks.part("search: random sessions", search_sessions.play, checks, program, folder / "sessions", 60, 7)
         if self.browser:
-            self.checks.part("search: pages", search_pages.play, self.checks, self.program, folder / "pages", self.browser, self.shot)
+            pages = folder / "pages"
+            checks.part("search: pages", search_pages.play, checks, program, pages, self.browser, self.shot)
 
     def refusals(self, only=None):
-        with Office(self.folder / "second", self.program, refusals.SETTINGS).init() as office:
+        """Meets each refusal at the desk's pages; or only up to one part."""
+        with Office.create(self.program, self.folder / "second", client.SETTINGS) as office:
             page = self.browser.page(SIGNED_IN)
             refusals.Refusals(self.checks, Asks(office), page, self.folder).play(only)
             self.complaints(page)
 
     def journeys(self, only=None):
-        office = Office(self.folder / "third", self.program, journeys.SETTINGS, changes=journeys.MORE_ORDERS).init()
-        office.take_in("harbour", journeys.catalogue_in(self.folder))
-        office.take_in("deep", journeys.deep_archive_in(self.folder))
+        """Plays the journeys of a reader, or one of them."""
+        office = Office.create(self.program, self.folder / "third", changes=journeys.MORE_ORDERS)
+        for source, path in (("harbour", journeys.write_harbour(self.folder)),
+                             ("deep", journeys.write_deep(self.folder))):
+            office.import_file(source, path).expect_success()
         with office:
             page = self.browser.page()
             journeys.Journeys(self.checks, Asks(office), page, self.shot).play(only)
             self.complaints(page)
 
     def paper(self):
+        """Plays what the desk prints."""
         paper.play(self.checks, self.program, self.folder / "paper", self.browser)
 
     def tickets(self):
-        self.checks.part("many tickets", tickets.play, self.checks, self.program, self.folder / "tickets", self.browser)
+        """Plays a desk with many readers."""
+        folder = self.folder / "tickets"
+        self.checks.part("many tickets", tickets.play, self.checks, self.program, folder, self.browser)
 
     # One part of a group
 
-    def office_with_files(self, **values):
+    def office_with_files(self, **how):
         """An office with the files that `pages` imports through its pages."""
-        office = Office(self.folder / "alone", self.program, **values).init()
-        (self.folder / "dock.csv").write_text("".join(catalogue.dock_company()))
-        office.take_in("archives", TOP / "examples/archives.csv")
-        office.take_in("catalogue", self.folder / "dock.csv")
+        office = Office.create(self.program, clear(self.folder / "alone"), **how)
+        dock = self.folder / "dock.csv"
+        dock.write_text("".join(dock_company()))
+        office.import_file("archives", ARCHIVES).expect_success()
+        office.import_file("catalogue", dock).expect_success()
         return office
 
     def only_visit(self, name):
+        """Plays one part of a reader's visit."""
         with self.office_with_files() as office:
             page = self.browser.page()
             self.people(office, page, None)[0].play(name)
             self.complaints(page)
 
     def only_day(self, name):
+        """Plays one part of the desk's day."""
         if name == "imports":
-            with Office(self.folder / "alone", self.program).init() as office:
-                self.checks.part("day: imports", self.people(office, None, self.browser.page(SIGNED_IN))[1].imports)
+            with Office.create(self.program, clear(self.folder / "alone")) as office:
+                _, day = self.people(office, None, self.browser.page(SIGNED_IN))
+                self.checks.part("day: imports", day.imports)
             return
         with self.office_with_files() as office:
             hall, desk = self.browser.page(), self.browser.page(SIGNED_IN)
@@ -205,15 +234,15 @@ class Run:
             self.complaints(hall, desk)
 
     def only_first_year(self, name):
+        """Plays one part of a desk's first year."""
         with self.office_with_files() as office:
             desk = self.browser.page(SIGNED_IN)
-            for reader in ("Ann <b>Smith</b>", "Ben O'Neill", "Zo\u00eb \u0141ukasz", "\u202eneB"):
-                Asks(office).done("/desk/register", name=reader, until="2030-12-31")
-            day = self.people(office, None, desk)[1]
-            FirstYear(self.checks, Asks(office), desk, day, self.shot, self.folder).play(name)
+            _, day = self.people(office, None, desk)
+            FirstYear(self.checks, Asks(office), day, self.shot, self.folder).play(name)
             self.complaints(desk)
 
     def only_rules(self, name):
+        """Plays one part of the front's rules."""
         with self.office_with_files() as office:
             if name == "signing_out":
                 self.checks.part("rules: signing out", sign_out.play, self.checks, office, self.browser)
@@ -221,20 +250,24 @@ class Run:
                 self.rules(office, name)
 
     def only_restarts(self, name):
+        """Plays one part of the restarts."""
         with self.office_with_files() as office:
             restarts.play(self.checks, Asks(office), name)
 
     def only_search(self, name):
+        """Plays one part of the search's checks."""
         search_checks.play(self.checks, self.program, self.folder / "search", (name,))
 
     def only_search_pages(self, name):
+        """Plays one part of the search's pages."""
         search_pages.play(self.checks, self.program, self.folder / "pages", self.browser, self.shot, name)
 
     # Faults in an office that goes on
 
     def trials(self, group, faults):
-        """All faults of a group in one office, after its parts without a fault: each is planted, and the part that should notice it is
-        played. What came of each is printed. What a fault keeps away is waited for four times as long as anything without one."""
+        """Plays the parts of a group in one office, first without a fault: then each fault is planted, and the part
+        that should notice it is played. Prints what came of each. What a fault keeps away is waited for four times as
+        long as anything without one."""
         with self.office_with_files(changes=[("rate=6r/m", "rate=6000r/m")]) as office:
             play = self.player(group, office)
             least, waits.settings.patience = waits.settings.patience, PATIENT
@@ -245,20 +278,21 @@ class Run:
                 self.trial(play, fault, office)
 
     def trial(self, play, fault, office):
+        """Plays a part with this fault, and prints the first check that failed."""
         checks = Checks(ends_at_first=True)
-        with contextlib.suppress(Enough), planted(fault, office):
+        with contextlib.suppress(Enough), plant(fault, office):
             checks.part(fault["by"], play, checks, fault["by"].split(":")[1])
         self.checks.passed += 1
         failed = None if checks.passed and not checks.told else first_line(checks.told)
         print("TRIED " + json.dumps([fault["by"], fault.get("fault"), failed]), flush=True)
 
     def player(self, group, office):
-        """play(checks, part) for a group whose parts can be played again and again."""
+        """A function of checks and part, for a group whose parts can be played again and again."""
         asks, page = Asks(office), self.browser and self.browser.page()
         if group == "access":
             opened = access.Access(self.checks, office, self.browser, self.shot)
             opened.settle()
-            return opened.again
+            return opened.play_again
         return {"visit": lambda checks, part: Visit(checks, asks, page, self.shot).play(part),
                 "rules": lambda checks, part: Rules(checks, asks, None).play(part),
                 "queue": lambda checks, part: getattr(queue_checks, part)(checks, office),
@@ -271,7 +305,7 @@ moments = itertools.count(int(time.time()))  # browsers know a file by its secon
 
 
 @contextlib.contextmanager
-def planted(fault, office):
+def plant(fault, office):
     """A context in which a fault is in the copy of front/ that the office serves."""
     if "file" not in fault:
         yield
@@ -286,56 +320,61 @@ def planted(fault, office):
 
 
 def first_line(told):
+    """The beginning of what was wrong first."""
     return told[0].removeprefix("WRONG ").splitlines()[0][:150] if told else "nothing was checked"
 
 
 def change(office, name, data):
+    """Writes a file of front/, in a second of its own, and makes the office's servers read it."""
     path, moment = FRONT / name, next(moments)
     path.write_bytes(data)
     os.utime(path, (moment, moment))
-    office.takes(name)
+    office.read_anew(name)
 
 
-def offices(checks, words):
-    wanted = set(words.part or PARTS)
-    with_browser = shutil.which("chromium") and any(part.split(":")[0] not in WITHOUT_PAGES for part in (words.part or PARTS))
-    needs = {"rules:foreign_page", "rules:signing_out", "rules", "search"} & wanted
-    browser = Browser(words.folder / "profile") if with_browser or needs and shutil.which("chromium") else None
+def play(checks, given):
+    """Plays the parts that are wanted, or tries the faults, with a browser if one is needed."""
+    wanted = given.parts or PARTS
+    needs_browser = any(part.split(":")[0] not in WITHOUT_PAGES for part in wanted)
+    uses_browser = {"rules:foreign_page", "rules:signing_out", "rules", "search"} & set(wanted)
+    has_browser = shutil.which("chromium") and (needs_browser or uses_browser)
+    browser = Browser(given.folder / "profile") if has_browser else None
     try:
-        run = Run(checks, browser, words.program, words.folder, words.shots)
-        if words.faults:
-            run.trials(words.part[0], json.loads(words.faults.read_text("utf-8")))
+        run = Run(checks, browser, given.program, given.folder, given.shots)
+        if given.faults:
+            run.trials(wanted[0], json.loads(given.faults.read_text("utf-8")))
         else:
-            run.play(words.part or PARTS)
+            run.play(wanted)
     finally:
         if browser:
             browser.end()
 
 
+def options():
+    """What the command line says."""
+    words = folder_options(__doc__)
+    words.add_argument("shots", type=pathlib.Path, metavar="SHOTS", help="gets pictures of the pages; made anew")
+    words.add_argument("parts", nargs="*", metavar="PART", help="else all")
+    words.add_argument("--first", action="store_true", help="end at the first check that does not hold")
+    words.add_argument("--patience", type=float, default=PATIENT, metavar="SECONDS", help=f"else {PATIENT}")
+    words.add_argument("--slower", type=float, default=1, metavar="TIMES", help="slow the pages down; else 1")
+    words.add_argument("--faults", type=pathlib.Path, metavar="FILE", help="faults to plant, from mutation/front.py")
+    return words.parse_intermixed_args()
+
+
 def main():
-    words = argparse.ArgumentParser(description=__doc__, formatter_class=argparse.RawDescriptionHelpFormatter)
-    words.add_argument("program")
-    words.add_argument("folder", type=pathlib.Path)
-    words.add_argument("shots", type=pathlib.Path)
-    words.add_argument("part", nargs="*")
-    words.add_argument("--first", action="store_true")
-    words.add_argument("--patience", type=float, default=PATIENT)
-    words.add_argument("--slower", type=float, default=1)
-    words.add_argument("--faults", type=pathlib.Path)
-    words = words.parse_intermixed_args()
+    """Plays what the command line names; returns the exit status."""
+    given = options()
     signal.signal(signal.SIGTERM, lambda *_: sys.exit(143))  # so that what was started is ended
-    waits.settings.patience, waits.settings.slower = words.patience, words.slower
-    checks = Checks(words.first)
-    for folder in (words.folder, words.shots):
-        fresh(folder)
-        folder.mkdir(parents=True)
-    words.folder, words.shots = words.folder.resolve(), words.shots.resolve()
-    try:
-        checks.part("offices", offices, checks, words)
-    except Enough:
-        pass
+    waits.settings.patience, waits.settings.slower = given.patience, given.slower
+    checks = Checks(given.first)
+    for folder in (given.folder, given.shots):
+        clear(folder).mkdir(parents=True)
+    given.folder, given.shots = given.folder.resolve(), given.shots.resolve()
+    with contextlib.suppress(Enough):
+        checks.part("offices", play, checks, given)
     print(f"waited for at most {waits.settings.longest:.1f} s", flush=True)
-    return checks.end()
+    return checks.finish()
 
 
 if __name__ == "__main__":

@@ -1,9 +1,10 @@
 #!/usr/bin/env python3
-"""The search in all archives where random sessions do not go: pairs of offices, hostile questions, kills, a damaged index.
+"""The search in all archives where random sessions do not go: pairs of offices, hostile questions, kills, a damaged
+index.
 
-    search_checks.py PROGRAM FOLDER [PART..]
+    search_checks.py [--program PROGRAM] FOLDER [PART ..]
 
-PART is one of questions, pairs, bounds, files, hostile, kills, states."""
+PART is one of questions, pairs, bounds, files, hostile, kills, states; without one, all are played."""
 
 import contextlib
 import json
@@ -19,30 +20,39 @@ from urllib.parse import quote, urlencode
 
 sys.dont_write_bytecode = True
 from checks import Checks  # noqa: E402
-from office import TOP, fresh  # noqa: E402
-from rules import all_at_once  # noqa: E402
+from office import TOP, clear, folder_options  # noqa: E402
+from rules import send_at_once  # noqa: E402
 from searched import LOOKS, Asking, Searched, Unreached, index  # noqa: E402
 from waits import until  # noqa: E402
+
+import client  # noqa: E402
+
+PARTS = ("questions", "pairs", "bounds", "files", "hostile", "kills", "states")
 
 HEADER = "legacyId,parentId,identifier,title,levelOfDescription,publicationStatus,eventDates,scopeAndContent\n"
 QUICK = ("--every", ".2", "--rest", "0")
 WORDS = ["dock", "plans", "minute", "letters", "secret"]
-HOSTILE = ['"', '""', "*", "dock*", "AND", "OR NOT", "NEAR(dock plans)", "head:dock", "{head body}:dock", "^dock", "-dock", "dock + plans", "(", "')--",
-           "dock\0plans", "\0", "\u202edock", "\u05d3\u05d5\u05e7", "e\u0301\u0301\u0301", "\u0301", "\ufb01", "\U0001f4dc", "\ue000", "a" * 5000, "a " * 2000,
-           '"' * 999, "* " * 99, "\u2028", "1e309", "%", "dock\n", ";dock", "&q=dock", "a* b* c* d* e* f* g* h*", "\ufdfa", "\u0130"]
-RAW = ["q=%ff%fe", "q=%", "q", "=", "", "q=dock&q=plans", "in=0&from=x&to=-1&after=99999999999&q=dock", "&".join("x=1" for _ in range(50)),
-       "q=" + "%00" * 2000, "after=1-1&q=dock", "after=0-9999999999&q=dock", "after=2-1&q=dock", "from=1900&to=1800&q=dock", "in=999&q=dock",
+HOSTILE = ['"', '""', "*", "dock*", "AND", "OR NOT", "NEAR(dock plans)", "head:dock", "{head body}:dock", "^dock",
+           "-dock", "dock + plans", "(", "')--",
+           "dock\0plans", "\0", "\u202edock", "\u05d3\u05d5\u05e7", "e\u0301\u0301\u0301", "\u0301", "\ufb01",
+           "\U0001f4dc", "\ue000", "a" * 5000, "a " * 2000,
+           '"' * 999, "* " * 99, "\u2028", "1e309", "%", "dock\n", ";dock", "&q=dock", "a* b* c* d* e* f* g* h*",
+           "\ufdfa", "\u0130"]
+RAW = ["q=%ff%fe", "q=%", "q", "=", "", "q=dock&q=plans", "in=0&from=x&to=-1&after=99999999999&q=dock",
+       "&".join("x=1" for _ in range(50)),
+       "q=" + "%00" * 2000, "after=1-1&q=dock", "after=0-9999999999&q=dock", "after=2-1&q=dock",
+       "from=1900&to=1800&q=dock", "in=999&q=dock",
        "q=%ed%a0%80dock", "after=%D9%A1-1&q=dock"]
 
 
-def told(finder):
+def answer_bytes(finder):
     """An answer as bytes."""
     return json.dumps([finder.state, finder.units, finder.more, finder.after]).encode()
 
 
 def pairs(checks, program, folder):
-    """Two offices that differ only in what is closed or draft: every answer is the same to the byte. And if a part was public in
-    one of them at the last round and not in the other, the answers are still the same, order included."""
+    """Two offices that differ only in what is closed or draft: every answer is the same to the byte. And if a part was
+    public in one of them at the last round and not in the other, the answers are still the same, order included."""
     for was_public in (False, True):
         made = [pair_of(program, folder / f"pair{which}", which, was_public) for which in (0, 1)]
         for asked, one in made[0].items():
@@ -52,9 +62,11 @@ def pairs(checks, program, folder):
 
 
 def pair_of(program, folder, which, was_public):
-    """All answers of an office whose hidden units have other texts, or other reasons to be hidden, in each of the two."""
+    """All answers of an office whose hidden units have other texts, or other reasons to be hidden, in each of the
+    two."""
     chance = random.Random(5)
-    plan = [(n, chance.randint(1, n - 1) if n > 2 else "", chance.random() < .3, random.Random(n)) for n in range(1, 150)]
+    plan = [(n, chance.randint(1, n - 1) if n > 2 else "", chance.random() < .3, random.Random(n))
+            for n in range(1, 150)]
     rows, hidden = HEADER, set()
     for n, parent, hide, draw in plan:
         if hide and n > 2 or parent in hidden:
@@ -63,9 +75,9 @@ def pair_of(program, folder, which, was_public):
         text = [" ".join(draw.choice(WORDS) for _ in range(draw.randint(1, 6))) for _ in range(2)]
         status = "Draft" if n in hidden and not was_public else "Published"
         rows += f"{n},{parent},{n % 7},{text[0]},File,{status},{draw.choice(['1774-1893', '1850', ''])},{text[1]}\n"
-    office = Searched(fresh(folder), program).init()
+    office = Searched.create(program, clear(folder))
     (office.folder / "units.csv").write_text(rows)
-    office.take_in("a", office.folder / "units.csv")
+    office.import_file("a", office.folder / "units.csv").expect_success()
     with office:
         if was_public and which:
             office.round()
@@ -73,65 +85,85 @@ def pair_of(program, folder, which, was_public):
             office.tell("/desk/status", {"unit": n, "status": "draft", "branch": False})
         if not was_public or not which:
             office.round()
-        return {f"{typed} {values}": told(office.find(typed, **values))
+        return {f"{typed} {values}": answer_bytes(office.find(typed, **values))
                 for typed in (*WORDS, "doc*", "dock plans", '"letters dock"', "1850", "file", "gb secret")
                 for values in ({}, {"top": 1}, {"first": 1800}, {"last": 1800, "top": 2})}
 
 
 def bounds(checks, program, folder):
     """What one answer is bounded by, and what is asked of the office."""
-    office = Searched(fresh(folder / "bounds"), program).init()
-    rows = "".join(f"{n},{1 if n > 1 else ''},{n},dock letters {n},{'File' if n > 1 else 'Fonds'},Published,{1700 + n % 300},\n" for n in range(1, 420))
+    office = Searched.create(program, clear(folder / "bounds"))
+    rows = "".join(
+        f"{n},{1 if n > 1 else ''},{n},dock letters {n},{'File' if n > 1 else 'Fonds'},Published,{1700 + n % 300},\n"
+        for n in range(1, 420))
     (office.folder / "units.csv").write_text(HEADER + rows)
-    office.take_in("a", office.folder / "units.csv")
-    (office.folder / "long.csv").write_text(HEADER + f"1,,L,Long,Fonds,Published,,dock letters {'word ' * 100}lighthouse keepers {'word ' * 100}\n")
-    office.take_in("b", office.folder / "long.csv")
+    office.import_file("a", office.folder / "units.csv").expect_success()
+    words = f"dock letters {'word ' * 100}lighthouse keepers {'word ' * 100}"
+    (office.folder / "long.csv").write_text(f"{HEADER}1,,L,Long,Fonds,Published,,{words}\n")
+    office.import_file("b", office.folder / "long.csv").expect_success()
     with office:
         office.round()
-        before, mark, after = office.find("lighthouse").units[0]["lines"][0]["text"]
-        checks.check("an excerpt is short, and has what was found", (before[:6], mark, after[:9], after[-2:]) ==
-                     ("… word", "lighthouse", " keepers ", " …") and len(before + after) < 250, (before, mark, after))
-        found = office.find("letters")
-        checks.same("the way to a unit", (found.units[0]["way"], found.units[1]["way"]), ([], [{"unit": 1, "head": "GB 0999 1 [Fonds] dock letters 1"}]))
-        checks.same("twenty are shown, by number", [unit["unit"] for unit in found.units], list(range(1, 21)))
-        checks.same("and there are more", (found.more, found.after), (True, (0, 20)))
-        checks.same("they go on", [unit["unit"] for unit in office.find("letters", after=found.after).units], list(range(21, 41)))
-        last = office.find("letters", after=(0, 410))
-        checks.same("to the end", ([unit["unit"] for unit in last.units], last.more), (list(range(411, 421)), False))
-        checks.same("years", [unit["unit"] for unit in office.find("letters", first=1750, last=1752).units], [50, 51, 52, 350, 351, 352])
-        for n in range(2, 400):
-            office.tell("/desk/status", {"unit": n, "status": "draft", "branch": False})
-        office.tell("/desk/status", {"unit": 420, "status": "draft", "branch": False})
-        last = office.find("letters", after=(0, 399))
-        checks.same("no more is told but what was verified", (len(last.units), last.more, last.after), (20, False, (0, 419)))
-        found = office.find("dock")
-        checks.same("it gives up after so many looks", (found.state, [unit["unit"] for unit in found.units], found.looked <= LOOKS),
-                    ("late", [1], True))  # on a busy machine its time ends before
-        office.round()
-        checks.same("and the next round mends that", [unit["unit"] for unit in office.find("dock").units], [1, *range(400, 420)][:20])
+        bounds_of_an_answer(checks, office)
+        bounds_of_looks(checks, office)
         checks.same("the socket has no route of the desk", office.ask("/desk/issued"), None)
-        checks.same("and no other", [office.ask(path) for path in ("/public/orders", "/public/units/01", "/public/units/1/")], [None] * 3)
+        others = [office.ask(path) for path in ("/public/orders", "/public/units/01", "/public/units/1/")]
+        checks.same("and no other", others, [None] * 3)
         office.index.unlink()
         paths = office.round(large=10)
-        checks.check("nobody waits for the aid of a large archive", "/public/aid/1" not in paths and "/public/aid/400" in paths, paths)
+        checks.check("nobody waits for the aid of a large archive",
+                     "/public/aid/1" not in paths and "/public/aid/400" in paths, paths)
         checks.same("nor in a round without changes", "/public/aid/1" in office.round(large=10), False)
-        checks.same("all is found in it", [unit["unit"] for unit in office.find("dock").units], [1, *range(400, 420)][:20])
+        checks.same("all is found in it", find_numbers(office, "dock"), [1, *range(400, 420)][:20])
+
+
+def bounds_of_an_answer(checks, office):
+    """How much of a unit, and how many units, an answer shows; and how it goes on."""
+    before, mark, after = office.find("lighthouse").units[0]["lines"][0]["text"]
+    short = len(before + after) < 250
+    checks.check("an excerpt is short, and has what was found", short and (before[:6], mark, after[:9], after[-2:]) ==
+                 ("… word", "lighthouse", " keepers ", " …"), (before, mark, after))
+    found = office.find("letters")
+    checks.same("the way to a unit", (found.units[0]["way"], found.units[1]["way"]),
+                ([], [{"unit": 1, "head": "GB 0999 1 [Fonds] dock letters 1"}]))
+    checks.same("twenty are shown, by number", [unit["unit"] for unit in found.units], list(range(1, 21)))
+    checks.same("and there are more", (found.more, found.after), (True, (0, 20)))
+    checks.same("they go on", find_numbers(office, "letters", after=found.after), list(range(21, 41)))
+    last = office.find("letters", after=(0, 410))
+    checks.same("to the end", ([unit["unit"] for unit in last.units], last.more), (list(range(411, 421)), False))
+    checks.same("years", find_numbers(office, "letters", first=1750, last=1752), [50, 51, 52, 350, 351, 352])
+
+
+def bounds_of_looks(checks, office):
+    """How many units that are no longer public an answer looks at, until the next round forgets them."""
+    for n in (*range(2, 400), 420):
+        office.tell("/desk/status", {"unit": n, "status": "draft", "branch": False})
+    last = office.find("letters", after=(0, 399))
+    checks.same("no more is told but what was verified", (len(last.units), last.more, last.after),
+                (20, False, (0, 419)))
+    found = office.find("dock")
+    checks.same("it gives up after so many looks",
+                (found.state, [unit["unit"] for unit in found.units], found.looked <= LOOKS),
+                ("late", [1], True))  # on a busy machine its time ends before
+    office.round()
+    checks.same("and the next round mends that", find_numbers(office, "dock"), [1, *range(400, 420)][:20])
 
 
 def files(checks, program, folder):
-    """Whatever became of the index, it is made anew, and a round finds everything. And numbers that changed below equal bytes."""
-    office = Searched(fresh(folder / "files"), program).init()
-    (office.folder / "units.csv").write_text(HEADER + "1,,A,Dock,Fonds,Published,,\n2,1,1,dock letters,File,Published,,\n")
-    office.take_in("a", office.folder / "units.csv")
+    """Whatever became of the index, it is made anew, and a round finds everything. And numbers that changed below equal
+    bytes."""
+    office = Searched.create(program, clear(folder / "files"))
+    (office.folder / "units.csv").write_text(HEADER
+                                             + "1,,A,Dock,Fonds,Published,,\n2,1,1,dock letters,File,Published,,\n")
+    office.import_file("a", office.folder / "units.csv").expect_success()
     with office:
         office.round()
-        checks.same("what is found", numbers(office, "dock"), [1, 2])
+        checks.same("what is found", find_numbers(office, "dock"), [1, 2])
         for name, harmed in HARMS.items():
             harmed(office.index)
-            index.made(str(office.index), True).close()
-            checks.check(f"an index that is {name} is begun anew", numbers(office, "dock") in ([], [1, 2]))
+            index.open_or_make(str(office.index), True).close()
+            checks.check(f"an index that is {name} is begun anew", find_numbers(office, "dock") in ([], [1, 2]))
             office.round()
-            checks.same(f"and all is found after one that was {name}", numbers(office, "dock"), [1, 2])
+            checks.same(f"and all is found after one that was {name}", find_numbers(office, "dock"), [1, 2])
         office.round()  # by now the aid is read as one, and known
         before = office.ask("/public/aid/1")
         office.tell("/desk/remove", {"unit": 2})
@@ -140,11 +172,12 @@ def files(checks, program, folder):
         found = office.find("letters")
         checks.same("a number that is gone is not found, and doubted", (found.units, found.doubts), ([], {2}))
         office.round(sweep=20)
-        checks.same("the new number is found", numbers(office, "letters"), [3])
+        checks.same("the new number is found", find_numbers(office, "letters"), [3])
 
 
-def numbers(office, typed):
-    return [unit["unit"] for unit in office.find(typed).units]
+def find_numbers(office, typed, **how):
+    """The numbers of the units that are found."""
+    return [unit["unit"] for unit in office.find(typed, **how).units]
 
 
 def with_sql(*statements):
@@ -177,6 +210,7 @@ class FakeOffice(threading.Thread):
         self.listener.listen()
 
     def run(self):
+        """Answers one connection after the other."""
         while True:
             with self.listener.accept()[0] as it:
                 while b"\r\n\r\n" in (head := it.recv(4096)):
@@ -185,11 +219,12 @@ class FakeOffice(threading.Thread):
                     if status is None:
                         break
                     time.sleep(.05)  # what an answer takes, of which a round rests four times as long
-                    it.sendall(f"HTTP/1.1 {status} x\r\nContent-Length: 5\r\n\r\nlines".encode())
+                    it.sendall(client.reply(status, b"lines"))
 
 
 def questions(checks, folder):
-    """How the office is asked: rounds after everybody else, at rest for four fifths of the time; readers for so long only."""
+    """How the office is asked: rounds after everybody else, at rest for four fifths of the time; readers for so long
+    only."""
     folder.mkdir(parents=True, exist_ok=True)
     (folder / "fake.sock").unlink(missing_ok=True)
     fake = FakeOffice(folder / "fake.sock", {"/shut": 404, "/broken": 502, "/gone": None})
@@ -198,7 +233,8 @@ def questions(checks, folder):
     began = time.monotonic()
     checks.same("what is shown, and what is not", [ask("/one"), ask("/shut")], ["lines", None])
     checks.check("a round rests", time.monotonic() - began > 4.5 * ask.busy > .4, (time.monotonic() - began, ask.busy))
-    checks.check("a round asks after everybody else", all("Record-Office-Round" in head for head in fake.heads), fake.heads)
+    checks.check("a round asks after everybody else", all("Record-Office-Round" in head for head in fake.heads),
+                 fake.heads)
     for path in ("/broken", "/gone"):
         checks.same(f"{path} is no answer", failure(ask, path), "Unreached")
     reader = Asking(folder / "fake.sock")
@@ -210,6 +246,7 @@ def questions(checks, folder):
 
 
 def failure(ask, path):
+    """The answer to a question, or the name of what it raised."""
     try:
         return ask(path)
     except Unreached as lost:
@@ -219,37 +256,43 @@ def failure(ask, path):
 def hostile(checks, office):
     """Whatever is typed, the answer is 200 and JSON, or the front's own refusal of what is too long."""
     for text in HOSTILE:
-        status, body = patient(office, "q=" + quote(text.encode("utf-8", "replace")))
-        checks.check(f"legal: {text[:20]!r}", status in (200, 414) and (status == 414 or json.loads(body)["state"] == "done"), (status, body[:200]))
+        status, body = ask_patiently(office, "q=" + quote(text.encode("utf-8", "replace")))
+        checks.check(f"legal: {text[:20]!r}",
+                     status in (200, 414) and (status == 414 or json.loads(body)["state"] == "done"),
+                     (status, body[:200]))
     for raw in RAW:
-        status, body = patient(office, raw)
-        checks.check(f"legal: {raw[:40]!r}", status == 200 and json.loads(body)["state"] == "done", (status, body[:200]))
-    checks.same("100 kB", patient(office, "q=" + "a" * 100_000)[0], 414)
-    checks.check("too many at once", 429 in {one for one, _ in all_at_once(office.ports["8080"], "GET /public/search?q= HTTP/1.1\r\nHost: x\r\n\r\n", 100)})
+        status, body = ask_patiently(office, raw)
+        checks.check(f"legal: {raw[:40]!r}", status == 200 and json.loads(body)["state"] == "done",
+                     (status, body[:200]))
+    checks.same("100 kB", ask_patiently(office, "q=" + "a" * 100_000)[0], 414)
+    at_once = send_at_once(office.ports["8080"], client.get("/public/search?q="), 100)
+    checks.check("too many at once", 429 in {one for one, _ in at_once})
 
 
-def patient(office, args):
+def ask_patiently(office, args):
     """The answer; if nginx says that this address asks too often, it asks again."""
-    return until(lambda: (got := office.found(args))[0] != 429 and got, "the search is let through")
+    return until(lambda: (got := office.ask_service(args))[0] != 429 and got, "the search is let through")
 
 
-def units(office):
+def find_units(office):
     """The numbers that are found for a word, or None if the answer is not whole."""
-    status, body = patient(office, urlencode({"q": "dock"}))
+    status, body = ask_patiently(office, urlencode({"q": "dock"}))
     answer = json.loads(body) if status == 200 else {}
     return {unit["unit"] for unit in answer["units"]} if answer.get("state") == "done" else None
 
 
 def is_found(office, wanted, minutes=1):
+    """Whether these numbers are found within so many minutes."""
     try:
-        return until(lambda: units(office) == wanted, "all is found again", minutes)
+        return until(lambda: find_units(office) == wanted, "all is found again", minutes)
     except AssertionError:
         return False
 
 
 def kills(checks, office, turns=12):
-    """kill -9 of service, rounds and program at random; the index damaged, cut, foreign or deleted, at rest and while it is used."""
-    chance, wanted = random.Random(3), units(office)
+    """kill -9 of service, rounds and program at random; the index damaged, cut, foreign or deleted, at rest and while
+    it is used."""
+    chance, wanted = random.Random(3), find_units(office)
     checks.check("something is found", wanted)
     for turn in range(turns):
         what = chance.choice(["service", "rounds", "program", "both", "delete", "damage", "cut", "foreign", "other"])
@@ -257,19 +300,20 @@ def kills(checks, office, turns=12):
         if office.service.poll() is not None:
             office.serve_search(*QUICK)
         time.sleep(chance.random())  # the question comes at a moment that nothing else chooses
-        now = units(office)
+        now = find_units(office)
         checks.check(f"never anything else after {what}, turn {turn}", now is None or now <= wanted, now)
         if turn % 3 == 2:
-            checks.check(f"found again after {what}, turn {turn}", is_found(office, wanted), (units(office), wanted))
+            checks.check(f"found again after {what}, turn {turn}", is_found(office, wanted),
+                         (find_units(office), wanted))
     await_rounds(office, 2)  # the first has checked the index
     DAMAGED_WORDS(office.index)
-    checks.check("found again after words were damaged", is_found(office, wanted, 3), units(office))
+    checks.check("found again after words were damaged", is_found(office, wanted, 3), find_units(office))
     checks.same("the index is private", oct(os.stat(office.index).st_mode & 0o777), "0o600")
 
 
 def await_rounds(office, many):
     """Waits until so many more rounds have ended."""
-    with contextlib.closing(index.opened(office.index)) as db:
+    with contextlib.closing(index.open_index(office.index)) as db:
         def finished():
             return db.execute("SELECT finished FROM round").fetchone()[0]
         wanted = finished() + many
@@ -277,6 +321,7 @@ def await_rounds(office, many):
 
 
 def harm(office, what, chance):
+    """Kills, damages or replaces what the word names."""
     path = pathlib.Path(office.index)
     if what in ("service", "both", "damage", "cut", "foreign", "other"):
         office.kill_search()
@@ -305,36 +350,45 @@ def states(checks, office):
     """Without the office, and without the service."""
     with office.without_program():
         begun = time.time()
-        status, body = patient(office, "q=dock")
-        checks.check("while the office is away", json.loads(body)["state"] in ("late", "unreached") and time.time() - begun < 12, (status, body))
+        status, body = ask_patiently(office, "q=dock")
+        checks.check("while the office is away",
+                     json.loads(body)["state"] in ("late", "unreached") and time.time() - begun < 12, (status, body))
     office.kill_search()
-    checks.same("without the service", patient(office, "q=dock")[0], 503)
+    checks.same("without the service", ask_patiently(office, "q=dock")[0], 503)
     checks.check("the pages are as they were", b"[Fonds]" in office.wait_for(office.public + "/public/fonds"))
 
 
-def with_service(checks, program, folder, parts):
-    office = Searched(fresh(folder / "served"), program).init()
-    office.take_in("catalogue", TOP / "examples/archives.csv")
+def play_with_service(checks, program, folder, parts):
+    """Plays the parts that need the service, over one office."""
+    office = Searched.create(program, clear(folder / "served"))
+    office.import_file("catalogue", TOP / "examples/archives.csv").expect_success()
     with office:
         office.serve_search(*QUICK)
-        until(lambda: units(office), "a first round has found something")
+        until(lambda: find_units(office), "a first round has found something")
         for part in (hostile, kills, states):
             if part.__name__ in parts:
                 checks.part(f"search: {part.__name__}", part, checks, office)
 
 
-def play(checks, program, folder, parts=("questions", "pairs", "bounds", "files", "hostile", "kills", "states")):
-    folder = pathlib.Path(folder)
+def play(checks, program, folder, parts=PARTS):
+    """Plays these parts, in offices of their own below the folder."""
     if "questions" in parts:
         checks.part("search: questions", questions, checks, folder)
     for part in (pairs, bounds, files):
         if part.__name__ in parts:
             checks.part(f"search: {part.__name__}", part, checks, program, folder)
     if {"hostile", "kills", "states"} & set(parts):
-        with_service(checks, program, folder, parts)
+        play_with_service(checks, program, folder, parts)
+
+
+def main():
+    """Plays the parts that the command line names; returns the exit status."""
+    words = folder_options(__doc__)
+    words.add_argument("parts", type=client.one_of(PARTS), nargs="*", metavar="PART")
+    given, checks = words.parse_args(), Checks()
+    play(checks, given.program, given.folder, given.parts or PARTS)
+    return checks.finish()
 
 
 if __name__ == "__main__":
-    checks = Checks()
-    play(checks, sys.argv[1], sys.argv[2], *([sys.argv[3:]] if sys.argv[3:] else []))
-    sys.exit(checks.end())
+    sys.exit(main())

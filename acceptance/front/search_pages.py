@@ -1,6 +1,5 @@
 """The search in all archives in a real browser, with a service of its own."""
 
-import json
 import urllib.parse
 
 from asks import Asks
@@ -13,24 +12,26 @@ from waits import until
 MINUTES = "GB 0999 HUL/1 [Series] Minutes"
 BOXES = "document.querySelectorAll('form.find').length"
 TOLD = ".told"
-MARKS = "[...new Set([...document.querySelectorAll('.found mark')].map((mark) => mark.textContent.toLowerCase()))].sort().join()"
+MARKS = """[...new Set([...document.querySelectorAll('.found mark')].map((mark) => mark.textContent.toLowerCase()))]
+  .sort().join()"""
 FIELDS = "[...document.querySelectorAll('form.find :is(select, input)')].map((field) => field.value).join()"
 MADE = "document.querySelectorAll('.found :is(img, b, i, script, style, title, [onmouseover])').length"
 
 
-def office_of(program, folder):
-    office = Searched(folder / "office", program).init()
-    office.take_in("catalogue", TOP / "examples/archives.csv")
+def make_office(program, folder):
+    """An office with three archives, of which one has 45 units with the same word."""
+    office = Searched.create(program, folder / "office")
+    office.import_file("catalogue", TOP / "examples/archives.csv").expect_success()
     for name, lines in (("dock", dock_company()), ("many", many(45))):
         (folder / f"{name}.csv").write_text("".join(lines))
-        office.take_in(name, folder / f"{name}.csv")
+        office.import_file(name, folder / f"{name}.csv").expect_success()
     return office
 
 
 def play(checks, program, folder, browser, shot, only=None):
     """All parts, or the first, which begins the service, and one other."""
     folder.mkdir(parents=True, exist_ok=True)
-    with office_of(program, folder) as office:
+    with make_office(program, folder) as office:
         page = browser.page()
         for part in (absent, box, results, more, filters, odd_texts, phone, ordering, away):
             if only in (None, part.__name__) or part is absent:
@@ -38,13 +39,14 @@ def play(checks, program, folder, browser, shot, only=None):
 
 
 def absent(checks, office, page, _):
+    """Without the service there is no box, and a search says so; then begins the service."""
     page.open(office.public, "/")
     page.see("Archives")
     checks.same("no box without the service", page.js(BOXES), 0)
     page.open(office.public, "/search?q=minutes")
     page.see("The search does not answer just now.", TOLD)
     office.serve_search("--every", ".3", "--rest", "0")
-    until(lambda: b'"unit"' in office.found("q=minutes")[1], "a first round has found the minutes")
+    until(lambda: b'"unit"' in office.ask_service("q=minutes")[1], "a first round has found the minutes")
     page.complaints()
 
 
@@ -58,14 +60,16 @@ def box(checks, office, page, shot):
     page.type("minutes dock")
     page.key("Enter")
     page.see("3 units.", TOLD)
-    checks.check("the address has the question", page.js("location.href").endswith("/search?q=minutes+dock"), page.js("location.href"))
+    checks.check("the address has the question", page.js("location.href").endswith("/search?q=minutes+dock"),
+                 page.js("location.href"))
     checks.same("and so has the field", page.js("document.querySelector('form.find input').value"), "minutes dock")
     checks.check("the title", page.js("document.title").startswith("Search: minutes dock"), page.js("document.title"))
     checks.same("the words are marked", page.js(MARKS), "dock,minutes")
     checks.same("the result is announced", page.js(f"document.querySelector('{TOLD}').getAttribute('role')"), "status")
     checks.same("the page begins at its heading", page.js("document.activeElement.tagName"), "H1")
     checks.same("the box and its fields have names", page.js(
-        "[...document.querySelectorAll('form.find :is(select, input)')].every((field) => field.labels.length === 1)"), True)
+        "[...document.querySelectorAll('form.find :is(select, input)')].every((field) => field.labels.length === 1)"),
+                True)
     shot(page, "reader-found")
     for _ in range(12):
         page.key("Tab")
@@ -73,7 +77,7 @@ def box(checks, office, page, shot):
             break
     head = page.js("document.activeElement.textContent")
     page.key("Enter")
-    page.wait(f"document.querySelector('main h1').textContent === {page.quoted(head)}")
+    page.wait(f"document.querySelector('main h1').textContent === {page.quote(head)}")
     checks.check("a hit leads to its unit", True)
     page.js("history.back()")
     page.see("3 units.", TOLD)
@@ -81,7 +85,9 @@ def box(checks, office, page, shot):
 
 
 def results(checks, office, page, _):
-    for typed, told in (("cafe", "1 unit."), ("CAFE\u0301", "1 unit."), ("zzz", "Nothing found."), ("", "Please type a word."), ("\u2018\u2019 -", "Please type a word."),
+    """What is told of words, of odd signs and of nothing, and what is marked."""
+    for typed, told in (("cafe", "1 unit."), ("CAFE\u0301", "1 unit."), ("zzz", "Nothing found."),
+                        ("", "Please type a word."), ("\u2018\u2019 -", "Please type a word."),
                         ("\u201cdock company\u201d zzz", "Nothing found.")):
         page.open(office.public, "/search?q=" + urllib.parse.quote(typed))
         page.see(told, TOLD)
@@ -91,20 +97,24 @@ def results(checks, office, page, _):
     checks.same("whole letters are marked, with their accents", page.js(MARKS), "cafe\u0301,caf\u00e9")
     page.open(office.public, "/search?q=brittle")
     page.wait("document.querySelectorAll('.found li').length > 0")
-    checks.check("also in what is shown of the text", page.js("document.querySelectorAll('.found .words mark').length") > 0)
+    checks.check("also in what is shown of the text",
+                 page.js("document.querySelectorAll('.found .words mark').length") > 0)
 
 
 def more(checks, office, page, _):
+    """The next twenty units, below those that are shown."""
     page.open(office.public, "/search?q=unit")
     page.see("20 units so far.", TOLD)
     page.press("More")
     page.see("40 units so far.", TOLD)
-    checks.same("the focus is at the first new one", page.js("[...document.querySelectorAll('.found .hit a')].indexOf(document.activeElement)"), 20)
+    checks.same("the focus is at the first new one",
+                page.js("[...document.querySelectorAll('.found .hit a')].indexOf(document.activeElement)"), 20)
     numbers = page.js("[...document.querySelectorAll('.found .hit a')].map((a) => +a.href.split('/').pop())")
     checks.check("none is shown twice", len(set(numbers)) == 40, numbers)
 
 
 def filters(checks, office, page, _):
+    """The archive and the years of a search, from its address."""
     page.open(office.public, "/search?q=company&in=1&from=1800&to=1810")
     page.wait("document.querySelectorAll('.found li').length > 0")
     page.wait("document.querySelectorAll('#find-in option').length > 2")
@@ -125,10 +135,12 @@ def odd_texts(checks, office, page, _):
         checks.check(f"odd text is found: {name}", text[:60] in shown, shown[:500])
         checks.same(f"odd text is no markup: {name}", page.js(MADE), 0)
     checks.same("each text has its own direction", page.js(
-        "[...document.querySelectorAll('.found .words:not(:has([dir]))')].every((text) => text.dir === 'auto' || text.tagName === 'BDI')"), True)
+        "[...document.querySelectorAll('.found .words:not(:has([dir]))')].every((text) => text.dir === 'auto' || "
+        "text.tagName === 'BDI')"), True)
 
 
 def phone(checks, office, page, shot):
+    """The results on a small screen."""
     page.size(360, 740, 2, True)
     page.open(office.public, "/search?q=minutes")
     page.wait("document.querySelector('.found li')")
@@ -138,13 +150,13 @@ def phone(checks, office, page, shot):
 
 
 def ordering(checks, office, page, shot):
-    """A reader who knows a subject: from the search in all archives to a unit, its order and the answer, by keys on a desk's screen
-    and at 200 %, and by thumb on a phone."""
+    """A reader who knows a subject: from the search in all archives to a unit, its order and the answer, by keys on a
+    desk's screen and at 200 %, and by thumb on a phone."""
     asks, reader = Asks(office), Journeys(checks, Asks(office), page, shot)
     for name, shape in SHAPES.items():
-        ticket = asks.done("/desk/register", name=name, until="2030-01-01")["ticket"]
+        ticket = asks.command("/desk/register", name=name, until="2030-01-01")["ticket"]
         page.size(*shape)
-        use = reader.tap if name == "phone" else reader.by_keys
+        use = reader.tap if name == "phone" else reader.use_keys
         reader.at("/")
         page.wait(f"{BOXES} === 1")
         use("Search in all archives")
@@ -160,13 +172,15 @@ def ordering(checks, office, page, shot):
         page.key("Enter")
         page.see("Ordered. Your order has the number", ".outcome")
         page.wait("document.activeElement.className === 'outcome'")
-        reader.is_inside(f"the answer, {name}", ".outcome")
+        reader.check_inside(f"the answer, {name}", ".outcome")
         shot(page, f"journey-{name}-found-and-ordered", full=False)
-        checks.same(f"the order stands, {name}", [one["state"] for one in json.loads(asks.text(f"/desk/readers/{ticket}", True))["orders"]], ["waiting"])
+        checks.same(f"the order stands, {name}",
+                    [one["state"] for one in asks.read(f"/desk/readers/{ticket}")["orders"]], ["waiting"])
     page.size(1200, 850)
 
 
 def away(checks, office, page, _):
+    """An office that is away, and too many searches."""
     checks.same("the browser complains of nothing", page.complaints(), [])
     page.open(office.public, "/search?q=cafe")
     with office.without_program():

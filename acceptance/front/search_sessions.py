@@ -1,13 +1,13 @@
 #!/usr/bin/env python3
 """Random offices and random sessions of commands, with the index at every degree of staleness:
 
-    search_sessions.py PROGRAM FOLDER [--steps N] [--seed N]
+    search_sessions.py [--program PROGRAM] [--steps N] [--seed N] FOLDER
 
-After each step a random question is asked, and what is found is compared with all public pages, which are read by other code
-than the service's: nothing is found that is not public now, and nothing is missing that a round has seen. It prints how often
-what happened; an assertion that fails says which promise was broken."""
+After each step a random question is asked, and what is found is compared with all public pages, which are read by other
+code than the service's: nothing is found that is not public now, and nothing is missing that a round has seen. It
+prints how often what happened; an assertion that fails says which promise was broken."""
 
-import argparse
+import contextlib
 import random
 import re
 import sys
@@ -16,19 +16,23 @@ import unicodedata
 sys.dont_write_bytecode = True
 import searched  # noqa: E402
 from checks import Checks  # noqa: E402
-from office import fresh  # noqa: E402
+from office import clear, folder_options  # noqa: E402
 
-WORDS = ["dock", "Minutes", "minute", "letters", "caf\u00e9", "cafe\u0301", "\u05de\u05db\u05ea\u05d1", "Dock-gates", "x2", "plans", "\u0141\u00f3d\u017a", "O\u2019Brien"]
-ODD = ["closed until 2030-01-01", "Unit 1: GB 0999 A [Fonds] dock", "dock (from GB 0999 A)", "plans (from GB 0999)", "minute\nGB 0999 A [File] letters",
-       "] dock [", "3.1.3 Date(s): 1850", "Container 1: dock", "  Unit 2: plans", "\u202edock\u2028plans", "a\ue000b \0 dock"]
-COLUMNS = ["legacyId", "parentId", "identifier", "title", "levelOfDescription", "publicationStatus", "eventDates", "eventActors", "scopeAndContent", "physicalObjectName"]
+WORDS = ["dock", "Minutes", "minute", "letters", "caf\u00e9", "cafe\u0301", "\u05de\u05db\u05ea\u05d1", "Dock-gates",
+         "x2", "plans", "\u0141\u00f3d\u017a", "O\u2019Brien"]
+ODD = ["closed until 2030-01-01", "Unit 1: GB 0999 A [Fonds] dock", "dock (from GB 0999 A)", "plans (from GB 0999)",
+       "minute\nGB 0999 A [File] letters",
+       "] dock [", "3.1.3 Date(s): 1850", "Container 1: dock", "  Unit 2: plans", "\u202edock\u2028plans",
+       "a\ue000b \0 dock"]
+COLUMNS = ["legacyId", "parentId", "identifier", "title", "levelOfDescription", "publicationStatus", "eventDates",
+           "eventActors", "scopeAndContent", "physicalObjectName"]
 DATES = ["", "", "1774-1893", "1800", "about 1850 or 1860", "18th century", "12345"]
 KINDS = ["command"] * 12 + ["clean", "clean", "disturbed", "disturbed", "blink", "cut", "all"]
 
 
 class Unit:
-    """A public unit, read from its page and its finding aid: head, own values, numbers above from the top, years, lines of the
-    units right below."""
+    """A public unit, read from its page and its finding aid: head, own values, numbers above from the top, years, lines
+    of the units right below."""
 
     def __init__(self, head, values, above, years, units):
         self.head, self.values, self.above, self.years, self.units = head, values, above, years, units
@@ -39,13 +43,16 @@ class Unit:
 
 def tokens(text):
     """The words of a text, by other code than the service's."""
-    plain = "".join(c for c in unicodedata.normalize("NFKD", text) if unicodedata.category(c) not in ("Mn", "Cf")).lower()
+    plain = "".join(c for c in unicodedata.normalize("NFKD", text)
+                    if unicodedata.category(c) not in ("Mn", "Cf")).lower()
     return re.findall(r"[^\W_]+", plain.replace("\u0142", "l"))
 
 
 def holds(words, phrase, begins):
+    """Whether a phrase stands among these words; `begins`: its last word may go on."""
     spans = [words[k:k + len(phrase)] for k in range(len(words) - len(phrase) + 1)]
-    return any(span == phrase or begins and span[:-1] == phrase[:-1] and span[-1].startswith(phrase[-1]) for span in spans)
+    return any(span == phrase or begins and span[:-1] == phrase[:-1] and span[-1].startswith(phrase[-1])
+               for span in spans)
 
 
 def phrases_of(typed):
@@ -53,28 +60,77 @@ def phrases_of(typed):
     return [(tokens(piece), piece.endswith("*")) for piece in re.findall(r'"[^"]*"|[^ "]+', typed)]
 
 
+class Between:
+    """What happens between the questions of a round. A disturbed round meets two commands, mostly between an aid and
+    the pages that give its numbers. In a blink a unit is closed just there, and open again at the next question: the
+    aid is the same after it as before. `shut` has the unit that is closed now, and `blinked` each that was."""
+
+    def __init__(self, session, kind):
+        self.session, self.kind, self.left = session, kind, session.random.randint(1, 12)
+        self.last, self.shut, self.blinked = "", [], set()
+
+    def open(self):
+        """Opens the unit that is closed, if there is one."""
+        for number in self.shut:
+            self.session.office.tell("/desk/closure", {"unit": number, "until": None})
+        self.shut = []
+
+    def ask(self, path):
+        """What the public sees at this path, or None, after whatever happens before. Raises Unreached at the end of a
+        round that is cut."""
+        between = path.startswith("/public/units") and self.last.startswith("/public/aid")
+        self.left, self.last = self.left - 1, path
+        self.open()
+        if self.kind == "blink" and between:
+            self.close(int(path[14:]))
+        if self.kind == "cut" and self.left == 0:
+            raise searched.Unreached
+        if self.kind == "disturbed" and (self.left == 0 or between and self.left > 0):
+            self.left = 0
+            self.session.command()
+            self.session.command()
+        text = self.session.asking(path)
+        if path.startswith("/public/units/") and text:
+            lines = tuple(line for line in text.split("\n") if line.startswith("  Unit "))
+            self.session.fetched[int(path[14:])] = lines
+        return text
+
+    def close(self, number):
+        """Closes a public unit that has others below it."""
+        if number in self.session.now and self.session.now[number].units:
+            self.shut = [number]
+            self.blinked.add(number)
+            self.session.office.tell("/desk/closure", {"unit": number, "until": "2999-12-31"})
+
+
 class Session:
     """office: a Searched office that is running."""
 
     def __init__(self, office, seed):
         self.office, self.random = office, random.Random(seed)
-        self.db, self.asking = searched.index.made(str(office.index), True), searched.Asking(office.queue)
+        self.db, self.asking = searched.index.open_or_make(str(office.index), True), searched.Asking(office.queue)
         self.reader = searched.Asking(office.queue)
-        self.day, self.rows, self.last, self.fetched, self.snap, self.doubts, self.told = 0, {}, ("s0", b""), {}, {}, set(), {}
-        self.by_parts = set()
+        self.day, self.rows, self.last, self.told = 0, {}, ("s0", b""), {}
+        self.fetched, self.snap, self.doubts, self.by_parts = {}, {}, set(), set()
 
     # Commands
 
     def text(self):
+        """A random text."""
         choice = self.random.choice
-        return choice(ODD) if self.random.random() < .25 else " ".join(choice(WORDS) for _ in range(self.random.randint(1, 3)))
+        if self.random.random() < .25:
+            return choice(ODD)
+        return " ".join(choice(WORDS) for _ in range(self.random.randint(1, 3)))
 
     def file(self, source, many):
+        """A random file of a source, with so many new rows and two that are known."""
         lines, rows = [",".join(COLUMNS)], self.rows.get(source, 0)
         for number in self.random.sample(range(1, rows + 1), min(rows, 2)) + list(range(rows + 1, rows + many + 1)):
             parent = self.random.randint(1, number - 1) if number > 1 and self.random.random() < .85 else ""
-            some = [number, parent, self.random.choice(["", "A", "B", "1"]), self.text(), self.random.choice(["", "Fonds", "File", "[File"]),
-                    self.random.choice(["Published"] * 6 + ["Draft"]), self.random.choice(DATES), self.random.choice(["", self.text()]),
+            some = [number, parent, self.random.choice(["", "A", "B", "1"]), self.text(),
+                    self.random.choice(["", "Fonds", "File", "[File"]),
+                    self.random.choice(["Published"] * 6 + ["Draft"]), self.random.choice(DATES),
+                    self.random.choice(["", self.text()]),
                     self.random.choice(["", self.text(), self.text()]), self.random.choice(["", "", self.text()])]
             lines.append(",".join('"' + str(value).replace('"', '""') + '"' for value in some))
         self.rows[source] = rows + many
@@ -89,23 +145,31 @@ class Session:
             source = f"s{self.random.randint(0, 2)}"
             self.last = (source, self.file(source, self.random.randint(1, 9)))
             status, _ = self.office.tell(f"/desk/import/{source}", self.last[1])
-            self.rows[source] = self.rows[source] if status == 200 else 0  # a parent was removed: from the first row again
+            # a parent was removed: from the first row again
+            self.rows[source] = self.rows[source] if status == 200 else 0
             return status == 200
-        if kind == "again":  # a branch is removed, and the last file imported again: other numbers, and often the same bytes
+        # a branch is removed, and the last file imported again: other numbers, and often the same bytes
+        if kind == "again":
             self.office.tell("/desk/remove", {"unit": max(some)})
             return self.office.tell(f"/desk/import/{self.last[0]}", self.last[1])[0] == 200
         return self.office.tell(*self.order(kind, unit, some))[0] == 200
 
     def order(self, kind, unit, some):
+        """The path and the members of a random command of this kind."""
         if kind == "day":
             self.day += self.random.randint(1, 400)
         date = f"{2024 + self.day // 336}-{1 + self.day // 28 % 12:02}-{1 + self.day % 28:02}"
         soon = f"{2024 + self.day // 336 + self.random.randint(0, 2)}-12-31"
-        return {"status": ("/desk/status", {"unit": unit, "status": self.random.choice(["published", "published", "draft"]), "branch": self.random.random() < .5}),
-                "close": ("/desk/closure", {"unit": unit, "until": soon}), "open": ("/desk/closure", {"unit": unit, "until": None}),
+        return {"status": ("/desk/status",
+                           {"unit": unit, "status": self.random.choice(["published", "published", "draft"]),
+                            "branch": self.random.random() < .5}),
+                "close": ("/desk/closure", {"unit": unit, "until": soon}),
+                "open": ("/desk/closure", {"unit": unit, "until": None}),
                 "move": ("/desk/move", {"unit": unit, "parent": self.random.choice([None, *some, *some])}),
-                "remove": ("/desk/remove", {"unit": unit}) if len(some) > 25 else ("/desk/closure", {"unit": unit, "until": None}),
-                "day": ("/desk/day", {"day": date}), "permit": ("/desk/permit", {"ticket": 1, "unit": unit, "until": soon})}[kind]
+                "remove": ("/desk/remove", {"unit": unit}) if len(some) > 25
+                else ("/desk/closure", {"unit": unit, "until": None}),
+                "day": ("/desk/day", {"day": date}),
+                "permit": ("/desk/permit", {"ticket": 1, "unit": unit, "until": soon})}[kind]
 
     # What is public now
 
@@ -119,11 +183,13 @@ class Session:
         return found
 
     def walk(self, found, number, above, own):
+        """Reads the page of a unit and all below it; `own` has the lines of its finding aid."""
         head, *lines = self.office.ask(f"/public/units/{number}").split("\n")[:-1]
         mine = next(own)
         assert mine[0] == head, (number, mine[0], head)
         values = [line.split(": ", 1)[1] for line in mine[1:]]
-        dates = [int(year) for line in mine[1:] if line.strip().startswith("3.1.3") for year in re.findall(r"\b\d{4}\b", line.split(": ", 1)[1])]
+        dates = [int(year) for line in mine[1:] if line.strip().startswith("3.1.3")
+                 for year in re.findall(r"\b\d{4}\b", line.split(": ", 1)[1])]
         units = tuple(line for line in lines if line.startswith("  Unit "))
         found[number] = Unit(head, tuple(values), above, (min(dates), max(dates)) if dates else None, units)
         for line in units:
@@ -132,57 +198,36 @@ class Session:
     # Rounds
 
     def round(self, kind):
-        """A disturbed round meets two commands, mostly between an aid and the pages that give its numbers. In a blink a unit is
-        closed just there, and open again at the next question: the aid is the same after it as before. `large` is small now and
-        then, so that archives are read by parts; what is below a unit that was shut while its page was read for that comes back
-        with the next round."""
+        """Makes a round of this kind. `large` is small now and then, so that archives are read by parts; what is below
+        a unit that was shut while its page was read for that comes back with the next round."""
         for number in self.doubts:
             searched.index.doubt(self.db, number)
-        self.doubts, left, was, last, shut, blinked = set(), self.random.randint(1, 12), self.now, "", [], set()
-
-        def ask(path):
-            nonlocal left, last
-            left, last, between = left - 1, path, path.startswith("/public/units") and last.startswith("/public/aid")
-            if shut:
-                self.office.tell("/desk/closure", {"unit": shut.pop(), "until": None})
-            if kind == "blink" and between and int(path[14:]) in self.now and self.now[int(path[14:])].units:
-                shut.append(int(path[14:]))
-                blinked.add(shut[0])
-                self.office.tell("/desk/closure", {"unit": shut[0], "until": "2999-12-31"})
-            if kind == "cut" and left == 0:
-                raise searched.Unreached
-            if kind == "disturbed" and (left == 0 or between and left > 0):
-                left = 0
-                self.command()
-                self.command()
-            text = self.asking(path)
-            if path.startswith("/public/units/") and text:
-                self.fetched[int(path[14:])] = tuple(line for line in text.split("\n") if line.startswith("  Unit "))
-            return text
+        self.doubts, was, between = set(), self.now, Between(self, kind)
         sweep = searched.FOREVER if kind == "all" else self.random.choice([1, 3])
-        made, by_parts = searched.Round(self.db, ask, sweep, self.random.choice([1, 3, 2000])), set()
+        made, by_parts = searched.Round(self.db, between.ask, sweep, self.random.choice([1, 3, 2000])), set()
         parts = made.parts
         made.parts = lambda number, *rest: by_parts.add(number) or parts(number, *rest)
-        try:
+        with contextlib.suppress(searched.Unreached):
             made.run()
-        except searched.Unreached:
-            pass
         self.by_parts |= by_parts
-        for number in shut:
-            self.office.tell("/desk/closure", {"unit": number, "until": None})
+        between.open()
         self.now = self.truth()
         if kind in ("clean", "all"):
-            self.snap = {n: one for n, one in self.now.items() if all(self.fetched.get(a) == self.now[a].units for a in one.above)}
+            self.snap = {n: one for n, one in self.now.items()
+                         if all(self.fetched.get(a) == self.now[a].units for a in one.above)}
         else:
-            self.snap = {n: one for n, one in self.snap.items() if was.get(n) == one == self.now.get(n) and not blinked & by_parts & {n, *one.above}}
+            self.snap = {n: one for n, one in self.snap.items() if was.get(n) == one == self.now.get(n)
+                         and not between.blinked & by_parts & {n, *one.above}}
 
     # Questions
 
     def question(self):
+        """A random question: what is typed, the archive, and the first and the last year."""
         choice, chance = self.random.choice, self.random.random
         typed = []
         for _ in range(choice([1, 1, 2])):
-            word = choice([*WORDS, "doc*", "min*", "GB", '"dock minute"', '"letters plans"', "0999/A", '"from gb"', "1850", "until", "o'br*", "Lodz", "dock gates"])
+            word = choice([*WORDS, "doc*", "min*", "GB", '"dock minute"', '"letters plans"', "0999/A", '"from gb"',
+                           "1850", "until", "o'br*", "Lodz", "dock gates"])
             typed.append(word.upper() if chance() < .3 else word)
         years = choice([(None, None)] * 3 + [(1799, None), (1850, 1910), (None, 1850), (1900, 1960)])
         return " ".join(typed), (choice([*self.now, 1]) if chance() < .3 else None), *years
@@ -195,14 +240,18 @@ class Session:
             return None
         if top is not None and top != (*one.above, number)[0]:
             return None
-        if (first, last) != (None, None) and not (one.years and (first or 0) <= one.years[1] and one.years[0] <= (last or 9999)):
+        if (first, last) != (None,
+                             None) and not (one.years and (first or 0) <= one.years[1]
+                                            and one.years[0] <= (last or 9999)):
             return None
         return 0 if all(holds(head, *phrase) for phrase in phrases) else 1
 
     def must_match(self, one, number, asked):
-        """Whether a unit must be found. Of one that was read by parts, a value that ends as if it came from above is not searched."""
+        """Whether a unit must be found. Of one that was read by parts, a value that ends as if it came from above is
+        not searched."""
         if number in self.by_parts:
-            one = Unit(one.head, tuple(value for value in one.values if not re.search(r" \(from .*\)$", value)), one.above, one.years, one.units)
+            one = Unit(one.head, tuple(value for value in one.values if not re.search(r" \(from .*\)$", value)),
+                       one.above, one.years, one.units)
         return self.matches(one, number, *asked) is not None
 
     def answers(self, asked):
@@ -214,7 +263,8 @@ class Session:
             answer = searched.Finder(self.db, self.reader, query, self.random.randint(1, 6)).find()
             self.doubts |= answer.doubts
             numbers = [unit["unit"] for unit in found]
-            assert answer.state == "done" and not set(numbers) & {unit["unit"] for unit in answer.units}, (asked, answer.state, numbers)
+            again = set(numbers) & {unit["unit"] for unit in answer.units}
+            assert answer.state == "done" and not again, (asked, answer.state, numbers)
             found += answer.units
             if not answer.more:
                 break
@@ -222,17 +272,22 @@ class Session:
         return found
 
     def compare(self, exactly=False):
+        """Asks a random question, and compares what is found with what is public. Raises AssertionError."""
         asked = self.question()
         top = asked[1]
         found = self.answers(asked)
         numbers = [unit["unit"] for unit in found]
-        now = {n: self.matches(one, n, *asked) for n, one in self.now.items() if self.matches(one, n, *asked) is not None}
-        wanted = {n for n in now if n in self.snap and self.must_match(self.snap[n], n, asked) and self.must_match(self.now[n], n, asked)
+        now = {n: self.matches(one, n, *asked)
+               for n, one in self.now.items() if self.matches(one, n, *asked) is not None}
+        wanted = {n for n in now if n in self.snap and self.must_match(self.snap[n], n, asked)
+                  and self.must_match(self.now[n], n, asked)
                   and (top is None or self.snap[n].above == self.now[n].above)}
         assert set(numbers) <= set(now), ("never shown", asked, set(numbers) - set(now))
-        assert wanted <= set(numbers), ("must be found", asked, [(n, vars(self.now[n]), vars(self.snap[n])) for n in wanted - set(numbers)])
+        assert wanted <= set(numbers), ("must be found", asked,
+                                        [(n, vars(self.now[n]), vars(self.snap[n])) for n in wanted - set(numbers)])
         there = [n for n in now if n in numbers or self.must_match(self.now[n], n, asked)]
-        assert not exactly or numbers == sorted(there, key=lambda n: (now[n], n)), ("all, in order", asked, now, numbers)
+        in_order = sorted(there, key=lambda n: (now[n], n))
+        assert not exactly or numbers == in_order, ("all, in order", asked, now, numbers)
         for unit in found:
             self.look(unit, self.now[unit["unit"]])
         self.count("hits", len(found))
@@ -243,14 +298,18 @@ class Session:
     def look(self, unit, one):
         """Head, excerpt and way are those of now."""
         assert "".join(unit["head"]) == one.head, (unit, one.head)
-        assert all("".join(line["text"]).strip("\u2026 ") in "\n".join(one.values) for line in unit["lines"]), (unit, one.values)
+        assert all("".join(line["text"]).strip("\u2026 ") in "\n".join(one.values)
+                   for line in unit["lines"]), (unit, one.values)
         way = unit["way"]
-        assert way is None or [(step["unit"], step["head"]) for step in way] == [(a, self.now[a].head) for a in one.above], (unit, one.above)
+        wanted = [(a, self.now[a].head) for a in one.above]
+        assert way is None or [(step["unit"], step["head"]) for step in way] == wanted, (unit, one.above)
 
     def count(self, name, by):
+        """Adds to a count."""
         self.told[name] = self.told.get(name, 0) + by
 
     def play(self, steps):
+        """Plays so many steps; returns how often what happened."""
         self.office.tell("/desk/register", {"name": "A reader", "until": "2099-12-31"})
         self.now = self.truth()
         for _ in range(steps):
@@ -269,28 +328,29 @@ class Session:
         """The rows of the index after a round that nothing disturbed."""
         rows = dict(self.db.execute("SELECT n, parent FROM unit"))
         indexed = {n for n, in self.db.execute("SELECT rowid FROM words")}
-        assert kind not in ("clean", "all") or self.snap.keys() <= rows.keys(), ("rows", kind, self.snap.keys() - rows.keys())
-        assert kind != "all" or rows == {n: (None, *one.above)[-1] for n, one in self.now.items()}, ("rows", rows, self.now.keys())
+        lost = self.snap.keys() - rows.keys()
+        assert kind not in ("clean", "all") or not lost, ("rows", kind, lost)
+        assert kind != "all" or rows == {n: (None, *one.above)[-1]
+                                         for n, one in self.now.items()}, ("rows", rows, self.now.keys())
         assert kind != "all" or indexed == rows.keys(), ("words", indexed ^ rows.keys())
 
 
 def play(checks, program, folder, steps, seed):
-    with searched.Searched(fresh(folder), program).init() as office:
+    """Plays so many random steps over an office of its own."""
+    with searched.Searched.create(program, clear(folder)) as office:
         told = Session(office, seed).play(steps)
     print(f"seed {seed}: {told}", flush=True)
     checks.check(f"{steps} random steps", told["hits"])
 
 
 def main():
-    words = argparse.ArgumentParser(description=__doc__, formatter_class=argparse.RawDescriptionHelpFormatter)
-    words.add_argument("program")
-    words.add_argument("folder")
-    words.add_argument("--steps", type=int, default=1000)
-    words.add_argument("--seed", type=int, default=1)
-    words = words.parse_args()
-    checks = Checks()
-    checks.part("sessions", play, checks, words.program, words.folder, words.steps, words.seed)
-    return checks.end()
+    """Plays a session of random steps; returns the exit status."""
+    words = folder_options(__doc__)
+    words.add_argument("--steps", type=int, default=1000, metavar="N", help="else 1000")
+    words.add_argument("--seed", type=int, default=1, metavar="N", help="else 1")
+    given, checks = words.parse_args(), Checks()
+    checks.part("sessions", play, checks, given.program, given.folder, given.steps, given.seed)
+    return checks.finish()
 
 
 if __name__ == "__main__":

@@ -25,22 +25,28 @@ PYTHON = "/usr/bin/python3"  # Debian's own, which has waitress
 
 
 class Searched(Office):
-    def __init__(self, folder, program, **values):
-        super().__init__(folder, program, changes=[("searches:2m rate=2r/s", "searches:2m rate=30r/s")], **values)
+    """An office whose front takes more searches in a row, and the search's service for it."""
+
+    def __init__(self, program, folder, **how):
+        super().__init__(program, folder, changes=[("searches:2m rate=2r/s", "searches:2m rate=30r/s")], **how)
         self.service, self.desk, self.public_ask = None, None, None
-        self.queue, self.index, self.listen = (self.folder / name for name in ("search.sock", "index.db", "answers.sock"))
+        self.queue, self.index, self.listen = (self.folder / name
+                                               for name in ("search.sock", "index.db", "answers.sock"))
 
     def serve_search(self, *more):
         """Begins the service; more: further words of its command line."""
         with open(self.folder / "search.told", "a") as log:
-            words = [PYTHON, "-B", SEARCH / "service.py", "--queue", self.queue, "--index", self.index, "--listen", self.listen, *more]
+            words = [PYTHON, "-B", SEARCH / "service.py", "--queue", self.queue, "--index", self.index, "--listen",
+                     self.listen, *more]
             self.service = subprocess.Popen([str(word) for word in words], stdout=log, stderr=log)
 
     def kill_search(self):
+        """Kills the service."""
         self.service.kill()
         self.service.wait()
 
     def end(self):
+        """Ends all that was started."""
         if self.service:
             self.kill_search()
         super().end()
@@ -69,7 +75,7 @@ class Searched(Office):
 
     def round(self, sweep=FOREVER, **values):
         """One round, without the service. What was asked for."""
-        ask, paths, db = Asking(self.queue), [], index.made(str(self.index), False)
+        ask, paths, db = Asking(self.queue), [], index.open_or_make(str(self.index), False)
         try:
             Round(db, lambda path: paths.append(path) or ask(path), sweep, **values).run()
         finally:
@@ -78,13 +84,13 @@ class Searched(Office):
 
     def find(self, typed, **values):
         """One answer, without the service and nginx."""
-        db = index.opened(str(self.index))
+        db = index.open_index(str(self.index))
         try:
             return Finder(db, Asking(self.queue), Query(read_typed(typed), **values)).find()
         finally:
             db.close()
 
-    def found(self, args):
+    def ask_service(self, args):
         """The service's answer by nginx: status and bytes."""
         front = http.client.HTTPConnection("127.0.0.1", self.ports["8080"], timeout=60)
         front.request("GET", f"/public/search?{args}")

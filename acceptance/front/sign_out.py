@@ -16,6 +16,7 @@ class SignedIn:
         self.page.call("Fetch.enable", handleAuthRequests=True, patterns=[{"urlPattern": "*"}])
 
     def answer(self, event):
+        """Answers an event of the browser: goes on with a request, or gives the password."""
         if event.get("sessionId") != self.page.session:
             return
         params = event["params"]
@@ -37,18 +38,21 @@ class SignedIn:
         message = {"id": self.browser.last, "method": method, "params": params, "sessionId": self.page.session}
         os.write(self.browser.write, json.dumps(message).encode() + b"\0")
 
-    def opens(self, url, words):
+    def open(self, url, words):
+        """Opens an address, and waits for these words."""
         self.page.call("Page.navigate", url=url)
         self.page.see(words, "body")
 
     def end(self):
+        """Leaves the password to the browser again."""
         self.page.call("Fetch.disable")
         self.browser.on_event = None
 
 
 def play(checks, office, browser):
+    """Signs in, signs out, and is asked for the password again."""
     signed = SignedIn(browser)
-    signed.opens(f"{office.staff}/#/out", "Reshelve")
+    signed.open(f"{office.staff}/#/out", "Reshelve")
     checks.same("the browser asks for the password once", signed.asked, 1)
     signed.page.js("sessionStorage.setItem('of readers: cards', '[[1, \"Ann\", \"2030-01-01\", []]]')")
     signed.gives = False
@@ -56,6 +60,6 @@ def play(checks, office, browser):
     signed.page.see("You have signed out", "body")
     checks.same("no readers stay in the tab", signed.page.js("JSON.stringify(sessionStorage)"), "{}")
     asked = signed.asked
-    signed.opens(f"{office.staff}/?again", "401")
+    signed.open(f"{office.staff}/?again", "401")
     checks.check("after signing out it asks again", signed.asked > asked, signed.asked)
     signed.end()

@@ -1,16 +1,23 @@
-"""Stands in for a process behind the front: takes connections as that one would, answers each request alike, and keeps what came."""
+"""Stands in for a process behind the front: takes connections as that one would, answers each request alike, and keeps
+what came."""
 
 import contextlib
+import pathlib
 import socket
+import sys
 import threading
 import time
+
+sys.path.append(str(pathlib.Path(__file__).resolve().parents[1]))
+import client  # noqa: E402
 
 LINE_END = b"\r\n\r\n"
 
 
 class StandIn:
-    """One connection after the other, at a port of 127.0.0.1 or at a socket in the file system. It answers each request with
-    `body`, but with none the one that `drops(head)` names: then it closes the connection. With `silent` it answers nothing."""
+    """One connection after the other, at a port of 127.0.0.1 or at a socket in the file system. It answers each request
+    with `body`, but with none the one that `drops(head)` names: then it closes the connection. With `silent` it answers
+    nothing."""
 
     def __init__(self, place, body=b"[]", drops=lambda head: False, silent=False, at_once=1):
         self.body, self.drops, self.silent = body, drops, silent
@@ -29,9 +36,11 @@ class StandIn:
 
     @property
     def paths(self):
+        """The paths of the requests that came."""
         return [head.split(" ", 2)[1] for head, _ in self.requests]
 
     def run(self):
+        """Serves one connection after the other."""
         while not self.over:
             try:
                 connection, _ = self.listener.accept()
@@ -59,10 +68,10 @@ class StandIn:
                 if self.drops(head.decode("latin-1")):
                     return
                 if not self.silent:
-                    connection.sendall(b"HTTP/1.1 200 OK\r\nContent-Type: text/plain; charset=utf-8\r\nContent-Length: %d\r\n\r\n%s"
-                                       % (len(self.body), self.body))
+                    connection.sendall(client.reply(200, self.body, client.TEXT))
 
     def end(self):
+        """Closes all connections."""
         self.over = True
         with contextlib.suppress(OSError):
             self.listener.shutdown(socket.SHUT_RDWR)
@@ -81,6 +90,7 @@ class StandIn:
 
 
 def size_of(head):
+    """The length of the body that the head of a request announces."""
     for line in head.split(b"\r\n")[1:]:
         name, value = line.split(b":", 1)
         if name.lower() == b"content-length":

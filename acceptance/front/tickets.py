@@ -1,15 +1,13 @@
 #!/usr/bin/env python3
-"""A desk with many readers: what a search by name and the list of what waits ask for, and how long they take in Chromium.
+"""A desk with many readers: what a search by name and the list of what waits ask for, and how long they take in
+Chromium.
 
-    tickets.py PROGRAM FOLDER [--tickets N] [--slow-password]
+    tickets.py [--program PROGRAM] [--tickets N] [--slow-password] FOLDER
 
-FOLDER is made anew. Two thirds of the tickets expire before the newest run. --slow-password keeps the desk's password as
-`openssl passwd -6` does. The last line is `N passed, M failed`.
+FOLDER is made anew. Two thirds of the tickets expire before the newest run. --slow-password keeps the desk's password
+as `openssl passwd -6` does. The last line is `N passed, M failed`.
 """
 
-import argparse
-import json
-import pathlib
 import subprocess
 import sys
 import time
@@ -18,7 +16,9 @@ sys.dont_write_bytecode = True
 from asks import Asks  # noqa: E402
 from browser import Browser  # noqa: E402
 from checks import Checks  # noqa: E402
-from office import PASSWORD, SIGNED_IN, TOP, Office, fresh  # noqa: E402
+from office import PASSWORD, SIGNED_IN, TOP, Office, clear, folder_options  # noqa: E402
+
+import client  # noqa: E402
 
 MOST_IN_A_SESSION = 9_000
 HOOK = """window.asked = []; if (!window.plain) { window.plain = window.fetch;
@@ -30,23 +30,28 @@ WAITS = "document.querySelectorAll('main table tbody tr').length > 0"
 GATHERED = "[...document.querySelectorAll('.told')].some((one) => /waits?\\..* As of/.test(one.innerText))"
 
 
-def request(path, **members):
-    body = json.dumps(members)
-    return f"POST {path} HTTP/1.1\r\nHost: x\r\nContent-Length: {len(body)}\r\n\r\n{body}"
-
-
 def fill(office, many):
-    """Readers, of whom one in a hundred has an order; a run; then a day on which two thirds of the tickets have expired."""
-    office.take_in("archives", TOP / "examples/archives.csv")
+    """Readers, of whom one in a hundred has an order; a run; then a day on which two thirds of the tickets have
+    expired."""
+    office.import_file("archives", TOP / "examples/archives.csv").expect_success()
     days = ("2024-03-20", "2024-03-20", "2030-12-31")
-    requests = [request("/desk/register", name=f"Reader {ticket:04} {'North' if ticket % 2 else 'South'}", until=days[ticket % 3])
+    requests = [client.post("/desk/register", {"name": name_of(ticket), "until": days[ticket % 3]})
                 for ticket in range(1, many + 1)]
-    requests += [request("/public/orders", ticket=ticket, container=1 + ticket // 100 % 3) for ticket in range(98, many, 99) if ticket % 3 == 2]
-    requests += [request("/desk/run"), request("/desk/day", day="2024-04-01"),
-                 request("/public/orders", ticket=2, container=4), request("/desk/run")]
+    requests += [order(ticket, 1 + ticket // 100 % 3) for ticket in range(98, many, 99) if ticket % 3 == 2]
+    requests += [client.post("/desk/run"), client.post("/desk/day", {"day": "2024-04-01"}), order(2, 4),
+                 client.post("/desk/run")]
     for first in range(0, len(requests), MOST_IN_A_SESSION):
-        told = "".join(requests[first : first + MOST_IN_A_SESSION]).encode()
-        subprocess.run([office.program, "talk", "--store", office.store], input=told, check=True, capture_output=True)
+        office.talk(*requests[first : first + MOST_IN_A_SESSION], timeout=600).expect_success()
+
+
+def name_of(ticket):
+    """The name of the reader with this ticket."""
+    return f"Reader {ticket:04} {'North' if ticket % 2 else 'South'}"
+
+
+def order(ticket, container):
+    """The request that orders a container with this ticket."""
+    return client.post("/public/orders", {"ticket": ticket, "container": container})
 
 
 class Desk:
@@ -56,11 +61,13 @@ class Desk:
         self.page, self.site, self.told = page, site, []
 
     def open(self, hash_):
+        """Loads a page of the desk, which then counts what it asks for."""
         self.page.open(self.site, hash_)
         self.page.js(HOOK)
 
     def measure(self, what, act, end, first=None):
-        """Does something, and waits for its end: how many cards were asked for; seconds to the first hit, and to the end."""
+        """Does something, and waits for its end: how many cards were asked for; seconds to the first hit, and to the
+        end."""
         self.page.js("window.asked = []")
         began, hit = time.monotonic(), None
         act()
@@ -69,42 +76,49 @@ class Desk:
             hit = time.monotonic() - began
         self.page.wait(end, minutes=5)
         took, cards = time.monotonic() - began, self.page.js(CARDS)
-        print(f"  {what}: {cards} cards, {f'the first hit after {hit:.1f} s, ' if first else ''}all after {took:.1f} s", flush=True)
+        print(f"  {what}: {cards} cards, {f'the first hit after {hit:.1f} s, ' if first else ''}all after {took:.1f} s",
+              flush=True)
         return cards
 
-    def searches(self, name):
-        def act():
+    def search_for(self, name):
+        """A function that begins a search for this name."""
+
+        def begin():
+            """Fills in the name, and presses the button."""
             self.page.fill("Name or ticket number", name)
             self.page.js("document.querySelector('.told').textContent = ''")
             self.page.press("Find")
-        return act
+
+        return begin
 
 
 def play(checks, program, folder, browser, many=260, slow_password=False):
-    with_office = Office(folder, program).init()
-    fill(with_office, many)
-    with with_office as office:
+    """Measures the searches and the list of what waits, over an office with so many tickets."""
+    office = Office.create(program, folder)
+    fill(office, many)
+    with office:
         if slow_password:
-            hashed = subprocess.run(["openssl", "passwd", "-6", PASSWORD[1]], check=True, capture_output=True, text=True).stdout
+            words = ["openssl", "passwd", "-6", PASSWORD[1]]
+            hashed = subprocess.run(words, check=True, capture_output=True, text=True).stdout
             (office.folder / "staff").write_text(f"{PASSWORD[0]}:{hashed}")
-        searched(checks, Desk(browser.page(SIGNED_IN), office.staff), many)
-        waits(checks, Desk(browser.page(SIGNED_IN), office.staff), many, Asks(office))
+        check_search(checks, Desk(browser.page(SIGNED_IN), office.staff), many)
+        check_waiting(checks, Desk(browser.page(SIGNED_IN), office.staff), many, Asks(office))
 
 
-def searched(checks, desk, many):
+def check_search(checks, desk, many):
     """A search by name reads each card once, also after the page is loaded again, and shows hits as they come."""
     desk.open("/readers")
     checks.same("no card is asked for before somebody searches", desk.page.js(CARDS), 0)
-    cards = desk.measure("a search by name", desk.searches(f"reader {many // 2:04}"), SEARCHED, FOUND)
+    cards = desk.measure("a search by name", desk.search_for(f"reader {many // 2:04}"), SEARCHED, FOUND)
     checks.check("it reads every card once", many <= cards <= many + 40, cards)
-    cards = desk.measure("another search", desk.searches(f"reader {many // 3:04}"), SEARCHED, FOUND)
+    cards = desk.measure("another search", desk.search_for(f"reader {many // 3:04}"), SEARCHED, FOUND)
     checks.check("it reads no card again", cards <= 2, cards)
     desk.open("/readers")
-    cards = desk.measure("after the page is loaded again", desk.searches(f"reader {many // 4:04}"), SEARCHED, FOUND)
+    cards = desk.measure("after the page is loaded again", desk.search_for(f"reader {many // 4:04}"), SEARCHED, FOUND)
     checks.check("nor then", cards <= 2, cards)
 
 
-def waits(checks, desk, many, asks):
+def check_waiting(checks, desk, many, asks):
     """What waits is gathered when somebody asks for it; then only cards that can have changed are read again."""
     page = desk.page
     valid = many // 3 + 1
@@ -112,7 +126,8 @@ def waits(checks, desk, many, asks):
     page.see("cards to ask for", "main")
     checks.check("a long list is not gathered by itself", page.js(CARDS) < 40, page.js(CARDS))
     cards = desk.measure("what waits", lambda: page.press("Show what waits now"), GATHERED, WAITS)
-    checks.check("every card is read once", many - 30 <= cards <= many + 30, cards)  # the newest one was looked for before
+    # the newest one was looked for before
+    checks.check("every card is read once", many - 30 <= cards <= many + 30, cards)
     rows = page.js("document.querySelectorAll('main table tbody tr').length")
     page.js("window.asked = []")
     page.go("#/out")
@@ -122,35 +137,38 @@ def waits(checks, desk, many, asks):
     checks.same("it is shown again without asking", page.js(CARDS), 0)
     desk.open("/orders")
     page.wait(GATHERED, minutes=5)
-    checks.same("also after the page is loaded again", page.js("document.querySelectorAll('main table tbody tr').length"), rows)
+    checks.same("also after the page is loaded again",
+                page.js("document.querySelectorAll('main table tbody tr').length"), rows)
     cards = desk.measure("what waits, again", lambda: page.press("Show what waits now"), GATHERED)
     checks.check("expired tickets without orders are not read again", valid <= cards <= valid + 40, cards)
-    asks.done("/desk/renew", ticket=1, until="2030-12-31")
-    asks.done("/public/orders", ticket=1, container=5)
+    asks.command("/desk/renew", ticket=1, until="2030-12-31")
+    asks.command("/public/orders", ticket=1, container=5)
     cards = desk.measure("every card", lambda: page.press("Read every card again"), GATHERED)
     checks.check("every card is read again where that is asked for", cards >= many, cards)
     checks.same("and finds the order of a ticket that was renewed elsewhere",
                 page.js("document.querySelectorAll('main table tbody tr').length"), rows + 1)
-    page.js("document.querySelector('a[href=\"/sign-out\"]').addEventListener('click', (event) => event.preventDefault())")
+    page.js(
+        "document.querySelector('a[href=\"/sign-out\"]').addEventListener('click', (event) => event.preventDefault())")
     page.js("document.querySelector('a[href=\"/sign-out\"]').click()")
-    checks.same("who signs out leaves no readers in the tab", page.js("Object.keys(sessionStorage).filter((name) => name.includes('readers')).length"), 0)
+    checks.same("who signs out leaves no readers in the tab",
+                page.js("Object.keys(sessionStorage).filter((name) => name.includes('readers')).length"), 0)
 
 
 def main():
-    words = argparse.ArgumentParser(description=__doc__, formatter_class=argparse.RawDescriptionHelpFormatter)
-    words.add_argument("program", type=pathlib.Path)
-    words.add_argument("folder", type=pathlib.Path)
-    words.add_argument("--tickets", type=int, default=5000)
-    words.add_argument("--slow-password", action="store_true")
-    words = words.parse_args()
-    folder, checks = fresh(words.folder), Checks()
+    """Plays what the command line asks for; returns the exit status."""
+    words = folder_options(__doc__)
+    words.add_argument("--tickets", type=int, default=5000, metavar="N", help="else 5000")
+    words.add_argument("--slow-password", action="store_true", help="as `openssl passwd -6` keeps it")
+    given = words.parse_args()
+    folder, checks = clear(given.folder), Checks()
     folder.mkdir(parents=True)
     browser = Browser(folder / "profile")
     try:
-        checks.part("many tickets", play, checks, words.program, folder / "office", browser, words.tickets, words.slow_password)
+        checks.part("many tickets", play, checks, given.program, folder / "office", browser, given.tickets,
+                    given.slow_password)
     finally:
         browser.end()
-    return checks.end()
+    return checks.finish()
 
 
 if __name__ == "__main__":

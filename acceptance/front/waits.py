@@ -1,7 +1,8 @@
 """Waiting for a condition. What else sleeps here measures a time, and a comment says so.
 
 `settings.patience` is how long anything is waited for: mutation/front.py waits less for what a fault keeps away.
-`settings.slower` is how many times slower than this machine pages are. `settings.longest` is what was waited for longest, in seconds."""
+`settings.slower` is how many times slower than this machine pages are. `settings.longest` is what was waited for
+longest, in seconds."""
 
 import time
 import types

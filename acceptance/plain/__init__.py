@@ -1,9 +1,9 @@
-"""An office by its rules, plainly and slowly, in memory: what the built program is held against by sessions.py, and what
-mutation/rules.py turns.
+"""An office by its rules, plainly and slowly, in memory: what the built program is held against by sessions.py, and
+what mutation/rules.py turns.
 
-It was written from the rules, and not from the program. `talk` reads whole inputs of HTTP, `get` and `post` ask by path and
-body. What it does not know: how deep JSON may nest, a surrogate that stands alone in it, streams that fail and memory that
-runs out."""
+It was written from the rules, and not from the program. `talk` reads whole inputs of HTTP, `get` and `post` ask by path
+and body. What it does not know: how deep JSON may nest, a surrogate that stands alone in it, streams that fail and
+memory that runs out."""
 import collections
 import csv
 import pickle
@@ -41,7 +41,7 @@ class Office(Catalogue, Desk, Shown):
         it = answer(self, "POST", path, len(body), body)
         return it.status, it.told
 
-    def done(self, name, /, *words, **members):
+    def carry_out(self, name, /, *words, **members):
         """What a command tells; one that is refused is taken back whole."""
         kept = pickle.dumps(vars(self))
         try:

@@ -29,7 +29,7 @@ CONTINUE = b"HTTP/1.1 100 Continue\r\n\r\n"
 
 @dataclasses.dataclass
 class Answer:
-    """A status, what is told (a text, or what is written as JSON), and the method that a path allows if another was used."""
+    """A status, what is told (a text, or what is written as JSON), and the method that the path allows, for 405."""
 
     status: int
     told: object
@@ -37,6 +37,7 @@ class Answer:
 
 
 def error(status, allow=None):
+    """The answer for an error of this status; `allow` is the method that the path has, for 405."""
     return Answer(status, {"error": ERRORS[status]}, allow)
 
 
@@ -57,20 +58,21 @@ def answer(office, method, path, length, body):
     if method != route.method:
         return error(405, route.method)
     if route.method == "GET":
-        return asked(office, route)
+        return answer_question(office, route)
     if length is None:
         return error(411)
-    return done(office, route, body)
+    return answer_command(office, route, body)
 
 
-def asked(office, route):
+def answer_question(office, route):
+    """The answer to a question, or 404 if the office refuses it."""
     try:
         return Answer(200, getattr(office, route.name)(*route.words))
     except Refused:
         return error(404)
 
 
-def done(office, route, body):
+def answer_command(office, route, body):
     """The answer to a command, which is taken back whole if it is refused."""
     try:
         members = {} if route.wanted is None else members_of(body, route.wanted)
@@ -78,16 +80,17 @@ def done(office, route, body):
         return error(400)
     words = [*route.words, body] if route.is_import else route.words
     try:
-        return Answer(200, office.done(route.name, *words, **members))
+        return Answer(200, office.carry_out(route.name, *words, **members))
     except Refused as it:
         return Answer(409, it.told)
 
 
 def as_json(value):
+    """A value as JSON in one line, with its members in the order of their names."""
     return json.dumps(value, separators=(",", ":"), sort_keys=True, ensure_ascii=False)
 
 
-def written(answer, closes, is_head):
+def encode(answer, closes, is_head):
     """The bytes of an answer; those to HEAD have no body."""
     is_text = isinstance(answer.told, str)
     body = (answer.told if is_text else as_json(answer.told)).encode()

@@ -42,8 +42,10 @@ def rank(level):
 
 
 def one_line(text):
+    """A text with a space for each end of a line."""
     return re.sub("\r\n|\r|\n", " ", text)
 
 
 def text(lines):
+    """The lines as one text, each with its end."""
     return "".join(f"{it}\n" for it in lines)

@@ -16,6 +16,8 @@ MARK = "\ufeff"
 
 @dataclasses.dataclass
 class Row:
+    """A row of a file: its number, the numbers of its unit and of the parent in the source, and what it says."""
+
     number: int
     legacy: str
     parent: str
@@ -25,26 +27,32 @@ class Row:
 
 
 def entries(field):
+    """The values that a field separates by `|`, without the blanks around them; NULL stands for no text."""
     trimmed = (it.strip(BLANK) for it in field.split("|"))
     return ["" if it == "NULL" else it for it in trimmed]
 
 
 def texts_of(fields):
+    """The texts of a row by the numbers of their elements; several values are joined by semicolons."""
     texts = {}
     for number, _, columns in ELEMENTS:
-        values = [it for column in columns for it in (entries(fields[column]) if column in SPLIT else [fields[column]]) if it]
+        values = [
+            it for column in columns for it in (entries(fields[column]) if column in SPLIT else [fields[column]]) if it
+        ]
         if values:
             texts[number] = "; ".join(values)
     return texts
 
 
 def boxes_of(fields):
+    """The boxes that a row names, each once, as name, location and type."""
     names, *others = [entries(fields[column]) for column in BOX]
     triples = [(name, *(it[n] if n < len(it) else "" for it in others)) for n, name in enumerate(names)]
     return list(dict.fromkeys(it for it in triples if it[0]))
 
 
 def is_blank(record):
+    """Whether all fields of a record are empty."""
     return not any(record)
 
 
@@ -62,10 +70,12 @@ def records_of(file):
 
 
 def is_translation(first, culture):
+    """Whether a row has another culture than the first row of its unit, and both are named."""
     return first and culture and first != culture
 
 
 def row_of(number, fields):
+    """The row of this number, with its fields read; whatever is not published is a draft."""
     draft = fields["publicationStatus"].lower() != "published"
     return Row(number, fields["legacyId"], fields["parentId"], draft, texts_of(fields), boxes_of(fields))
 

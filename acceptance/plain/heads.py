@@ -34,6 +34,7 @@ class Head:
     fields: list
 
     def values(self, name):
+        """The values of all fields of this name, in their order."""
         return [value for it, value in self.fields if it == name]
 
 
@@ -79,14 +80,17 @@ def lines_of(block):
 
 
 def is_visible(byte):
+    """Whether a byte is neither a control character nor a space."""
     return byte > " " and byte != "\x7f"
 
 
 def is_text(byte):
+    """Whether a byte may stand in the value of a field."""
     return is_visible(byte) or byte in WHITE
 
 
 def is_token(word):
+    """Whether a word is not empty and has only letters, digits and the marks of a token."""
     return word != "" and all(byte in TOKEN for byte in word)
 
 
@@ -100,6 +104,7 @@ def is_target(word):
 
 
 def check(holds):
+    """Raises Unreadable if the condition does not hold."""
     if not holds:
         raise Unreadable
 
@@ -116,6 +121,7 @@ def read_head(block):
 
 
 def read_field(line):
+    """The name of a field in small letters, and its value; raises Unreadable for a line that is no field."""
     name, colon, value = line.partition(":")
     check(is_token(name) and colon and all(map(is_text, value)))
     return name.lower(), value.strip(WHITE)
@@ -142,18 +148,21 @@ def accept(block):
     length = int(lengths[0]) if lengths else None
     if length and length > LONGEST_BODY:
         raise Refused(413, is_head)
-    return Request(head.method, head.target, length, waits(head, length), closes(head))
+    return Request(head.method, head.target, length, must_wait(head, length), must_close(head))
 
 
 def is_number(value):
+    """Whether a text has digits only, and at least one."""
     return value != "" and all(byte in string.digits for byte in value)
 
 
-def waits(head, length):
+def must_wait(head, length):
+    """Whether the client waits for 100 Continue: it speaks HTTP/1.1, expects it, and has a body to send."""
     is_expected = any(value.lower() == "100-continue" for value in head.values("expect"))
     return head.minor == 1 and bool(length) and is_expected
 
 
-def closes(head):
+def must_close(head):
+    """Whether the connection closes after the answer: the client speaks HTTP/1.0 or asks for it."""
     options = [it.strip(WHITE).lower() for value in head.values("connection") for it in value.split(",")]
     return head.minor == 0 or "close" in options

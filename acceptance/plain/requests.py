@@ -13,10 +13,12 @@ class Bad(Exception):
 
 
 def is_leap(year):
+    """Whether a year is a leap year."""
     return year % 4 == 0 and (year % 100 != 0 or year % 400 == 0)
 
 
 def is_day(value):
+    """Whether a value is the text of a day of the calendar, from 1900 on."""
     if not isinstance(value, str) or not re.fullmatch("[0-9]{4}-[0-9]{2}-[0-9]{2}", value):
         return False
     year, month, day = map(int, value.split("-"))
@@ -26,26 +28,32 @@ def is_day(value):
 
 
 def is_number(value):
+    """Whether a value is a whole number of at most 64 bits."""
     return isinstance(value, int) and not isinstance(value, bool) and 0 <= value <= GREATEST
 
 
 def is_number_or_null(value):
+    """Whether a value is such a number or null."""
     return value is None or is_number(value)
 
 
 def is_day_or_null(value):
+    """Whether a value is such a day or null."""
     return value is None or is_day(value)
 
 
 def is_status(value):
+    """Whether a value is the name of a status."""
     return value in ("published", "draft")
 
 
 def is_truth(value):
+    """Whether a value is true or false."""
     return isinstance(value, bool)
 
 
 def is_text(value):
+    """Whether a value is a text."""
     return isinstance(value, str)
 
 
@@ -74,9 +82,9 @@ QUESTIONS = {
     "/public/aid/": "public_aid",
     "/public/units/": "page",
     "/desk/runs/": "slip",
-    "/desk/readers/": "reader_told",
-    "/desk/queue/": "queue_told",
-    "/desk/permits/": "permits_told",
+    "/desk/readers/": "reader_report",
+    "/desk/queue/": "queue_report",
+    "/desk/permits/": "permits_report",
     "/desk/issued": "issued",
 }
 
@@ -114,12 +122,13 @@ def question_of(path):
 
 
 def is_import(path):
+    """Whether a path is that of an import."""
     return re.fullmatch("/desk/import/[^/]+", path)
 
 
 @dataclasses.dataclass
 class Route:
-    """The method of a path, what it asks of an office, the words for that in the path, and the members that a body must have."""
+    """The method of a path, what it asks of an office, the words in the path, and the members that a body needs."""
 
     method: str
     name: str

@@ -1,7 +1,7 @@
 """What an office writes for a whole input, and how the session ends.
 
 Streams do not fail here and memory does not run out, so no answer is 503."""
-from .answers import CONTINUE, answer, error, path_of, written
+from .answers import CONTINUE, answer, encode, error, path_of
 from .heads import Refused, accept, head_block, is_blank
 from .limits import LONGEST_HEAD, MOST_ANSWERS
 
@@ -25,20 +25,20 @@ def exchange(office, said, number, output):
     try:
         request = accept(block)
     except Refused as it:
-        output.append(written(error(it.status), True, it.is_head))
+        output.append(encode(error(it.status), True, it.is_head))
         return None, CLOSED
     if request.waits:
         output.append(CONTINUE)
-    body, rest = parted(said[len(block) :], request.length or 0)
+    body, rest = split_body(said[len(block) :], request.length or 0)
     if body is None:
         return None, CUT
     closes = request.closes or number == MOST_ANSWERS
     it = answer(office, request.method, path_of(request.target), request.length, body)
-    output.append(written(it, closes, request.method == "HEAD"))
+    output.append(encode(it, closes, request.method == "HEAD"))
     return rest, CLOSED if closes else None
 
 
-def parted(said, size):
+def split_body(said, size):
     """A body of this size and what follows it, or no body if too little was said."""
     return (said[:size], said[size:]) if len(said) >= size else (None, None)
 
@@ -46,6 +46,6 @@ def parted(said, size):
 def no_head(said, output):
     """How a session ends at an input in which no head ends."""
     if len(said) >= LONGEST_HEAD:
-        output.append(written(error(400), True, False))
+        output.append(encode(error(400), True, False))
         return CLOSED
     return END if is_blank(said) else CUT

@@ -20,28 +20,35 @@ def number_of(day):
 
 
 def units(office):
+    """The rows of the units, with a closure as the number of its day."""
     for unit, it in sorted(office.units.items()):
         until = None if it.until is None else number_of(it.until)
         yield unit, it.source, it.legacy, it.texts.get(LEVEL, ""), int(it.draft), until
 
 
 def readers(office):
+    """The rows of the readers."""
     return [(ticket, it.name, number_of(it.until)) for ticket, it in office.readers.items()]
 
 
 def permits(office):
+    """The rows of the permits."""
     return [(ticket, unit, number_of(until)) for (ticket, unit), until in sorted(office.permits.items())]
 
 
 def containers(office):
+    """The rows of the containers."""
     return [(number, *it) for number, it in enumerate(office.containers, 1)]
 
 
 def holdings(office):
-    return [(it, 1 if place == "desk" else 2, None if place == "desk" else place) for it, place in office.places.items()]
+    """The rows of the containers that are not on the shelf: place 1 is the desk, place 2 the hands of a reader."""
+    return [
+        (it, 1 if place == "desk" else 2, None if place == "desk" else place) for it, place in office.places.items()
+    ]
 
 
-def kept(office, query):
+def query_rows(office, query):
     """What a query is answered, a line for each row."""
     with contextlib.closing(sqlite3.connect(":memory:")) as connection:
         connection.executescript(SCHEMA)

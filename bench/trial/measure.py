@@ -3,10 +3,10 @@
 
     bench/trial/measure.py [--program PROGRAM] [--room FOLDER] [--runs N] [WHAT N ..]
 
-The sessions are those of requests.py, by default those of docs/FIGURES.md. Each is given to `trial` and, over a new office in
-FOLDER, to `talk`, in turn. Of N runs the script prints the least processor time, the ratio of trial to file, the greatest
-memory of the process, and how many answers had which status. It ends with 1 if a session broke off, or if trial and file gave
-different answers.
+The sessions are those of requests.py, by default those of docs/FIGURES.md. Each is given to `trial` and, over a new
+office in FOLDER, to `talk`, in turn. Of N runs the script prints the least processor time, the ratio of trial to file,
+the greatest memory of the process, and how many answers had which status. It ends with 1 if a session broke off, or if
+trial and file gave different answers.
 """
 import collections
 import re
@@ -45,10 +45,12 @@ class Spent:
 
 
 def say(*cells):
+    """Prints a line of a table."""
     print("| " + " | ".join(cells) + " |", flush=True)
 
 
 def statuses(answers):
+    """How many answers had which status, as a text."""
     found = collections.Counter(status.decode() for status in STATUS.findall(answers))
     return ", ".join(f"{count:,} of {status}" for status, count in sorted(found.items()))
 
@@ -68,10 +70,12 @@ def measure(program, room, runs, what, number):
         sys.exit(f"WRONG {what} {number}: trial and file gave different answers")
     ratio = trial.seconds / max(talk.seconds, 0.01)
     memory = f"{trial.memory / 1e6:.0f} MB", f"{talk.memory / 1e6:.0f} MB"
-    say(f"{what} {number:,}", f"{trial.seconds:.2f} s", f"{talk.seconds:.2f} s", f"{ratio:.2f}", *memory, statuses(trial.answers))
+    seconds = f"{trial.seconds:.2f} s", f"{talk.seconds:.2f} s"
+    say(f"{what} {number:,}", *seconds, f"{ratio:.2f}", *memory, statuses(trial.answers))
 
 
 def main():
+    """Measures the sessions that are named, or the usual ones, and prints the table."""
     parser = client.options(__doc__)
     parser.add_argument("--runs", type=int, default=3, metavar="N")
     parser.add_argument("sessions", nargs="*", default=SESSIONS, metavar="WHAT N")

@@ -14,6 +14,7 @@ orders N   a file of N units, each in a box of its own, a ticket for each 50, th
 small N    N questions for what is out
 body N     a command whose body has N bytes, which are not looked at
 """
+import argparse
 import sys
 from pathlib import Path
 
@@ -24,7 +25,10 @@ TEXT = (
     "Papers of the dock company on the building and the upkeep and the use of the locks and basins and quays; "
     "with plans and letters and accounts of the engineers. "
 )
-HEADER = "legacyId,parentId,identifier,title,levelOfDescription,publicationStatus,scopeAndContent,eventDates,extentAndMedium"
+HEADER = (
+    "legacyId,parentId,identifier,title,levelOfDescription,publicationStatus,scopeAndContent,"
+    "eventDates,extentAndMedium"
+)
 SERIES = 100
 QUESTIONS = 1000
 ROWS = 20000
@@ -49,6 +53,7 @@ def row(unit, place, tops, boxed):
 
 
 def archive(units, first=1, tops=1, boxed=False):
+    """The bytes of a file of so many units, the first with this number."""
     header = HEADER + (",physicalObjectName" if boxed else "")
     rows = (row(first + place, place, tops, boxed) for place in range(units))
     return ("\n".join([header, *rows]) + "\n").encode()
@@ -71,56 +76,50 @@ def move(unit):
     return post("/desk/move", b'{"unit":%d,"parent":%d}' % (unit, series))
 
 
-def taken_in(*args, **kinds):
+def import_of(*args, **kinds):
+    """The request that imports the file that `archive` makes of these arguments."""
     return post("/desk/import/a", archive(*args, **kinds))
 
 
+def orders(n):
+    """Yields the requests of `orders N`."""
+    yield import_of(n, boxed=True)
+    for _ in range(0, n, ORDERS):
+        yield post("/desk/register", b'{"name":"Ann","until":"2024-12-31"}')
+    for i in range(n):
+        yield post("/public/orders", b'{"ticket":%d,"container":%d}' % (1 + i // ORDERS, 1 + i * 7919 % n))
+
+
+KINDS = {
+    "import": lambda n: [import_of(n)],
+    "twice": lambda n: [2 * import_of(n)],
+    "tops": lambda n: [import_of(n, tops=n)],
+    "grow": lambda n: (import_of(ROWS, first=1 + ROWS * k) for k in range(n)),
+    "pages": lambda n: [import_of(n), *(get(f"/public/units/{1 + i * 7919 % n}") for i in range(QUESTIONS))],
+    "fonds": lambda n: [import_of(n, tops=100), *[get("/public/fonds")] * 100],
+    "aid": lambda n: [import_of(n), get("/public/aid/1")],
+    "moves": lambda n: [import_of(n), *(move(n - 7 * i) for i in range(MOVES))],
+    "boxes": lambda n: [post("/desk/import/a", boxed_archive(n))],
+    "orders": orders,
+    "small": lambda n: [get("/desk/issued")] * n,
+    "body": lambda n: [post("/desk/run", b"x" * n)],
+}
+
+
 def requests(what, n):
-    if what == "import":
-        yield taken_in(n)
-    elif what == "twice":
-        yield 2 * taken_in(n)
-    elif what == "tops":
-        yield taken_in(n, tops=n)
-    elif what == "grow":
-        for k in range(n):
-            yield taken_in(ROWS, first=1 + ROWS * k)
-    elif what == "pages":
-        yield taken_in(n)
-        for i in range(QUESTIONS):
-            yield get(f"/public/units/{1 + i * 7919 % n}")
-    elif what == "fonds":
-        yield taken_in(n, tops=100)
-        for _ in range(100):
-            yield get("/public/fonds")
-    elif what == "aid":
-        yield taken_in(n)
-        yield get("/public/aid/1")
-    elif what == "moves":
-        yield taken_in(n)
-        for i in range(MOVES):
-            yield move(n - 7 * i)
-    elif what == "boxes":
-        yield post("/desk/import/a", boxed_archive(n))
-    elif what == "orders":
-        yield taken_in(n, boxed=True)
-        for _ in range(0, n, ORDERS):
-            yield post("/desk/register", b'{"name":"Ann","until":"2024-12-31"}')
-        for i in range(n):
-            yield post("/public/orders", b'{"ticket":%d,"container":%d}' % (1 + i // ORDERS, 1 + i * 7919 % n))
-    elif what == "small":
-        for _ in range(n):
-            yield get("/desk/issued")
-    elif what == "body":
-        yield post("/desk/run", b"x" * n)
-    else:
+    """The requests of a session of this kind and number; ends the program if there is no such kind."""
+    if what not in KINDS:
         sys.exit(__doc__)
+    return KINDS[what](n)
 
 
 def main():
-    if len(sys.argv) != 3:
-        sys.exit(__doc__)
-    for request in requests(sys.argv[1], int(sys.argv[2])):
+    """Writes the requests of the session that is named to standard output."""
+    words = argparse.ArgumentParser(description=__doc__, formatter_class=argparse.RawDescriptionHelpFormatter)
+    words.add_argument("what", choices=KINDS, metavar="WHAT", help="the kind of session")
+    words.add_argument("number", type=int, metavar="N")
+    given = words.parse_args()
+    for request in requests(given.what, given.number):
         sys.stdout.buffer.write(request)
 
 

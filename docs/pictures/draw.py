@@ -3,8 +3,9 @@
 
     docs/pictures/draw.py [--check] [NAME ..]
 
-`layers` is drawn from the crates of ARCHITECTURE and from crates.txt, `session` and `faults` from RULES, `ratio` and `gate` from
-FIGURES; `shift` is computed. With --check nothing is written: the script ends with 1 if a picture is not what it would draw.
+`layers` is drawn from the crates of ARCHITECTURE and from crates.txt, `session` and `faults` from RULES, `ratio` and
+`gate` from FIGURES; `shift` is computed. With --check nothing is written: the script ends with 1 if a picture is not
+what it would draw.
 """
 
 import argparse
@@ -42,7 +43,7 @@ def table(document, heading, first_column):
     return rows[2:]
 
 
-def plain(text):
+def strip_marks(text):
     """The words of a cell without its marks and links."""
     return re.sub(r"\[([^]]*)\]\([^)]*\)", r"\1", text).replace("`", "").replace("*", "")
 
@@ -57,13 +58,16 @@ class Drawing:
         self.width, self.height, self.title, self.shapes = width, height, title, []
 
     def add(self, name, text=None, **values):
-        written = "".join(f' {key.replace("_", "-")}="{shown(value)}"' for key, value in values.items())
+        """Adds an element of SVG with these attributes."""
+        written = "".join(f' {key.replace("_", "-")}="{format_value(value)}"' for key, value in values.items())
         self.shapes.append(f"<{name}{written}/>" if text is None else f"<{name}{written}>{html.escape(text)}</{name}>")
 
     def box(self, x, y, width, height, fill=PAPER):
+        """Adds a box with round corners."""
         self.add("rect", x=x, y=y, width=width, height=height, rx=3, fill=fill, stroke=INK, stroke_width=0.8)
 
     def text(self, x, y, words, size=12, anchor="start", color=INK, bold=False):
+        """Adds a line of text."""
         weight = {"font_weight": "bold"} if bold else {}
         self.add("text", words, x=x, y=y, font_size=size, text_anchor=anchor, fill=color, **weight)
 
@@ -73,29 +77,34 @@ class Drawing:
         self.text(x + width / 2, y + height / 2 + 4, words, anchor="middle")
 
     def line(self, x1, y1, x2, y2, color=INK, width=1.0, dashes=None, arrow=False):
+        """Adds a line, with an arrow at its end or not."""
         more = {"stroke_dasharray": dashes} if dashes else {}
         if arrow:
             more["marker_end"] = "url(#arrow)"
         self.add("line", x1=x1, y1=y1, x2=x2, y2=y2, stroke=color, stroke_width=width, **more)
 
     def svg(self):
+        """The picture as SVG."""
         head = (
             f'<svg xmlns="http://www.w3.org/2000/svg" width="{self.width}" height="{self.height}" '
             f'viewBox="0 0 {self.width} {self.height}" font-family="Helvetica, Arial, sans-serif">'
         )
         arrow = (
-            '<defs><marker id="arrow" viewBox="0 0 8 8" refX="7" refY="4" markerWidth="7" markerHeight="7" orient="auto">'
+            '<defs><marker id="arrow" viewBox="0 0 8 8" refX="7" refY="4" markerWidth="7" markerHeight="7" '
+            'orient="auto">'
             f'<path d="M0,1 L7,4 L0,7 z" fill="{INK}"/></marker></defs>'
         )
         ground = f'<rect width="{self.width}" height="{self.height}" fill="{PAPER}"/>'
         return "\n".join([head, f"<title>{html.escape(self.title)}</title>", arrow, ground, *self.shapes, "</svg>", ""])
 
 
-def shown(value):
+def format_value(value):
+    """A number with one digit after the point, if it has any; another value as it is."""
     return f"{value:.1f}".removesuffix(".0") if isinstance(value, float) else value
 
 
-def wide(words):
+def width_of(words):
+    """The width of these words in pixels."""
     return len(words) * LETTER
 
 
@@ -139,7 +148,7 @@ def layers():
         picture.text(12, y + 19, layer, color=ACCENT, bold=True)
         x = 104
         for crate, following in zip(crates, [*crates[1:], None]):
-            width = wide(crate) + 12
+            width = width_of(crate) + 12
             picture.label(x, y + 4, width, 22, crate)
             if following in below[crate]:
                 picture.line(x + width, y + 15, x + width + 14, y + 15, arrow=True)
@@ -154,7 +163,8 @@ def layers():
 
 def session():
     """The ends of a session, with exit status and message."""
-    rows = [[plain(cell) for cell in row] for row in table("docs/RULES.md", "Requests by HTTP", "The session ends")]
+    rows = [[strip_marks(cell) for cell in row]
+            for row in table("docs/RULES.md", "Requests by HTTP", "The session ends")]
     picture = Drawing(760, 30 * len(rows) + 34, "How a session ends")
     middle = 30 * len(rows) / 2 + 26
     picture.box(6, middle - 34, 122, 68, TINT)
@@ -165,13 +175,13 @@ def session():
     for number, (why, status, message) in enumerate(rows):
         y = 30 * number + 38
         picture.line(128, middle, 166, y, color=FAINT, arrow=True)
-        picture.text(172, y + 4, shortened(why))
+        picture.text(172, y + 4, shorten(why))
         picture.label(586, y - 11, 28, 22, status, TINT if status == "0" else PAPER)
         picture.text(634, y + 4, message)
     return picture
 
 
-def shortened(words):
+def shorten(words):
     """The words up to a semicolon, without a word that only joins them."""
     return re.sub(r"^because ", "", words.split(";")[0].split(", or after")[0])
 
@@ -193,7 +203,8 @@ STEPS = [
 
 def faults():
     """The steps of a command in order; the first fault decides message and status."""
-    told = {(status, plain(message)) for status, _, message in table("docs/RULES.md", "Exit statuses", "Exit status")}
+    told = {(status, strip_marks(message))
+            for status, _, message in table("docs/RULES.md", "Exit statuses", "Exit status")}
     for _, message, status in STEPS:
         if not any(status == its and message in text for its, text in told):
             sys.exit(f"RULES, Exit statuses: there is no status {status} with '{message}'")
@@ -213,7 +224,8 @@ def faults():
     picture.label(12, y, 270, 20, "done", TINT)
     picture.line(586, y + 10, 620, y + 10, color=FAINT, arrow=True)
     picture.label(626, y, 28, 20, "0", TINT)
-    picture.text(12, y + 42, "At any step: no memory, status 3; inside a session the client gets 503 instead.", 11, color=FAINT)
+    picture.text(12, y + 42, "At any step: no memory, status 3; inside a session the client gets 503 instead.", 11,
+                 color=FAINT)
     return picture
 
 
@@ -228,11 +240,11 @@ class Unit:
     below: list
 
 
-def numbered(forest, number=1, depth=0):
+def number_forest(forest, number=1, depth=0):
     """The rows of a forest as nested sets: name, lft, rgt and depth of each unit in walk order, and the next number."""
     rows = []
     for unit in forest:
-        inside, end = numbered(unit.below, number + 1, depth + 1)
+        inside, end = number_forest(unit.below, number + 1, depth + 1)
         rows += [(unit.name, number, end, depth), *inside]
         number = end + 1
     return rows, number
@@ -241,8 +253,8 @@ def numbered(forest, number=1, depth=0):
 def shift():
     """A forest before and after a move; the numbers that changed are bold."""
     moved = Unit("B", [Unit("C", [])])
-    before, _ = numbered([Unit("A", [moved, Unit("D", [])]), Unit("E", [])])
-    after, _ = numbered([Unit("A", [Unit("D", [])]), Unit("E", [moved])])
+    before, _ = number_forest([Unit("A", [moved, Unit("D", [])]), Unit("E", [])])
+    after, _ = number_forest([Unit("A", [Unit("D", [])]), Unit("E", [moved])])
     old = {name: (lft, rgt) for name, lft, rgt, _ in before}
     picture = Drawing(760, 190, "A shift of nested sets")
     for x, rows, title in ((14, before, "before"), (394, after, "B moves below E: bold numbers have changed")):
@@ -252,7 +264,8 @@ def shift():
             fill = TINT if name in "BC" else PAPER
             picture.box(left + 2, y, right - left - 4, 30, fill)
             picture.text((left + right) / 2, y + 20, name, anchor="middle", bold=True)
-            for place, value, was, anchor in ((left + 7, lft, old[name][0], "start"), (right - 7, rgt, old[name][1], "end")):
+            for place, value, was, anchor in ((left + 7, lft, old[name][0], "start"),
+                                              (right - 7, rgt, old[name][1], "end")):
                 picture.text(place, y + 20, str(value), 11, anchor, ACCENT if value != was else INK, value != was)
         for number in range(1, 11):
             picture.text(x + 34 * (number - 0.5), 164, str(number), 10, "middle", FAINT)
@@ -265,6 +278,7 @@ def shift():
 
 
 def numbers(text):
+    """The numbers in a text."""
     return [float(number) for number in re.findall(r"\d+(?:\.\d+)?", text)]
 
 
@@ -272,7 +286,8 @@ def ratios():
     """Each thing that was measured, with its goal and the ratio at each size."""
     for what, *cells, goal in table("docs/FIGURES.md", "Beside the plain program", "What"):
         found = [re.search(r"\(([^)]*)\)", cell) for cell in cells]
-        yield plain(what), float(goal) if re.fullmatch(r"[\d.]+", goal) else None, [float(cell[1]) if cell else None for cell in found]
+        wanted = float(goal) if re.fullmatch(r"[\d.]+", goal) else None
+        yield strip_marks(what), wanted, [float(cell[1]) if cell else None for cell in found]
 
 
 def ratio():
@@ -309,10 +324,11 @@ def mark(picture, size, x, y):
 
 
 def legend(picture, x, y):
+    """Explains the marks, from this place on."""
     for size, words in enumerate(("20,000 units", "200,000")):
         mark(picture, size, x + 6, y - 4)
         picture.text(x + 16, y, words, 11)
-        x += wide(words) + 30
+        x += width_of(words) + 30
     picture.line(x, y - 10, x, y + 2, color=ACCENT, width=2.0)
     picture.text(x + 8, y, "goal", 11)
 
@@ -323,7 +339,7 @@ def minutes():
     crates, rest = {}, []
     for what, total, dearest in rows:
         listed = {crate: float(number) for crate, number in re.findall(r"`(\w+)` ([\d.]+)", dearest)}
-        rest.append((plain(what).split(",")[0], max(0.0, round(numbers(total)[0] - sum(listed.values()), 1))))
+        rest.append((strip_marks(what).split(",")[0], max(0.0, round(numbers(total)[0] - sum(listed.values()), 1))))
         for crate, number in listed.items():
             crates.setdefault(crate, {})[rest[-1][0]] = number
     order = sorted(crates, key=lambda crate: -sum(crates[crate].values()))
@@ -341,14 +357,15 @@ def gate():
         x, y = 150.0, 20 * number + 10
         picture.text(x - 8, y + 12, crate, anchor="end")
         for part, spent in parts.items():
-            picture.add("rect", x=x, y=y, width=spent * scale, height=15, fill=fills[part], stroke=INK, stroke_width=0.8)
+            picture.add("rect", x=x, y=y, width=spent * scale, height=15, fill=fills[part], stroke=INK,
+                        stroke_width=0.8)
             x += spent * scale
         picture.text(x + 6, y + 12, f"{sum(parts.values()):.1f}", 11)
     x, y = 150, 20 * len(rows) + 28
     for part, fill in fills.items():
         picture.add("rect", x=x, y=y, width=12, height=12, fill=fill, stroke=INK, stroke_width=0.8)
         picture.text(x + 18, y + 10, part, 11)
-        x += wide(part) + 36
+        x += width_of(part) + 36
     picture.text(x, y + 10, "minutes of processor time", 11, color=FAINT)
     return picture
 
@@ -357,6 +374,7 @@ PICTURES = {"layers": layers, "session": session, "faults": faults, "shift": shi
 
 
 def main():
+    """Draws or checks the pictures that the command line names."""
     words = argparse.ArgumentParser(description=__doc__.splitlines()[0])
     words.add_argument("--check", action="store_true", help="write nothing; end with 1 if a picture is not up to date")
     words.add_argument("names", nargs="*", choices=[[], *PICTURES], help="the pictures; without a name all")

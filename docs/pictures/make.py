@@ -1,18 +1,21 @@
 #!/usr/bin/env python3
-"""Makes the pictures of OPERATING from the pages themselves, in a headless Chromium: docs/pictures/make.py PROGRAM"""
+"""Makes the pictures of OPERATING from the pages themselves, in a headless Chromium:
 
-import json
+    docs/pictures/make.py [--program PROGRAM] [--room DIRECTORY]
+"""
+
 import pathlib
 import sys
-import tempfile
-import urllib.request
 
 HERE = pathlib.Path(__file__).resolve().parent
 TOP = HERE.parent.parent
 sys.dont_write_bytecode = True
 sys.path.insert(0, str(TOP / "acceptance" / "front"))
+from asks import Asks  # noqa: E402
 from browser import Browser  # noqa: E402
 from office import SIGNED_IN, Office  # noqa: E402
+
+import client  # noqa: E402
 
 WIDTH, HEIGHT = 860, 600
 PHONE = 390, 844
@@ -27,25 +30,21 @@ def file_of_the_document():
     return "".join(line.strip() + "\n" for line in lines[begin : lines.index("", begin)])
 
 
-def post(office, path, body):
-    data = body.encode() if isinstance(body, str) else json.dumps(body).encode()
-    with urllib.request.urlopen(urllib.request.Request(office.staff + path, data, SIGNED_IN), timeout=60) as answer:
-        return answer.read()
-
-
-def begin_the_day(office):
-    post(office, "/desk/import/catalogue", file_of_the_document())
+def begin_the_day(asks):
+    """Imports the file, and brings two readers to the desk: one has a container, and one waits for it."""
+    asks.import_text("catalogue", file_of_the_document())
     for name in ("Ann Smith", "Ben Jones"):
-        post(office, "/desk/register", {"name": name, "until": "2024-12-31"})
+        asks.command("/desk/register", name=name, until="2024-12-31")
     for ticket, container in ((1, 1), (2, 1), (2, 2)):
-        post(office, "/public/orders", {"ticket": ticket, "container": container})
-    post(office, "/desk/run", "")
-    post(office, "/desk/seat", {"ticket": 1})
-    post(office, "/desk/seat", {"ticket": 2})
-    post(office, "/desk/issue", {"container": 1, "ticket": 1})
+        asks.command("/public/orders", ticket=ticket, container=container)
+    asks.command("/desk/run")
+    asks.command("/desk/seat", ticket=1)
+    asks.command("/desk/seat", ticket=2)
+    asks.command("/desk/issue", container=1, ticket=1)
 
 
 def shoot(office, browser):
+    """Takes all pictures."""
     for name, place in DESK:
         page = browser.page(SIGNED_IN)
         page.size(WIDTH, HEIGHT)
@@ -67,21 +66,24 @@ def shoot(office, browser):
 
 
 def keep(page, name, full=False):
+    """Writes a picture of the window, or of the full page."""
     path = HERE / f"{name}.png"
     page.shot(path, full)
     print(f"{path.name}: {path.stat().st_size} bytes")
 
 
-def main(program):
-    with tempfile.TemporaryDirectory() as folder:
-        browser = Browser(pathlib.Path(folder) / "profile")
+def main():
+    """Makes the pictures with the program that the command line names."""
+    given = client.options(__doc__, in_memory=False).parse_args()
+    with client.temporary(given.room) as folder:
+        browser = Browser(folder / "profile")
         try:
-            with Office(pathlib.Path(folder) / "office", program, first=21800, last=21899).init() as office:
-                begin_the_day(office)
+            with Office.create(given.program, folder / "office", first=21800, last=21899) as office:
+                begin_the_day(Asks(office))
                 shoot(office, browser)
         finally:
             browser.end()
 
 
 if __name__ == "__main__":
-    main(*sys.argv[1:])
+    main()

@@ -55,6 +55,7 @@ class Unit:
 
     @property
     def is_draft(self):
+        """Whether the unit is not published."""
         return self.status.lower() != "published"
 
 
@@ -66,6 +67,7 @@ class Seen:
     counts: dict = field(default_factory=dict)
 
     def say(self, name, **values):
+        """Adds an advice with its values."""
         self.advice.append((name, values))
 
 
@@ -77,6 +79,7 @@ class Look:
         self.read = [*rules["elements"], *rules["others"]]
 
     def at(self, data):
+        """Returns what is seen of a file with these bytes."""
         seen = Seen()
         text = self.text_of(data, seen)
         if text is None:
@@ -119,11 +122,12 @@ class Look:
         if text.lower().startswith("sep="):
             seen.say("sep_line", line=LINE_END.split(text)[0])
         elif found := next(
-            (mark for mark in self.rules["separators"] if names_units(records(text, mark, 1)[0][0].fields)), None
+            (mark for mark in self.rules["separators"] if is_header(records(text, mark, 1)[0][0].fields)), None
         ):
             seen.say("separator", separator=self.rules["separators"][found])
-        elif names_units(header):
-            seen.say("spelling", found=next(name for name in header if folded(name) == "legacyid"), column="legacyId")
+        elif is_header(header):
+            seen.say("spelling", found=next(name for name in header if fold_name(name) == "legacyid"),
+                     column="legacyId")
         elif row := self.later_header(text):
             seen.say("title_line", sheet=row.sheet, lines=row.sheet - 1)
         else:
@@ -134,19 +138,20 @@ class Look:
         """The header that stands below something else, whatever separates its columns."""
         for mark in (",", *self.rules["separators"]):
             for row in records(text, mark, self.limits["above"])[0]:
-                if names_units(row.fields):
+                if is_header(row.fields):
                     return row
         return None
 
     # Columns
 
     def look_at_columns(self, header, seen):
+        """Says which columns are there twice, missing, or not read."""
         twice = [name for name in self.read if header.count(name) > 1]
         if twice:
             seen.say("header_twice", columns=twice)
         missing = [name for name in self.read if name not in header]
         unread = [name for name in dict.fromkeys(header) if name and name not in self.read]
-        meant = {name: self.meant(name, missing) for name in unread}
+        meant = {name: self.find_meant(name, missing) for name in unread}
         for name, column in meant.items():
             if column:
                 seen.say("similar", found=name, column=column)
@@ -161,11 +166,11 @@ class Look:
         if others:
             seen.say("unread", columns=others)
 
-    def meant(self, name, missing):
+    def find_meant(self, name, missing):
         """The missing column that a name seems to mean, or None."""
-        one = folded(name)
+        one = fold_name(name)
         for column in missing:
-            if one.removesuffix("s") == folded(column).removesuffix("s"):
+            if one.removesuffix("s") == fold_name(column).removesuffix("s"):
                 return column
         column = self.rules["also"].get(one)
         return column if column in missing else None
@@ -173,6 +178,7 @@ class Look:
     # Rows
 
     def look_at_rows(self, rows, seen):
+        """Says what is wrong or odd in the rows, and counts them."""
         header = rows[0].fields
         if any(name == "header_twice" for name, _ in seen.advice):
             return
@@ -196,15 +202,18 @@ class Look:
         }
 
     def say_fault(self, reader, seen):
+        """Says what the office would refuse first."""
         cause, row, column = reader.faults[0]
         legacy, title = reader.value(row, "legacyId"), reader.value(row, "title")
         about = f", column {column}" if column else ""
         about += f", legacyId {legacy}" if legacy else ""
         about += f", “{title[:60]}”" if title else ""
         means, todo = self.rules["causes"][str(cause)]
-        more = f" {count(len(reader.faults) - 1, 'row')} more cannot be read either." if len(reader.faults) > 1 else ""
+        more = f" {count_words(len(reader.faults) - 1, 'row')} more cannot be read either." if len(
+            reader.faults) > 1 else ""
         fields = f" ({len(row.fields)}, not {len(reader.header)})" if cause == 5 else ""
-        seen.say("fault", row=row.number, sheet=row.sheet, unit=about, cause=means + fields, todo=todo + more, number=cause)
+        seen.say("fault", row=row.number, sheet=row.sheet, unit=about, cause=means + fields, todo=todo + more,
+                 number=cause)
 
 
 class Reader:
@@ -217,10 +226,12 @@ class Reader:
         self.units, self.translations, self.faults = {}, 0, []
 
     def value(self, row, column):
+        """The value of a column in a row; nothing if it is not there."""
         place = self.place.get(column)
         return row.fields[place] if place is not None and place < len(row.fields) else ""
 
     def take(self, row):
+        """Reads a row: a unit, a translation, or a fault."""
         legacy = self.value(row, "legacyId")
         first = self.units.get(legacy)
         culture = self.value(row, "culture")
@@ -256,6 +267,7 @@ class Reader:
         return (10, long) if long else (0, None)
 
     def long_column(self, row):
+        """The first column whose value is too long, or None."""
         return next(
             (
                 name
@@ -293,19 +305,21 @@ def look_at_units(reader, has_status, depth, seen):
 
 
 def look_at_parents(units, seen):
-    bare = {without_zeros(legacy) for legacy in units}
+    """Says which units stand above their parents, or have parents that are not in the file."""
+    bare = {drop_zeros(legacy) for legacy in units}
     below, zeros, elsewhere = [], [], []
     for unit in units.values():
         parent = units.get(unit.parent)
         if not unit.parent or (parent and parent.row.number < unit.row.number):
             continue
-        (below if parent else zeros if without_zeros(unit.parent) in bare else elsewhere).append(unit)
+        (below if parent else zeros if drop_zeros(unit.parent) in bare else elsewhere).append(unit)
     for name, some in (("parents_below", below), ("parents_zeros", zeros), ("parents_elsewhere", elsewhere)):
         if some:
             seen.say(name, **first_of(some), parent=some[0].parent)
 
 
 def look_at_depths(units, most, seen):
+    """Says which unit lies too deep."""
     depths = {}
     for unit in units.values():
         depths[unit.legacy] = depths.get(unit.parent, 0) + 1
@@ -315,9 +329,10 @@ def look_at_depths(units, most, seen):
 
 
 def look_at_numbers(units, seen):
+    """Says which legacyIds differ only in zeros, and which a spreadsheet has rounded."""
     groups = {}
     for legacy in units:
-        groups.setdefault(without_zeros(legacy), []).append(legacy)
+        groups.setdefault(drop_zeros(legacy), []).append(legacy)
     pairs = [" and ".join(group[:2]) for group in groups.values() if len(group) > 1]
     if pairs:
         seen.say("zeros", pairs=pairs)
@@ -328,8 +343,10 @@ def look_at_numbers(units, seen):
 
 
 def look_at_codes(units, seen):
+    """Says which identifiers repeat that of the unit above."""
     again = [
-        unit for unit in units.values() if unit.parent in units and repeats(unit.identifier, units[unit.parent].identifier)
+        unit for unit in units.values() if unit.parent in units
+        and repeats(unit.identifier, units[unit.parent].identifier)
     ]
     if again:
         seen.say("full_codes", **first_of(again), code=f"{units[again[0].parent].identifier}/{again[0].identifier}")
@@ -337,34 +354,37 @@ def look_at_codes(units, seen):
 
 def repeats(identifier, above):
     """Whether an identifier begins with that of the unit above, and goes on after a mark such as `/`."""
-    return bool(above) and identifier.startswith(above) and re.match("[^0-9A-Za-z]", identifier[len(above) :]) is not None
+    rest = identifier.removeprefix(above)
+    return bool(above) and identifier != rest and re.match("[^0-9A-Za-z]", rest) is not None
 
 
 def look_at_boxes(units, seen):
+    """Says which containers are written in two ways, or shared by archives."""
     archives, alike = {}, {}
     tops = {}
     for unit in units.values():
         tops[unit.legacy] = tops.get(unit.parent, unit.legacy if not unit.parent else "")
         for box in unit.boxes:
             archives.setdefault(box, set()).add(tops[unit.legacy])
-            alike.setdefault(tuple(without_case(part) for part in box), {})[box] = True
-    groups = [" / ".join(f"“{shown(box)}”" for box in group) for group in alike.values() if len(group) > 1]
+            alike.setdefault(tuple(drop_case(part) for part in box), {})[box] = True
+    groups = [" / ".join(f"“{box_words(box)}”" for box in group) for group in alike.values() if len(group) > 1]
     if groups:
         seen.say("boxes_alike", boxes=groups)
-    shared = [shown(box) for box, some in archives.items() if len(some) > 1]
+    shared = [box_words(box) for box, some in archives.items() if len(some) > 1]
     if shared:
         seen.say("boxes_shared", boxes=shared)
 
 
 def look_at_texts(rows, header, read, seen):
+    """Says which row has garbled letters."""
     columns = [place for place, name in enumerate(header) if name in read]
-    garbled = [(row, found) for row in rows if (found := garbled_in(row, columns))]
+    garbled = [(row, found) for row in rows if (found := find_garbled(row, columns))]
     if garbled:
         row, found = garbled[0]
         seen.say("garbled", rows=len(garbled), row=row.number, sheet=row.sheet, found=found)
 
 
-def garbled_in(row, columns):
+def find_garbled(row, columns):
     """The word of a row that has garbled letters, or None."""
     for place in columns:
         text = row.fields[place] if place < len(row.fields) else ""
@@ -374,7 +394,8 @@ def garbled_in(row, columns):
 
 
 def records(text, separator=",", most=None):
-    """The records of a text, at most so many, and whether a quotation mark is open at its end. An empty line is none."""
+    """The records of a text, at most so many, and whether a quotation mark is open at its end. An empty line is
+    none."""
     csv.field_size_limit(sys.maxsize)
     found = []
     for sheet, fields in enumerate(csv.reader(io.StringIO(f"{text}\n{END}", newline=""), delimiter=separator), 1):
@@ -404,43 +425,49 @@ def place_of(data, start):
     begin = max(before.rfind(b"\n"), before.rfind(b"\r")) + 1
     begin = max(begin, start - 20)
     ends = [end for end in (data.find(b"\n", start), data.find(b"\r", start), start + 20, len(data)) if end >= 0]
-    return {"line": line, "near": "".join(map(windows, data[begin : min(ends)])).strip(BLANK)}
+    return {"line": line, "near": "".join(map(windows_letter, data[begin : min(ends)])).strip(BLANK)}
 
 
-def windows(byte):
+def windows_letter(byte):
+    """The letter of a byte in Windows-1252."""
     try:
         return bytes([byte]).decode("cp1252")
     except UnicodeDecodeError:
         return chr(byte)
 
 
-def folded(name):
+def fold_name(name):
     """A column's name without case, spaces and marks."""
     return re.sub("[^a-z0-9]", "", name.lower())
 
 
-def without_case(text):
+def drop_case(text):
     """A text without case, and with one space for several."""
     return " ".join(part for part in re.split("[ \t\r\n\u00a0]+", text.lower()) if part)
 
 
-def names_units(fields):
-    return any(folded(name) == "legacyid" for name in fields)
+def is_header(fields):
+    """Whether a header has a column that means legacyId."""
+    return any(fold_name(name) == "legacyid" for name in fields)
 
 
-def without_zeros(number):
+def drop_zeros(number):
+    """A number without the zeros at its beginning; another text as it is."""
     return number.lstrip("0") if number.isascii() and number.isdigit() else number
 
 
 def first_of(units):
+    """How many units these are, and the row of the first."""
     return {"rows": len(units), "row": units[0].row.number, "sheet": units[0].row.sheet}
 
 
-def shown(box):
+def box_words(box):
+    """A container's name, location and kind, as far as it has them."""
     return ", ".join(part for part in box if part)
 
 
-def count(number, one):
+def count_words(number, one):
+    """A number and its noun, as in `2 rows`."""
     return f"{number:,} {one}" if number == 1 else f"{number:,} {one}s"
 
 
@@ -450,12 +477,13 @@ def words(rules, name, values):
     most = rules["limits"]["shown"] if name != "emptied" else len(rules["elements"])
 
     def fill(found):
+        """The value that a place in braces stands for."""
         value = values[found[1]]
         if isinstance(value, list):
             more = f" and {len(value) - most:,} more" if len(value) > most else ""
             return ", ".join(value[:most]) + more
         if found[1] in ("rows", "lines"):
-            return count(value, found[1][:-1])
+            return count_words(value, found[1][:-1])
         return str(value)
 
     return level, re.sub(r"\{(\w+)\}", fill, says), re.sub(r"\{(\w+)\}", fill, todo)
@@ -494,7 +522,8 @@ def show(path, seen, rules):
     """Prints what was seen of a file, the gravest first, and returns the levels."""
     print(f"{path}:")
     told = sorted(
-        (words(rules, name, values) for name, values in seen.advice), key=lambda one: ("stop", "ask", "note").index(one[0])
+        (words(rules, name, values) for name, values in seen.advice),
+        key=lambda one: ("stop", "ask", "note").index(one[0])
     )
     marks = {"stop": "refused: ", "ask": "look first: ", "note": "note: "}
     for level, says, todo in told:

@@ -1,4 +1,5 @@
-"""Asks the office through the queue's socket. A round asks after everybody else; what a reader waits for goes before aids."""
+"""Asks the office through the queue's socket. A round asks after everybody else; what a reader waits for goes before
+aids."""
 
 import http.client
 import socket
@@ -21,6 +22,7 @@ class Connection(http.client.HTTPConnection):
         self.path = path
 
     def connect(self):
+        """Connects to the socket."""
         self.sock = socket.socket(socket.AF_UNIX)
         self.sock.settimeout(self.timeout)
         self.sock.connect(self.path)
@@ -29,8 +31,8 @@ class Connection(http.client.HTTPConnection):
 class Asking:
     """Called with a path: the text, or None if it is not shown. `asked` and `busy` count questions and their seconds.
 
-    For a reader, `until` is when the time is over. Without it this is a round, which rests `rest` times as long as each of its
-    questions took, so that the office is busy with rounds for one part in `rest + 1` of the time at most."""
+    For a reader, `until` is when the time is over. Without it this is a round, which rests `rest` times as long as each
+    of its questions took, so that the office is busy with rounds for one part in `rest + 1` of the time at most."""
 
     PATIENCE = 130  # seconds that a round waits for an answer: longer than the queue does
 
@@ -40,7 +42,7 @@ class Asking:
     def __call__(self, path):
         began = time.monotonic()
         try:
-            status, body = self._answer(path)
+            status, body = self._ask(path)
         except (OSError, http.client.HTTPException) as lost:
             self.connection.close()
             raise (Slow if isinstance(lost, TimeoutError) and self.until else Unreached)(path) from lost
@@ -51,15 +53,16 @@ class Asking:
             raise Unreached(f"{path}: {status}")
         return body.decode("utf-8", "replace") if status == 200 else None
 
-    def _answer(self, path):
+    def _ask(self, path):
         """A kept connection may have been closed meanwhile; then it asks once more over a new one."""
         try:
-            return self._asked(path)
+            return self._ask_once(path)
         except (ConnectionError, http.client.BadStatusLine):
             self.connection.close()
-            return self._asked(path)
+            return self._ask_once(path)
 
-    def _asked(self, path):
+    def _ask_once(self, path):
+        """The status and the body of one answer. Raises Slow if the time is over."""
         left = self.PATIENCE if self.until is None else self.until - time.monotonic()
         if left <= 0:
             raise Slow(path)

@@ -1,6 +1,6 @@
-"""Which words count as the same in a search, and where they stand in a text. Case, accents and other marks on letters make no
-difference. Nor do the kinds of apostrophes and hyphens: each of them parts words. front/shared/folding.js folds alike, and
-acceptance/front/folding.json has examples that both must meet."""
+"""Which words count as the same in a search, and where they stand in a text. Case, accents and other marks on letters
+make no difference. Nor do the kinds of apostrophes and hyphens: each of them parts words. front/shared/folding.js folds
+alike, and acceptance/front/folding.json has examples that both must meet."""
 
 import re
 import sys
@@ -10,7 +10,8 @@ from typing import NamedTuple
 LONGEST = 200  # characters that are read of what was typed
 MOST = 12  # words or phrases
 
-LETTERS = str.maketrans({"ß": "ss", "æ": "ae", "œ": "oe", "ø": "o", "ł": "l", "đ": "d", "ð": "d", "þ": "th", "ħ": "h", "ŧ": "t",
+LETTERS = str.maketrans({"ß": "ss", "æ": "ae", "œ": "oe", "ø": "o", "ł": "l", "đ": "d", "ð": "d", "þ": "th", "ħ": "h",
+                         "ŧ": "t",
                          "ŋ": "n", "ı": "i", "ς": "σ"})
 
 # Accents and points of Latin, Greek, Cyrillic, Hebrew, Arabic and Syriac. Marks of other scripts are vowels, and stay.
@@ -69,7 +70,7 @@ def fold(word):
 
 def words_of(text):
     """The words of a text, in order."""
-    found = (Word(_folded(place[0]), place.start(), place.end()) for place in _WORD.finditer(text))
+    found = (Word(_fold_found(place[0]), place.start(), place.end()) for place in _WORD.finditer(text))
     return [word for word in found if word.word]
 
 
@@ -77,17 +78,17 @@ def folded_words(text):
     """The words of a text, folded, in order."""
     if text.isascii():
         return _ASCII_WORD.findall(text.lower())
-    return [word for word in map(_folded, _WORD.findall(text)) if word]
+    return [word for word in map(_fold_found, _WORD.findall(text)) if word]
 
 
-def _folded(seen):
+def _fold_found(seen):
     """What was found as a word may have only marks; then it is none."""
     return fold(seen) if seen.isascii() or _HAS_LETTER.search(seen) else ""
 
 
 def read_typed(typed):
-    """What was typed, as phrases. A word is a phrase of one; quotation marks, hyphens and apostrophes make longer ones. A word
-    that ends with * may go on. What has no letter and no digit is left out."""
+    """What was typed, as phrases. A word is a phrase of one; quotation marks, hyphens and apostrophes make longer ones.
+    A word that ends with * may go on. What has no letter and no digit is left out."""
     phrases = []
     for place, piece in enumerate(QUOTES.split(typed[:LONGEST])):
         for text in [piece] if place % 2 else SPACES.split(piece):

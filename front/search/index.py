@@ -1,4 +1,5 @@
-"""The index: an SQLite file of derived data, which may be deleted at any time. It only proposes; nothing of it is shown."""
+"""The index: an SQLite file of derived data, which may be deleted at any time. It only proposes; nothing of it is
+shown."""
 
 import contextlib
 import os
@@ -9,7 +10,8 @@ from texts import may_be_from_above, value_of, years_of
 
 VERSION = 1
 BETWEEN = " \ue000 "  # a word that no text has, between two values: no phrase reaches from one into the next
-# unit: own and branch are digests; odd has the own lines that look as if they were found above; gone is set within a round.
+# unit: own and branch are digests; odd has the own lines that look as if they were found above; gone is set within a
+# round.
 # part: a finding aid that was read as one, or a large unit whose parts were (then without digest); size: its units.
 TABLES = """
 CREATE TABLE round(finished INTEGER NOT NULL, done INTEGER NOT NULL, tops INTEGER NOT NULL, swept INTEGER NOT NULL);
@@ -28,16 +30,18 @@ LOST = ("WITH RECURSIVE lost(n) AS (SELECT n FROM unit WHERE gone "
 BELOW = "WITH RECURSIVE below(n) AS (SELECT ? UNION SELECT unit.n FROM unit JOIN below ON unit.parent = below.n) "
 
 
-def opened(path):
+def open_index(path):
+    """Opens the file. Raises sqlite3.Error if it is not there."""
     db = sqlite3.connect(f"file:{path}?mode=rw", uri=True, isolation_level=None, timeout=20)
     db.execute("PRAGMA synchronous = NORMAL")
     return db
 
 
-def made(path, check):
-    """Opens the index for a round. It is begun anew if it is not there or of another version, or if a check finds it damaged."""
+def open_or_make(path, check):
+    """Opens the index for a round. It is begun anew if it is not there or of another version, or if a check finds it
+    damaged."""
     with contextlib.suppress(sqlite3.Error):
-        db = opened(path)
+        db = open_index(path)
         if is_sound(db, check):
             return db
         db.close()
@@ -45,12 +49,13 @@ def made(path, check):
         with contextlib.suppress(FileNotFoundError):
             os.remove(f"{path}{end}")
     os.close(os.open(path, os.O_CREAT | os.O_EXCL | os.O_WRONLY, 0o600))
-    db = opened(path)
+    db = open_index(path)
     db.executescript(f"PRAGMA journal_mode = WAL; BEGIN; {TABLES} PRAGMA user_version = {VERSION}; COMMIT;")
     return db
 
 
 def is_sound(db, check):
+    """Whether the index is of this version and, with a check, not damaged. Raises sqlite3.Error."""
     sound = db.execute("PRAGMA user_version").fetchone()[0] == VERSION
     if sound and check:
         sound = db.execute("PRAGMA quick_check").fetchone()[0] == "ok"
@@ -59,7 +64,7 @@ def is_sound(db, check):
 
 
 @contextlib.contextmanager
-def whole(db):
+def transaction(db):
     """All of it or nothing."""
     db.execute("BEGIN IMMEDIATE")
     try:
@@ -71,8 +76,9 @@ def whole(db):
 
 
 def put(db, top, number, parent, pos, node, branch):
-    """A unit as the office shows it. Its words are written again only if they have changed. If it was elsewhere up to now, what
-    was above it there is looked at again, even if it does not change: the list of fonds may have been older than the move."""
+    """A unit as the office shows it. Its words are written again only if they have changed. If it was elsewhere up to
+    now, what was above it there is looked at again, even if it does not change: the list of fonds may have been older
+    than the move."""
     found = db.execute("SELECT own, top, parent, gone FROM unit WHERE n = ?", (number,)).fetchone()
     own, *before, gone = found or (None, top, parent, 0)
     if before != [top, parent] and not gone:
@@ -82,30 +88,35 @@ def put(db, top, number, parent, pos, node, branch):
                (number, top, parent, pos, node.own, branch, *years_of(node.lines), odd))
     if own != node.own:
         db.execute("DELETE FROM words WHERE rowid = ?", (number,))
-        db.execute("INSERT INTO words(rowid, head, body) VALUES (?, ?, ?)", (number, words(node.head), body(node.lines)))
+        db.execute("INSERT INTO words(rowid, head, body) VALUES (?, ?, ?)",
+                   (number, words(node.head), body(node.lines)))
 
 
 def words(text):
+    """The words of a text, folded, with spaces between them."""
     return " ".join(folded_words(text))
 
 
 def body(lines):
+    """The words of these lines' values."""
     return BETWEEN.join(words(value_of(line)) for line in lines)
 
 
 def look_again_above(db, number):
+    """The finding aids of a unit and of what is above it count as changed."""
     db.execute(ABOVE + "UPDATE part SET digest = NULL WHERE n IN above", (number,))
 
 
 def doubt(db, number):
     """What is above and at a unit is read again in the next round, even if no finding aid changes."""
-    with whole(db):
+    with transaction(db):
         look_again_above(db, number)
         db.execute(ABOVE + "UPDATE unit SET branch = NULL WHERE n IN above", (number,))
 
 
 def lose(db, numbers):
-    """Units are no longer where they were. What is below them goes with them at the end of the round, unless it has moved."""
+    """Units are no longer where they were. What is below them goes with them at the end of the round, unless it has
+    moved."""
     db.executemany("UPDATE unit SET gone = 1 WHERE n = ?", [(number,) for number in numbers])
 
 
@@ -117,7 +128,9 @@ def branch(db, number):
 
 def next_with_units(db, after, many):
     """So many units that have some below, in turn: those that come after a number, then from the first on."""
-    return [n for n, in db.execute("SELECT DISTINCT parent FROM unit WHERE parent IS NOT NULL ORDER BY parent <= ?, parent LIMIT ?",
+    return [n
+            for n, in db.execute(
+                "SELECT DISTINCT parent FROM unit WHERE parent IS NOT NULL ORDER BY parent <= ?, parent LIMIT ?",
                                    (after, many))]
 
 
@@ -128,7 +141,7 @@ def below(db, number):
 
 def forget_gone(db, tops):
     """At the end of a round: what no aid had. Before that a unit may only have moved to an aid that is read later."""
-    with whole(db):
+    with transaction(db):
         db.execute("CREATE TEMP TABLE IF NOT EXISTS now(n INTEGER PRIMARY KEY)")
         db.execute("DELETE FROM now")
         db.executemany("INSERT OR IGNORE INTO now VALUES (?)", ((top,) for top in tops))
@@ -140,8 +153,8 @@ def forget_gone(db, tops):
 
 
 def propose(db, phrases, after, top=None, first=None, last=None):
-    """The units that may have the phrases, as pairs of group and number: those whose head has all come first (group 0), then
-    the others (1), each by number. after: the pair that was shown last."""
+    """The units that may have the phrases, as pairs of group and number: those whose head has all come first (group 0),
+    then the others (1), each by number. after: the pair that was shown last."""
     wanted = " AND ".join(f'"{" ".join(phrase.words)}"' + " *" * phrase.begins for phrase in phrases)
     in_head = f"{{head}} : ({wanted})"
     limits, values = "", []
@@ -156,8 +169,9 @@ def propose(db, phrases, after, top=None, first=None, last=None):
                 yield group, number
 
 
-def known(db, number):
-    """What the index has of a unit: its digest, and its own lines that look as if they were found above. None: nothing."""
+def find_known(db, number):
+    """What the index has of a unit: its digest, and its own lines that look as if they were found above. None:
+    nothing."""
     found = db.execute("SELECT own, odd FROM unit WHERE n = ?", (number,)).fetchone()
     return found and (found[0], (found[1] or "").split("\n"))
 

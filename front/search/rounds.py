@@ -1,11 +1,11 @@
-"""A round reads what the public sees: the list of fonds, then the finding aid of each. An aid whose bytes are those of the last
-round is not looked at. An aid has no numbers, but the page of a unit has those of the units right below, in the aid's order. So
-of a changed aid the pages of those units are read whose branch changed and that have units below. If the two do not agree, a
-command came in between; that part is left as it was, and read again in the next round.
+"""A round reads what the public sees: the list of fonds, then the finding aid of each. An aid whose bytes are those of
+the last round is not looked at. An aid has no numbers, but the page of a unit has those of the units right below, in
+the aid's order. So of a changed aid the pages of those units are read whose branch changed and that have units below.
+If the two do not agree, a command came in between; that part is left as it was, and read again in the next round.
 
-Nobody should wait for the aid of a large archive. So an archive is read by parts, unless it is known to be small: its page, and
-the aid of each unit right below; and so is each of these that is known to be large. Of what is read so, a value that ends as if
-it were found above is not searched, since only an aid could say that it is the unit's own."""
+Nobody should wait for the aid of a large archive. So an archive is read by parts, unless it is known to be small: its
+page, and the aid of each unit right below; and so is each of these that is known to be large. Of what is read so, a
+value that ends as if it were found above is not searched, since only an aid could say that it is the unit's own."""
 
 import argparse
 import os
@@ -30,6 +30,7 @@ class Round:
         self.db, self.ask, self.sweep, self.large = db, ask, sweep, large
 
     def run(self):
+        """Makes the round. Raises Unreached."""
         tops = [number for number, _ in read_fonds(self.ask("/public/fonds") or "")]
         self.db.execute("UPDATE round SET done = 0, tops = ?", (len(tops),))
         self.look_around()
@@ -40,8 +41,8 @@ class Round:
         self.db.execute("UPDATE round SET finished = finished + 1")
 
     def look_around(self):
-        """A branch that was removed and imported again has other numbers and may have the same bytes. So each round reads a few
-        pages more, until it has been around all units that have some below."""
+        """A branch that was removed and imported again has other numbers and may have the same bytes. So each round
+        reads a few pages more, until it has been around all units that have some below."""
         swept = self.db.execute("SELECT swept FROM round").fetchone()[0]
         some = index.next_with_units(self.db, swept, self.sweep)
         for number in some:
@@ -51,6 +52,7 @@ class Round:
         self.db.execute("UPDATE round SET swept = ?", (some[-1] if some else 0,))
 
     def archive(self, number, pos):
+        """Reads an archive as one, or by parts."""
         size = self.size(number)
         if size is None or size > self.large:
             self.parts(number, number, None, pos)
@@ -70,7 +72,7 @@ class Round:
         node.lines = page.own_lines()
         node.close()
         now = {n for n, _ in page.units}
-        with index.whole(self.db):
+        with index.transaction(self.db):
             index.put(self.db, top, number, parent, pos, node, None)
             index.lose(self.db, [n for n in index.below(self.db, number) if n not in now])
         size = 1 + sum(self.part(n, top, number, place) for place, (n, _) in enumerate(page.units))
@@ -93,10 +95,12 @@ class Round:
 
     def is_known(self, number, top, parent, seen):
         """Whether the index has this aid, and its unit at this place."""
-        return self.db.execute("SELECT 1 FROM part JOIN unit USING (n) WHERE n = ? AND digest = ? AND top = ? AND parent IS ? "
+        return self.db.execute(
+            "SELECT 1 FROM part JOIN unit USING (n) WHERE n = ? AND digest = ? AND top = ? AND parent IS ? "
                                "AND NOT gone", (number, seen, top, parent)).fetchone()
 
     def page(self, number):
+        """The page of a unit, or None."""
         text = self.ask(f"/public/units/{number}")
         return text and Page(text)
 
@@ -106,13 +110,14 @@ class Round:
         return found and found[0]
 
     def note(self, number, seen, size):
+        """Keeps the digest and the size of what was read."""
         self.db.execute("INSERT OR REPLACE INTO part VALUES (?, ?, ?)", (number, seen, size))
 
 
 class Aid:
-    """The units of a changed aid get their numbers. old: the units that the index has there, by number; below: the numbers
-    below each; changed: what is to be written; kept: the units of branches that are as they were; places: those that only
-    have another place among their siblings."""
+    """The units of a changed aid get their numbers. old: the units that the index has there, by number; below: the
+    numbers below each; changed: what is to be written; kept: the units of branches that are as they were; places: those
+    that only have another place among their siblings."""
 
     def __init__(self, round_, number, top):
         self.round, self.db, self.number, self.top = round_, round_.db, number, top
@@ -130,7 +135,7 @@ class Aid:
         """Whether all units of the aid got their numbers."""
         sure = self.assign(self.number, parent, pos, node)
         found = self.kept | {number for number, *_ in self.changed}
-        with index.whole(self.db):
+        with index.transaction(self.db):
             for one in self.changed:
                 index.put(self.db, self.top, *one)
             self.db.executemany("UPDATE unit SET pos = ? WHERE n = ?", self.places)
@@ -140,7 +145,8 @@ class Aid:
         return sure
 
     def assign(self, number, parent, pos, node):
-        """Whether all of the branch got its numbers. A unit that was elsewhere may leave some behind that are below it no more."""
+        """Whether all of the branch got its numbers. A unit that was elsewhere may leave some behind that are below it
+        no more."""
         if number not in self.old:
             self.remember(number)
         if self.is_kept(number, parent, pos, node):
@@ -150,6 +156,7 @@ class Aid:
         return sure
 
     def assign_below(self, number, node):
+        """Whether the units right below one, and all below them, got their numbers."""
         page = self.round.page(number)
         if page is None or [head for _, head in page.units] != [unit.head for unit in node.units]:
             return False
@@ -174,8 +181,8 @@ class Aid:
 
 
 class Keeper:
-    """Round after round, in a process of its own. Through `told` the answers say which units they have found otherwise than the
-    index has them, and 0 if they could not read the index."""
+    """Round after round, in a process of its own. Through `told` the answers say which units they have found otherwise
+    than the index has them, and 0 if they could not read the index."""
 
     def __init__(self, path, ask, told, every):
         self.path, self.ask, self.told, self.every = path, ask, told, every
@@ -189,7 +196,8 @@ class Keeper:
                 self.round()
                 pause = min(5, self.every)
                 self.listen(pause)
-                self.listen(max(0, self.every - pause), 1)  # an answer that has found the index late does not wait so long
+                # an answer that has found the index late does not wait so long
+                self.listen(max(0, self.every - pause), 1)
             except Unreached:
                 time.sleep(min(5, self.every))
             except Exception as broken:  # noqa: BLE001 - a damaged index may break anything
@@ -213,30 +221,34 @@ class Keeper:
             self.hear(int(message))
 
     def hear(self, number):
+        """Takes in one message of the answers."""
         if number:
             self.doubts.add(number)
         else:
             self.damaged = True
 
     def round(self):
+        """Makes one round, after a check of the index if that is due."""
         check = self.damaged or self.unchecked == CHECKED
         self.damaged, self.unchecked = False, 0 if check else self.unchecked + 1
-        db = index.made(self.path, check)
+        db = index.open_or_make(self.path, check)
         try:
             doubts, self.doubts = self.doubts, set()
             for number in doubts:
                 index.doubt(db, number)
-            Round(db, self.asked).run()
+            Round(db, self.ask_if_wanted).run()
         finally:
             db.close()
 
-    def asked(self, path):
+    def ask_if_wanted(self, path):
+        """Asks the office; ends the process if the service is gone."""
         if not self.is_wanted():
             sys.exit("the service is gone")
         return self.ask(path)
 
 
 def main():
+    """Makes rounds as the command line says."""
     words = argparse.ArgumentParser(description="Begun by service.py: makes rounds until that ends.")
     for name, kind in (("queue", str), ("index", str), ("told", int), ("every", float), ("rest", float)):
         words.add_argument(f"--{name}", type=kind, required=True)

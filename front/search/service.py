@@ -35,6 +35,7 @@ class Rounds(threading.Thread):
         self.words = [*words, "--told", str(self.told.fileno())]
 
     def run(self):
+        """Begins the process again whenever it ends."""
         while True:
             here = pathlib.Path(__file__).resolve().parent
             words = [sys.executable, "-B", "-E", "-s", here / "rounds.py", *self.words]
@@ -43,8 +44,8 @@ class Rounds(threading.Thread):
             time.sleep(5)
 
     def say(self, number):
-        """That a unit is otherwise than the index has it, or (0) that the index cannot be read. If nobody listens for long, what is
-        more than the socket holds is lost, and found again by a later answer."""
+        """That a unit is otherwise than the index has it, or (0) that the index cannot be read. If nobody listens for
+        long, what is more than the socket holds is lost, and found again by a later answer."""
         try:
             self.tell.send(b"%d" % number)
         except OSError:
@@ -58,6 +59,7 @@ class Service:
         self.queue, self.path, self.say, self.mine = queue, path, say, threading.local()
 
     def app(self, environ, start):
+        """Answers a request, as WSGI asks for."""
         status, body = "405 Method Not Allowed", b"{}"
         if environ["REQUEST_METHOD"] == "GET":
             answer = self.answer(members(environ.get("QUERY_STRING", "")))
@@ -70,7 +72,7 @@ class Service:
         if not hasattr(self.mine, "ask"):
             self.mine.ask = Asking(self.queue)
         try:
-            db = index.opened(self.path)
+            db = index.open_index(self.path)
             try:
                 finished, done, tops = db.execute("SELECT finished, done, tops FROM round").fetchone()
                 found = Finder(db, self.mine.ask, query_of(values)).find()
@@ -91,11 +93,13 @@ class Service:
 def query_of(values):
     """What is asked for. What cannot be read is left out."""
     after = re.fullmatch("([01])-([0-9]{1,10})", values.get("after", ""), re.ASCII)
-    return Query(read_typed(values.get("q", "")), *(whole_number(values.get(name, "")) for name in ("in", "from", "to")),
+    return Query(read_typed(values.get("q", "")),
+                 *(whole_number(values.get(name, "")) for name in ("in", "from", "to")),
                  after=(int(after[1]), int(after[2])) if after else (0, 0))
 
 
 def whole_number(text):
+    """The number that a text has, or None."""
     return int(text) if re.fullmatch("[0-9]{1,10}", text) else None
 
 
@@ -110,18 +114,22 @@ def members(text):
 
 
 def main():
+    """Serves as the command line says."""
     words = argparse.ArgumentParser(description=__doc__, formatter_class=argparse.RawDescriptionHelpFormatter)
     words.add_argument("--queue", required=True, help="the queue's socket for the search")
     words.add_argument("--index", required=True, help="the file of the index, which may be deleted at any time")
     words.add_argument("--listen", required=True, help="the socket for nginx")
     words.add_argument("--every", type=float, default=60, help="seconds from the end of a round to the next")
-    words.add_argument("--rest", type=float, default=4, help="how many times as long as a question took a round rests after it")
+    words.add_argument("--rest", type=float, default=4,
+                       help="how many times as long as a question took a round rests after it")
     given = words.parse_args()
-    rounds = Rounds(["--queue", given.queue, "--index", given.index, "--every", str(given.every), "--rest", str(given.rest)])
+    rounds = Rounds(["--queue", given.queue, "--index", given.index, "--every", str(given.every), "--rest",
+                     str(given.rest)])
     rounds.start()
     signal.signal(signal.SIGTERM, lambda *_: sys.exit(0))
     service = Service(given.queue, given.index, rounds.say)
-    waitress.serve(service.app, unix_socket=given.listen, unix_socket_perms="666", threads=4, ident=None, channel_timeout=30,
+    waitress.serve(service.app, unix_socket=given.listen, unix_socket_perms="666", threads=4, ident=None,
+                   channel_timeout=30,
                    clear_untrusted_proxy_headers=True)
 
 

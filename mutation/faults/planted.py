@@ -147,7 +147,7 @@ PLANTED = {
 
 def with_fault(it, fault):
     """What performs a command or session, with a fault in the runs that are refused memory."""
-    perform, (whole, _) = it.perform, it.played(it.perform)
+    perform, (whole, _) = it.perform, it.run_on_copy(it.perform)
 
     def faulty(office, **memory):
         ended = perform(office, **memory)
@@ -167,16 +167,16 @@ def main():
     given = client.options(__doc__).parse_args()
     checks = client.Checks()
     with client.temporary(given.room) as room:
-        kinds, shim = refused.Kinds(given.program, room), refused.built_shim(room)
+        kinds, shim = refused.Kinds(given.program, room), refused.build_shim(room)
         for name in ALL:
-            it = kinds.made(name)
+            it = kinds.make(name)
             perform = it.perform
             checks.same(f"{name} without a fault", is_wrong(it, shim), False)
             for fault in (fault for fault, names in PLANTED.items() if name in names):
                 it.perform = with_fault(it, fault)
                 checks.same(f"{name}, {fault.__name__}", is_wrong(it, shim), True)
                 it.perform = perform
-    return checks.ends()
+    return checks.finish()
 
 
 if __name__ == "__main__":
