@@ -13,7 +13,7 @@ use Rattle.office_tables.specs.Versions.{Version}
 use Rattle.tree_core.proofs.EachLemmas.{branch-each}
 use Rattle.desk_core.specs.DeskRows.{Desk, PermitRow}
 use Rattle.desk_store.specs.Holdings.{issued_of}
-use Rattle.desk_store.specs.declared.holdings.Loan.{Loan}
+use Rattle.desk_store.specs.declared.container_orders.ContainerOrder.{ContainerOrder}
 use Rattle.desk_store.specs.Representation.{IsNumberOf, RepresentsDesk}
 use Rattle.catalogue_core.specs.UnitLookup.{has_unit}
 use Rattle.catalogue_core.specs.GoodCatalogues.{IsSomeDay}
@@ -80,7 +80,7 @@ module _ (u : ℕ) where
         orders = base.orders;
       }
 
-  pub removes : (version : Version) (loans : List Loan) (places : Trees → Forest ℕ → Type 0) (old new : store.State) (today : ℤ) (n : ℕ)
+  pub removes : (version : Version) (loans : List ContainerOrder) (places : Trees → Forest ℕ → Type 0) (old new : store.State) (today : ℤ) (n : ℕ)
       → (HasCleanDisk new → (o : OfficeRow) (k : Catalogue) → Represents places version old.now o k → MayCut has_id u k.forest → HasNoBranch places version u o k old.now new.now)
       → (HasCleanDisk new → (f : Forest ℕ) → places old.now.trees f → n ≡ length (branch (nat_eq u) f))
       → IsChange places version (λ s. (today ≡ s.day) × (has_unit s.catalogue.forest u ≡ true) × AreAsked u s (issued_of (tables version s).desk) loans) (command.Remove u) today (done.Remove n) old new
@@ -108,7 +108,7 @@ module _ (u : ℕ) where
   left s t = filter (λ permit. has_unit (cut (has_id u) s.catalogue.forest) permit.unit) (s.permits t)
 
   -- of what is out only what is near the unit can be withheld by its removal
-  pub removes_near : (version : Version) (loans : List Loan) (s : State) → IsSoundOffice s → has_unit s.catalogue.forest u ≡ true → AreAsked u s (issued_of (tables version s).desk) loans → AreEnough loans (removed s u)
+  pub removes_near : (version : Version) (loans : List ContainerOrder) (s : State) → IsSoundOffice s → has_unit s.catalogue.forest u ≡ true → AreAsked u s (issued_of (tables version s).desk) loans → AreEnough loans (removed s u)
   removes_near version loans s sound there asked =
       let rest = cut (has_id u) s.catalogue.forest in
       enough_of version (removed s u) (judged_after s sound there) asked.test

@@ -10,7 +10,7 @@ ghost use Rattle.refinement.specs.CommandSteps.{Performs};
 ghost use Rattle.refinement.specs.Gate.{AreAsked};
 
 use catalogue_store::{Places, is_unit, remove_branch};
-use desk_store::Loan;
+use desk_store::ContainerOrder;
 use isad_core::Day;
 use office_core::{Done, Refusal};
 use office_tables::{StoreFault, Tables};
@@ -25,7 +25,7 @@ fn remove_beside<P: Places, S: Alter>(
     tables: &mut Tables<P, S>,
     today: Day,
     unit: u64,
-    loans: &[Loan],
+    loans: &[ContainerOrder],
 ) -> Result<Result<Done, Refusal>, StoreFault>
     requires small { IsNumber unit }
     ensures { Performs P.represents P.version S.Store (λ s. (today ≡ s.day) × (has_unit s.catalogue.forest unit ≡ true)

@@ -14,7 +14,7 @@ use Rattle.desk_core.specs.Orders.{in_order}
 use Rattle.desk_core.proofs.OrderLemmas.{in_order-permutation}
 use Rattle.desk_store.specs.Holdings.{candidates_of, is_first, is_on_shelf}
 use Rattle.desk_store.specs.Runs.{IsNumbered, TakesEachOnce, line_of, next_run}
-use Rattle.desk_store.specs.declared.holdings.FirstOrder.{FirstOrder}
+use Rattle.desk_store.specs.declared.container_orders.ContainerOrder.{ContainerOrder}
 use Rattle.office_core.specs.SoundDesk.{IsAscending}
 use Rattle.office_core.specs.SoundOffice.{IsSoundOffice}
 use Rattle.office_core.specs.State.{Line, Order, Run, State, brings, is_due, is_line_before, is_shelf, line_for, opens, orders_of_run}
@@ -63,7 +63,7 @@ none_mapped f (x ∷ xs) = refl
 -- ---- the lines of runs
 
 -- an order that is taken, as a line of a run
-abbrev pub as_line : FirstOrder → Line
+abbrev pub as_line : ContainerOrder → Line
 as_line o = record { container = o.container; order = o.order; ticket = o.ticket }
 
 lines_more : (n : ℕ) (runs : List Run) (run : Run) → lines_from n (runs ++ run ∷ []) ≡ lines_from n runs ++ map (run_line_row (n + length runs)) run.lines
@@ -76,40 +76,40 @@ lines_more n (r ∷ runs) run =
 lines_end : (runs : List Run) (run : Run) → lines_from 1 (runs ++ run ∷ []) ≡ lines_from 1 runs ++ map (run_line_row (suc (length runs))) run.lines
 lines_end runs run = lines_more 1 runs run ∙ ap (λ k. lines_from 1 runs ++ map (run_line_row k) run.lines) (let e : 1 + length runs ≡ suc (length runs) = omega arith in e)
 
-line_rows : (n : ℕ) (os : List FirstOrder) → map (run_line_row n) (map as_line os) ≡ map (line_of n) os
+line_rows : (n : ℕ) (os : List ContainerOrder) → map (run_line_row n) (map as_line os) ≡ map (line_of n) os
 line_rows n [] = refl
 line_rows n (o ∷ os) = ap (λ l. line_of n o ∷ l) (line_rows n os)
 
-any_line : (c : ℕ) (os : List FirstOrder) → list_any (λ (line : Line). nat_eq line.container c) (map as_line os) ≡ stands c (map (λ (o : FirstOrder). o.container) os)
+any_line : (c : ℕ) (os : List ContainerOrder) → list_any (λ (line : Line). nat_eq line.container c) (map as_line os) ≡ stands c (map (λ (o : ContainerOrder). o.container) os)
 any_line c [] = refl
 any_line c (o ∷ os) = ap (λ b. b || list_any (λ (line : Line). nat_eq line.container c) (map as_line os)) (flipped o.container c) ∙ ap (λ b. nat_eq c o.container || b) (any_line c os)
 
 -- ---- orders that were placed
 
 -- what is told of the order is so
-pub record IsPlaced (s : State) (o : FirstOrder) : Type 0 where
+pub record IsPlaced (s : State) (o : ContainerOrder) : Type 0 where
   pub order : Order
   pub there : nth s.orders o.order ≡ Some order
   pub container : order.container ≡ o.container
   pub ticket : order.ticket ≡ o.ticket
 
 module _ (s : State) where
-  line_is : (o : FirstOrder) → IsPlaced s o → line_for s o.order ≡ Some (as_line o)
+  line_is : (o : ContainerOrder) → IsPlaced s o → line_for s o.order ≡ Some (as_line o)
   line_is o it =
       ap (option_map (λ (order : Order). (let line : Line = record { container = order.container; order = o.order; ticket = order.ticket } in line))) it.there
       ∙ ap (λ c. Some (let line : Line = record { container = c; order = o.order; ticket = it.order.ticket } in line)) it.container
       ∙ ap (λ t. Some (let line : Line = record { container = o.container; order = o.order; ticket = t } in line)) it.ticket
 
-  lines_for : (os : List FirstOrder) → AllByRecursion (IsPlaced s) os → filter_map (line_for s) (map (λ (o : FirstOrder). o.order) os) ≡ map as_line os
+  lines_for : (os : List ContainerOrder) → AllByRecursion (IsPlaced s) os → filter_map (line_for s) (map (λ (o : ContainerOrder). o.order) os) ≡ map as_line os
   lines_for [] h = refl
   lines_for (o ∷ os) h =
-      ap (λ line. cons_option line (filter_map (line_for s) (map (λ (o : FirstOrder). o.order) os))) (line_is o h.0)
+      ap (λ line. cons_option line (filter_map (line_for s) (map (λ (o : ContainerOrder). o.order) os))) (line_is o h.0)
       ∙ ap (λ l. as_line o ∷ l) (lines_for os h.1)
 
-  abbrev IsHead : FirstOrder → Type 0
+  abbrev IsHead : ContainerOrder → Type 0
   IsHead o = some_and (nat_eq o.order) (first (s.queue o.container)) ≡ true
 
-  head_of : (o : FirstOrder) → IsPlaced s o → is_due s o.order ≡ true → IsHead o
+  head_of : (o : ContainerOrder) → IsPlaced s o → is_due s o.order ≡ true → IsHead o
   head_of o it due =
       let tests : (some_and (nat_eq o.order) (first (s.queue it.order.container)) && (is_shelf (s.place it.order.container) && opens s it.order.ticket it.order.container)) ≡ true =
       sym (ap (some_and (λ (order : Order). some_and (nat_eq o.order) (first (s.queue order.container)) && (is_shelf (s.place order.container) && opens s order.ticket order.container))) it.there) ∙ due in
@@ -120,8 +120,8 @@ module _ (s : State) where
   one_head (Some n) o p a b = eqb-true o n a ∙ sym (eqb-true p n b)
 
   -- orders that come later are first for other containers
-  others : (o : FirstOrder) (os : List FirstOrder) → IsHead o → AllByRecursion (IsPlaced s) os → AllByRecursion (λ n. is_due s n ≡ true) (map (λ (o : FirstOrder). o.order) os)
-      → AllByRecursion (λ n. o.order < n) (map (λ (o : FirstOrder). o.order) os) → AllByRecursion (λ c. nat_eq o.container c ≡ false) (map (λ (o : FirstOrder). o.container) os)
+  others : (o : ContainerOrder) (os : List ContainerOrder) → IsHead o → AllByRecursion (IsPlaced s) os → AllByRecursion (λ n. is_due s n ≡ true) (map (λ (o : ContainerOrder). o.order) os)
+      → AllByRecursion (λ n. o.order < n) (map (λ (o : ContainerOrder). o.order) os) → AllByRecursion (λ c. nat_eq o.container c ≡ false) (map (λ (o : ContainerOrder). o.container) os)
   others o [] head placed due later = tt
   others o (x ∷ os) head placed due later = (apart, others o os head placed.1 due.1 later.1)
     where
@@ -135,8 +135,8 @@ module _ (s : State) where
         | inr other ↦ other
       ]
 
-  each_once : (os : List FirstOrder) → AllByRecursion (IsPlaced s) os → AllByRecursion (λ n. is_due s n ≡ true) (map (λ (o : FirstOrder). o.order) os)
-      → IsAscending (map (λ (o : FirstOrder). o.order) os) → IsDistinct nat_eq (map (λ (o : FirstOrder). o.container) os)
+  each_once : (os : List ContainerOrder) → AllByRecursion (IsPlaced s) os → AllByRecursion (λ n. is_due s n ≡ true) (map (λ (o : ContainerOrder). o.order) os)
+      → IsAscending (map (λ (o : ContainerOrder). o.order) os) → IsDistinct nat_eq (map (λ (o : ContainerOrder). o.container) os)
   unfolding IsDistinct
   each_once [] placed due rises = tt
   each_once (o ∷ os) placed due rises = (others o os (head_of o placed.0 due.0) placed.1 due.1 rises.0, each_once os placed.1 due.1 rises.1)
@@ -144,9 +144,9 @@ module _ (s : State) where
 -- ---- what the next run takes
 
 module _ (version : Version) (s : State) where
-  candidate_placed : (o : FirstOrder) → StandsIn o (candidates_of (tables version s).desk) → IsPlaced s o
+  candidate_placed : (o : ContainerOrder) → StandsIn o (candidates_of (tables version s).desk) → IsPlaced s o
   candidate_placed o k =
-      let as_first : OrderRow → FirstOrder = λ row. record { container = row.container; order = row.id; ticket = row.ticket } in
+      let as_first : OrderRow → ContainerOrder = λ row. record { container = row.container; order = row.id; ticket = row.ticket } in
       let test : OrderRow → Bool = λ row. is_first (tables version s).desk row && is_on_shelf (tables version s).desk row.container in
       let i = in_map as_first (filter test (order_rows s)) o k in
       let m = in_rows (order_row s) s.orders i.0 (in_filter test (order_rows s) i.0 i.1).0 in
@@ -159,21 +159,21 @@ module _ (version : Version) (s : State) where
         (all_left (IsPlaced s) (is_open_for version s sound) (candidates_of (tables version s).desk)
         (all_of_in (IsPlaced s) (candidates_of (tables version s).desk) candidate_placed))
 
-    pub picked_are : orders_of_run s ≡ map (λ (o : FirstOrder). o.order) (taken_by version s)
+    pub picked_are : orders_of_run s ≡ map (λ (o : ContainerOrder). o.order) (taken_by version s)
     picked_are =
         ap (take s.settings.run_size) (due_shown version s sound)
-        ∙ take-map (λ (o : FirstOrder). o.order) s.settings.run_size (filter (is_open_for version s sound) (candidates_of (tables version s).desk))
+        ∙ take-map (λ (o : ContainerOrder). o.order) s.settings.run_size (filter (is_open_for version s sound) (candidates_of (tables version s).desk))
 
     pub as_many : length (orders_of_run s) ≡ length (taken_by version s)
-    as_many = ap length picked_are ∙ length-map (taken_by version s) (λ (o : FirstOrder). o.order)
+    as_many = ap length picked_are ∙ length-map (taken_by version s) (λ (o : ContainerOrder). o.order)
 
     pub none_taken : is_empty (orders_of_run s) ≡ is_empty (taken_by version s)
-    none_taken = ap is_empty picked_are ∙ none_mapped (λ (o : FirstOrder). o.order) (taken_by version s)
+    none_taken = ap is_empty picked_are ∙ none_mapped (λ (o : ContainerOrder). o.order) (taken_by version s)
 
     lines_are : (state.next_run s).lines ≡ in_order is_line_before (map as_line (taken_by version s))
     lines_are = ap (λ os. in_order is_line_before (filter_map (line_for s) os)) picked_are ∙ ap (in_order is_line_before) (lines_for s (taken_by version s) taken_placed)
 
-    pub brought : (c : ℕ) → brings (state.next_run s) c ≡ stands c (map (λ (o : FirstOrder). o.container) (taken_by version s))
+    pub brought : (c : ℕ) → brings (state.next_run s) c ≡ stands c (map (λ (o : ContainerOrder). o.container) (taken_by version s))
     brought c =
         ap (list_any (λ (line : Line). nat_eq line.container c)) lines_are
         ∙ any-in_order is_line_before (λ (line : Line). nat_eq line.container c) (map as_line (taken_by version s))
@@ -194,20 +194,20 @@ module _ (version : Version) (s : State) where
         (subst (AllByRecursion (λ n. is_due s n ≡ true)) picked_are (picked_due s))
         (subst IsAscending picked_are (rising_taken s.settings.run_size (filter (is_due s) (numbers_to (length s.orders))) (rising_left (is_due s) (numbers_to (length s.orders)) (rising_to (length s.orders)))))
 
-    in_house : (o : FirstOrder) → IsPlaced s o → (1 ≤ o.container) × (o.container ≤ length s.catalogue.containers)
+    in_house : (o : ContainerOrder) → IsPlaced s o → (1 ≤ o.container) × (o.container ≤ length s.catalogue.containers)
     in_house o it =
         let known = (sound.sound.desk.orders.each o.order it.order it.there).container in
         subst (λ c. (1 ≤ c) × (c ≤ length s.catalogue.containers)) it.container
         (numbered_from_one s.catalogue.containers it.order.container known, numbered_within s.catalogue.containers it.order.container known)
 
-    all_in_house : (os : List FirstOrder) → AllByRecursion (IsPlaced s) os → AreWithin (length s.catalogue.containers) (map (λ (o : FirstOrder). o.container) os)
+    all_in_house : (os : List ContainerOrder) → AllByRecursion (IsPlaced s) os → AreWithin (length s.catalogue.containers) (map (λ (o : ContainerOrder). o.container) os)
     all_in_house [] h = tt
     all_in_house (o ∷ os) h = (in_house o h.0, all_in_house os h.1)
 
-    pub taken_within : AreWithin (length s.catalogue.containers) (map (λ (o : FirstOrder). o.container) (taken_by version s))
+    pub taken_within : AreWithin (length s.catalogue.containers) (map (λ (o : ContainerOrder). o.container) (taken_by version s))
     taken_within = all_in_house (taken_by version s) taken_placed
 
-    small : (o : FirstOrder) → IsPlaced s o → IsNumbered o
+    small : (o : ContainerOrder) → IsPlaced s o → IsNumbered o
     small o it =
         let lies = (in_house o it).1 in
         let boxes = sound.sound.containers.few in
@@ -218,7 +218,7 @@ module _ (version : Version) (s : State) where
         let readers = sound.sound.desk.readers.few in
         (omega (arith, lies, boxes), omega (arith, number, orders), omega (arith, known, same, readers))
 
-    all_small : (os : List FirstOrder) → AllByRecursion (IsPlaced s) os → AllByRecursion IsNumbered os
+    all_small : (os : List ContainerOrder) → AllByRecursion (IsPlaced s) os → AllByRecursion IsNumbered os
     all_small [] h = tt
     all_small (o ∷ os) h = (small o h.0, all_small os h.1)
 
@@ -230,23 +230,23 @@ module _ (version : Version) (s : State) where
 below : (n : ℕ) → nat_lt n (2 ^ 63) ≡ true → IsNumber n
 below n h = ltb-true n (2 ^ 63) h
 
-numbers_if : (o : FirstOrder) → has_numbers o ≡ true → IsNumbered o
+numbers_if : (o : ContainerOrder) → has_numbers o ≡ true → IsNumbered o
 numbers_if o h =
     let last = and_parts (nat_lt o.container (2 ^ 63) && nat_lt o.order (2 ^ 63)) (nat_lt o.ticket (2 ^ 63)) h in
     let both = and_parts (nat_lt o.container (2 ^ 63)) (nat_lt o.order (2 ^ 63)) last.0 in
     (below o.container both.0, below o.order both.1, below o.ticket last.1)
 
-numbers_so : (o : FirstOrder) → IsNumbered o → has_numbers o ≡ true
+numbers_so : (o : ContainerOrder) → IsNumbered o → has_numbers o ≡ true
 numbers_so o h = and_from (nat_lt o.container (2 ^ 63) && nat_lt o.order (2 ^ 63)) (nat_lt o.ticket (2 ^ 63)) (and_from (nat_lt o.container (2 ^ 63)) (nat_lt o.order (2 ^ 63)) (less o.container h.0) (less o.order h.1)) (less o.ticket h.2)
   where
     less : (n : ℕ) → IsNumber n → nat_lt n (2 ^ 63) ≡ true
     less n h = grind (arith, nat_tests, h)
 
-pub all_numbered : (os : List FirstOrder) → list_all has_numbers os ≡ true → AllByRecursion IsNumbered os
+pub all_numbered : (os : List ContainerOrder) → list_all has_numbers os ≡ true → AllByRecursion IsNumbered os
 all_numbered [] h = tt
 all_numbered (o ∷ os) h = let both = and_parts (has_numbers o) (list_all has_numbers os) h in (numbers_if o both.0, all_numbered os both.1)
 
-pub numbered_all : (os : List FirstOrder) → AllByRecursion IsNumbered os → list_all has_numbers os ≡ true
+pub numbered_all : (os : List ContainerOrder) → AllByRecursion IsNumbered os → list_all has_numbers os ≡ true
 numbered_all [] h = refl
 numbered_all (o ∷ os) h = and_from (has_numbers o) (list_all has_numbers os) (numbers_so o h.0) (numbered_all os h.1)
 

@@ -9,7 +9,7 @@ use Rattle.desk_core.specs.DeskRows.{HoldingRow, OrderRow}
 use Rattle.desk_core.specs.declared.reader.Place.{Place}
 use Rattle.desk_core.specs.declared.reader.Place.TheVariants.{Desk, Out}
 use Rattle.desk_store.specs.Holdings.{candidates_of, is_first, is_on_shelf, waits_for}
-use Rattle.desk_store.specs.declared.holdings.FirstOrder.{FirstOrder}
+use Rattle.desk_store.specs.declared.container_orders.ContainerOrder.{ContainerOrder}
 use Rattle.office_core.specs.SoundDesk.{IsAscending}
 use Rattle.office_core.specs.SoundOffice.{IsSoundOffice}
 use Rattle.office_core.specs.State.{Order, State, is_due, is_shelf, opens}
@@ -119,7 +119,7 @@ module _ (version : Version) (s : State) (sound : IsSoundOffice s) where
       assoc false b c = refl
 
   -- whether the container is open to the reader who waits first for it
-  abbrev pub is_open_for : FirstOrder → Bool
+  abbrev pub is_open_for : ContainerOrder → Bool
   is_open_for o = opens s o.ticket o.container
 
   numbers_of_rows : (n : ℕ) (orders : List Order) → map (λ (row : OrderRow). row.id) (rows_from (order_row s) n orders) ≡ numbers_from n (length orders)
@@ -128,7 +128,7 @@ module _ (version : Version) (s : State) (sound : IsSoundOffice s) where
 
   due_among : (rows : List OrderRow) → ((row : OrderRow) → StandsIn row rows → StandsIn row (order_rows s))
       → filter (is_due s) (map (λ (row : OrderRow). row.id) rows)
-      ≡ map (λ (o : FirstOrder). o.order) (filter is_open_for (map (λ (o : OrderRow). record { container = o.container; order = o.id; ticket = o.ticket }) (filter (λ o. is_first (tables version s).desk o && is_on_shelf (tables version s).desk o.container) rows)))
+      ≡ map (λ (o : ContainerOrder). o.order) (filter is_open_for (map (λ (o : OrderRow). record { container = o.container; order = o.id; ticket = o.ticket }) (filter (λ o. is_first (tables version s).desk o && is_on_shelf (tables version s).desk o.container) rows)))
   due_among [] within = refl
   due_among (row ∷ rows) within =
       let rest = due_among rows (λ r k. within r (inr k)) in
@@ -136,18 +136,18 @@ module _ (version : Version) (s : State) (sound : IsSoundOffice s) where
       ∙ ap (λ l. cond ((is_first (tables version s).desk row && is_on_shelf (tables version s).desk row.container) && opens s row.ticket row.container) (row.id ∷ l) l) rest
       ∙ at (is_first (tables version s).desk row && is_on_shelf (tables version s).desk row.container) (opens s row.ticket row.container) refl
     where
-      later : List FirstOrder
+      later : List ContainerOrder
       later = map (λ (o : OrderRow). record { container = o.container; order = o.id; ticket = o.ticket }) (filter (λ o. is_first (tables version s).desk o && is_on_shelf (tables version s).desk o.container) rows)
 
       at : (a b : Bool) → opens s row.ticket row.container ≡ b
-          → cond (a && b) (row.id ∷ map (λ (o : FirstOrder). o.order) (filter is_open_for later)) (map (λ (o : FirstOrder). o.order) (filter is_open_for later))
-          ≡ map (λ (o : FirstOrder). o.order) (filter is_open_for (map (λ (o : OrderRow). record { container = o.container; order = o.id; ticket = o.ticket }) (cond a (row ∷ filter (λ o. is_first (tables version s).desk o && is_on_shelf (tables version s).desk o.container) rows) (filter (λ o. is_first (tables version s).desk o && is_on_shelf (tables version s).desk o.container) rows))))
+          → cond (a && b) (row.id ∷ map (λ (o : ContainerOrder). o.order) (filter is_open_for later)) (map (λ (o : ContainerOrder). o.order) (filter is_open_for later))
+          ≡ map (λ (o : ContainerOrder). o.order) (filter is_open_for (map (λ (o : OrderRow). record { container = o.container; order = o.id; ticket = o.ticket }) (cond a (row ∷ filter (λ o. is_first (tables version s).desk o && is_on_shelf (tables version s).desk o.container) rows) (filter (λ o. is_first (tables version s).desk o && is_on_shelf (tables version s).desk o.container) rows))))
       at true true e = rw e refl
       at true false e = rw e refl
       at false b e = refl
 
   -- the orders that are due are those of the candidates that are open to their readers
-  pub due_shown : filter (is_due s) (numbers_to (length s.orders)) ≡ map (λ (o : FirstOrder). o.order) (filter is_open_for (candidates_of (tables version s).desk))
+  pub due_shown : filter (is_due s) (numbers_to (length s.orders)) ≡ map (λ (o : ContainerOrder). o.order) (filter is_open_for (candidates_of (tables version s).desk))
   due_shown =
       ap (filter (is_due s)) (to_from (length s.orders) ∙ sym (numbers_of_rows 1 s.orders))
       ∙ due_among (order_rows s) (λ row k. k)

@@ -21,7 +21,7 @@ use Rattle.desk_core.specs.LegibleDesks.{IsLegible}
 use Rattle.desk_store.specs.Runs.{IsNumbered, with_run}
 use Rattle.desk_store.specs.Runs as stored
 use Rattle.desk_store.specs.Representation.{IsNumberOf, RepresentsDesk}
-use Rattle.desk_store.specs.declared.holdings.FirstOrder.{FirstOrder}
+use Rattle.desk_store.specs.declared.container_orders.ContainerOrder.{ContainerOrder}
 use Rattle.office_core.specs.Rules.{fetched, refusal}
 use Rattle.office_core.specs.SoundOffice.{IsSoundOffice}
 use Rattle.office_core.specs.State.{State, next_run, orders_of_run}
@@ -75,7 +75,7 @@ lines_moved db d ls same it = record {
 }
 
 -- a desk with one run more can be read back
-pub legible_run : (k : Option ℕ) (day : ℤ) (os : List FirstOrder) (d : Rows) → is_day_number day ≡ true → IsLegible d → IsLegible (with_run k day os d)
+pub legible_run : (k : Option ℕ) (day : ℤ) (os : List ContainerOrder) (d : Rows) → is_day_number day ≡ true → IsLegible d → IsLegible (with_run k day os d)
 legible_run None day os d good it = it
 legible_run (Some n) day os d good it = record {
   readers = it.readers;
@@ -90,7 +90,7 @@ legible_run (Some n) day os d good it = record {
     one_more [] h = (good, tt)
     one_more (row ∷ rows) h = (h.0, one_more rows h.1)
 
-pub small_containers : (os : List FirstOrder) → AllByRecursion IsNumbered os → AllByRecursion IsNumber (map (λ (o : FirstOrder). o.container) os)
+pub small_containers : (os : List ContainerOrder) → AllByRecursion IsNumbered os → AllByRecursion IsNumber (map (λ (o : ContainerOrder). o.container) os)
 small_containers [] h = tt
 small_containers (o ∷ os) h = (h.0.0, small_containers os h.1)
 
@@ -98,11 +98,11 @@ module _ (version : Version) (s : State) (sound : IsSoundOffice s) where
   pub today_legible : (day : ℤ) → day ≡ s.day → is_day_number day ≡ true
   today_legible day today = is_day_number-true day (subst IsDayNumber (sym today) sound.sound.days.today)
 
-  abbrev taken : List FirstOrder
+  abbrev taken : List ContainerOrder
   taken = taken_by version s
 
   abbrev containers_taken : List ℕ
-  containers_taken = map (λ (o : FirstOrder). o.container) taken
+  containers_taken = map (λ (o : ContainerOrder). o.container) taken
 
   abbrev desk : Rows
   desk = (tables version s).desk
@@ -152,21 +152,21 @@ module _ (version : Version) (s : State) (sound : IsSoundOffice s) where
         (done.Run (suc (length s.runs)) (length taken)) (ap (λ n. done.Run (suc (length s.runs)) n) (as_many version s sound))
 
     -- no number is left
-    pub runs_out : (db : Database) (due : List FirstOrder) → due ≡ taken → is_empty due ≡ false → None ≡ stored.next_run desk → CarriesOutStep places version s command.Run (Err Full) db
+    pub runs_out : (db : Database) (due : List ContainerOrder) → due ≡ taken → is_empty due ≡ false → None ≡ stored.next_run desk → CarriesOutStep places version s command.Run (Err Full) db
     runs_out db due is some number = no_number_left db (ap is_empty (sym is) ∙ some) (none_left version s number)
 
     -- the tables show the desk with what was taken
     pub runs_with : ((old new : Trees) (f : Forest ℕ) → new schema.link.tree ≡ old schema.link.tree → places old f → places new f)
-        → (before now : Database) (day : ℤ) (due : List FirstOrder) (run : ℕ) → day ≡ s.day → due ≡ taken → is_empty due ≡ false → Some run ≡ stored.next_run desk
+        → (before now : Database) (day : ℤ) (due : List ContainerOrder) (run : ℕ) → day ≡ s.day → due ≡ taken → is_empty due ≡ false → Some run ≡ stored.next_run desk
         → RepresentsState places version before s → now.schema ≡ before.schema → OnlyTouches (schema.run.tree ∷ schema.run_line.tree ∷ schema.holding.tree ∷ []) before now
-        → RepresentsDesk now.trees (with_all_placed Desk (map (λ (o : FirstOrder). o.container) due) (with_run (stored.next_run desk) day due desk))
+        → RepresentsDesk now.trees (with_all_placed Desk (map (λ (o : ContainerOrder). o.container) due) (with_run (stored.next_run desk) day due desk))
         → CarriesOutStep places version s command.Run (Ok (done.Run run (length due))) now
     runs_with same before now day due run today is some number it schema_is only shown =
         let left = one_left version s run number in
         let next : stored.next_run desk ≡ Some (suc (length s.runs)) = sym number ∙ ap Some left.1 in
-        let of_taken = subst (λ (os : List FirstOrder). RepresentsDesk now.trees (with_all_placed Desk (map (λ (o : FirstOrder). o.container) os) (with_run (stored.next_run desk) day os desk))) is shown in
+        let of_taken = subst (λ (os : List ContainerOrder). RepresentsDesk now.trees (with_all_placed Desk (map (λ (o : ContainerOrder). o.container) os) (with_run (stored.next_run desk) day os desk))) is shown in
         let of_today = subst (λ (x : ℤ). RepresentsDesk now.trees (with_all_placed Desk containers_taken (with_run (stored.next_run desk) x taken desk))) today of_taken in
         let with_next = subst (λ (k : Option ℕ). RepresentsDesk now.trees (with_all_placed Desk containers_taken (with_run k s.day taken desk))) next of_today in
         subst (λ (n : ℕ). CarriesOutStep places version s command.Run (Ok (done.Run n (length due))) now) (sym left.1)
-        (subst (λ (os : List FirstOrder). CarriesOutStep places version s command.Run (Ok (done.Run (suc (length s.runs)) (length os))) now) (sym is)
+        (subst (λ (os : List ContainerOrder). CarriesOutStep places version s command.Run (Ok (done.Run (suc (length s.runs)) (length os))) now) (sym is)
         (runs same before now (ap is_empty (sym is) ∙ some) left.0 it schema_is only with_next))

@@ -3,7 +3,7 @@
 ghost use Rattle.std.specs.Prelude.{◌≡◌, false, map, IfOk, ⊤};
 ghost use Rattle.std.specs.List.{AllByRecursion, list_all};
 ghost use Rattle.desk_store.specs.Runs.{IsNumbered};
-ghost use Rattle.desk_store.specs.declared.holdings.FirstOrder.{FirstOrder as Taken};
+ghost use Rattle.desk_store.specs.declared.container_orders.ContainerOrder.{ContainerOrder as Taken};
 ghost use Rattle.office_core.specs.Words.{is_empty};
 ghost use Rattle.office_core.specs.declared.command.Command.TheVariants as command;
 ghost use Rattle.office_tables.specs.Calls.{Answers};
@@ -16,7 +16,7 @@ use crate::container_moves::move_all;
 use crate::emptiness::are_none;
 use catalogue_store::Places;
 use desk_core::{Limits, Place};
-use desk_store::{FirstOrder, candidates, record_run};
+use desk_store::{ContainerOrder, candidates, record_run};
 use isad_core::Day;
 use office_core::{Done, Refusal};
 use office_tables::value::NO_NUMBER;
@@ -31,8 +31,8 @@ fn first_open<P: Places, S: Alter>(
     tables: &mut Tables<P, S>,
     today: Day,
     most: u32,
-    waiting: &[FirstOrder],
-) -> Result<Vec<FirstOrder>, StoreFault>
+    waiting: &[ContainerOrder],
+) -> Result<Vec<ContainerOrder>, StoreFault>
     ensures answers { Answers S.Store (RepresentsWhole P.represents P.version) CanBeJudged tables.old tables.new result
         (λ _. ⊤) (λ _ s due. CanBeJudged s → today ≡ s.day → due.items ≡ due_of s most waiting.now) }
 {
@@ -50,14 +50,14 @@ fn first_open<P: Places, S: Alter>(
 }
 
 /// Whether a table can keep the numbers of these orders.
-fn are_kept(due: &[FirstOrder]) -> bool
+fn are_kept(due: &[ContainerOrder]) -> bool
     ensures { result ≡ list_all has_numbers due.now }
 {
     due.iter().all(|o| o.container < NO_NUMBER && o.order < NO_NUMBER && o.ticket < NO_NUMBER)
 }
 
 /// The containers of these orders.
-fn containers_of(alloc: Global, due: &[FirstOrder]) -> Result<Vec<u64>, AllocError>
+fn containers_of(alloc: Global, due: &[ContainerOrder]) -> Result<Vec<u64>, AllocError>
     ensures { IfOk result (λ all. all.items ≡ map (λ (o : Taken). o.container) due.now) }
 {
     due.iter().map(|order| order.container).collect(alloc)
@@ -67,7 +67,7 @@ fn containers_of(alloc: Global, due: &[FirstOrder]) -> Result<Vec<u64>, AllocErr
 fn bring<P: Places, S: Alter>(
     tables: &mut Tables<P, S>,
     today: Day,
-    due: &[FirstOrder],
+    due: &[ContainerOrder],
     containers: &[u64],
 ) -> Result<Result<Done, Refusal>, StoreFault>
     requires numbers { AllByRecursion IsNumbered due.now }
@@ -91,7 +91,7 @@ fn bring_due<P: Places, S: Alter>(
     alloc: Global,
     tables: &mut Tables<P, S>,
     today: Day,
-    due: &[FirstOrder],
+    due: &[ContainerOrder],
 ) -> Result<Result<Done, Refusal>, StoreFault>
     ensures { Performs P.represents P.version S.Store
         (λ s. (today ≡ s.day) × (due.now ≡ taken_by P.version s) × (is_empty due.now ≡ false)) command.Run

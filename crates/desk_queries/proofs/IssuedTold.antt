@@ -8,7 +8,7 @@ use Rattle.desk_core.specs.DeskRows.{OrderRow}
 use Rattle.desk_core.specs.declared.reader.Place.{Place}
 use Rattle.desk_core.specs.declared.reader.Place.TheVariants.{Shelf, Desk, Out}
 use Rattle.desk_store.specs.Holdings.{issued_by, issued_of}
-use Rattle.desk_store.specs.declared.holdings.Loan.{Loan}
+use Rattle.desk_store.specs.declared.container_orders.ContainerOrder.{ContainerOrder}
 use Rattle.office_core.specs.Json.{count, fields}
 use Rattle.office_core.specs.Queries.{issued_json}
 use Rattle.office_core.specs.State.{Order, State, containers}
@@ -20,8 +20,8 @@ use Rattle.desk_queries.specs.JsonValues.{loan_data}
 
 module _ (s : State) where
   -- one that is out, with the order of that number
-  with_order : (c o : ℕ) (order : Option Order) (rest : List Loan) (others : List Data) → map loan_data rest ≡ others
-      → map loan_data (cons_option (option_map (λ t. (let l : Loan = record { container = c; order = o; ticket = t } in l)) (option_map (λ (row : OrderRow). row.ticket) (option_map (order_row s o) order))) rest)
+  with_order : (c o : ℕ) (order : Option Order) (rest : List ContainerOrder) (others : List Data) → map loan_data rest ≡ others
+      → map loan_data (cons_option (option_map (λ t. (let l : ContainerOrder = record { container = c; order = o; ticket = t } in l)) (option_map (λ (row : OrderRow). row.ticket) (option_map (order_row s o) order))) rest)
       ≡ cons_option (option_map (λ (order : Order). fields ((codes "container", count c) ∷ (codes "order", count o) ∷ (codes "ticket", count order.ticket) ∷ [])) order) others
   with_order c o None rest others same = same
   with_order c o (Some order) rest others same = ap (λ l. loan_data (record { container = c; order = o; ticket = order.ticket }) ∷ l) same
@@ -36,7 +36,7 @@ module _ (s : State) where
       at Desk e same = rw e same
       at (Out o) e same =
           rw e
-          (ap (λ (row : Option OrderRow). map loan_data (cons_option (option_map (λ t. (let l : Loan = record { container = c; order = o; ticket = t } in l)) (option_map (λ (row : OrderRow). row.ticket) row))
+          (ap (λ (row : Option OrderRow). map loan_data (cons_option (option_map (λ t. (let l : ContainerOrder = record { container = c; order = o; ticket = t } in l)) (option_map (λ (row : OrderRow). row.ticket) row))
           (filter_map (issued_by (order_rows s)) (filter_map (λ c. holding_row c (s.place c)) cs))))
           (found_row (order_row s) (λ (row : OrderRow). row.id) (λ n x. refl) o s.orders)
           ∙ with_order c o (nth s.orders o) (filter_map (issued_by (order_rows s)) (filter_map (λ c. holding_row c (s.place c)) cs)) (filter_map (issued_json s) cs) same)

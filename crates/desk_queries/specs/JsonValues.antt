@@ -7,7 +7,7 @@ use Rattle.office_core.specs.State.{order_out}
 use Rattle.desk_store.specs.declared.reader_summary.LiveOrder.{LiveOrder}
 use Rattle.desk_store.specs.declared.reader_summary.ReaderCard.{ReaderCard}
 use Rattle.desk_store.specs.declared.reader_permits.Permit.{Permit}
-use Rattle.desk_store.specs.declared.holdings.Loan.{Loan}
+use Rattle.desk_store.specs.declared.container_orders.ContainerOrder.{ContainerOrder}
 use Rattle.desk_store.specs.declared.orders.WaitingOrder.{WaitingOrder}
 use Rattle.desk_store.specs.declared.queues.ContainerQueue.{ContainerQueue}
 
@@ -27,7 +27,7 @@ queue_data container queue =
     ∷ [])
 
 -- a container that is with a reader
-abbrev pub loan_data : Loan → Data
+abbrev pub loan_data : ContainerOrder → Data
 loan_data loan = fields ((codes "container", count loan.container) ∷ (codes "order", count loan.order) ∷ (codes "ticket", count loan.ticket) ∷ [])
 
 -- ---- a ticket

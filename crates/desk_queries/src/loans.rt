@@ -5,14 +5,14 @@ ghost use Rattle.refinement.specs.QueryAnswers.{Responds};
 
 use crate::json_values::{Told, list_text};
 use catalogue_store::Places;
-use desk_store::{Loan, issued};
+use desk_store::{ContainerOrder, issued};
 use office_core::Answer;
 use office_tables::{StoreFault, Tables};
 use serde_json::{Value, json};
 use sqlite::Alter;
 use std::alloc::{AllocError, Global};
 
-impl Told for Loan {
+impl Told for ContainerOrder {
     ghost use Rattle.desk_queries.specs.JsonValues.{loan_data};
 
     ghost told = { loan_data };

@@ -35,7 +35,7 @@ use Rattle.office_tables.proofs.Tests.{only, same_number, by_one_int}
 use Rattle.desk_store.specs.Rows.{run_cells}
 use Rattle.desk_store.specs.Storage.{Storage, container_with, IsToldLine}
 use Rattle.desk_store.specs.declared.run_lines.RunDay.{RunDay}
-use Rattle.desk_store.specs.declared.runs.TakenLine.{TakenLine}
+use Rattle.desk_store.specs.declared.container_orders.ContainerOrder.{ContainerOrder}
 use Rattle.desk_store.proofs.BoxRows.{Numbered}
 use Rattle.desk_store.proofs.CardRows.{in_order}
 
@@ -95,7 +95,7 @@ same_run n xs x e = eqb-true n x.id (found_by (λ (x : RunRow). nat_eq n x.id) x
 
 -- ---- a line that is told
 
-pub line_told : (l : TakenLine) (s : Storage) (w : BoxKey) (box : Option Numbered) → container_with l.container s ≡ box → option_map (λ (b : Numbered). b.1) box ≡ Some w
+pub line_told : (l : ContainerOrder) (s : Storage) (w : BoxKey) (box : Option Numbered) → container_with l.container s ≡ box → option_map (λ (b : Numbered). b.1) box ≡ Some w
     → IsToldLine s l (record { container = l.container; order = l.order; ticket = l.ticket; location = w.location; name = w.name; kind = w.kind })
 line_told l s w None e is = absurd (cc)
 line_told l s w (Some b) e is =

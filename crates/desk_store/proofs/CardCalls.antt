@@ -11,7 +11,6 @@ use Rattle.desk_core.specs.declared.reader.Reader.{Reader}
 use Rattle.desk_core.proofs.Counts.{count_map}
 use Rattle.desk_store.specs.Readers.{is_live, live_orders, held_with, reader_with, seat_of, placed_on, card_of, ticket_holder}
 use Rattle.office_tables.specs.RowNumbers.{AreCounted}
-use Rattle.desk_store.specs.declared.reader_summary.LiveOrder.{LiveOrder}
 use Rattle.desk_store.specs.declared.reader_summary.OrderLine.{OrderLine}
 use Rattle.desk_store.specs.declared.reader_summary.ReaderCard.{ReaderCard}
 use Rattle.desk_store.specs.declared.readers.NamedReader.{NamedReader}
@@ -41,11 +40,8 @@ some_mapped f (Some x) = refl
 
 -- ---- how many of the orders that have not ended are out
 
-abbrev pub live_line : OrderRow → LiveOrder
-live_line o = record { order = o.id; container = o.container; is_out = nat_eq o.state 2 }
-
-abbrev out_among : List OrderRow → List LiveOrder
-out_among rows = filter (λ (l : LiveOrder). l.is_out) (map live_line rows)
+abbrev out_among : List OrderRow → List OrderRow
+out_among = filter (λ (o : OrderRow). nat_eq o.state 2)
 
 -- one order more; an order that is out has not ended
 one_more : (mine : Bool) (o : OrderRow) (live out : List OrderRow) → length (out_among live) ≡ length out
@@ -64,33 +60,22 @@ same_out t [] = refl
 same_out t (o ∷ xs) =
     one_more (nat_eq t o.ticket) o (filter (λ (o : OrderRow). nat_eq t o.ticket && is_live o) xs) (filter (λ (o : OrderRow). nat_eq t o.ticket && nat_eq o.state 2) xs) (same_out t xs)
 
-pub out_of_live : (t : ℕ) (xs : List OrderRow) → count_by (λ (l : LiveOrder). l.is_out) (map live_line (filter (λ (o : OrderRow). nat_eq t o.ticket && is_live o) xs)) ≡ count_by (λ (o : OrderRow). nat_eq t o.ticket && nat_eq o.state 2) xs
-out_of_live t xs =
-    sym (length-filter (λ (l : LiveOrder). l.is_out) (map live_line (filter (λ (o : OrderRow). nat_eq t o.ticket && is_live o) xs)))
-    ∙ same_out t xs ∙ length-filter (λ (o : OrderRow). nat_eq t o.ticket && nat_eq o.state 2) xs
-
--- the lines of the orders tell the same
 pub out_of_lines : (t : ℕ) (xs : List OrderRow) → count_by (λ (l : OrderLine). nat_eq l.state 2) (map line_of (filter (λ (o : OrderRow). nat_eq t o.ticket && is_live o) xs)) ≡ count_by (λ (o : OrderRow). nat_eq t o.ticket && nat_eq o.state 2) xs
 out_of_lines t xs =
     let kept = filter (λ (o : OrderRow). nat_eq t o.ticket && is_live o) xs in
-    count_map (λ (l : OrderLine). nat_eq l.state 2) line_of kept ∙ sym (count_map (λ (l : LiveOrder). l.is_out) live_line kept) ∙ out_of_live t xs
+    count_map (λ (l : OrderLine). nat_eq l.state 2) line_of kept ∙ sym (length-filter (λ (o : OrderRow). nat_eq o.state 2) kept)
+    ∙ same_out t xs ∙ length-filter (λ (o : OrderRow). nat_eq t o.ticket && nat_eq o.state 2) xs
 
 -- a ticket has fewer orders than can be told
 few_kept : (p : OrderRow → Bool) (xs : List OrderRow) → length (filter p xs) ≤ length xs
 few_kept p xs = subst (λ n. n ≤ length xs) (sym (length-filter p xs)) (count_by-le-length p xs)
 
-few_told : {X : Type 0} (f : OrderRow → X) (t : ℕ) (d : Desk) → length d.orders ≤ most_orders → length (map f (filter (λ (o : OrderRow). nat_eq t o.ticket && is_live o) d.orders)) < 2 ^ 32
-few_told f t d few =
+pub few_lines : (t : ℕ) (d : Desk) → length d.orders ≤ most_orders → length (map line_of (filter (λ (o : OrderRow). nat_eq t o.ticket && is_live o) d.orders)) < 2 ^ 32
+few_lines t d few =
     let kept = filter (λ (o : OrderRow). nat_eq t o.ticket && is_live o) d.orders in
-    let same = length-map kept f in
+    let same = length-map kept line_of in
     let fewer = few_kept (λ (o : OrderRow). nat_eq t o.ticket && is_live o) d.orders in
     omega (arith, same, fewer, few)
-
-pub few_live : (t : ℕ) (d : Desk) → length d.orders ≤ most_orders → length (live_orders t d) < 2 ^ 32
-few_live = few_told live_line
-
-pub few_lines : (t : ℕ) (d : Desk) → length d.orders ≤ most_orders → length (map line_of (filter (λ (o : OrderRow). nat_eq t o.ticket && is_live o) d.orders)) < 2 ^ 32
-few_lines = few_told line_of
 
 -- ---- the card
 

@@ -7,7 +7,7 @@ use Rattle.std.proofs.lemmas.List.Elements.{filter_map-append}
 use Rattle.desk_core.specs.DeskRows.{OrderRow, HoldingRow}
 use Rattle.desk_store.specs.Holdings.{ticket_of, loan_by, issued_by}
 use Rattle.office_tables.specs.RowNumbers.{AreCounted}
-use Rattle.desk_store.specs.declared.holdings.Loan.{Loan}
+use Rattle.desk_store.specs.declared.container_orders.ContainerOrder.{ContainerOrder}
 use Rattle.desk_store.specs.declared.loans.HoldingLine.{HoldingLine}
 use Rattle.desk_store.proofs.CardCalls.{unknown}
 use Rattle.desk_store.proofs.LoanRows.{line_of}
@@ -18,10 +18,10 @@ never_placed o xs counted h = ap (option_map (λ (x : OrderRow). x.ticket)) (unk
 
 -- ---- the loans of the lines, one after another
 
-abbrev pub loan_at : List OrderRow → HoldingLine → Option Loan
+abbrev pub loan_at : List OrderRow → HoldingLine → Option ContainerOrder
 loan_at orders h = loan_by orders h.container h.held_by
 
-pub loans_more : (orders : List OrderRow) (lines : List HoldingLine) (i : ℕ) (line : HoldingLine) (done : List Loan) (found : Option Loan) → i < length lines
+pub loans_more : (orders : List OrderRow) (lines : List HoldingLine) (i : ℕ) (line : HoldingLine) (done : List ContainerOrder) (found : Option ContainerOrder) → i < length lines
     → done ≡ filter_map (loan_at orders) (take i lines) → found ≡ loan_at orders (get_or lines i line)
     → done ++ cons_option found [] ≡ filter_map (loan_at orders) (take (i + 1) lines)
 loans_more orders lines i line done found low so is =
@@ -33,7 +33,7 @@ loans_of_lines : (orders : List OrderRow) (xs : List HoldingRow) → filter_map 
 loans_of_lines orders [] = refl
 loans_of_lines orders (x ∷ xs) = ap (cons_option (issued_by orders x)) (loans_of_lines orders xs)
 
-pub loans_whole : (orders : List OrderRow) (xs : List HoldingRow) (lines : List HoldingLine) (i : ℕ) (done : List Loan) → length lines ≤ i → lines ≡ map line_of xs
+pub loans_whole : (orders : List OrderRow) (xs : List HoldingRow) (lines : List HoldingLine) (i : ℕ) (done : List ContainerOrder) → length lines ≤ i → lines ≡ map line_of xs
     → done ≡ filter_map (loan_at orders) (take i lines) → done ≡ filter_map (issued_by orders) xs
 loans_whole orders xs lines i done whole are so =
     so ∙ ap (filter_map (loan_at orders)) (take_all i lines whole ∙ are) ∙ loans_of_lines orders xs

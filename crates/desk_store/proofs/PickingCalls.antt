@@ -8,7 +8,7 @@ use Rattle.desk_core.specs.DeskRows.{Desk, OrderRow, HoldingRow}
 use Rattle.desk_store.specs.Holdings.{waits_for, is_on_shelf, is_first, candidates_of}
 use Rattle.desk_store.specs.RunCandidates.{is_earliest, is_new}
 use Rattle.office_tables.specs.RowNumbers.{AreByNumber, AreCounted}
-use Rattle.desk_store.specs.declared.holdings.FirstOrder.{FirstOrder}
+use Rattle.desk_store.specs.declared.container_orders.ContainerOrder.{ContainerOrder}
 use Rattle.desk_store.specs.declared.loans.HoldingLine.{HoldingLine}
 use Rattle.office_tables.proofs.numbered.Counted.{counted_rises}
 use Rattle.desk_store.proofs.LoanRows.{line_of}
@@ -17,9 +17,9 @@ use Rattle.desk_store.proofs.PickingRows.{first_of}
 abbrev pub waits : OrderRow → Bool
 waits o = nat_eq 1 o.state
 
-pub rising : (orders : List OrderRow) → AreCounted (λ (o : OrderRow). o.id) orders → AreByNumber (λ (o : FirstOrder). o.order) (map first_of (filter waits orders))
+pub rising : (orders : List OrderRow) → AreCounted (λ (o : OrderRow). o.id) orders → AreByNumber (λ (o : ContainerOrder). o.order) (map first_of (filter waits orders))
 rising orders counted =
-    ascending-map (λ (a b : FirstOrder). int_cmp (pos a.order) (pos b.order) ≡ Less) first_of (filter waits orders)
+    ascending-map (λ (a b : ContainerOrder). int_cmp (pos a.order) (pos b.order) ≡ Less) first_of (filter waits orders)
     (ascending-filter _ waits orders (counted_rises (λ (o : OrderRow). o.id) 1 orders counted))
 
 -- ---- those that are kept
@@ -36,10 +36,10 @@ filter_same : (p q : OrderRow → Bool) → ((x : OrderRow) → p x ≡ q x) →
 filter_same p q same [] = refl
 filter_same p q same (x ∷ xs) = ap₂ (λ (b : Bool) (l : List OrderRow). cond b (x ∷ l) l) (same x) (filter_same p q same xs)
 
-any_waiting : (c n : ℕ) (xs : List OrderRow) → list_any (λ (y : FirstOrder). nat_eq c y.container && nat_lt y.order n) (map first_of (filter waits xs)) ≡ list_any (λ (y : OrderRow). waits_for c y && nat_lt y.id n) xs
+any_waiting : (c n : ℕ) (xs : List OrderRow) → list_any (λ (y : ContainerOrder). nat_eq c y.container && nat_lt y.order n) (map first_of (filter waits xs)) ≡ list_any (λ (y : OrderRow). waits_for c y && nat_lt y.id n) xs
 any_waiting c n [] = refl
 any_waiting c n (x ∷ xs) =
-    elim (waits x) as (λ b. list_any (λ (y : FirstOrder). nat_eq c y.container && nat_lt y.order n) (map first_of (cond b (x ∷ filter waits xs) (filter waits xs)))
+    elim (waits x) as (λ b. list_any (λ (y : ContainerOrder). nat_eq c y.container && nat_lt y.order n) (map first_of (cond b (x ∷ filter waits xs) (filter waits xs)))
     ≡ (((b && nat_eq c x.container) && nat_lt x.id n) || list_any (λ (y : OrderRow). waits_for c y && nat_lt y.id n) xs)) [
       | true ↦ ap (λ b. (nat_eq c x.container && nat_lt x.id n) || b) (any_waiting c n xs)
       | false ↦ any_waiting c n xs
@@ -53,12 +53,12 @@ and_assoc : (a b c : Bool) → (a && (b && c)) ≡ ((a && b) && c)
 and_assoc true b c = refl
 and_assoc false b c = refl
 
-pub picked_are : (d : Desk) (orders : List FirstOrder) (lines : List HoldingLine) (known : List ℕ) → orders ≡ map first_of (filter waits d.orders) → lines ≡ map line_of d.holdings
+pub picked_are : (d : Desk) (orders : List ContainerOrder) (lines : List HoldingLine) (known : List ℕ) → orders ≡ map first_of (filter waits d.orders) → lines ≡ map line_of d.holdings
     → ((c : ℕ) → list_any (nat_eq c) known ≡ list_any (λ (h : HoldingLine). nat_eq c h.container) lines)
-    → filter (λ (o : FirstOrder). is_earliest o orders && is_new known o) orders ≡ candidates_of d
+    → filter (λ (o : ContainerOrder). is_earliest o orders && is_new known o) orders ≡ candidates_of d
 picked_are d orders lines known are there met =
-    ap (λ (l : List FirstOrder). filter (λ (o : FirstOrder). is_earliest o l && is_new known o) l) are
-    ∙ filter-map (λ (o : FirstOrder). is_earliest o (map first_of (filter waits d.orders)) && is_new known o) first_of (filter waits d.orders)
+    ap (λ (l : List ContainerOrder). filter (λ (o : ContainerOrder). is_earliest o l && is_new known o) l) are
+    ∙ filter-map (λ (o : ContainerOrder). is_earliest o (map first_of (filter waits d.orders)) && is_new known o) first_of (filter waits d.orders)
     ∙ ap (map first_of) (filter_both (λ (o : OrderRow). is_earliest (first_of o) (map first_of (filter waits d.orders)) && is_new known (first_of o)) waits d.orders ∙ filter_same _ _ each d.orders)
   where
     held : (c : ℕ) → list_any (nat_eq c) known ≡ list_any (λ (h : HoldingRow). nat_eq c h.container) d.holdings

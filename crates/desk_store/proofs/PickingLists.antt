@@ -15,7 +15,7 @@ use Rattle.office_tables.proofs.Puts.{has_at}
 use Rattle.office_tables.proofs.numbered.Counted.{less_below}
 use Rattle.desk_store.specs.RunCandidates.{is_earliest, is_new}
 use Rattle.office_tables.specs.RowNumbers.{AreByNumber}
-use Rattle.desk_store.specs.declared.holdings.FirstOrder.{FirstOrder}
+use Rattle.desk_store.specs.declared.container_orders.ContainerOrder.{ContainerOrder}
 
 -- ---- a set of numbers
 
@@ -55,21 +55,21 @@ swap false false = refl
 pub any_more : {A : Type 0} (p : A → Bool) (xs : List A) (i : ℕ) (d : A) → i < length xs → list_any p (take (i + 1) xs) ≡ (p (get_or xs i d) || list_any p (take i xs))
 any_more p xs i d low = ap (list_any p) (take_more xs i d low) ∙ list_any-append p (take i xs) (get_or xs i d ∷ []) ∙ swap (list_any p (take i xs)) (p (get_or xs i d))
 
-pub met_more : (known0 : List ℕ) (orders : List FirstOrder) (i : ℕ) (d : FirstOrder) (c : ℕ) (old new : Bool) → i < length orders
-    → old ≡ (list_any (λ (o : FirstOrder). nat_eq c o.container) (take i orders) || list_any (nat_eq c) known0) → new ≡ (nat_eq c (get_or orders i d).container || old)
-    → new ≡ (list_any (λ (o : FirstOrder). nat_eq c o.container) (take (i + 1) orders) || list_any (nat_eq c) known0)
+pub met_more : (known0 : List ℕ) (orders : List ContainerOrder) (i : ℕ) (d : ContainerOrder) (c : ℕ) (old new : Bool) → i < length orders
+    → old ≡ (list_any (λ (o : ContainerOrder). nat_eq c o.container) (take i orders) || list_any (nat_eq c) known0) → new ≡ (nat_eq c (get_or orders i d).container || old)
+    → new ≡ (list_any (λ (o : ContainerOrder). nat_eq c o.container) (take (i + 1) orders) || list_any (nat_eq c) known0)
 met_more known0 orders i d c old new low so is =
     is ∙ ap (λ b. nat_eq c (get_or orders i d).container || b) so
-    ∙ sym (or_assoc (nat_eq c (get_or orders i d).container) (list_any (λ (o : FirstOrder). nat_eq c o.container) (take i orders)) (list_any (nat_eq c) known0))
-    ∙ ap (λ b. b || list_any (nat_eq c) known0) (sym (any_more (λ (o : FirstOrder). nat_eq c o.container) orders i d low))
+    ∙ sym (or_assoc (nat_eq c (get_or orders i d).container) (list_any (λ (o : ContainerOrder). nat_eq c o.container) (take i orders)) (list_any (nat_eq c) known0))
+    ∙ ap (λ b. b || list_any (nat_eq c) known0) (sym (any_more (λ (o : ContainerOrder). nat_eq c o.container) orders i d low))
 
 -- ---- those with a lesser number stand before
 
 less_is : (a b : ℕ) → int_cmp (pos a) (pos b) ≡ Less → nat_lt a b ≡ true
 less_is a b h = lt-ltb a b (less_below a b h)
 
-none_below : (q : FirstOrder → Bool) (x : FirstOrder) (xs : List FirstOrder) → AllByRecursion (λ (y : FirstOrder). int_cmp (pos x.order) (pos y.order) ≡ Less) xs
-    → list_any (λ (y : FirstOrder). q y && nat_lt y.order x.order) xs ≡ false
+none_below : (q : ContainerOrder → Bool) (x : ContainerOrder) (xs : List ContainerOrder) → AllByRecursion (λ (y : ContainerOrder). int_cmp (pos x.order) (pos y.order) ≡ Less) xs
+    → list_any (λ (y : ContainerOrder). q y && nat_lt y.order x.order) xs ≡ false
 none_below q x [] all = refl
 none_below q x (y ∷ ys) all =
     let less = less_is x.order y.order all.0 in
@@ -80,8 +80,8 @@ none_below q x (y ∷ ys) all =
     both_none true b h = h
     both_none false b h = h
 
-pub before : (q : FirstOrder → Bool) (xs : List FirstOrder) (i : ℕ) (d : FirstOrder) → AreByNumber (λ (o : FirstOrder). o.order) xs → i < length xs
-    → list_any (λ (y : FirstOrder). q y && nat_lt y.order (get_or xs i d).order) xs ≡ list_any q (take i xs)
+pub before : (q : ContainerOrder → Bool) (xs : List ContainerOrder) (i : ℕ) (d : ContainerOrder) → AreByNumber (λ (o : ContainerOrder). o.order) xs → i < length xs
+    → list_any (λ (y : ContainerOrder). q y && nat_lt y.order (get_or xs i d).order) xs ≡ list_any q (take i xs)
 before q [] i d up low = absurd (omega (arith, low))
 before q (x ∷ xs) zero d up low =
     let itself : nat_lt x.order x.order ≡ false = grind (arith, nat_tests) in
@@ -92,22 +92,22 @@ before q (x ∷ xs) zero d up low =
     first false b h = h
 before q (x ∷ xs) (suc i) d up low =
     let within : i < length xs = omega (arith, low) in
-    let less = less_is x.order (get_or xs i d).order (all_has (λ (y : FirstOrder). int_cmp (pos x.order) (pos y.order) ≡ Less) xs (get_or xs i d) up.0 (has_at xs i d within)) in
+    let less = less_is x.order (get_or xs i d).order (all_has (λ (y : ContainerOrder). int_cmp (pos x.order) (pos y.order) ≡ Less) xs (get_or xs i d) up.0 (has_at xs i d within)) in
     rw less (ap₂ ◌||◌ (as_is (q x)) (before q xs i d up.1 within))
   where
     as_is : (a : Bool) → (a && true) ≡ a
     as_is true = refl
     as_is false = refl
 
-pub is_picked : (known0 now : List ℕ) (orders : List FirstOrder) (i : ℕ) (d : FirstOrder) → AreByNumber (λ (o : FirstOrder). o.order) orders → i < length orders
-    → list_any (nat_eq (get_or orders i d).container) now ≡ (list_any (λ (o : FirstOrder). nat_eq (get_or orders i d).container o.container) (take i orders) || list_any (nat_eq (get_or orders i d).container) known0)
+pub is_picked : (known0 now : List ℕ) (orders : List ContainerOrder) (i : ℕ) (d : ContainerOrder) → AreByNumber (λ (o : ContainerOrder). o.order) orders → i < length orders
+    → list_any (nat_eq (get_or orders i d).container) now ≡ (list_any (λ (o : ContainerOrder). nat_eq (get_or orders i d).container o.container) (take i orders) || list_any (nat_eq (get_or orders i d).container) known0)
     → not (list_any (nat_eq (get_or orders i d).container) now) ≡ (is_earliest (get_or orders i d) orders && is_new known0 (get_or orders i d))
 is_picked known0 now orders i d up low met =
     let x = get_or orders i d in
-    ap not met ∙ not_or _ _ ∙ ap (λ b. not b && is_new known0 x) (sym (before (λ (o : FirstOrder). nat_eq x.container o.container) orders i d up low))
+    ap not met ∙ not_or _ _ ∙ ap (λ b. not b && is_new known0 x) (sym (before (λ (o : ContainerOrder). nat_eq x.container o.container) orders i d up low))
 
 -- what is kept of one order more
-pub kept_more : (p : FirstOrder → Bool) (orders : List FirstOrder) (i : ℕ) (d : FirstOrder) (done : List FirstOrder) → i < length orders → done ≡ filter p (take i orders)
+pub kept_more : (p : ContainerOrder → Bool) (orders : List ContainerOrder) (i : ℕ) (d : ContainerOrder) (done : List ContainerOrder) → i < length orders → done ≡ filter p (take i orders)
     → done ++ cond (p (get_or orders i d)) (get_or orders i d ∷ []) [] ≡ filter p (take (i + 1) orders)
 kept_more p orders i d done low so =
     ap (λ l. l ++ cond (p (get_or orders i d)) (get_or orders i d ∷ []) []) so

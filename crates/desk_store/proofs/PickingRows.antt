@@ -27,26 +27,26 @@ use Rattle.office_tables.proofs.Queries.{asking}
 use Rattle.office_tables.proofs.statements.SelectOf.{select_finds, select_faults}
 use Rattle.office_tables.proofs.Tests.{only, same_number, by_one_int}
 use Rattle.desk_store.specs.Rows.{order_cells}
-use Rattle.desk_store.specs.declared.holdings.FirstOrder.{FirstOrder}
+use Rattle.desk_store.specs.declared.container_orders.ContainerOrder.{ContainerOrder}
 use Rattle.desk_store.proofs.CardRows.{by_order, in_order}
 
-abbrev pub first_of : OrderRow → FirstOrder
+abbrev pub first_of : OrderRow → ContainerOrder
 first_of o = record { container = o.container; order = o.id; ticket = o.ticket }
 
-abbrev pub first_cells : FirstOrder → Row
-first_cells o = Int (pos o.order) ∷ Int (pos o.ticket) ∷ Int (pos o.container) ∷ []
+abbrev pub first_cells : ContainerOrder → Row
+first_cells o = Int (pos o.container) ∷ Int (pos o.order) ∷ Int (pos o.ticket) ∷ []
 
 abbrev it_waits : List Term
 it_waits = op2 (Compare Eq Binary) (col 1 5) (lit (Int (pos 1))) ∷ []
 
 abbrev first_columns : List Term
-first_columns = col 1 0 ∷ col 1 2 ∷ col 1 3 ∷ []
+first_columns = col 1 3 ∷ col 1 0 ∷ col 1 2 ∷ []
 
 abbrev first_names : List (List ℕ)
-first_names = codes "id" ∷ codes "ticket" ∷ codes "container" ∷ []
+first_names = codes "container" ∷ codes "id" ∷ codes "ticket" ∷ []
 
 abbrev pub all_text : List ℕ
-all_text = codes "SELECT id, ticket, container FROM orders WHERE state = 1 ORDER BY id"
+all_text = codes "SELECT container, id, ticket FROM orders WHERE state = 1 ORDER BY id"
 
 abbrev pub all_command : Command
 all_command = Select (asking orders it_waits first_columns in_order) first_names
@@ -55,7 +55,7 @@ pub all_means : (v : Version) → Means v all_text 0 all_command
 unfolding understood everything
 all_means v = record { is = refl; plain = (refl, refl); whole = (le_refl _, refl, refl); unlisted = refl }
 
-module _ (old new : State) (v : Version) (has : old.now.schema ≡ schema v) (xs : List OrderRow) (stored : Holds orders order_cells old xs) {X : Type 0} (items : X → List FirstOrder) (r : Result X StoreFault) where
+module _ (old new : State) (v : Version) (has : old.now.schema ≡ schema v) (xs : List OrderRow) (stored : Holds orders order_cells old xs) {X : Type 0} (items : X → List ContainerOrder) (r : Result X StoreFault) where
   pub all_finds : IfOk r (λ found. Finds first_cells all_text [] old new (items found)) → IfOk r (λ found. (ys : List OrderRow) × IsOrdered by_order (filter (λ (o : OrderRow). nat_eq 1 o.state) xs) ys × (items found ≡ map first_of ys))
   all_finds =
       select_finds v orders all_text it_waits first_columns in_order first_names [] (all_means v) old new has order_cells xs stored

@@ -28,7 +28,7 @@ use Rattle.desk_store.specs.Runs.{next_run, line_of, with_run, TakesEachOnce}
 use Rattle.desk_store.specs.Representation.{RepresentsDesk, RepresentsDeskAlone, IsLegible, IsNumberOf}
 use Rattle.office_tables.specs.RowNumbers.{HasNumbered}
 use Rattle.office_tables.specs.Schema as tables
-use Rattle.desk_store.specs.declared.holdings.FirstOrder.{FirstOrder}
+use Rattle.desk_store.specs.declared.container_orders.ContainerOrder.{ContainerOrder}
 use Rattle.office_tables.proofs.numbered.Counted.{counted_more, counted_free, put_end}
 use Rattle.office_tables.proofs.numbered.OwnNumbers.{still_numbered}
 use Rattle.desk_store.proofs.Frames.{with_runs}
@@ -51,22 +51,22 @@ none_of_run run c (l ∷ ls) none =
     ]
 
 -- the containers before this one are others
-not_yet : (run : ℕ) (xs : List FirstOrder) (i : ℕ) (d : FirstOrder) → IsDistinct nat_eq (map (λ (t : FirstOrder). t.container) xs) → i < length xs
+not_yet : (run : ℕ) (xs : List ContainerOrder) (i : ℕ) (d : ContainerOrder) → IsDistinct nat_eq (map (λ (t : ContainerOrder). t.container) xs) → i < length xs
     → list_any (is_line run (get_or xs i d).container) (map (line_of run) (take i xs)) ≡ false
 unfolding IsDistinct
 not_yet run [] i d apart low = absurd (omega (arith, low))
 not_yet run (x ∷ xs) zero d apart low = refl
 not_yet run (x ∷ xs) (suc i) d apart low =
     let other : nat_eq (get_or xs i d).container x.container ≡ false = eqb_comm (get_or xs i d).container x.container
-    ∙ all-get_or (λ (t : FirstOrder). nat_eq x.container t.container ≡ false) xs i d (all_from_map (λ c. nat_eq x.container c ≡ false) (λ (t : FirstOrder). t.container) xs apart.0) (omega (arith, low)) in
+    ∙ all-get_or (λ (t : ContainerOrder). nat_eq x.container t.container ≡ false) xs i d (all_from_map (λ c. nat_eq x.container c ≡ false) (λ (t : ContainerOrder). t.container) xs apart.0) (omega (arith, low)) in
     or_from _ _ (and_right (nat_eq run run) _ other) (not_yet run xs i d apart.1 (omega (arith, low)))
 
-pub free_line : (run : ℕ) (ls : List RunLineRow) (xs : List FirstOrder) (i : ℕ) (d : FirstOrder) → filter (λ (l : RunLineRow). nat_eq run l.run) ls ≡ [] → IsDistinct nat_eq (map (λ (t : FirstOrder). t.container) xs) → i < length xs
+pub free_line : (run : ℕ) (ls : List RunLineRow) (xs : List ContainerOrder) (i : ℕ) (d : ContainerOrder) → filter (λ (l : RunLineRow). nat_eq run l.run) ls ≡ [] → IsDistinct nat_eq (map (λ (t : ContainerOrder). t.container) xs) → i < length xs
     → list_any (is_line run (get_or xs i d).container) (ls ++ map (line_of run) (take i xs)) ≡ false
 free_line run ls xs i d none apart low =
     list_any-append (is_line run (get_or xs i d).container) ls (map (line_of run) (take i xs)) ∙ or_from _ _ (none_of_run run (get_or xs i d).container ls none) (not_yet run xs i d apart low)
 
-pub line_more : (run : ℕ) (ls : List RunLineRow) (xs : List FirstOrder) (i : ℕ) (d : FirstOrder) → i < length xs
+pub line_more : (run : ℕ) (ls : List RunLineRow) (xs : List ContainerOrder) (i : ℕ) (d : ContainerOrder) → i < length xs
     → ((ls ++ map (line_of run) (take i xs)) ++ line_of run (get_or xs i d) ∷ []) ≡ (ls ++ map (line_of run) (take (i + 1) xs))
 line_more run ls xs i d low = append_assoc ls (map (line_of run) (take i xs)) (line_of run (get_or xs i d) ∷ []) ∙ ap (λ l. ls ++ l) (sym (map_more (line_of run) xs i d low))
 
@@ -79,7 +79,7 @@ next_is d n h = elim (cases_Bool (nat_lt (length d.runs) most_runs)) [
   | inr none ↦ absurd (let e : Some n ≡ None = h ∙ ap (λ b. cond b (Some (suc (length d.runs))) None) none in cc)
 ]
 
-module _ (a b c : State) (run : ℕ) (on : ℤ) (taken : List FirstOrder) where
+module _ (a b c : State) (run : ℕ) (on : ℤ) (taken : List ContainerOrder) where
   abbrev row : RunRow
   row = record { id = run; day = on }
 
@@ -126,7 +126,7 @@ clean_before b c (Err e) goes cut clean = early b c _ cut.crash clean
 
 -- ---- the call
 
-module _ {S : Type 0} (g : store.Ghosts S) (before mid after : Held S) (on : ℤ) (taken : List FirstOrder) (run : ℕ) where
+module _ {S : Type 0} (g : store.Ghosts S) (before mid after : Held S) (on : ℤ) (taken : List ContainerOrder) (run : ℕ) where
   abbrev a : State
   a = state g before
 

@@ -40,7 +40,7 @@ use Rattle.office_tables.specs.Step.{Holds, PutsRow}
 use Rattle.office_tables.specs.declared.fault.StoreFault.{StoreFault}
 use Rattle.desk_store.specs.Rows.{run_cells, run_line_cells}
 use Rattle.office_tables.specs.RowNumbers.{AreCounted, HasNumbered}
-use Rattle.desk_store.specs.declared.runs.TakenLine.{TakenLine}
+use Rattle.desk_store.specs.declared.container_orders.ContainerOrder.{ContainerOrder}
 use Rattle.office_tables.proofs.Casts.{cast_int, cast_null}
 use Rattle.office_tables.proofs.InsertCauses.{IsWelcome}
 use Rattle.office_tables.proofs.Queries.{asking}
@@ -171,16 +171,16 @@ pub lines_with_means : (v : Version) → Means v lines_with_text 1 lines_with_co
 unfolding understood everything
 lines_with_means v = record { is = refl; plain = (refl, refl); whole = (le_refl _, refl, refl); unlisted = refl }
 
-abbrev pub taken_line : RunLineRow → TakenLine
+abbrev pub taken_line : RunLineRow → ContainerOrder
 taken_line l = record { container = l.container; order = l.order_no; ticket = l.ticket }
 
-abbrev pub taken_cells : TakenLine → Row
+abbrev pub taken_cells : ContainerOrder → Row
 taken_cells l = Int (pos l.container) ∷ Int (pos l.order) ∷ Int (pos l.ticket) ∷ []
 
 abbrev by_run : ℤ × RunLineRow → ℤ × RunLineRow → Ordering
 by_run a b = ordering_then (int_cmp (pos a.1.run) (pos b.1.run)) (int_cmp (pos a.1.container) (pos b.1.container))
 
-module _ (old new : State) (n : ℕ) (v : Version) (has : old.now.schema ≡ schema v) (ls : List RunLineRow) (at : HasNumbered run_line_cells (old.now.trees tables.run_line.tree) ls) {X : Type 0} (items : X → List TakenLine) (r : Result X StoreFault) where
+module _ (old new : State) (n : ℕ) (v : Version) (has : old.now.schema ≡ schema v) (ls : List RunLineRow) (at : HasNumbered run_line_cells (old.now.trees tables.run_line.tree) ls) {X : Type 0} (items : X → List ContainerOrder) (r : Result X StoreFault) where
   pub lines_with_finds : IfOk r (λ found. Finds taken_cells lines_with_text (Int (pos n) ∷ []) old new (items found))
       → IfOk r (λ found. IsPermutation (map taken_line (filter (λ (l : RunLineRow). nat_eq n l.run) ls)) (items found))
   lines_with_finds found =

@@ -5,8 +5,7 @@ use Rattle.desk_core.specs.declared.reader.Place.{Place}
 use Rattle.desk_core.specs.declared.reader.Place.TheVariants.{Shelf, Desk as AtTheDesk, Out}
 use Rattle.desk_core.specs.DeskRows.{Desk, HoldingRow, OrderRow}
 use Rattle.office_tables.specs.OrderedInsertion.{put_by}
-use Rattle.desk_store.specs.declared.holdings.Loan.{Loan}
-use Rattle.desk_store.specs.declared.holdings.FirstOrder.{FirstOrder}
+use Rattle.desk_store.specs.declared.container_orders.ContainerOrder.{ContainerOrder}
 
 -- ---- a container goes to another place
 
@@ -35,16 +34,16 @@ abbrev pub ticket_of : List OrderRow → ℕ → Option ℕ
 ticket_of orders o = option_map (λ (row : OrderRow). row.ticket) (find (λ (row : OrderRow). nat_eq o row.id) orders)
 
 -- the loan of a container that is held by this order; none without an order, or if there is no such order
-abbrev pub loan_by : List OrderRow → ℕ → Option ℕ → Option Loan
+abbrev pub loan_by : List OrderRow → ℕ → Option ℕ → Option ContainerOrder
 loan_by orders c held_by =
     option_and_then (λ o. option_map (λ t. record { container = c; order = o; ticket = t }) (ticket_of orders o)) held_by
 
 -- the loan of the container in this row
-abbrev pub issued_by : List OrderRow → HoldingRow → Option Loan
+abbrev pub issued_by : List OrderRow → HoldingRow → Option ContainerOrder
 issued_by orders h = loan_by orders h.container h.held_by
 
 -- the containers that are with readers, by number
-abbrev pub issued_of : Desk → List Loan
+abbrev pub issued_of : Desk → List ContainerOrder
 issued_of d = filter_map (issued_by d.orders) d.holdings
 
 -- ---- containers that may move
@@ -66,7 +65,7 @@ is_first d o = nat_eq 1 o.state && not (list_any (λ other. waits_for o.containe
 
 -- what a run may take: the containers on the shelf for which an order waits, each with its first order, sorted by the
 -- numbers of these orders
-abbrev pub candidates_of : Desk → List FirstOrder
+abbrev pub candidates_of : Desk → List ContainerOrder
 candidates_of d =
     map (λ (o : OrderRow). record { container = o.container; order = o.id; ticket = o.ticket })
     (filter (λ o. is_first d o && is_on_shelf d o.container) d.orders)

@@ -5,23 +5,23 @@ use Rattle.isad_core.specs.declared.values.BoxKey.{BoxKey}
 use Rattle.desk_core.specs.declared.run.Candidate.{Candidate}
 use Rattle.isad_core.specs.Limits.{IsNumber, most_runs}
 use Rattle.desk_core.specs.DeskRows.{Desk, RunRow, RunLineRow}
-use Rattle.desk_store.specs.declared.holdings.FirstOrder.{FirstOrder}
+use Rattle.desk_store.specs.declared.container_orders.ContainerOrder.{ContainerOrder}
 
 -- the number of the next run, or none if no number is left
 abbrev pub next_run : Desk → Option ℕ
 next_run d = cond (nat_lt (length d.runs) most_runs) (Some (suc (length d.runs))) None
 
-abbrev pub line_of : ℕ → FirstOrder → RunLineRow
+abbrev pub line_of : ℕ → ContainerOrder → RunLineRow
 line_of n taken = record { run = n; container = taken.container; order_no = taken.order; ticket = taken.ticket }
 
 -- the desk with one more run, which has a line for each container that it takes; without a number, the desk as it is
-abbrev pub with_run : Option ℕ → ℤ → List FirstOrder → Desk → Desk
+abbrev pub with_run : Option ℕ → ℤ → List ContainerOrder → Desk → Desk
 with_run None day taken d = d
 with_run (Some n) day taken d =
     record d { runs = d.runs ++ record { id = n; day = day } ∷ []; run_lines = d.run_lines ++ map (line_of n) taken }
 
 -- the tables can keep the numbers of the line
-abbrev pub IsNumbered : FirstOrder → Type 0
+abbrev pub IsNumbered : ContainerOrder → Type 0
 IsNumbered taken = IsNumber taken.container × IsNumber taken.order × IsNumber taken.ticket
 
 abbrev pub run_with : ℕ → Desk → Option RunRow
@@ -32,8 +32,8 @@ abbrev pub lines_of : ℕ → Desk → List RunLineRow
 lines_of n d = filter (λ l. nat_eq n l.run) d.run_lines
 
 -- no container is taken twice
-abbrev pub TakesEachOnce : List FirstOrder → Type 0
-TakesEachOnce taken = IsDistinct nat_eq (map (λ (t : FirstOrder). t.container) taken)
+abbrev pub TakesEachOnce : List ContainerOrder → Type 0
+TakesEachOnce taken = IsDistinct nat_eq (map (λ (t : ContainerOrder). t.container) taken)
 
 -- the line, with what is written on its container
 pub record IsCandidate (boxes : List (ℕ × BoxKey)) (l : RunLineRow) (c : Candidate) : Type 0 where

@@ -16,7 +16,7 @@ use Rattle.desk_store.specs.declared.queue_heads.QueueHead.{QueueHead}
 use Rattle.desk_store.specs.declared.queues.ContainerQueue.{ContainerQueue}
 use Rattle.desk_core.specs.declared.run.Candidate.{Candidate}
 use Rattle.desk_store.specs.declared.runs.Brought.{Brought}
-use Rattle.desk_store.specs.declared.runs.TakenLine.{TakenLine}
+use Rattle.desk_store.specs.declared.container_orders.ContainerOrder.{ContainerOrder}
 
 -- the containers that the catalogue knows, each under its number, and the desk
 pub record Storage : Type 0 where
@@ -55,13 +55,13 @@ IsHeaded c storage (Some box) (Some head) = IsHead c storage.desk head
 -- ---- what a run brought
 
 -- the answer about a line of a run: the line, with what is written on its container
-abbrev pub IsToldLine : Storage → TakenLine → Candidate → Type 0
+abbrev pub IsToldLine : Storage → ContainerOrder → Candidate → Type 0
 IsToldLine storage l = IsCandidate storage.containers (record { run = 0; container = l.container; order_no = l.order; ticket = l.ticket })
 
 -- the run's day, and its lines in some order, each with what is written on its container
 pub record IsBrought (storage : Storage) (run : RunRow) (told : Brought) : Type 0 where
   pub day : told.day ≡ run.day
-  pub lines : List TakenLine
+  pub lines : List ContainerOrder
   pub are : IsPermutation (map (λ (l : RunLineRow). record { container = l.container; order = l.order_no; ticket = l.ticket }) (lines_of run.id storage.desk)) lines
   pub tell : AllZip (IsToldLine storage) lines told.lines
 
@@ -72,7 +72,7 @@ IsToldRun storage (Some run) None = ⊥
 IsToldRun storage (Some run) (Some told) = IsBrought storage run told
 
 -- the container of a line is known
-abbrev pub IsKnownLine : TakenLine → Storage → Type 0
+abbrev pub IsKnownLine : ContainerOrder → Storage → Type 0
 IsKnownLine l storage = (box : ℕ × BoxKey) × (container_with l.container storage ≡ Some box)
 
 -- the containers of a run's lines are known

@@ -16,22 +16,6 @@ use office_tables::value::{number, number_or_null};
 use office_tables::{StoreFault, Tables, Versioned, change};
 use sqlite::Alter;
 
-/// A container that is out with a reader, with the order that it is out with and the ticket of that order.
-#[derive(Debug, Clone, Copy, PartialEq, Eq)]
-pub struct Loan {
-    pub container: u64,
-    pub order: u64,
-    pub ticket: u64,
-}
-
-/// A container with the first order that waits for it, and the ticket of that order.
-#[derive(Debug, Clone, Copy, PartialEq, Eq)]
-pub struct FirstOrder {
-    pub container: u64,
-    pub order: u64,
-    pub ticket: u64,
-}
-
 /// Deletes the row of a container, as if the container were on the shelf. The row is found by its number.
 fn clear_holding<P: Versioned, S: Alter>(
     tables: &mut Tables<P, S>,

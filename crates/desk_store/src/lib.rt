@@ -3,6 +3,7 @@
 
 mod blank;
 mod container_labels;
+mod container_orders;
 mod desk_containers;
 mod holdings;
 mod loans;
@@ -23,8 +24,9 @@ mod ticket_holders;
 mod waiting_orders;
 
 pub use blank::is_blank;
+pub use container_orders::ContainerOrder;
 pub use desk_containers::at_desk;
-pub use holdings::{FirstOrder, Loan, set_place};
+pub use holdings::set_place;
 pub use loans::issued;
 pub use office_day::open_day;
 pub use order_writes::{append_order, end_order};

@@ -12,7 +12,7 @@ ghost use Rattle.desk_store.specs.Rows.{holding_cells, order_cells};
 ghost use Rattle.desk_store.specs.Representation.{RepresentsDeskAlone, IsLegible};
 ghost use Rattle.office_tables.specs.RowNumbers.{AreByNumber, AreCounted};
 
-use crate::holdings::Loan;
+use crate::container_orders::ContainerOrder;
 use office_tables::from_row::FromRow;
 use office_tables::value::{NO_NUMBER, number};
 use office_tables::{StoreFault, Tables, Versioned, find, find_one};
@@ -101,7 +101,7 @@ fn loan_of<P: Versioned, S: Alter>(
     alloc: Global,
     tables: &mut Tables<P, S>,
     line: HoldingLine,
-) -> Result<Option<Loan>, StoreFault>
+) -> Result<Option<ContainerOrder>, StoreFault>
     ensures answers { StoreAnswers S.Store RepresentsDeskAlone IsLegible tables.old tables.new result (λ _. ⊤)
         (λ _ d loan. loan ≡ loan_by d.orders line.container line.held_by) }
 {
@@ -111,7 +111,7 @@ fn loan_of<P: Versioned, S: Alter>(
     let Some(ticket) = holder_of(alloc, tables, order)? else {
         return Ok(None);
     };
-    Ok(Some(Loan {
+    Ok(Some(ContainerOrder {
         container: line.container,
         order,
         ticket,
@@ -122,7 +122,7 @@ fn loan_of<P: Versioned, S: Alter>(
 pub fn issued<P: Versioned, S: Alter>(
     alloc: Global,
     tables: &mut Tables<P, S>,
-) -> Result<Vec<Loan>, StoreFault>
+) -> Result<Vec<ContainerOrder>, StoreFault>
     ensures answers { StoreAnswers S.Store RepresentsDeskAlone IsLegible tables.old tables.new result (λ _. ⊤)
         (λ _ d all. all.items ≡ issued_of d) }
 {

@@ -11,7 +11,7 @@ ghost use Rattle.office_tables.specs.Calls.{StoreAnswers};
 ghost use Rattle.office_tables.specs.Schema as schema;
 ghost use Rattle.office_tables.specs.Step.{Holds};
 ghost use Rattle.office_tables.specs.TableStatements.{LooksUp};
-ghost use Rattle.desk_store.specs.Readers.{is_live, live_orders, placed_on, card_of};
+ghost use Rattle.desk_store.specs.Readers.{is_live, live_orders, held_with, placed_on, card_of};
 ghost use Rattle.desk_store.specs.Rows.{order_cells};
 ghost use Rattle.desk_store.specs.Representation.{RepresentsDeskAlone, IsLegible};
 ghost use Rattle.office_tables.specs.RowNumbers.{AreCounted};
@@ -131,11 +131,12 @@ pub(crate) fn placed_on<P: Versioned, S: Alter>(
     )
 }
 
-/// The orders of a ticket on a day: those that wait or are out, how many it placed on the day, and how many
-/// all tickets have placed so far.
+/// The orders of a ticket on a day: those that wait or are out, how many are out, how many it placed on the day, and
+/// how many all tickets have placed so far.
 #[derive(Debug, Drop)]
 struct TicketOrders {
     live: List<LiveOrder>,
+    held: u32,
     placed: u32,
     orders: u64,
 }
@@ -157,10 +158,10 @@ fn live_in(alloc: Global, lines: &[OrderLine]) -> Result<List<LiveOrder>, AllocE
 }
 
 /// How many of the orders are out.
-fn count_out(live: &[LiveOrder]) -> u32
-    ensures { length live.now < 2 ^ 32 → result ≡ count_by (λ o. o.is_out) live.now }
+pub(crate) fn count_out(lines: &[OrderLine]) -> u32
+    ensures { length lines.now < 2 ^ 32 → result ≡ count_by (λ o. nat_eq o.state 2) lines.now }
 {
-    let out = live.iter().filter(|order| order.is_out).count();
+    let out = lines.iter().filter(|line| line.state == 2).count();
     u32::try_from(out).unwrap_or(u32::MAX)
 }
 
@@ -171,8 +172,8 @@ pub(crate) fn seat_in(taken: Option<TakenSeat>) -> Option<u32>
     taken.map(|taken| taken.seat)
 }
 
-/// The orders of a ticket that wait or are out, how many it placed on the day, and how many all tickets have
-/// placed so far.
+/// The orders of a ticket that wait or are out, how many are out, how many it placed on the day, and how many all
+/// tickets have placed so far.
 fn orders_of<P: Versioned, S: Alter>(
     alloc: Global,
     tables: &mut Tables<P, S>,
@@ -182,14 +183,21 @@ fn orders_of<P: Versioned, S: Alter>(
     requires small { IsNumber ticket }
     ensures answers { StoreAnswers S.Store RepresentsDeskAlone IsLegible tables.old tables.new result (λ _. ⊤)
         (λ _ d told.
-        told ≡ record { live = live_orders ticket d; placed = placed_on ticket today d; orders = length d.orders }) }
+        told ≡ record {
+          live = live_orders ticket d;
+          held = held_with ticket d;
+          placed = placed_on ticket today d;
+          orders = length d.orders;
+        }) }
 {
     let lines = live_lines(alloc, tables, ticket)?;
     let live = live_in(alloc, &lines)?;
+    let held = count_out(&lines);
     let placed = placed_on(tables, ticket, today)?;
     let orders = last_order(tables)?;
     Ok(TicketOrders {
         live,
+        held,
         placed,
         orders: u64::from(orders),
     })
@@ -219,7 +227,7 @@ pub fn reader<P: Versioned, S: Alter>(
             ticket,
             until,
             seat: seat_in(taken),
-            held: count_out(told.live.as_slice()),
+            held: told.held,
         },
         name,
         live: told.live,

@@ -13,39 +13,21 @@ ghost use Rattle.desk_store.specs.RunCandidates.{is_earliest, is_new};
 ghost use Rattle.desk_store.specs.Rows.{order_cells};
 ghost use Rattle.desk_store.specs.Representation.{RepresentsDeskAlone, IsLegible};
 ghost use Rattle.office_tables.specs.RowNumbers.{AreByNumber, AreCounted};
-ghost use Rattle.desk_store.specs.declared.holdings.FirstOrder.{FirstOrder};
+ghost use Rattle.desk_store.specs.declared.container_orders.ContainerOrder.{ContainerOrder};
 
-use crate::holdings::FirstOrder;
+use crate::container_orders::ContainerOrder;
 use crate::loans::{HoldingLine, holding_lines};
-use office_tables::from_row::FromRow;
 use office_tables::{StoreFault, Tables, Versioned, find};
-use sqlite::{Alter, Row};
+use sqlite::Alter;
 use std::alloc::{AllocError, Global};
 use std::collections::BTreeSet;
-
-impl FromRow for FirstOrder {
-    ghost use Rattle.std.specs.Prelude.{pos, [], ◌∷◌, ⊤};
-    ghost use Rattle.sqlite.specs.declared.types.Value.TheVariants.{Int};
-
-    ghost cells = { λ o. Int (pos o.order) ∷ Int (pos o.ticket) ∷ Int (pos o.container) ∷ [] };
-
-    ghost is_legible = { λ _. ⊤ };
-
-    fn read(row: &Row) -> Result<FirstOrder, StoreFault> {
-        Ok(FirstOrder {
-            order: row.get(0)?,
-            ticket: row.get(1)?,
-            container: row.get(2)?,
-        })
-    }
-}
 
 /// The orders that wait, by number. The index of the orders by state and container finds them, so orders
 /// that have ended are not read.
 fn waiting_orders<P: Versioned, S: Alter>(
     alloc: Global,
     tables: &mut Tables<P, S>,
-) -> Result<Vec<FirstOrder>, StoreFault>
+) -> Result<Vec<ContainerOrder>, StoreFault>
     ensures { LooksUp S.Store (Holds schema.orders order_cells) tables.old tables.new result
         (AreCounted (λ o. o.id)) (λ _. ⊤)
         (λ xs found. found.items
@@ -55,7 +37,7 @@ fn waiting_orders<P: Versioned, S: Alter>(
     find(
         alloc,
         tables,
-        "SELECT id, ticket, container FROM orders WHERE state = 1 ORDER BY id",
+        "SELECT container, id, ticket FROM orders WHERE state = 1 ORDER BY id",
         &[],
     )
 }
@@ -71,7 +53,7 @@ fn keep(known: &mut BTreeSet<u64>, container: u64) -> Result<bool, AllocError>
 }
 
 /// The containers that are not on the shelf.
-fn absent(alloc: Global, lines: &[HoldingLine]) -> Result<BTreeSet<u64>, AllocError>
+fn containers_off_shelf(alloc: Global, lines: &[HoldingLine]) -> Result<BTreeSet<u64>, AllocError>
     ensures { IfOk result (λ known. (c : ℕ)
         → list_any (nat_eq c) known.keys ≡ list_any (λ (h : HoldingLine). nat_eq c h.container) lines.now) }
 {
@@ -87,9 +69,9 @@ fn absent(alloc: Global, lines: &[HoldingLine]) -> Result<BTreeSet<u64>, AllocEr
 fn firsts(
     alloc: Global,
     known: BTreeSet<u64>,
-    orders: &[FirstOrder],
-) -> Result<Vec<FirstOrder>, AllocError>
-    ensures { AreByNumber (λ (o : FirstOrder). o.order) orders.now
+    orders: &[ContainerOrder],
+) -> Result<Vec<ContainerOrder>, AllocError>
+    ensures { AreByNumber (λ (o : ContainerOrder). o.order) orders.now
         → IfOk result (λ firsts. firsts.items
         ≡ filter (λ o. is_earliest o orders.now && is_new known.keys o) orders.now) }
 {
@@ -108,13 +90,13 @@ fn firsts(
 pub fn candidates<P: Versioned, S: Alter>(
     alloc: Global,
     tables: &mut Tables<P, S>,
-) -> Result<Vec<FirstOrder>, StoreFault>
+) -> Result<Vec<ContainerOrder>, StoreFault>
     ensures answers { StoreAnswers S.Store RepresentsDeskAlone IsLegible tables.old tables.new result (λ _. ⊤)
         (λ _ d all. all.items ≡ candidates_of d) }
 {
     let orders = waiting_orders(alloc, tables)?;
     let lines = holding_lines(alloc, tables)?;
-    let known = absent(alloc, &lines)?;
+    let known = containers_off_shelf(alloc, &lines)?;
     let firsts = firsts(alloc, known, &orders)?;
     Ok(firsts)
 }

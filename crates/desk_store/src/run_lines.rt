@@ -16,7 +16,8 @@ ghost use Rattle.desk_store.specs.Storage.{RepresentsQueues, IsLegibleStorage, A
 ghost use Rattle.desk_store.specs.Storage.{IsToldRun, IsToldLine, IsKnownLine};
 
 use crate::container_labels::box_of;
-use crate::runs::{Brought, MOST_RUNS, TakenLine, lines_with};
+use crate::container_orders::ContainerOrder;
+use crate::runs::{Brought, MOST_RUNS, lines_with};
 use desk_core::Candidate;
 use isad_core::{Day, List};
 use office_tables::from_row::FromRow;
@@ -72,7 +73,7 @@ fn find_day<P: Versioned, S: Alter>(
 fn candidate<P: Versioned, S: Alter>(
     alloc: Global,
     tables: &mut Tables<P, S>,
-    line: &TakenLine,
+    line: &ContainerOrder,
 ) -> Result<Candidate, StoreFault>
     ensures answers { StoreAnswers S.Store RepresentsQueues IsLegibleStorage tables.old tables.new result (IsKnownLine
         line.now) (λ _ storage told. IsToldLine storage line.now told) }
@@ -94,7 +95,7 @@ fn candidate<P: Versioned, S: Alter>(
 fn candidates_of<P: Versioned, S: Alter>(
     alloc: Global,
     tables: &mut Tables<P, S>,
-    lines: &[TakenLine],
+    lines: &[ContainerOrder],
 ) -> Result<Vec<Candidate>, StoreFault>
     ensures answers { StoreAnswers S.Store RepresentsQueues IsLegibleStorage tables.old tables.new result
         (λ storage. AllByRecursion (λ l. IsKnownLine l storage) lines.now)

@@ -1,28 +1,18 @@
 //! The reader who has a ticket.
 
-ghost use Rattle.std.specs.Prelude.{◌≡◌, ◌<◌, ◌^◌, nat_eq, length, IfOk, IfSome, ⊤};
-ghost use Rattle.std.specs.List.{count_by};
-ghost use Rattle.sqlite.specs.Held.{state};
+ghost use Rattle.std.specs.Prelude.{◌≡◌, IfOk, IfSome, ⊤};
 ghost use Rattle.isad_core.specs.Limits.{IsNumber};
 ghost use Rattle.office_tables.specs.Calls.{StoreAnswers};
 ghost use Rattle.desk_store.specs.Readers.{ticket_holder};
 ghost use Rattle.desk_store.specs.Representation.{RepresentsDeskAlone, IsLegible};
 
-use crate::reader_summary::{OrderLine, live_lines, seat_in};
+use crate::reader_summary::{count_out, live_lines, seat_in};
 use crate::readers::{MOST_TICKETS, find_reader};
 use crate::taken_seats::find_seat;
 use desk_core::Reader;
 use office_tables::{StoreFault, Tables, Versioned};
 use sqlite::Alter;
 use std::alloc::Global;
-
-/// How many of the orders are out.
-fn count_out(lines: &[OrderLine]) -> u32
-    ensures { length lines.now < 2 ^ 32 → result ≡ count_by (λ o. nat_eq o.state 2) lines.now }
-{
-    let out = lines.iter().filter(|line| line.state == 2).count();
-    u32::try_from(out).unwrap_or(u32::MAX)
-}
 
 /// The reader who has a ticket, with his seat and how many containers are out with him, or none if the
 /// ticket was not given.

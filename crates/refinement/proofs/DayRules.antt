@@ -8,7 +8,7 @@ use Rattle.desk_core.specs.declared.reader.Place.{Place}
 use Rattle.desk_core.specs.declared.reader.Place.TheVariants.{Shelf, Desk, Out}
 use Rattle.desk_store.specs.Holdings.{issued_by, issued_of}
 use Rattle.desk_store.specs.Seats.{taken_seats}
-use Rattle.desk_store.specs.declared.holdings.Loan.{Loan}
+use Rattle.desk_store.specs.declared.container_orders.ContainerOrder.{ContainerOrder}
 use Rattle.desk_store.specs.declared.taken_seats.TakenSeat.{TakenSeat}
 use Rattle.office_tables.specs.Versions.{Version}
 use Rattle.tree_core.proofs.Lists.{any_agree, list_any-map}
@@ -75,14 +75,14 @@ any_of_both p q (x ∷ xs) = ap (λ b. (p x || q x) || b) (any_of_both p q xs) �
 
 module _ (s : State) where
   -- with whom a container is, where it is out
-  abbrev lent : ℕ → Option Loan
+  abbrev lent : ℕ → Option ContainerOrder
   lent c = option_and_then (λ o. option_map (λ (order : Order). record { container = c; order = o; ticket = order.ticket }) (nth s.orders o)) (order_out (s.place c))
 
   row_tells : (version : Version) (c : ℕ) → option_and_then (issued_by (order_rows s)) (holding_row c (s.place c)) ≡ lent c
   row_tells version c = at (s.place c)
     where
       named : (o : ℕ) (r : Option Order) → option_map (λ t. record { container = c; order = o; ticket = t }) (option_map (λ (order : Order). order.ticket) r)
-          ≡ option_map (λ (order : Order). let loan : Loan = record { container = c; order = o; ticket = order.ticket } in loan) r
+          ≡ option_map (λ (order : Order). let loan : ContainerOrder = record { container = c; order = o; ticket = order.ticket } in loan) r
       named o None = refl
       named o (Some order) = refl
 
@@ -97,23 +97,23 @@ module _ (s : State) where
       filtered_twice (λ c. holding_row c (s.place c)) (issued_by (order_rows s)) (containers s)
       ∙ filtered_alike (λ c. option_and_then (issued_by (order_rows s)) (holding_row c (s.place c))) lent (row_tells version) (containers s)
 
-  is_lent_to : (t c : ℕ) → some_and (λ (loan : Loan). nat_eq t loan.ticket) (lent c) ≡ is_out_with s t c
+  is_lent_to : (t c : ℕ) → some_and (λ (loan : ContainerOrder). nat_eq t loan.ticket) (lent c) ≡ is_out_with s t c
   is_lent_to t c = at (order_out (s.place c))
     where
-      by : (o : ℕ) (r : Option Order) → some_and (λ (loan : Loan). nat_eq t loan.ticket) (option_map (λ (order : Order). record { container = c; order = o; ticket = order.ticket }) r) ≡ some_and (λ (order : Order). nat_eq order.ticket t) r
+      by : (o : ℕ) (r : Option Order) → some_and (λ (loan : ContainerOrder). nat_eq t loan.ticket) (option_map (λ (order : Order). record { container = c; order = o; ticket = order.ticket }) r) ≡ some_and (λ (order : Order). nat_eq order.ticket t) r
       by o None = refl
       by o (Some order) = flipped t order.ticket
 
-      at : (p : Option ℕ) → some_and (λ (loan : Loan). nat_eq t loan.ticket) (option_and_then (λ o. option_map (λ (order : Order). record { container = c; order = o; ticket = order.ticket }) (nth s.orders o)) p) ≡ some_and (is_by s t) p
+      at : (p : Option ℕ) → some_and (λ (loan : ContainerOrder). nat_eq t loan.ticket) (option_and_then (λ o. option_map (λ (order : Order). record { container = c; order = o; ticket = order.ticket }) (nth s.orders o)) p) ≡ some_and (is_by s t) p
       at None = refl
       at (Some o) = by o (nth s.orders o)
 
   -- as many of them are with a ticket as it has
-  held_is : (version : Version) (t : ℕ) → count_by (λ (loan : Loan). nat_eq t loan.ticket) (issued_of (tables version s).desk) ≡ held_count s t
+  held_is : (version : Version) (t : ℕ) → count_by (λ (loan : ContainerOrder). nat_eq t loan.ticket) (issued_of (tables version s).desk) ≡ held_count s t
   held_is version t =
-      ap (count_by (λ (loan : Loan). nat_eq t loan.ticket)) (loans_are version)
-      ∙ count_filtered (λ (loan : Loan). nat_eq t loan.ticket) lent (containers s)
-      ∙ count_agree (λ c. some_and (λ (loan : Loan). nat_eq t loan.ticket) (lent c)) (is_out_with s t) (containers s) (is_lent_to t)
+      ap (count_by (λ (loan : ContainerOrder). nat_eq t loan.ticket)) (loans_are version)
+      ∙ count_filtered (λ (loan : ContainerOrder). nat_eq t loan.ticket) lent (containers s)
+      ∙ count_agree (λ c. some_and (λ (loan : ContainerOrder). nat_eq t loan.ticket) (lent c)) (is_out_with s t) (containers s) (is_lent_to t)
 
   is_against : (version : Version) (c : ℕ) → some_and (is_against_rules s (issued_of (tables version s).desk)) (lent c) ≡ is_held_against_rules s c
   is_against version c = at (order_out (s.place c))
@@ -135,7 +135,7 @@ module _ (s : State) where
       by o None = refl
       by o (Some order) =
           let t = order.ticket in
-          broken (nat_lt s.settings.hands (count_by (λ (other : Loan). nat_eq t other.ticket) (issued_of (tables version s).desk))) (nat_le (held_count s t) s.settings.hands) (is_seated s t) (opens s t c)
+          broken (nat_lt s.settings.hands (count_by (λ (other : ContainerOrder). nat_eq t other.ticket) (issued_of (tables version s).desk))) (nat_le (held_count s t) s.settings.hands) (is_seated s t) (opens s t c)
           (ap (nat_lt s.settings.hands) (held_is version t) ∙ over s.settings.hands (held_count s t))
 
       at : (p : Option ℕ) → some_and (is_against_rules s (issued_of (tables version s).desk)) (option_and_then (λ o. option_map (λ (order : Order). record { container = c; order = o; ticket = order.ticket }) (nth s.orders o)) p)
@@ -155,34 +155,34 @@ module _ (s : State) where
 
   -- ---- one rule after the other
 
-  pub one_by_one : (loans : List Loan) → are_against_rules s loans ≡ (list_any (has_too_many s.settings.hands loans) loans || (list_any (is_without_seat s) loans || list_any (is_closed_to s) loans))
+  pub one_by_one : (loans : List ContainerOrder) → are_against_rules s loans ≡ (list_any (has_too_many s.settings.hands loans) loans || (list_any (is_without_seat s) loans || list_any (is_closed_to s) loans))
   one_by_one loans =
       any_of_both (has_too_many s.settings.hands loans) (λ loan. is_without_seat s loan || is_closed_to s loan) loans
       ∙ ap (λ b. list_any (has_too_many s.settings.hands loans) loans || b) (any_of_both (is_without_seat s) (is_closed_to s) loans)
 
-  pub seats_tell : (version : Version) (loans : List Loan) → list_any (has_no_row (tables version s).desk) loans ≡ list_any (is_without_seat s) loans
+  pub seats_tell : (version : Version) (loans : List ContainerOrder) → list_any (has_no_row (tables version s).desk) loans ≡ list_any (is_without_seat s) loans
   seats_tell version loans = any_agree (has_no_row (tables version s).desk) (is_without_seat s) loans (λ loan. ap not (sits_by_row loan.ticket 1 s.seats))
 
 -- ---- tickets that stand too often
 
-pub over_is : (hands : ℕ) (loans : List Loan) → occurs_more_than hands (map (λ (loan : Loan). loan.ticket) loans) ≡ list_any (has_too_many hands loans) loans
+pub over_is : (hands : ℕ) (loans : List ContainerOrder) → occurs_more_than hands (map (λ (loan : ContainerOrder). loan.ticket) loans) ≡ list_any (has_too_many hands loans) loans
 over_is hands loans =
-    let ticket : Loan → ℕ = λ loan. loan.ticket in
+    let ticket : ContainerOrder → ℕ = λ loan. loan.ticket in
     list_any-map (λ k. nat_lt hands (count_by (nat_eq k) (map ticket loans))) ticket loans
-    ∙ any_agree (λ (loan : Loan). nat_lt hands (count_by (nat_eq loan.ticket) (map ticket loans))) (has_too_many hands loans) loans
+    ∙ any_agree (λ (loan : ContainerOrder). nat_lt hands (count_by (nat_eq loan.ticket) (map ticket loans))) (has_too_many hands loans) loans
     (λ loan. ap (nat_lt hands) (count_map (nat_eq loan.ticket) ticket loans))
 
 -- ---- seats, as they are read
 
-pub lacks_is : (d : Rows) (loans : List Loan) (taken : List TakenSeat) → taken ≡ taken_seats d → list_any (λ (loan : Loan). not (list_any (λ (seat : TakenSeat). nat_eq loan.ticket seat.ticket) taken)) loans ≡ list_any (has_no_row d) loans
+pub lacks_is : (d : Rows) (loans : List ContainerOrder) (taken : List TakenSeat) → taken ≡ taken_seats d → list_any (λ (loan : ContainerOrder). not (list_any (λ (seat : TakenSeat). nat_eq loan.ticket seat.ticket) taken)) loans ≡ list_any (has_no_row d) loans
 lacks_is d loans taken is =
-    any_agree (λ (loan : Loan). not (list_any (λ (seat : TakenSeat). nat_eq loan.ticket seat.ticket) taken)) (has_no_row d) loans
+    any_agree (λ (loan : ContainerOrder). not (list_any (λ (seat : TakenSeat). nat_eq loan.ticket seat.ticket) taken)) (has_no_row d) loans
     (λ loan. ap not (ap (list_any (λ (seat : TakenSeat). nat_eq loan.ticket seat.ticket)) is
     ∙ list_any-map (λ (seat : TakenSeat). nat_eq loan.ticket seat.ticket) (λ (row : SeatRow). record { seat = row.seat; ticket = row.ticket }) d.seats))
 
 -- ---- one rule after the other, as they are told
 
-module _ (version : Version) (s : State) (hands : ℕ) (loans : List Loan) (many : Bool) (same : hands ≡ s.settings.hands) (first : many ≡ list_any (has_too_many hands loans) loans) where
+module _ (version : Version) (s : State) (hands : ℕ) (loans : List ContainerOrder) (many : Bool) (same : hands ≡ s.settings.hands) (first : many ≡ list_any (has_too_many hands loans) loans) where
   in_turn : are_against_rules s loans ≡ (many || (list_any (has_no_row (tables version s).desk) loans || list_any (is_closed_to s) loans))
   in_turn =
       one_by_one s loans

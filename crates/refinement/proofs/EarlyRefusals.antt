@@ -3,7 +3,7 @@ use Rattle.std.proofs.Common.{◌≡◌, ℕ, zero, suc, Bool, true, false, cond
 use Rattle.std.specs.Prelude.{filter, option_map, slice_get, slice_index_or}
 use Rattle.std.proofs.lemmas.Bool.{and_parts, cases_Bool, false≢true}
 use Rattle.desk_store.specs.Holdings.{issued_of}
-use Rattle.desk_store.specs.declared.holdings.Loan.{Loan}
+use Rattle.desk_store.specs.declared.container_orders.ContainerOrder.{ContainerOrder}
 use Rattle.tree_core.specs.Marks.{withholds}
 use Rattle.office_tables.specs.Versions.{Version}
 use Rattle.office_core.specs.Rules.{lowest_withheld}
@@ -59,9 +59,9 @@ module _ {X Y : Type 0} (told : X → Y) (asked p : X → Bool) where
 
 -- ---- the lowest container that is closed
 
-module _ (version : Version) (s : State) (judged : CanBeJudged s) (u : ℕ) (others : OthersAreOpen u s) (it : HousedUnit) (housed : IsHoused u s it) (loans before : List Loan) (place : ℕ)
+module _ (version : Version) (s : State) (judged : CanBeJudged s) (u : ℕ) (others : OthersAreOpen u s) (it : HousedUnit) (housed : IsHoused u s it) (loans before : List ContainerOrder) (place : ℕ)
     (are : loans ≡ issued_of (tables version s).desk) (near : AreAsked u s (take place loans) before) where
-  abbrev test : Loan → Bool
+  abbrev test : ContainerOrder → Bool
   test loan = near.test loan.container
 
   kept_is : lowest_withheld s ≡ first_closed s (filter test loans)
@@ -71,9 +71,9 @@ module _ (version : Version) (s : State) (judged : CanBeJudged s) (u : ℕ) (oth
   found_is = ap (first_closed s) near.are
 
   pub refused_before : (c : ℕ) → Some c ≡ first_closed s before → lowest_withheld s ≡ Some c
-  refused_before c found = kept_is ∙ one_before (λ (loan : Loan). loan.container) test (is_closed_to s) place c loans (found ∙ found_is)
+  refused_before c found = kept_is ∙ one_before (λ (loan : ContainerOrder). loan.container) test (is_closed_to s) place c loans (found ∙ found_is)
 
-  withheld_is : (loan : Loan) → is_withheld_in s it loan ≡ true → (test loan ≡ true) × (is_closed_to s loan ≡ true)
+  withheld_is : (loan : ContainerOrder) → is_withheld_in s it loan ≡ true → (test loan ≡ true) × (is_closed_to s loan ≡ true)
   withheld_is loan withheld =
       let inside = (and_parts (is_one_of loan.container it.containers.items) (withholds s.day false (map (with_permit (is_permitted s.day (s.permits loan.ticket))) it.path.items)) withheld).0 in (
         elim (cases_Bool (test loan)) [
@@ -83,6 +83,6 @@ module _ (version : Version) (s : State) (judged : CanBeJudged s) (u : ℕ) (oth
         withheld_closes s judged u it housed loan withheld,
       )
 
-  pub refused_there : IsWithheldAt s it loans place → (d : Loan) → None ≡ first_closed s before → lowest_withheld s ≡ Some (slice_index_or loans place d).container
+  pub refused_there : IsWithheldAt s it loans place → (d : ContainerOrder) → None ≡ first_closed s before → lowest_withheld s ≡ Some (slice_index_or loans place d).container
   refused_there withheld d none =
-      kept_is ∙ one_there (λ (loan : Loan). loan.container) test (is_closed_to s) (is_withheld_in s it) withheld_is place d loans (none ∙ found_is) withheld
+      kept_is ∙ one_there (λ (loan : ContainerOrder). loan.container) test (is_closed_to s) (is_withheld_in s it) withheld_is place d loans (none ∙ found_is) withheld

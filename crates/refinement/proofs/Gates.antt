@@ -6,7 +6,7 @@ use Rattle.desk_core.specs.DeskRows.{HoldingRow, OrderRow}
 use Rattle.desk_core.specs.declared.reader.Place.{Place}
 use Rattle.desk_core.specs.declared.reader.Place.TheVariants.{Shelf, Desk, Out}
 use Rattle.desk_store.specs.Holdings.{issued_by, issued_of, ticket_of}
-use Rattle.desk_store.specs.declared.holdings.Loan.{Loan}
+use Rattle.desk_store.specs.declared.container_orders.ContainerOrder.{ContainerOrder}
 use Rattle.office_tables.specs.Versions.{Version}
 use Rattle.office_core.specs.Rules.{is_kept_from_holder, lowest_withheld}
 use Rattle.office_core.specs.State.{Order, State, containers, opens, order_out}
@@ -49,7 +49,7 @@ module _ (version : Version) (s : State) where
       at None = refl
       at (Some order) = refl
 
-  abbrev rows_of : List ℕ → List Loan
+  abbrev rows_of : List ℕ → List ContainerOrder
   rows_of cs = filter_map (issued_by orders) (filter_map (λ c. holding_row c (s.place c)) cs)
 
   -- one container after another
@@ -63,8 +63,8 @@ module _ (version : Version) (s : State) where
       issued_is : (o : ℕ) (order : Order) → nth s.orders o ≡ Some order → issued_by orders (record { container = c; place = 2; held_by = Some o }) ≡ Some (record { container = c; order = o; ticket = order.ticket })
       issued_is o order e = ap (option_map (λ t. record { container = c; order = o; ticket = t })) (ticket_is o ∙ ap (option_map (λ (order : Order). order.ticket)) e)
 
-      by_test : (b : Bool) (loan : Loan) → loan.container ≡ c → first_that (is_kept_from_holder s) cs ≡ first_closed s (rows_of cs)
-          → cond b (Some c) (first_that (is_kept_from_holder s) cs) ≡ option_map (λ (l : Loan). l.container) (cond b (Some loan) (first_that (is_closed_to s) (rows_of cs)))
+      by_test : (b : Bool) (loan : ContainerOrder) → loan.container ≡ c → first_that (is_kept_from_holder s) cs ≡ first_closed s (rows_of cs)
+          → cond b (Some c) (first_that (is_kept_from_holder s) cs) ≡ option_map (λ (l : ContainerOrder). l.container) (cond b (Some loan) (first_that (is_closed_to s) (rows_of cs)))
       by_test true loan e later = ap Some (sym e)
       by_test false loan e later = later
 
@@ -88,7 +88,7 @@ module _ (version : Version) (s : State) where
 
   -- ---- where only some of those that are out can be closed to who has them
 
-  abbrev asked : (ℕ → Bool) → Loan → Bool
+  abbrev asked : (ℕ → Bool) → ContainerOrder → Bool
   asked q loan = q loan.container
 
   kept_where : (q : ℕ → Bool) → ((c o : ℕ) → order_out (s.place c) ≡ Some o → is_some (nth s.orders o) ≡ true) → ((c : ℕ) → q c ≡ false → is_kept_from_holder s c ≡ false) → (cs : List ℕ)
@@ -107,10 +107,10 @@ module _ (version : Version) (s : State) where
           ap (λ p. some_and (λ o. some_and (λ order. not (opens s order.ticket c)) (nth s.orders o)) (order_out p)) e
           ∙ ap (some_and (λ order. not (opens s order.ticket c))) known
 
-      by_tests : (near closed : Bool) (loan : Loan) → loan.container ≡ c → is_closed_to s loan ≡ closed → (near ≡ false → closed ≡ false) → first_that (is_kept_from_holder s) cs ≡ first_closed s (filter (asked q) (rows_of cs))
+      by_tests : (near closed : Bool) (loan : ContainerOrder) → loan.container ≡ c → is_closed_to s loan ≡ closed → (near ≡ false → closed ≡ false) → first_that (is_kept_from_holder s) cs ≡ first_closed s (filter (asked q) (rows_of cs))
           → cond closed (Some c) (first_that (is_kept_from_holder s) cs) ≡ first_closed s (cond near (loan ∷ filter (asked q) (rows_of cs)) (filter (asked q) (rows_of cs)))
-      by_tests true true loan e is other later = ap Some (sym e) ∙ sym (ap (λ b. option_map (λ (l : Loan). l.container) (cond b (Some loan) (first_that (is_closed_to s) (filter (asked q) (rows_of cs))))) is)
-      by_tests true false loan e is other later = later ∙ sym (ap (λ b. option_map (λ (l : Loan). l.container) (cond b (Some loan) (first_that (is_closed_to s) (filter (asked q) (rows_of cs))))) is)
+      by_tests true true loan e is other later = ap Some (sym e) ∙ sym (ap (λ b. option_map (λ (l : ContainerOrder). l.container) (cond b (Some loan) (first_that (is_closed_to s) (filter (asked q) (rows_of cs))))) is)
+      by_tests true false loan e is other later = later ∙ sym (ap (λ b. option_map (λ (l : ContainerOrder). l.container) (cond b (Some loan) (first_that (is_closed_to s) (filter (asked q) (rows_of cs))))) is)
       by_tests false true loan e is other later = absurd (let bad = other refl in cc)
       by_tests false false loan e is other later = later
 
@@ -118,7 +118,7 @@ module _ (version : Version) (s : State) where
           → first_that (is_kept_from_holder s) (c ∷ cs) ≡ first_closed s (filter (asked q) (rows_of (c ∷ cs)))
       out_with o e None known there later = absurd (cc)
       out_with o e (Some order) known there later =
-          let loan : Loan = record { container = c; order = o; ticket = order.ticket } in
+          let loan : ContainerOrder = record { container = c; order = o; ticket = order.ticket } in
           let is = kept_is_closed o order e known in
           ap (λ b. cond b (Some c) (first_that (is_kept_from_holder s) cs)) is
           ∙ by_tests (q c) (is_closed_to s loan) loan refl refl (λ far. sym is ∙ others c far) later
@@ -132,5 +132,5 @@ module _ (version : Version) (s : State) where
 
   -- those whose containers pass a test, where all others are open to who has them
   pub enough_of : CanBeJudged s → (test : ℕ → Bool) → ((c : ℕ) → test c ≡ false → is_kept_from_holder s c ≡ false)
-      → (loans : List Loan) → loans ≡ filter (λ (loan : Loan). test loan.container) (issued_of (tables version s).desk) → AreEnough loans s
+      → (loans : List ContainerOrder) → loans ≡ filter (λ (loan : ContainerOrder). test loan.container) (issued_of (tables version s).desk) → AreEnough loans s
   enough_of judged test others loans are = kept_where test judged.orders others (containers s) ∙ ap (first_closed s) (sym are)

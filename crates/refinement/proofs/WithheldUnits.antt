@@ -19,7 +19,7 @@ use Rattle.catalogue_core.specs.Units.{Unit, has_id, is_closed, is_later}
 use Rattle.catalogue_store.proofs.MarkForests.{path_ids}
 use Rattle.office_core.specs.State.{State, is_permitted, opens}
 use Rattle.office_core.specs.Words.{nth, some_and}
-use Rattle.desk_store.specs.declared.holdings.Loan.{Loan}
+use Rattle.desk_store.specs.declared.container_orders.ContainerOrder.{ContainerOrder}
 use Rattle.refinement.specs.AccessConditions.{CanBeJudged}
 use Rattle.refinement.specs.Gate.{IsHoused, Withholds, is_one_of, is_withheld_in, names_some, nearest}
 use Rattle.refinement.specs.declared.housed_units.HousedUnit.{HousedUnit}
@@ -131,7 +131,7 @@ nothing_mapped g (x ∷ xs) e = absurd (cc)
 nowhere : (f : Forest Unit) (u : ℕ) → has_unit f u ≡ false → path (has_id u) f ≡ []
 nowhere f u gone = nothing_mapped (λ (unit : Unit). unit.id) (path (has_id u) f) (sym (path_ids u f) ∙ path_none u (each (λ (unit : Unit). unit.id) f) (has-each (nat_eq u) (λ (unit : Unit). unit.id) f ∙ gone))
 
-module _ (s : State) (judged : CanBeJudged s) (u : ℕ) (it : HousedUnit) (read : IsHoused u s it) (loan : Loan) (withheld : is_withheld_in s it loan ≡ true) where
+module _ (s : State) (judged : CanBeJudged s) (u : ℕ) (it : HousedUnit) (read : IsHoused u s it) (loan : ContainerOrder) (withheld : is_withheld_in s it loan ≡ true) where
   abbrev f : Forest Unit
   f = s.catalogue.forest
 

@@ -9,7 +9,7 @@ use Rattle.catalogue_core.specs.UnitMarks.{AreMarks, names}
 use Rattle.catalogue_core.specs.Units.{Unit, has_id}
 use Rattle.catalogue_statements.specs.Rows.{HousingRow}
 use Rattle.desk_core.specs.declared.refusal.Refusal.{Refusal}
-use Rattle.desk_store.specs.declared.holdings.Loan.{Loan}
+use Rattle.desk_store.specs.declared.container_orders.ContainerOrder.{ContainerOrder}
 use Rattle.office_core.specs.Rules.{Reply, gate, is_kept_from_holder, lowest_withheld}
 use Rattle.office_core.specs.State.{State, is_permitted, opens}
 use Rattle.office_core.specs.Words.{first_that, some_and}
@@ -17,12 +17,12 @@ use Rattle.office_core.specs.declared.done.Done.{Done}
 use Rattle.refinement.specs.declared.housed_units.HousedUnit.{HousedUnit}
 
 -- the container is not open to the reader who has it
-abbrev pub is_closed_to : State → Loan → Bool
+abbrev pub is_closed_to : State → ContainerOrder → Bool
 is_closed_to s loan = not (opens s loan.ticket loan.container)
 
 -- the first container of these loans that is not open to the reader who has it
-abbrev pub first_closed : State → List Loan → Option ℕ
-first_closed s loans = option_map (λ (loan : Loan). loan.container) (first_that (is_closed_to s) loans)
+abbrev pub first_closed : State → List ContainerOrder → Option ℕ
+first_closed s loans = option_map (λ (loan : ContainerOrder). loan.container) (first_that (is_closed_to s) loans)
 
 -- the refusal if there is one, otherwise what was done
 abbrev pub unless_refused : Option Refusal → Done → Reply
@@ -61,15 +61,15 @@ abbrev pub is_one_of : ℕ → List ℕ → Bool
 is_one_of n ns = list_any (λ m. nat_eq m n) ns
 
 -- The first of these loans that is not open to its reader is also the first such loan of all: no other need be checked.
-abbrev pub AreEnough : List Loan → State → Type 0
+abbrev pub AreEnough : List ContainerOrder → State → Type 0
 AreEnough loans s = lowest_withheld s ≡ first_closed s loans
 
 -- `asked` are the loans whose containers pass some test. Every container in which something of the branch lies passes
 -- that test.
-pub record AreAsked (u : ℕ) (s : State) (loans asked : List Loan) : Type 0 where
+pub record AreAsked (u : ℕ) (s : State) (loans asked : List ContainerOrder) : Type 0 where
   pub test : ℕ → Bool
   pub near : (c : ℕ) → test c ≡ false → is_named_near u s c ≡ false
-  pub are : asked ≡ filter (λ (loan : Loan). test loan.container) loans
+  pub are : asked ≡ filter (λ (loan : ContainerOrder). test loan.container) loans
 
 -- these are the containers in which something of the branch lies
 abbrev pub AreNear : ℕ → State → List ℕ → Type 0
@@ -99,15 +99,15 @@ pub record IsHoused (u : ℕ) (s : State) (found : HousedUnit) : Type 0 where
   pub path : AreMarks (path (has_id u) s.catalogue.forest) found.path.items
 
 -- the unit is withheld from the reader who has a container in which it lies
-abbrev pub is_withheld_in : State → HousedUnit → Loan → Bool
+abbrev pub is_withheld_in : State → HousedUnit → ContainerOrder → Bool
 is_withheld_in s it loan =
     is_one_of loan.container it.containers.items
     && withholds s.day false (map (with_permit (is_permitted s.day (s.permits loan.ticket))) it.path.items)
 
 -- then this container is closed to the reader who has it
 abbrev pub Withholds : State → HousedUnit → Type 0
-Withholds s it = (loan : Loan) → is_withheld_in s it loan ≡ true → is_closed_to s loan ≡ true
+Withholds s it = (loan : ContainerOrder) → is_withheld_in s it loan ≡ true → is_closed_to s loan ≡ true
 
 -- the loan at this place is of a container in which the unit lies, and the unit is withheld from its reader
-abbrev pub IsWithheldAt : State → HousedUnit → List Loan → ℕ → Type 0
+abbrev pub IsWithheldAt : State → HousedUnit → List ContainerOrder → ℕ → Type 0
 IsWithheldAt s it loans place = some_and (is_withheld_in s it) (slice_get loans place) ≡ true

@@ -17,7 +17,7 @@ use crate::containers_apart::{containers_apart, loans_without};
 use crate::gate::first_closed;
 use crate::housed_units::{HousedUnit, containers_of_each, first_withheld, housed_unit, is_among};
 use catalogue_store::Places;
-use desk_store::{Loan, issued};
+use desk_store::{ContainerOrder, issued};
 use isad_core::Day;
 use office_core::{Done, Refusal};
 use office_tables::{StoreFault, Tables};
@@ -47,7 +47,11 @@ fn containers_near<P: Places, S: Alter>(
 }
 
 /// The loans whose containers are among these. The containers must be in ascending order.
-fn loans_of(alloc: Global, loans: &[Loan], ascending: &[u64]) -> Result<Vec<Loan>, AllocError>
+fn loans_of(
+    alloc: Global,
+    loans: &[ContainerOrder],
+    ascending: &[u64],
+) -> Result<Vec<ContainerOrder>, AllocError>
     requires rise { IsNonDecreasing ascending.now }
     ensures { IfOk result (λ v. v.items ≡ filter (λ loan. is_one_of loan.container ascending.now) loans.now) }
 {
@@ -68,8 +72,8 @@ fn loans_in_branch<P: Places, S: Alter>(
     tables: &mut Tables<P, S>,
     unit: u64,
     housed: &HousedUnit,
-    loans: &[Loan],
-) -> Result<Vec<Loan>, StoreFault>
+    loans: &[ContainerOrder],
+) -> Result<Vec<ContainerOrder>, StoreFault>
     requires small { IsNumber unit }
     ensures answers { Answers S.Store (RepresentsWhole P.represents P.version) CanBeJudged tables.old tables.new result
         (λ _. ⊤) (λ _ s found. IsHoused unit s housed.now → AreAsked unit s loans.now found.items) }
@@ -86,8 +90,8 @@ fn loans_to_ask<P: Places, S: Alter>(
     tables: &mut Tables<P, S>,
     unit: u64,
     housed: &HousedUnit,
-    loans: Vec<Loan>,
-) -> Result<Vec<Loan>, StoreFault>
+    loans: Vec<ContainerOrder>,
+) -> Result<Vec<ContainerOrder>, StoreFault>
     requires small { IsNumber unit }
     ensures answers { Answers S.Store (RepresentsWhole P.represents P.version) CanBeJudged tables.old tables.new result
         (λ _. ⊤) (λ _ s found. IsHoused unit s housed.now → AreAsked unit s loans.items found.items) }
@@ -104,7 +108,7 @@ pub fn loans_near<P: Places, S: Alter>(
     alloc: Global,
     tables: &mut Tables<P, S>,
     unit: u64,
-) -> Result<Vec<Loan>, StoreFault>
+) -> Result<Vec<ContainerOrder>, StoreFault>
     requires small { IsNumber unit }
     ensures answers { Answers S.Store (RepresentsWhole P.represents P.version) CanBeJudged tables.old tables.new result
         (λ _. ⊤) (λ _ s found. AreAsked unit s (issued_of (tables_of P.version s).desk) found.items) }
@@ -120,7 +124,7 @@ pub fn pass_of<P: Places, S: Alter>(
     alloc: Global,
     tables: &mut Tables<P, S>,
     today: Day,
-    loans: &[Loan],
+    loans: &[ContainerOrder],
     done: Done,
 ) -> Result<Result<Done, Refusal>, StoreFault>
     ensures answers { Answers S.Store (RepresentsWhole P.represents P.version) CanBeJudged tables.old tables.new result
@@ -139,8 +143,8 @@ fn lower_loans<P: Places, S: Alter>(
     tables: &mut Tables<P, S>,
     unit: u64,
     housed: &HousedUnit,
-    loans: &[Loan],
-) -> Result<Vec<Loan>, StoreFault>
+    loans: &[ContainerOrder],
+) -> Result<Vec<ContainerOrder>, StoreFault>
     requires small { IsNumber unit }
     requires rise { IsNonDecreasing housed.now.containers.items }
     ensures answers { Answers S.Store (RepresentsWhole P.represents P.version) CanBeJudged tables.old tables.new result
@@ -161,7 +165,7 @@ fn lowest_closed<P: Places, S: Alter>(
     today: Day,
     unit: u64,
     housed: &HousedUnit,
-    loans: &[Loan],
+    loans: &[ContainerOrder],
     place: usize,
 ) -> Result<u64, StoreFault>
     requires small { IsNumber unit }

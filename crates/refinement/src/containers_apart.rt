@@ -11,7 +11,7 @@ ghost use Rattle.refinement.specs.AccessConditions.{CanBeJudged, RepresentsWhole
 use crate::housed_units::{HousedUnit, is_among};
 use catalogue_statements::containers::housed_in;
 use catalogue_store::Places;
-use desk_store::Loan;
+use desk_store::ContainerOrder;
 use office_tables::value::NO_NUMBER;
 use office_tables::{StoreFault, Tables};
 use sqlite::Alter;
@@ -79,7 +79,7 @@ pub(crate) fn containers_apart<P: Places, S: Alter>(
     tables: &mut Tables<P, S>,
     unit: u64,
     housed: &HousedUnit,
-    loans: &[Loan],
+    loans: &[ContainerOrder],
 ) -> Result<Option<Vec<u64>>, StoreFault>
     requires rise { IsNonDecreasing housed.now.containers.items }
     ensures answers { Answers S.Store (RepresentsWhole P.represents P.version) CanBeJudged tables.old tables.new result
@@ -105,9 +105,9 @@ pub(crate) fn containers_apart<P: Places, S: Alter>(
 /// The loans whose containers are not among these.
 pub(crate) fn loans_without(
     alloc: Global,
-    loans: &[Loan],
+    loans: &[ContainerOrder],
     containers: &[u64],
-) -> Result<Vec<Loan>, AllocError>
+) -> Result<Vec<ContainerOrder>, AllocError>
     ensures { IfOk result (λ v. v.items ≡ filter (λ loan. not (is_one_of loan.container containers.now)) loans.now) }
 {
     let mut found = Vec::new(alloc);

@@ -6,7 +6,7 @@ ghost use Rattle.std.specs.List.{list_any};
 ghost use Rattle.std.specs.List.Sorted.{IsNonDecreasing};
 ghost use Rattle.sqlite.specs.Held.{state};
 ghost use Rattle.sqlite.specs.State.{HasCleanDisk};
-ghost use Rattle.desk_store.specs.declared.holdings.Loan.{Loan as Lent};
+ghost use Rattle.desk_store.specs.declared.container_orders.ContainerOrder.{ContainerOrder as Lent};
 ghost use Rattle.desk_store.specs.declared.taken_seats.TakenSeat.{TakenSeat as Taken};
 ghost use Rattle.desk_store.specs.Representation.{RepresentsDeskAlone, IsLegible};
 ghost use Rattle.office_tables.specs.Calls.{Answers};
@@ -17,14 +17,14 @@ ghost use Rattle.refinement.specs.AccessConditions.{CanBeJudged, RepresentsWhole
 
 use crate::joint_walk::is_one_closed;
 use catalogue_store::Places;
-use desk_store::{Loan, TakenSeat, issued, seats};
+use desk_store::{ContainerOrder, TakenSeat, issued, seats};
 use isad_core::Day;
 use office_tables::{StoreFault, Tables, Versioned};
 use sqlite::Alter;
 use std::alloc::{AllocError, Global};
 
 /// The tickets that have these containers: one for each container, in ascending order.
-fn holders(alloc: Global, loans: &[Loan]) -> Result<Vec<u64>, AllocError>
+fn holders(alloc: Global, loans: &[ContainerOrder]) -> Result<Vec<u64>, AllocError>
     ensures same { IfOk result (λ tickets. IsPermutation (map (λ (loan : Lent). loan.ticket) loans.now) tickets.items) }
     ensures rise { IfOk result (λ tickets. IsNonDecreasing tickets.items) }
 {
@@ -50,7 +50,7 @@ fn occurs_more_than(numbers: &[u64], most: usize) -> bool
 }
 
 /// Whether a reader has more than `hands` of these containers.
-fn are_too_many(alloc: Global, loans: &[Loan], hands: u32) -> Result<bool, AllocError>
+fn are_too_many(alloc: Global, loans: &[ContainerOrder], hands: u32) -> Result<bool, AllocError>
     ensures { IfOk result (λ yes. yes ≡ list_any (has_too_many hands loans.now) loans.now) }
 {
     let tickets = holders(alloc, loans)?;
@@ -65,7 +65,7 @@ fn has_seat(taken: &[TakenSeat], ticket: u64) -> bool
 }
 
 /// Whether a reader who has one of these containers has none of these seats.
-fn lacks_seat(loans: &[Loan], taken: &[TakenSeat]) -> bool
+fn lacks_seat(loans: &[ContainerOrder], taken: &[TakenSeat]) -> bool
     ensures { result ≡ list_any (λ (loan : Lent). not (list_any
         (λ (seat : Taken). nat_eq loan.ticket seat.ticket) taken.now)) loans.now }
 {
@@ -76,7 +76,7 @@ fn lacks_seat(loans: &[Loan], taken: &[TakenSeat]) -> bool
 fn is_one_without_seat<P: Versioned, S: Alter>(
     alloc: Global,
     tables: &mut Tables<P, S>,
-    loans: &[Loan],
+    loans: &[ContainerOrder],
 ) -> Result<bool, StoreFault>
     ensures answers { Answers S.Store RepresentsDeskAlone IsLegible tables.old tables.new result (λ _. ⊤)
         (λ _ d yes. yes ≡ list_any (has_no_row d) loans.now) }
@@ -91,7 +91,7 @@ fn is_one_without_seat<P: Versioned, S: Alter>(
 fn are_against_rules<P: Places, S: Alter>(
     alloc: Global,
     tables: &mut Tables<P, S>,
-    loans: &[Loan],
+    loans: &[ContainerOrder],
     hands: u32,
     today: Day,
 ) -> Result<bool, StoreFault>

@@ -11,7 +11,7 @@ ghost use Rattle.refinement.specs.AccessConditions.{CanBeJudged, RepresentsWhole
 
 use crate::access::judge;
 use catalogue_store::Places;
-use desk_store::{Loan, issued};
+use desk_store::{ContainerOrder, issued};
 use isad_core::Day;
 use office_core::{Done, Refusal};
 use office_tables::{StoreFault, Tables};
@@ -23,7 +23,7 @@ use std::alloc::Global;
 pub(crate) fn first_closed<P: Places, S: Alter>(
     alloc: Global,
     tables: &mut Tables<P, S>,
-    loans: &[Loan],
+    loans: &[ContainerOrder],
     today: Day,
 ) -> Result<Option<u64>, StoreFault>
     ensures answers { Answers S.Store (RepresentsWhole P.represents P.version) CanBeJudged tables.old tables.new result

@@ -5,7 +5,9 @@ use crate::reading_room::furnish;
 use crate::tests::new_office;
 use catalogue_store::{LinkPlaces, StoreFault};
 use desk_core::Limits;
-use desk_store::{FirstOrder, OrderState, append_order, end_order, grant, record_run, set_seat};
+use desk_store::{
+    ContainerOrder, OrderState, append_order, end_order, grant, record_run, set_seat,
+};
 use integrity_checks::load_check_desk;
 use office_tables::{Tables, change};
 use sqlite::types::ValueRef;
@@ -26,7 +28,7 @@ fn serve_reader<S: Alter>(
     grant(tables, 1, 1, day_after(0)?)?;
     set_seat(tables, 1, Some(1))?;
     append_order(tables, 1, 1, 1, day_after(0)?)?;
-    let taken = [FirstOrder {
+    let taken = [ContainerOrder {
         container: 1,
         order: 1,
         ticket: 1,

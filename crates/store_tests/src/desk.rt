@@ -11,7 +11,7 @@ use crate::tests::{Query, make_office, show_rows, two_units};
 use catalogue_store::{LinkPlaces, StoreFault, begin, commit};
 use desk_core::Place;
 use desk_store::{
-    FirstOrder, OrderState, add_reader, append_order, at_desk, candidates, end_order, grant,
+    ContainerOrder, OrderState, add_reader, append_order, at_desk, candidates, end_order, grant,
     issued, open_day, order, permits, queue, reader, record_run, renew, revoke, run, seats,
     set_place, set_seat, ticket_holder,
 };
@@ -97,6 +97,15 @@ fn read_card<S: Alter>(
     Ok(())
 }
 
+/// Containers, each with an order for it and that order's ticket.
+pub(crate) fn show_orders(orders: &[ContainerOrder], text: &mut String) -> Result<(), StoreFault> {
+    for order in orders {
+        let (container, number, ticket) = (order.container, order.order, order.ticket);
+        write!(text, "{container} {number} {ticket}\n")?;
+    }
+    Ok(())
+}
+
 /// The seat and the number of containers of the reader who has a ticket.
 fn show_holder<S: Alter>(
     alloc: Global,
@@ -150,18 +159,14 @@ fn bring<S: Alter>(
     text: &mut String,
 ) -> Result<(), StoreFault> {
     place_orders(alloc, tables, text)?;
-    let taken = [FirstOrder {
+    let taken = [ContainerOrder {
         container: 2,
         order: 2,
         ticket: 1,
     }];
     let run = record_run(tables, day_after(1)?, &taken)?.unwrap_or(0);
     write!(text, "{run}\n")?;
-    for loan in &issued(alloc, tables)? {
-        let (container, order, ticket) = (loan.container, loan.order, loan.ticket);
-        write!(text, "{container} {order} {ticket}\n")?;
-    }
-    Ok(())
+    show_orders(&issued(alloc, tables)?, text)
 }
 
 /// Ann has permits for units 1 and 2; the second is extended and the first is revoked.
@@ -194,10 +199,7 @@ fn pick_run<S: Alter>(
     append_order(tables, 3, 8, 2, day_after(0)?)?;
     append_order(tables, 4, 8, 3, day_after(0)?)?;
     set_place(tables, 3, Place::Desk)?;
-    for first in &candidates(alloc, tables)? {
-        let (container, order, ticket) = (first.container, first.order, first.ticket);
-        write!(text, "{container} {order} {ticket}\n")?;
-    }
+    show_orders(&candidates(alloc, tables)?, text)?;
     for &(container, awaited) in &at_desk(alloc, tables)? {
         write!(text, "{container} {awaited}\n")?;
     }

@@ -4,13 +4,13 @@ ghost use Rattle.std.specs.Prelude.{◌<◌, ◌^◌};
 ghost use Rattle.std.specs.List.{AllByRecursion};
 ghost use Rattle.desk_store.specs.Runs.{IsNumbered};
 
-use crate::desk::{day_after, register};
+use crate::desk::{day_after, register, show_orders};
 use crate::tests::{Query, new_office, show_rows};
 use catalogue_store::{LinkPlaces, NewUnit, StoreFault, add_unit, commit};
 use desk_core::{Place, slip_text};
 use desk_store::{
-    FirstOrder, OrderState, append_order, at_desk, candidates, end_order, issued, open_day, queue,
-    reader, record_run, renew, run, seats, set_place, set_seat,
+    ContainerOrder, OrderState, append_order, at_desk, candidates, end_order, issued, open_day,
+    queue, reader, record_run, renew, run, seats, set_place, set_seat,
 };
 use isad_core::{BoxKey, List, Text, Values};
 use office_tables::Tables;
@@ -101,17 +101,13 @@ fn show_candidates<S: Alter>(
     tables: &mut Tables<LinkPlaces, S>,
     text: &mut String,
 ) -> Result<(), StoreFault> {
-    for first in &candidates(alloc, tables)? {
-        let (container, order, ticket) = (first.container, first.order, first.ticket);
-        write!(text, "{container} {order} {ticket}\n")?;
-    }
-    Ok(())
+    show_orders(&candidates(alloc, tables)?, text)
 }
 
 /// Records a run on the first day that brings these containers to the desk, and returns its number.
 fn fetch<S: Alter>(
     tables: &mut Tables<LinkPlaces, S>,
-    taken: &[FirstOrder],
+    taken: &[ContainerOrder],
     text: &mut String,
 ) -> Result<(), StoreFault>
     requires lines { AllByRecursion IsNumbered taken.now }
@@ -184,7 +180,7 @@ fn lent_in_turn<S: Alter>(
 }
 
 /// Order 1 for container 1, with Ann's ticket.
-const FIRST: FirstOrder = FirstOrder {
+const FIRST: ContainerOrder = ContainerOrder {
     container: 1,
     order: 1,
     ticket: 1,
@@ -232,13 +228,13 @@ fn fetched_in_two_runs<S: Alter>(
     show_slip(alloc, tables, 3, text)
 }
 
-const SECOND: FirstOrder = FirstOrder {
+const SECOND: ContainerOrder = ContainerOrder {
     container: 2,
     order: 2,
     ticket: 1,
 };
 
-const THIRD: FirstOrder = FirstOrder {
+const THIRD: ContainerOrder = ContainerOrder {
     container: 3,
     order: 3,
     ticket: 1,

@@ -4,7 +4,7 @@ use Rattle.std.proofs.lemmas.List.{append-nil, take_all}
 use Rattle.std.proofs.lemmas.List.Elements.{filter_more}
 use Rattle.sqlite.specs.Held.{state}
 use Rattle.desk_store.proofs.ToldCalls.{ends_well, shown_on}
-use Rattle.desk_store.specs.declared.holdings.FirstOrder.{FirstOrder}
+use Rattle.desk_store.specs.declared.container_orders.ContainerOrder.{ContainerOrder}
 use Rattle.office_core.specs.State.{opens}
 use Rattle.office_tables.proofs.Calls.{early, looks_then}
 use Rattle.refinement.specs.AccessConditions.{CanBeJudged, RepresentsWhole}
@@ -29,7 +29,7 @@ loop-order-preserved g c =
     let d = state g.S.Store c.is_open_to.new.tables in
     let looks = c.loop-order.invariant.looks in
     let told = c.in_ok-is_open_to.ensures.answers in
-    let none : FirstOrder = record { container = 0; order = 0; ticket = 0 } in
+    let none : ContainerOrder = record { container = 0; order = 0; ticket = 0 } in
     let ws = c.args.waiting.now in
     let i = c.loop-order.order-index in
     let x = get_or ws i none in
@@ -48,7 +48,7 @@ loop-order-preserved g c =
           let at_b = shown_on (RepresentsWhole g.P.Places.represents v) a b looks before s it in
           let yes = told.answers clean tt s at_b judged day in
           let so = c.loop-order.invariant.so_far before s judged it day in
-          let more = sym (filter_more (λ (o : FirstOrder). opens s o.ticket o.container) ws i none c.loop-order-test.true) in
+          let more = sym (filter_more (λ (o : ContainerOrder). opens s o.ticket o.container) ws i none c.loop-order-test.true) in
           let added = ap (λ l. l ++ cond (opens s x.ticket x.container) (x ∷ []) []) so ∙ more in
           elim c.if-branch.branch [
             | then-branch+in_ok-push w ↦ ap (λ v. v.items) w.due-is ∙ w.in_ok-push.ensures.items ∙ ap (λ b. so_far ++ cond b (x ∷ []) []) (sym w.if-branch.true ∙ yes) ∙ added
@@ -64,7 +64,7 @@ returns-then-len-most g c =
       answers = ends_well (RepresentsWhole g.P.Places.represents g.P.Versioned.version) CanBeJudged (λ _. ⊤) g.S.Store c.args.tables.now c.args.tables.now c.loop-order.tables _ c.loop-order.invariant.looks _
           (λ clean s it judged day.
           let so = c.loop-order.invariant.so_far clean s judged it day in
-          let test = λ (o : FirstOrder). opens s o.ticket o.container in
+          let test = λ (o : ContainerOrder). opens s o.ticket o.container in
           let full : length (filter test (take c.loop-order.order-index c.args.waiting.now)) ≡ c.args.most = ap length (sym so) ∙ (omega (arith, few, many)) in
           so ∙ sym (enough test c.loop-order.order-index c.args.waiting.now) ∙ ap (λ n. take n (filter test c.args.waiting.now)) full);
     }
@@ -76,7 +76,7 @@ returns g c =
     record {
       answers = ends_well (RepresentsWhole g.P.Places.represents g.P.Versioned.version) CanBeJudged (λ _. ⊤) g.S.Store c.args.tables.now c.args.tables.now c.loop-order.tables _ c.loop-order.invariant.looks _
           (λ clean s it judged day.
-          let test = λ (o : FirstOrder). opens s o.ticket o.container in
+          let test = λ (o : ContainerOrder). opens s o.ticket o.container in
           let so = c.loop-order.invariant.so_far clean s judged it day
           ∙ ap (filter test) (take_all c.loop-order.order-index c.args.waiting.now (omega (arith, past))) in
           so ∙ sym (take_all c.args.most (filter test c.args.waiting.now) (subst (λ l. length l ≤ c.args.most) so few)));

@@ -1,7 +1,7 @@
 use Rattle.std.proofs.Common.{◌≡◌, ◌≤◌, filter, take, length}
 use Rattle.sqlite.specs.Held.{state}
 use Rattle.sqlite.specs.State.{HasCleanDisk}
-use Rattle.desk_store.specs.declared.holdings.FirstOrder.{FirstOrder}
+use Rattle.desk_store.specs.declared.container_orders.ContainerOrder.{ContainerOrder}
 use Rattle.office_core.specs.State.{State, opens}
 use Rattle.office_tables.specs.Step.{LeavesUnchanged}
 use Rattle.refinement.specs.AccessConditions.{CanBeJudged}
@@ -13,5 +13,5 @@ invariant-loop-order g l = record {
   looks : LeavesUnchanged (state g.S.Store l.fn.tables) (state g.S.Store l.tables);
   few : length l.due.items ≤ l.most;
   so_far : HasCleanDisk (state g.S.Store l.tables) → (s : State) → CanBeJudged s → RepresentsState g.P.Places.represents g.P.Versioned.version (state g.S.Store l.fn.tables).now s → l.today ≡ s.day
-      → l.due.items ≡ filter (λ (o : FirstOrder). opens s o.ticket o.container) (take l.order-index l.waiting);
+      → l.due.items ≡ filter (λ (o : ContainerOrder). opens s o.ticket o.container) (take l.order-index l.waiting);
 }

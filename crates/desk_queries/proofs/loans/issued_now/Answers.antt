@@ -1,6 +1,6 @@
 use Rattle.std.proofs.Common.{List, map, refl, ap, ◌∙◌}
 use Rattle.sqlite.specs.Held.{state}
-use Rattle.desk_store.specs.declared.holdings.Loan.{Loan}
+use Rattle.desk_store.specs.declared.container_orders.ContainerOrder.{ContainerOrder}
 use Rattle.office_core.specs.Json.{list}
 use Rattle.office_core.specs.declared.query.Answer.TheVariants.{Json}
 use Rattle.office_core.specs.declared.query.Query.TheVariants as query
@@ -27,5 +27,5 @@ returns g c =
     answers_by g.P.Places.represents v query.IssuedNow a b (Json c.in_ok-text.text) told.looks
     (λ clean s sound it.
     ap Json c.in_ok-text.ensures
-    ∙ ap (λ (l : List Loan). Json (compact_text (list (map loan_data l)))) (c.deref.ensures.value ∙ told.answers clean tt (tables v s).desk it.desk)
+    ∙ ap (λ (l : List ContainerOrder). Json (compact_text (list (map loan_data l)))) (c.deref.ensures.value ∙ told.answers clean tt (tables v s).desk it.desk)
     ∙ ap (λ l. Json (compact_text (list l))) (issued_told s v))

@@ -4,7 +4,7 @@ use Rattle.sqlite.specs.Held.{state}
 use Rattle.office_tables.proofs.Calls.{looks_nowhere}
 use Rattle.office_tables.proofs.CallEnds.{same_fault}
 use Rattle.desk_store.specs.Holdings.{loan_by}
-use Rattle.desk_store.specs.declared.holdings.Loan.{Loan}
+use Rattle.desk_store.specs.declared.container_orders.ContainerOrder.{ContainerOrder}
 use Rattle.desk_store.specs.Representation.{RepresentsDeskAlone, IsLegible}
 use Rattle.desk_store.proofs.loans.loan_of.Goals as goal
 use Rattle.desk_store.proofs.TellingCalls.{ends_not, ends_well}
@@ -23,7 +23,7 @@ returns-in_default-2 g c =
     record {
       answers = ends_well RepresentsDeskAlone IsLegible (λ _. ⊤) g.S.Store c.args.tables.now c.args.tables.now c.holder_of.new.tables _ c.in_ok-ticket.ensures.answers.looks None (λ clean d shown.
           let ticket = sym c.in_default-2.is ∙ c.in_ok-ticket.ensures.answers.answers clean tt d shown in
-          ap (option_map (λ t. let loan : Loan = record { container = c.args.line.container; order = c.in-Some.order; ticket = t } in loan)) ticket
+          ap (option_map (λ t. let loan : ContainerOrder = record { container = c.args.line.container; order = c.in-Some.order; ticket = t } in loan)) ticket
           ∙ sym (ap (loan_by d.orders c.args.line.container) c.in-Some.is));
     }
 
@@ -32,6 +32,6 @@ returns g c =
     record {
       answers = ends_well RepresentsDeskAlone IsLegible (λ _. ⊤) g.S.Store c.args.tables.now c.args.tables.now c.holder_of.new.tables _ c.in_ok-ticket.ensures.answers.looks _ (λ clean d shown.
           let ticket = sym c.in-Some-2.is ∙ c.in_ok-ticket.ensures.answers.answers clean tt d shown in
-          ap (option_map (λ t. let loan : Loan = record { container = c.args.line.container; order = c.in-Some.order; ticket = t } in loan)) ticket
+          ap (option_map (λ t. let loan : ContainerOrder = record { container = c.args.line.container; order = c.in-Some.order; ticket = t } in loan)) ticket
           ∙ sym (ap (loan_by d.orders c.args.line.container) c.in-Some.is));
     }

@@ -1,5 +1,6 @@
-use Rattle.std.proofs.Common.{map, filter, nat_eq, ◌&&◌, refl, ap, ◌∙◌}
+use Rattle.std.proofs.Common.{◌<◌, ◌^◌, List, length, map, filter, nat_eq, ◌&&◌, refl, ap, sym, subst, ◌∙◌}
 use Rattle.std.specs.Prelude.{⊤}
+use Rattle.std.specs.List.{count_by}
 use Rattle.sqlite.specs.Held.{state}
 use Rattle.sqlite_trees.proofs.ListLemmas.{map-map}
 use Rattle.desk_core.specs.DeskRows.{OrderRow}
@@ -9,6 +10,7 @@ use Rattle.desk_store.specs.Readers.{is_live}
 use Rattle.desk_store.specs.declared.reader_summary.LiveOrder.{LiveOrder}
 use Rattle.desk_store.specs.declared.reader_summary.OrderLine.{OrderLine}
 use Rattle.desk_store.specs.Representation.{RepresentsDeskAlone, IsLegible}
+use Rattle.desk_store.proofs.CardCalls.{out_of_lines, few_lines}
 use Rattle.desk_store.proofs.CardRows.{line_of}
 use Rattle.desk_store.proofs.reader_summary.orders_of.Goals as goal
 use Rattle.desk_store.proofs.ToldCalls.{shown_on}
@@ -43,7 +45,10 @@ returns g c =
           let lines = c.in_ok-lines.ensures.answers at_b d.orders shown.orders shown.order_numbers in
           let told = λ (o : OrderLine). (let x : LiveOrder = record { order = o.order; container = o.container; is_out = nat_eq o.state 2 } in x) in
           let live = c.in_ok-live.ensures ∙ ap (map told) (c.deref.ensures.value ∙ lines) ∙ map-map told line_of (filter (λ (o : OrderRow). nat_eq c.args.ticket o.ticket && is_live o) d.orders) in
+          let read = c.deref-2.ensures.value ∙ lines in
+          let few = subst (λ (l : List OrderLine). length l < 2 ^ 32) (sym read) (few_lines c.args.ticket d shown.few_orders) in
+          let held = c.count_out-held.ensures few ∙ ap (count_by (λ (l : OrderLine). nat_eq l.state 2)) read ∙ out_of_lines c.args.ticket d.orders in
           let placed = c.in_ok-placed.ensures.answers at_p d.orders shown_b.orders shown_b.few_orders in
           let orders = c.from.ensures ∙ c.in_ok-orders.ensures.answers clean d.orders shown_p.orders (shown_p.few_orders, shown_p.order_numbers) in
-          rw (live, placed, orders) refl);
+          rw (live, held, placed, orders) refl);
     }

@@ -1,14 +1,11 @@
-use Rattle.std.proofs.Common.{◌<◌, ◌^◌, length, None, refl, ap, sym, subst, ◌∙◌, arith}
+use Rattle.std.proofs.Common.{None, refl, ap, sym, ◌∙◌, arith}
 use Rattle.std.specs.Prelude.{option_map, ⊤}
-use Rattle.std.specs.List.{count_by}
 use Rattle.sqlite.specs.Held.{state}
 use Rattle.desk_core.specs.DeskRows.{ReaderRow}
 use Rattle.office_tables.proofs.Calls.{early, looks_then, looks_nowhere}
 use Rattle.office_tables.proofs.CallEnds.{same_fault}
-use Rattle.desk_store.specs.declared.reader_summary.LiveOrder.{LiveOrder}
-use Rattle.desk_store.specs.declared.reader_summary.TicketOrders.{TicketOrders}
 use Rattle.desk_store.specs.Representation.{RepresentsDeskAlone, IsLegible}
-use Rattle.desk_store.proofs.CardCalls.{unknown, out_of_live, few_live, seat_told, card_with, card_told}
+use Rattle.desk_store.proofs.CardCalls.{unknown, seat_told, card_with, card_told}
 use Rattle.desk_store.proofs.ReaderRows.{named}
 use Rattle.desk_store.proofs.reader_summary.reader.Goals as goal
 use Rattle.desk_store.proofs.ToldCalls.{shown_on}
@@ -59,7 +56,4 @@ returns-clause-answers g c =
     let card = sym (ap (option_map (card_with c.args.ticket c.args.today d)) c.in-Some.is) ∙ card_told c.args.ticket c.args.today d _ (c.in_ok-name.ensures.answers at_b d.readers shown.readers shown.tickets) in
     let seat = c.seat_in.ensures ∙ seat_told c.args.ticket d _ (c.in_ok-taken.ensures.answers at_s d.seats shown_b.seats shown_b.seats_rise) in
     let told = c.in_ok-told.ensures.answers.answers clean tt d (shown_on RepresentsDeskAlone a s two at_s d shown) in
-    let live = c.as_slice.ensures ∙ ap (λ (o : TicketOrders). o.live) told in
-    let few = subst (λ l. length l < 2 ^ 32) (sym live) (few_live c.args.ticket d shown.few_orders) in
-    let held = c.count_out.ensures few ∙ ap (count_by (λ (l : LiveOrder). l.is_out)) live ∙ out_of_live c.args.ticket d.orders in
-    (rw (seat, held, told) refl) ∙ card)
+    (rw (seat, told) refl) ∙ card)

@@ -3,7 +3,7 @@ use Rattle.std.specs.Prelude.{⊤}
 use Rattle.sqlite.specs.Held.{state}
 use Rattle.office_tables.proofs.Calls.{early, looks_then}
 use Rattle.office_tables.specs.RowNumbers.{AreByNumber}
-use Rattle.desk_store.specs.declared.holdings.FirstOrder.{FirstOrder}
+use Rattle.desk_store.specs.declared.container_orders.ContainerOrder.{ContainerOrder}
 use Rattle.desk_store.specs.Representation.{RepresentsDeskAlone, IsLegible}
 use Rattle.desk_store.proofs.PickingCalls.{rising, picked_are}
 use Rattle.desk_store.proofs.run_candidates.candidates.Goals as goal
@@ -23,6 +23,6 @@ returns g c =
           let shown_b = shown_on RepresentsDeskAlone a b one before d shown in
           let orders = c.deref-2.ensures.value ∙ c.in_ok-orders.ensures.answers before d.orders shown.orders shown.order_numbers in
           let lines = c.deref.ensures.value ∙ c.in_ok-lines.ensures.answers clean d.holdings shown_b.holdings shown_b.holdings_rise in
-          c.in_ok-firsts.ensures (subst (AreByNumber (λ (o : FirstOrder). o.order)) (sym orders) (rising d.orders shown.order_numbers))
+          c.in_ok-firsts.ensures (subst (AreByNumber (λ (o : ContainerOrder). o.order)) (sym orders) (rising d.orders shown.order_numbers))
           ∙ picked_are d c.deref-2.result.now c.deref.result.now c.in_ok-known.known.keys orders lines c.in_ok-known.ensures);
     }

@@ -2,7 +2,7 @@ use Rattle.std.proofs.Common.{cond, ◌&&◌, [], ◌∷◌, ◌++◌, ap, sym, 
 use Rattle.std.specs.Prelude.{get_or}
 use Rattle.std.proofs.lemmas.List.{append-nil}
 use Rattle.desk_store.specs.RunCandidates.{is_earliest, is_new}
-use Rattle.desk_store.specs.declared.holdings.FirstOrder.{FirstOrder}
+use Rattle.desk_store.specs.declared.container_orders.ContainerOrder.{ContainerOrder}
 use Rattle.desk_store.proofs.PickingLists.{met_more, is_picked, kept_more}
 use Rattle.desk_store.proofs.run_candidates.firsts.Goals.{then-branch+in_ok-push, else-branch}
 use Rattle.desk_store.proofs.run_candidates.firsts.Goals as goal
@@ -13,7 +13,7 @@ loop-order-preserved c =
     let orders = c.args.orders.now in
     let i = c.loop-order.order-index in
     let low = c.loop-order-test.true in
-    let none : FirstOrder = record { container = 0; order = 0; ticket = 0 } in
+    let none : ContainerOrder = record { container = 0; order = 0; ticket = 0 } in
     let x = get_or orders i none in
     let done = c.loop-order.firsts.items in
     let met = c.loop-order.invariant.met in
@@ -22,7 +22,7 @@ loop-order-preserved c =
       so_far = λ up.
           let so = c.loop-order.invariant.so_far up in
           let picked = sym (is_picked known c.loop-order.known.keys orders i none up low (met x.container)) ∙ sym c.in_ok-keep.ensures.new in
-          let more = kept_more (λ (o : FirstOrder). is_earliest o orders && is_new known o) orders i none done low so in
+          let more = kept_more (λ (o : ContainerOrder). is_earliest o orders && is_new known o) orders i none done low so in
           elim c.if-branch.branch [
             | then-branch+in_ok-push w ↦ ap (λ v. v.items) w.firsts-is ∙ w.in_ok-push.ensures.items ∙ ap (λ b. done ++ cond b (x ∷ []) []) (sym (picked ∙ w.if-branch.true)) ∙ more
             | else-branch w ↦ ap (λ v. v.items) w.firsts-is ∙ sym (append-nil done) ∙ ap (λ b. done ++ cond b (x ∷ []) []) (sym (picked ∙ w.if-branch.false)) ∙ more

@@ -10,7 +10,7 @@ use Rattle.office_tables.proofs.Puts.{has_at}
 use Rattle.office_tables.proofs.CallEnds.{same_fault}
 use Rattle.office_tables.specs.declared.fault.StoreFault.TheVariants.{Memory}
 use Rattle.desk_store.specs.Storage.{Storage, RepresentsQueues, IsLegibleStorage, IsKnownLine, IsToldLine}
-use Rattle.desk_store.specs.declared.runs.TakenLine.{TakenLine}
+use Rattle.desk_store.specs.declared.container_orders.ContainerOrder.{ContainerOrder}
 use Rattle.desk_store.proofs.BroughtRows.{zip_more}
 use Rattle.desk_store.proofs.ToldCalls.{shown_on}
 use Rattle.desk_store.proofs.TellingCalls.{ends_not, ends_full}
@@ -21,7 +21,7 @@ returns-in_err-candidate g c =
     let e = c.from_residual.ensures in
     let lines = c.args.lines.now in
     let i = c.loop-line.line-index in
-    let none : TakenLine = record { container = 0; order = 0; ticket = 0 } in
+    let none : ContainerOrder = record { container = 0; order = 0; ticket = 0 } in
     record {
       answers = ends_not RepresentsQueues IsLegibleStorage (λ (s : Storage). AllByRecursion (λ l. IsKnownLine l s) lines) g.S.Store c.args.tables.now c.loop-line.tables c.candidate.new.tables _ c.loop-line.invariant.looks
           c.in_err-candidate.field-0.0 c.in_err-candidate.ensures.answers.aborts c.in_err-candidate.ensures.answers.spares
@@ -50,7 +50,7 @@ loop-line-preserved g c =
     let looked = c.loop-line.invariant.looks in
     let lines = c.args.lines.now in
     let i = c.loop-line.line-index in
-    let none : TakenLine = record { container = 0; order = 0; ticket = 0 } in
+    let none : ContainerOrder = record { container = 0; order = 0; ticket = 0 } in
     record {
       looks = looks_then a b z looked last;
       so_far = λ clean s shown.
@@ -58,5 +58,5 @@ loop-line-preserved g c =
           let told = c.in_ok-candidate.ensures.answers.answers clean tt s (shown_on RepresentsQueues a b looked before s shown) in
           let more = zip_more (IsToldLine s) (take i lines) c.loop-line.told.items (get_or lines i none) c.in_ok-candidate.candidate (c.loop-line.invariant.so_far before s shown) told in
           subst (λ (ys : List Candidate). AllZip (IsToldLine s) (take (i + 1) lines) ys) (sym c.in_ok-push.ensures.items)
-          (subst (λ (xs : List TakenLine). AllZip (IsToldLine s) xs (c.loop-line.told.items ++ c.in_ok-candidate.candidate ∷ [])) (sym (take_more lines i none c.loop-line-test.true)) more);
+          (subst (λ (xs : List ContainerOrder). AllZip (IsToldLine s) xs (c.loop-line.told.items ++ c.in_ok-candidate.candidate ∷ [])) (sym (take_more lines i none c.loop-line-test.true)) more);
     }

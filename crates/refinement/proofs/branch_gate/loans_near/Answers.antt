@@ -2,7 +2,7 @@ use Rattle.std.proofs.Common.{List, subst}
 use Rattle.std.specs.Prelude.{⊤}
 use Rattle.sqlite.specs.Held.{state}
 use Rattle.desk_store.specs.Holdings.{issued_of}
-use Rattle.desk_store.specs.declared.holdings.Loan.{Loan}
+use Rattle.desk_store.specs.declared.container_orders.ContainerOrder.{ContainerOrder}
 use Rattle.desk_store.proofs.ToldCalls.{ends_not, shown_on}
 use Rattle.state_encoding.specs.OfficeRows.{tables}
 use Rattle.office_tables.proofs.CallEnds.{same_fault, tells_not}
@@ -62,6 +62,6 @@ returns g c =
           (λ at_d s shown found is.
           let at_b = early b d _ housed.looks.goes.on.crash at_d in
           let shown_b = shown_on represents a b told.looks at_b s shown in
-          subst (λ (loans : List Loan). AreAsked c.args.unit s loans found.items) (told.answers at_b tt (tables v s).desk shown.desk) (is (housed.answers at_d tt s shown_b)))
+          subst (λ (loans : List ContainerOrder). AreAsked c.args.unit s loans found.items) (told.answers at_b tt (tables v s).desk shown.desk) (is (housed.answers at_d tt s shown_b)))
           c.loans_to_ask.ensures.answers;
     }

@@ -1,7 +1,7 @@
 use Rattle.std.proofs.Common.{◌≡◌, filter, take}
-use Rattle.desk_store.specs.declared.holdings.Loan.{Loan}
+use Rattle.desk_store.specs.declared.container_orders.ContainerOrder.{ContainerOrder}
 use Rattle.refinement.specs.Gate.{is_one_of}
 use Rattle.refinement.proofs.branch_gate.loans_of.Given as goal
 
 abbrev pub invariant-loop-loan : goal.invariant-loop-loan
-invariant-loop-loan l = l.found.items ≡ filter (λ (loan : Loan). is_one_of loan.container l.ascending) (take l.loan-index l.loans)
+invariant-loop-loan l = l.found.items ≡ filter (λ (loan : ContainerOrder). is_one_of loan.container l.ascending) (take l.loan-index l.loans)

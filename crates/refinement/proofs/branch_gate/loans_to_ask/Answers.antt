@@ -2,7 +2,7 @@ use Rattle.std.proofs.Common.{List, true, subst}
 use Rattle.std.specs.Prelude.{⊤}
 use Rattle.sqlite.specs.Held.{state}
 use Rattle.desk_store.proofs.ToldCalls.{ends_well}
-use Rattle.desk_store.specs.declared.holdings.Loan.{Loan}
+use Rattle.desk_store.specs.declared.container_orders.ContainerOrder.{ContainerOrder}
 use Rattle.office_tables.proofs.Calls.{looks_nowhere}
 use Rattle.refinement.specs.Gate.{AreAsked, IsHoused}
 use Rattle.refinement.specs.AccessConditions.{CanBeJudged, RepresentsWhole}
@@ -28,6 +28,6 @@ returns g c =
       answers = told_then (RepresentsWhole g.P.Places.represents v) CanBeJudged g.S.Store c.args.tables.now c.args.tables.now c.loans_in_branch.new.tables c.loans_in_branch.result
           (λ _ s found. IsHoused c.args.unit s c.args.housed.now → AreAsked c.args.unit s c.deref.result.now found.items) (λ _ s found. IsHoused c.args.unit s c.args.housed.now → AreAsked c.args.unit s c.args.loans.items found.items)
           (looks_nowhere a)
-          (λ clean s shown found is housed. subst (λ (loans : List Loan). AreAsked c.args.unit s loans found.items) c.deref.ensures.value (is housed))
+          (λ clean s shown found is housed. subst (λ (loans : List ContainerOrder). AreAsked c.args.unit s loans found.items) c.deref.ensures.value (is housed))
           c.loans_in_branch.ensures.answers;
     }

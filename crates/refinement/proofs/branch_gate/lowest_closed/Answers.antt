@@ -2,7 +2,7 @@ use Rattle.std.proofs.Common.{◌≡◌, ℕ, List, Some, ap, sym, ◌∙◌}
 use Rattle.std.specs.Prelude.{⊤}
 use Rattle.sqlite.specs.Held.{state}
 use Rattle.desk_store.specs.Holdings.{issued_of}
-use Rattle.desk_store.specs.declared.holdings.Loan.{Loan}
+use Rattle.desk_store.specs.declared.container_orders.ContainerOrder.{ContainerOrder}
 use Rattle.desk_store.proofs.ToldCalls.{ends_not, ends_well, shown_on}
 use Rattle.office_core.specs.Rules.{lowest_withheld}
 use Rattle.office_core.specs.State.{State}
@@ -17,7 +17,7 @@ use Rattle.refinement.proofs.EarlyRefusals.{refused_before, refused_there}
 use Rattle.refinement.proofs.branch_gate.lowest_closed.Goals as goal
 
 -- what the call tells
-abbrev Tells : Version → ℕ → HousedUnit → List Loan → ℕ → State → ℕ → Type 0
+abbrev Tells : Version → ℕ → HousedUnit → List ContainerOrder → ℕ → State → ℕ → Type 0
 Tells v u it loans place s container =
     OthersAreOpen u s → IsHoused u s it → IsWithheldAt s it loans place → loans ≡ issued_of (tables v s).desk → lowest_withheld s ≡ Some container
 
@@ -74,7 +74,7 @@ returns g c =
     let d = state g.S.Store c.first_closed.new.tables in
     let asked = c.in_ok-lower.ensures.answers in
     let told = c.in_ok-container.ensures.answers in
-    let none : Loan = record { container = 0; order = 0; ticket = 0 } in
+    let none : ContainerOrder = record { container = 0; order = 0; ticket = 0 } in
     record {
       answers = ends_well represents CanBeJudged (λ _. ⊤) g.S.Store c.args.tables.now c.args.tables.now c.first_closed.new.tables
           (λ _ s container. CanBeJudged s → c.args.today ≡ s.day → Tells v c.args.unit c.args.housed.now c.args.loans.now c.args.place s container)

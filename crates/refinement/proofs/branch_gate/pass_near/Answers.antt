@@ -4,7 +4,7 @@ use Rattle.std.proofs.lemmas.Bool.{eqb-true}
 use Rattle.sqlite.specs.Held.{state}
 use Rattle.desk_core.specs.declared.refusal.Refusal.TheVariants.{WithReader}
 use Rattle.desk_store.specs.Holdings.{issued_of}
-use Rattle.desk_store.specs.declared.holdings.Loan.{Loan}
+use Rattle.desk_store.specs.declared.container_orders.ContainerOrder.{ContainerOrder}
 use Rattle.desk_store.proofs.ToldCalls.{ends_not, ends_well, shown_on}
 use Rattle.state_encoding.specs.OfficeRows.{tables}
 use Rattle.office_tables.proofs.CallEnds.{same_fault, tells_not}
@@ -136,7 +136,7 @@ returns-in_default g c =
           let shown_b = shown_on represents a b told.looks at_b s shown in
           let shown_f = shown_on represents a f to_f at_f s shown in
           let lies = housed.answers at_d tt s shown_b in
-          let asked : AreAsked c.args.unit s (issued_of (tables v s).desk) c.in_ok-asked.asked.items = subst (λ (loans : List Loan). AreAsked c.args.unit s loans c.in_ok-asked.asked.items) (told.answers at_b tt (tables v s).desk shown.desk) (near.answers at_e tt s shown_f lies) in
+          let asked : AreAsked c.args.unit s (issued_of (tables v s).desk) c.in_ok-asked.asked.items = subst (λ (loans : List ContainerOrder). AreAsked c.args.unit s loans c.in_ok-asked.asked.items) (told.answers at_b tt (tables v s).desk shown.desk) (near.answers at_e tt s shown_f lies) in
           is judged day (enough_of v s judged asked.test (λ k far. others k (asked.near k far)) c.deref-in_default.result.now (c.deref-in_default.ensures.value ∙ asked.are)))
           c.pass_of.ensures.answers;
     }
@@ -154,7 +154,7 @@ lowest_closed-requires g c =
     record {
       small = c.requires.small;
       rise = c.in_ok-housed.ensures.rise;
-      there = subst (λ (loans : List Loan). c.in-Some.place < length loans) (c.deref.ensures.value ∙ sym c.deref-2.ensures.value) low;
+      there = subst (λ (loans : List ContainerOrder). c.in-Some.place < length loans) (c.deref.ensures.value ∙ sym c.deref-2.ensures.value) low;
     }
 
 pub returns-in_err-container : goal.returns-in_err-container
@@ -198,7 +198,7 @@ returns g c =
           let lies = housed.answers at_d tt s (shown_on represents a b told.looks at_b s shown) in
           let found = subst (λ (o : Option ℕ). IfSome o (IsWithheldAt s c.in_ok-housed.housed c.deref.result.now)) c.in-Some.is (withheld.answers at_f tt s (shown_on represents a d to_d at_d s shown) judged day) in
           let same = c.deref.ensures.value ∙ sym c.deref-2.ensures.value in
-          let place = subst (λ (loans : List Loan). IsWithheldAt s c.in_ok-housed.housed loans c.in-Some.place) same found in
+          let place = subst (λ (loans : List ContainerOrder). IsWithheldAt s c.in_ok-housed.housed loans c.in-Some.place) same found in
           sym (ap (λ why. unless_refused (option_map WithReader why) c.args.done)
           (lowest.answers clean tt s (shown_on represents a f to_f at_f s shown) judged day others lies place (c.deref-2.ensures.value ∙ told.answers at_b tt (tables v s).desk shown.desk))));
     }

@@ -1,13 +1,13 @@
 use Rattle.std.proofs.Common.{map, subst, sym, ◌∙◌}
 use Rattle.std.specs.List.Sorted.{IsNonDecreasing, IsPermutation}
-use Rattle.desk_store.specs.declared.holdings.Loan.{Loan}
+use Rattle.desk_store.specs.declared.container_orders.ContainerOrder.{ContainerOrder}
 use Rattle.refinement.proofs.DayRules.{over_is}
 use Rattle.refinement.proofs.Standing.{over_permuted}
 use Rattle.refinement.proofs.day_rules.are_too_many.Goals as goal
 
 pub returns : goal.returns
 returns c =
-    let tickets = map (λ (loan : Loan). loan.ticket) c.args.loans.now in
+    let tickets = map (λ (loan : ContainerOrder). loan.ticket) c.args.loans.now in
     let same = sym c.deref.ensures.value in
     c.occurs_more_than.ensures (subst IsNonDecreasing same c.in_ok-tickets.ensures.rise)
     ∙ over_permuted c.args.hands tickets c.deref.result.now (subst (IsPermutation tickets) same c.in_ok-tickets.ensures.same)

@@ -2,7 +2,7 @@ use Rattle.std.proofs.Common.{◌≡◌, true, false, not, refl, sym, ap, subst,
 use Rattle.std.specs.Prelude.{⊤, option_map, slice_index_or}
 use Rattle.sqlite.specs.Held.{state}
 use Rattle.desk_store.proofs.ToldCalls.{ends_not, ends_well, shown_on}
-use Rattle.desk_store.specs.declared.holdings.Loan.{Loan}
+use Rattle.desk_store.specs.declared.container_orders.ContainerOrder.{ContainerOrder}
 use Rattle.office_tables.proofs.CallEnds.{same_fault}
 use Rattle.office_tables.proofs.Calls.{early, looks_nowhere, looks_then}
 use Rattle.refinement.specs.Gate.{first_closed, is_closed_to}
@@ -46,7 +46,7 @@ returns-then-not-found g c =
     let d = state g.S.Store c.judge.new.tables in
     let looks = c.loop-loan.invariant.looks in
     let told = c.in_ok-found.ensures.answers in
-    let none : Loan = record { container = 0; order = 0; ticket = 0 } in
+    let none : ContainerOrder = record { container = 0; order = 0; ticket = 0 } in
     let i = c.loop-loan.loan-index in
     record {
       answers = ends_well (RepresentsWhole g.P.Places.represents v) CanBeJudged (λ _. ⊤) g.S.Store c.args.tables.now c.args.tables.now c.judge.new.tables (λ _ s found. CanBeJudged s → c.args.today ≡ s.day → found ≡ first_closed s c.args.loans.now)
@@ -55,7 +55,7 @@ returns-then-not-found g c =
           let before = early b d _ told.looks.goes.on.crash clean in
           let at_b = shown_on (RepresentsWhole g.P.Places.represents v) a b looks before s it in
           let shut : is_closed_to s (slice_index_or c.args.loans.now i none) ≡ true = ap not (sym (told.answers clean tt s at_b judged day (c.loop-loan.invariant.known before s judged it day)).0) ∙ c.if-not-found.true in
-          ap (option_map (λ (l : Loan). l.container)) (sym (first_here (is_closed_to s) c.args.loans.now i none (c.loop-loan.invariant.so_far before s judged it day) c.loop-loan-test.true shut)));
+          ap (option_map (λ (l : ContainerOrder). l.container)) (sym (first_here (is_closed_to s) c.args.loans.now i none (c.loop-loan.invariant.so_far before s judged it day) c.loop-loan-test.true shut)));
       disk = λ clean. tt;
     }
 
@@ -67,7 +67,7 @@ loop-loan-preserved g c =
     let d = state g.S.Store c.judge.new.tables in
     let looks = c.loop-loan.invariant.looks in
     let told = c.in_ok-found.ensures.answers in
-    let none : Loan = record { container = 0; order = 0; ticket = 0 } in
+    let none : ContainerOrder = record { container = 0; order = 0; ticket = 0 } in
     let i = c.loop-loan.loan-index in
     record {
       looks = looks_then a b d looks told.looks;

@@ -2,7 +2,7 @@ use Rattle.std.proofs.Common.{◌≡◌, ◌<◌, length, ap, arith, sym, ◌∙
 use Rattle.std.specs.Prelude.{⊤, IfSome}
 use Rattle.std.proofs.lemmas.Option.{slice_get-get_or}
 use Rattle.sqlite.specs.Held.{state}
-use Rattle.desk_store.specs.declared.holdings.Loan.{Loan}
+use Rattle.desk_store.specs.declared.container_orders.ContainerOrder.{ContainerOrder}
 use Rattle.desk_store.proofs.ToldCalls.{ends_not, ends_well, shown_on}
 use Rattle.office_core.specs.Words.{some_and}
 use Rattle.office_tables.proofs.CallEnds.{same_fault}
@@ -38,7 +38,7 @@ returns-then-branch-clause-answers g c =
     let told = c.in_ok-is_withheld_in.ensures.answers in
     let loans = c.args.loans.now in
     let place = c.loop-place.place in
-    let none : Loan = record { container = 0; order = 0; ticket = 0 } in
+    let none : ContainerOrder = record { container = 0; order = 0; ticket = 0 } in
     let low : place < length loans = omega arith in
     ends_well represents CanBeJudged (λ _. ⊤) g.S.Store c.args.tables.now c.args.tables.now c.is_withheld_in.new.tables
     (λ _ s found. CanBeJudged s → c.args.today ≡ s.day → IfSome found (IsWithheldAt s c.args.unit.now loans)) (looks_then a b d looks told.looks) _

@@ -1,7 +1,7 @@
 use Rattle.std.proofs.Common.{◌≡◌, ℕ, nat_eq, take}
 use Rattle.std.specs.List.{list_any}
 use Rattle.desk_store.specs.declared.loans.HoldingLine.{HoldingLine}
-use Rattle.desk_store.proofs.run_candidates.absent.Given as goal
+use Rattle.desk_store.proofs.run_candidates.containers_off_shelf.Given as goal
 
 abbrev pub invariant-loop-line : goal.invariant-loop-line
 invariant-loop-line l = record {

@@ -1,0 +1,30 @@
+//! Containers, each with an order for it.
+
+use office_tables::StoreFault;
+use office_tables::from_row::FromRow;
+use sqlite::Row;
+
+/// A container, an order for it, and the ticket that placed the order: a loan, what a run may take, or a line of a run.
+#[derive(Debug, Clone, Copy, PartialEq, Eq)]
+pub struct ContainerOrder {
+    pub container: u64,
+    pub order: u64,
+    pub ticket: u64,
+}
+
+impl FromRow for ContainerOrder {
+    ghost use Rattle.std.specs.Prelude.{pos, [], ◌∷◌, ⊤};
+    ghost use Rattle.sqlite.specs.declared.types.Value.TheVariants.{Int};
+
+    ghost cells = { λ o. Int (pos o.container) ∷ Int (pos o.order) ∷ Int (pos o.ticket) ∷ [] };
+
+    ghost is_legible = { λ _. ⊤ };
+
+    fn read(row: &Row) -> Result<ContainerOrder, StoreFault> {
+        Ok(ContainerOrder {
+            container: row.get(0)?,
+            order: row.get(1)?,
+            ticket: row.get(2)?,
+        })
+    }
+}
