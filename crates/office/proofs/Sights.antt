@@ -9,7 +9,7 @@ use Rattle.office_core.specs.Rules.{is_name, refusal}
 use Rattle.office_core.specs.State.{State}
 use Rattle.office_core.specs.declared.command.Command.{Command}
 use Rattle.office_core.specs.declared.command.Command.TheVariants as command
-use Rattle.office.specs.Sight.{misdated, misnamed}
+use Rattle.office.specs.Sight.{day_check, name_check}
 
 first : (b : Bool) (fault why : Refusal) → unless b fault ≡ Some why → b ≡ false
 first true fault why h = absurd (cc)
@@ -20,11 +20,11 @@ same true fault why h = absurd (cc)
 same false fault why h = cc
 
 -- either refuses the command
-pub misnamed_refuses : (s : State) (asked : Command) (why : Refusal) → misnamed asked ≡ Some why → refusal s asked ≡ Some why
-misnamed_refuses s (command.Import source file) why h = let no = first (is_source source) BadName why h in rw (no, sym (same (is_source source) BadName why h)) refl
-misnamed_refuses s (command.Register name until) why h = let no = first (is_name name) BadName why h in rw (no, sym (same (is_name name) BadName why h)) refl
-misnamed_refuses s _ why h = absurd (cc)
+pub name_check_refuses : (s : State) (asked : Command) (why : Refusal) → name_check asked ≡ Some why → refusal s asked ≡ Some why
+name_check_refuses s (command.Import source file) why h = let no = first (is_source source) BadName why h in rw (no, sym (same (is_source source) BadName why h)) refl
+name_check_refuses s (command.Register name until) why h = let no = first (is_name name) BadName why h in rw (no, sym (same (is_name name) BadName why h)) refl
+name_check_refuses s _ why h = absurd (cc)
 
-pub misdated_refuses : (s : State) (asked : Command) (why : Refusal) → misdated s.day asked ≡ Some why → refusal s asked ≡ Some why
-misdated_refuses s (command.OpenDay day) why h = let no = first (int_lt s.day day) DayNotLater why h in rw (no, sym (same (int_lt s.day day) DayNotLater why h)) refl
-misdated_refuses s _ why h = absurd (cc)
+pub day_check_refuses : (s : State) (asked : Command) (why : Refusal) → day_check s.day asked ≡ Some why → refusal s asked ≡ Some why
+day_check_refuses s (command.OpenDay day) why h = let no = first (int_lt s.day day) DayNotLater why h in rw (no, sym (same (int_lt s.day day) DayNotLater why h)) refl
+day_check_refuses s _ why h = absurd (cc)

@@ -8,12 +8,12 @@ use Rattle.office_core.specs.declared.command.Command.{Command}
 use Rattle.office_core.specs.declared.command.Command.TheVariants as command
 
 -- the first check of a command, if it depends on the command alone
-abbrev pub misnamed : Command → Check
-misnamed (command.Import source file) = unless (is_source source) BadName
-misnamed (command.Register name until) = unless (is_name name) BadName
-misnamed _ = None
+abbrev pub name_check : Command → Check
+name_check (command.Import source file) = unless (is_source source) BadName
+name_check (command.Register name until) = unless (is_name name) BadName
+name_check _ = None
 
 -- the first check of a command, if it depends on the office's day
-abbrev pub misdated : ℤ → Command → Check
-misdated today (command.OpenDay day) = unless (int_lt today day) DayNotLater
-misdated today _ = None
+abbrev pub day_check : ℤ → Command → Check
+day_check today (command.OpenDay day) = unless (int_lt today day) DayNotLater
+day_check today _ = None

@@ -7,7 +7,7 @@ ghost use Rattle.office_core.specs.SoundOffice.{NamesTexts};
 ghost use Rattle.office_tables.specs.declared.fault.StoreFault.TheVariants as fault;
 ghost use Rattle.office.specs.CallTransactions.{Applies, Replies};
 ghost use Rattle.office.specs.IdleOffice.{IsOffice};
-ghost use Rattle.office.specs.Sight.{misdated, misnamed};
+ghost use Rattle.office.specs.Sight.{day_check, name_check};
 ghost use Rattle.refinement.specs.CommandSteps.{Performs};
 ghost use Rattle.refinement.specs.Representation.{office_of};
 
@@ -35,8 +35,8 @@ fn perform<P: Places, S: Alter>(
     row: &OfficeRow,
     command: &Command,
 ) -> Result<Result<Done, Refusal>, StoreFault>
-    requires named { misnamed command.now ≡ None }
-    requires dated { misdated row.now.day command.now ≡ None }
+    requires named { name_check command.now ≡ None }
+    requires dated { day_check row.now.day command.now ≡ None }
     requires texts { NamesTexts command.now }
     ensures { Performs P.represents P.version S.Store (λ s. row.now ≡ office_of s) command.now tables.old tables.new
         result }
@@ -87,7 +87,7 @@ fn carry_out<P: Places, S: Alter>(
     tables: &mut Tables<P, S>,
     command: &Command,
 ) -> Result<Result<Done, Refusal>, StoreFault>
-    requires named { misnamed command.now ≡ None }
+    requires named { name_check command.now ≡ None }
     requires texts { NamesTexts command.now }
     ensures { Performs P.represents P.version S.Store (λ _. ⊤) command.now tables.old tables.new result }
 {
@@ -114,7 +114,7 @@ fn reply_to<P: Places, S: Alter>(
     tables: &mut Tables<P, S>,
     command: &Command,
 ) -> Result<Reply, StoreFault>
-    requires named { misnamed command.now ≡ None }
+    requires named { name_check command.now ≡ None }
     requires texts { NamesTexts command.now }
     ensures { Replies P.represents P.version S.Store tables.old tables.new command.now result }
 {

@@ -4,7 +4,7 @@ ghost use Rattle.std.specs.Prelude.{◌≡◌};
 ghost use Rattle.isad_core.specs.Days.{IsDayNumber};
 ghost use Rattle.office_core.specs.SoundOffice.{NamesTexts};
 ghost use Rattle.office_core.specs.Soundness.{NamesDays};
-ghost use Rattle.office.specs.Sight.{misdated, misnamed};
+ghost use Rattle.office.specs.Sight.{day_check, name_check};
 
 use catalogue_core::is_source;
 use desk_core::is_name;
@@ -14,7 +14,7 @@ use office_core::{Command, Refusal};
 /// The first check of a command, if it depends on the command alone: the name of a source or of a reader must be
 /// well-formed.
 pub(crate) fn refused_by_name(command: &Command) -> Option<Refusal>
-    ensures { result ≡ misnamed command.now }
+    ensures { result ≡ name_check command.now }
 {
     match command {
         Command::Import { source, .. } if !is_source(source.as_str()) => Some(Refusal::BadName),
@@ -25,7 +25,7 @@ pub(crate) fn refused_by_name(command: &Command) -> Option<Refusal>
 
 /// The first check of a command, if it depends on the office's day: a new day must be later.
 pub(crate) fn refused_by_day(today: Day, command: &Command) -> Option<Refusal>
-    ensures { result ≡ misdated today command.now }
+    ensures { result ≡ day_check today command.now }
 {
     match command {
         Command::OpenDay { day } if *day <= today => Some(Refusal::DayNotLater),

@@ -1,13 +1,13 @@
 use Rattle.std.proofs.Common.{refl, subst, sym}
 use Rattle.std.specs.Prelude.{IsOk}
 use Rattle.office.proofs.Applied.{applies, refused_whole}
-use Rattle.office.proofs.Sights.{misnamed_refuses}
+use Rattle.office.proofs.Sights.{name_check_refuses}
 use Rattle.office.proofs.commands.apply_to.Goals as goal
 
 pub returns-in-Some : goal.returns-in-Some
 returns-in-Some g c =
     let told = c.reply_of.ensures in
-    refused_whole g.S.Store c.args.closed.now c.requires.office (λ s. misnamed_refuses s c.args.command.now c.in-Some.why (sym c.in-Some.ensures)) told.same told.bytes told.memory
+    refused_whole g.S.Store c.args.closed.now c.requires.office (λ s. name_check_refuses s c.args.command.now c.in-Some.why (sym c.in-Some.ensures)) told.same told.bytes told.memory
 
 pub returns : goal.returns
 returns g c =

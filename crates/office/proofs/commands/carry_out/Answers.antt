@@ -1,7 +1,7 @@
 use Rattle.std.proofs.Common.{sym, ap, ◌∙◌}
 use Rattle.refinement.proofs.Doings.{does_pass, does_then, is_refused}
-use Rattle.office.specs.Sight.{misdated}
-use Rattle.office.proofs.Sights.{misdated_refuses}
+use Rattle.office.specs.Sight.{day_check}
+use Rattle.office.proofs.Sights.{day_check_refuses}
 use Rattle.office.proofs.commands.carry_out.Goals as goal
 
 pub returns-in_err-row : goal.returns-in_err-row
@@ -13,7 +13,7 @@ returns-in-Some g c =
     is_refused told.looks
     (λ clean s sound so it.
     let day = ap (λ row. row.day) (told.answers clean tt s it) in
-    misdated_refuses s c.args.command.now c.in-Some.why (sym (c.in-Some.ensures ∙ ap (λ today. misdated today c.args.command.now) day)))
+    day_check_refuses s c.args.command.now c.in-Some.why (sym (c.in-Some.ensures ∙ ap (λ today. day_check today c.args.command.now) day)))
 
 pub returns : goal.returns
 returns g c = let told = c.in_ok-row.ensures.answers in does_then told.looks c.perform.ensures (λ clean s sound so it. told.answers clean tt s it)
