@@ -30,8 +30,8 @@ TAKEN = '{"changed":0,"new":2,"remarks":[{"kind":2,"row":2}],"same":0,"translati
 AGAIN = '{"changed":0,"new":0,"remarks":[{"kind":2,"row":2}],"same":2,"translations":0}'
 TOP = "1 GB 0999 HUL [Fonds] Hull Dock Company\n"
 FILE_FAULT, STORE_FAULT, NET_FAULT = (3, "", "file fault\n"), (3, "", "store fault\n"), (3, "", "net fault\n")
-# the bytes of an empty store, and of a log that has nothing
-EMPTY = 4096, 41
+# the bytes of a log that has nothing, and the fewest of a store
+EMPTY_LOG, SHORTEST_STORE = 41, 512
 DONE, SOUND, OLD = (0, "", ""), (0, "sound\n", ""), (1, "old version\n", "")
 BEYOND = {name: (0, most + 1) for name, most in HIGHEST.items()}
 needs_curl = unittest.skipUnless(shutil.which("curl"), "curl is not installed")
@@ -126,33 +126,34 @@ class Commands(Test):
         self.check_end("a port that is taken for a store that is not there", none.perform(*words), FILE_FAULT)
 
     def sizes_left(self, office):
-        """How many bytes the store has, and its log."""
-        return tuple(Path(f"{office.store}{end}").stat().st_size for end in ("", "-wal"))
+        """How many bytes the store has, and its log; None if there is no log."""
+        log = Path(f"{office.store}-wal")
+        return office.store.stat().st_size, log.stat().st_size if log.exists() else None
 
     def test_no_store(self):
-        """A file that is no store stays as it is, and gets a log of no bytes. But if it has no byte or one, it becomes
-        an empty store."""
+        """A file that is no store stays as it is, and gets a log of no bytes. If it is too short for a store, it gets no
+        log."""
         file, port = ["import", "--source", "a", self.fonds], ["serve", "--port", "1", "--connections", "1"]
-        for content in (b"", b"\0", b"x", bytes(2), b"text\n", bytes(4096)):
+        for content in (b"", b"\0", b"x", bytes(2), b"text\n", bytes(511), bytes(512), bytes(4096)):
             for words in (["check"], ["talk"], ["migrate"], file, port):
                 office = self.office(f"{words[0]} {len(content)} {content[:1].hex()}.db")
                 office.store.write_bytes(content)
                 self.check_end(f"{words[0]} on {content[:9]}", office.perform(*words), STORE_FAULT)
-                wanted = EMPTY if len(content) < 2 else (len(content), 0)
+                wanted = len(content), None if len(content) < SHORTEST_STORE else 0
                 self.same(f"what {words[0]} leaves of {content[:9]}", self.sizes_left(office), wanted)
 
     def test_emptied(self):
-        """What becomes of a log if the file beside it was cut: with no byte in the file, the log is lost."""
+        """A log with changes stays as it is if the file beside it was emptied or cut, and so does the file."""
         office, log = self.make_office("office.db"), self.room / "office.db-wal"
         with office.session() as session:
             session.ask(client.post("/desk/register", '{"name":"Ann","until":"2024-12-31"}'))
         whole, changes = office.store.read_bytes(), log.read_bytes()
-        self.same("whether the log has changes", len(changes) > EMPTY[1], True)
-        for size in (0, 1, 2, 4096):
+        self.same("whether the log has changes", len(changes) > EMPTY_LOG, True)
+        for size in (0, 1, 2, 511, 4096):
             office.store.write_bytes(whole[:size])
             log.write_bytes(changes)
             self.check_end(f"a store of {size} bytes", office.check(), STORE_FAULT)
-            self.same(f"what is left of {size} bytes", self.sizes_left(office), (size, len(changes)) if size else EMPTY)
+            self.same(f"what is left of {size} bytes", self.sizes_left(office), (size, len(changes)))
 
     def test_bad_settings(self):
         """Settings beyond their limits, and no day."""

@@ -1,5 +1,5 @@
 -- Why a store could not be opened, and what is left of its files.
-use Rattle.std.specs.Prelude.{◌≡◌, ◌≢◌}
+use Rattle.std.specs.Prelude.{◌≡◌, ◌≢◌, ⊤}
 use Rattle.sqlite.specs.Files.{FailsToOpenFiles, IsCleanLeft, LeavesFiles, image_of}
 use Rattle.sqlite.specs.Recovery.{Image}
 use Rattle.sqlite.specs.declared.error.Error.{Error}
@@ -9,7 +9,7 @@ use Rattle.sqlite.specs.declared.file.Leftover.{Leftover}
 use Rattle.sqlite_disk.specs.declared.Disk.{Ghosts}
 use Rattle.sqlite_disk.specs.declared.Files.{Files}
 use Rattle.program.specs.declared.files.FailedOpening.{FailedOpening}
-use Rattle.program.specs.declared.files.FailedOpening.TheVariants.{Untried, NoFiles, NoStore}
+use Rattle.program.specs.declared.files.FailedOpening.TheVariants.{Untried, TooShort, NoFiles, NoStore}
 use Rattle.program.specs.declared.files.FileFault.{FileFault}
 use Rattle.program.specs.declared.files.FileFault.TheVariants.{Memory, Absent, Unopened}
 
@@ -21,6 +21,7 @@ reason_of_error _ = Unopened
 module _ {S D : Type 0} {g : Ghosts D} where
   abbrev pub reason_of : FailedOpening S D g → FileFault
   reason_of (Untried why start) = why
+  reason_of (TooShort start) = Unopened
   reason_of (NoFiles why) = why
   reason_of (NoStore why left) = why
 
@@ -36,9 +37,10 @@ module _ {D : Type 0} (g : Ghosts D) (image : Image) where
     pub cause : IsCleanLeft left → FailsToOpenFiles files left error
     pub leaves : IsCleanLeft left → LeavesFiles files left
 
-  -- A store could not be opened. Nothing tried to open it; or the system did not open its files, and no cause is known; or
-  -- its files were opened, held these bytes, and no store was opened on them.
+  -- A store could not be opened. Nothing tried to open it, or its file was found too short; or the system did not open its
+  -- files, and no cause is known; or its files were opened, held these bytes, and no store was opened on them.
   abbrev pub CouldNotOpen : {S : Type 0} → FailedOpening S D g → Type 0
   CouldNotOpen (Untried why start) = why ≢ Unopened
+  CouldNotOpen (TooShort start) = ⊤
   CouldNotOpen (NoFiles why) = why ≢ Absent
   CouldNotOpen (NoStore why left) = HasNoStore why left

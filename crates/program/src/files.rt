@@ -48,6 +48,8 @@ impl<S: Drop> Model for NoFiles<S> {
 pub enum FailedOpening<S: Drop, D: Disk + Drop> {
     /// Nothing tried to open its files, for this reason: here is what opens them.
     Untried(FileFault, S),
+    /// Its file is too short to hold a store, so nothing opened it: here is what opens it.
+    TooShort(S),
     /// The system did not open its files, or gave no random number for it.
     NoFiles(NoFiles<S>),
     /// Its files were opened, but no store on them, for this reason: this is what is left of them.
@@ -61,6 +63,7 @@ impl<S: Drop, D: Disk + Drop> FailedOpening<S, D> {
     {
         match self {
             FailedOpening::Untried(why, _) | FailedOpening::NoStore(why, _) => *why,
+            FailedOpening::TooShort(_) => FileFault::Unopened,
             FailedOpening::NoFiles(none) => none.why,
         }
     }
@@ -157,7 +160,10 @@ pub fn unmake(rt: &HostRuntime, path: &str) {
     }
 }
 
-/// Opens an existing file, with the store in it.
+/// The fewest bytes of a store: the smallest page of a database.
+const FEWEST_BYTES: u64 = 512;
+
+/// Opens an existing file, with the store in it. A file that is too short for a store stays as it is, with its log.
 pub fn find<S: Start>(
     rt: &HostRuntime,
     path: &str,
@@ -170,9 +176,12 @@ pub fn find<S: Start>(
     ensures fresh { IfOk result IsNew }
     ensures fails { IfErr result (CouldNotOpen ⟦<FileFrom<S> as Disk>⟧ (image_at S.Start)) }
 {
-    match fs::exists(rt, path) {
-        Ok(true) => open(rt, path, start),
-        _ => Err(FailedOpening::Untried(FileFault::Absent, start)),
+    match fs::metadata(rt, path) {
+        Ok(found) if found.is_file() && found.len() < FEWEST_BYTES => {
+            Err(FailedOpening::TooShort(start))
+        }
+        Ok(_) => open(rt, path, start),
+        Err(_) => Err(FailedOpening::Untried(FileFault::Absent, start)),
     }
 }
 

@@ -191,6 +191,12 @@ impl<'a> Queue<'a> {
         }
     }
 
+    /// Nobody comes.
+    pub fn empty(rt: &HostRuntime) -> io::Result<Queue<'static>> {
+        let (_line, end) = io::pipe(rt)?;
+        Ok(Queue::of(&[], end))
+    }
+
     /// It cannot be bound.
     pub fn unbound(clients: &'a [&'a str], line: PipeWriter) -> Queue<'a> {
         Queue {

@@ -9,7 +9,7 @@ use office::{Office, Settings};
 use program::files::{FailedOpening, FileFault, FileStoreFrom, close, find, make, unmake};
 use program::ports::{LocalPort, Port};
 use program::server::serve;
-use sqlite::{Connection, MemStore, Wary};
+use sqlite::Wary;
 use std::alloc::Global;
 use std::io::{Read, Write};
 use std::net::{Ipv4Addr, Shutdown, SocketAddr, SocketAddrV4, TcpListener, TcpStream};
@@ -118,15 +118,19 @@ fn an_office_is_kept(rt: HostRuntime) -> Result<(), Fail> {
     forget(&rt, alloc, store)
 }
 
-// A store that is absent is not tried, a folder is not opened, and a file with other bytes holds no store.
+// A store that is absent is not tried, a short file and a folder are not opened, and a file with other bytes holds no
+// store.
 #[test]
-fn an_opening_fails_in_three_ways(rt: HostRuntime) -> Result<(), Fail> {
+fn an_opening_fails_in_four_ways(rt: HostRuntime) -> Result<(), Fail> {
     let alloc = rt.alloc();
     let store = new_path(&rt, alloc, "record_office_unopened.db")?;
     let store = store.as_str();
     let absent = find(&rt, store, Wary);
     assert!(rt; matches!(absent, Err(FailedOpening::Untried(FileFault::Absent, _))));
     fs::write(&rt, store, "no store")?;
+    let short = find(&rt, store, Wary);
+    assert!(rt; matches!(short, Err(FailedOpening::TooShort(_))));
+    fs::write(&rt, store, [0u8; 512])?;
     let other = find(&rt, store, Wary);
     assert!(rt; matches!(other, Err(FailedOpening::NoStore(FileFault::Unopened, _))));
     let folder = env::temp_dir(&rt)?;
@@ -142,6 +146,20 @@ fn settings(alloc: Global) -> Result<Settings, Fail> {
         Settings::new(alloc, "GB", "0999", 2, 3, 1, 2, day)
             .ok()
             .ok_or("no settings")?,
+    )
+}
+
+// A new office in this file. Offices in memory would be compiled once more.
+fn new_office(
+    rt: &HostRuntime,
+    alloc: Global,
+    store: &str,
+) -> Result<Office<SpanPlaces, FileStoreFrom<Wary>>, Fail> {
+    let conn = make(rt, store, Wary).ok().ok_or("no file")?;
+    Ok(
+        Office::create(conn, settings(alloc)?)
+            .ok()
+            .ok_or("no office")?,
     )
 }
 
@@ -192,12 +210,13 @@ fn an_office_is_not_sound(rt: HostRuntime) -> Result<(), Fail> {
     forget(&rt, alloc, store)
 }
 
-// A file that is not a store, or that is empty, exists but is not opened.
+// A file that is too short for a store, or empty, exists, is not opened, and gets no log.
 #[test]
 fn a_file_is_no_store(rt: HostRuntime) -> Result<(), Fail> {
     let alloc = rt.alloc();
     let store = new_path(&rt, alloc, "record_office_junk.db")?;
     let store = store.as_str();
+    let log = format!(in alloc; "{store}-wal")?;
     for bytes in ["", "x", FONDS] {
         forget(&rt, alloc, store)?;
         fs::write(&rt, store, bytes)?;
@@ -210,6 +229,8 @@ fn a_file_is_no_store(rt: HostRuntime) -> Result<(), Fail> {
             let words = format!(in alloc; "{command} --store {store}")?;
             says(&rt, alloc, words.as_str(), "", (3, "", "store fault\n"))?;
         }
+        assert!(rt; fs::read_to_string(&rt, store)?.as_str() == bytes);
+        assert!(rt; !fs::exists(&rt, log.as_str())?);
     }
     forget(&rt, alloc, store)
 }
@@ -295,12 +316,12 @@ fn a_connection_is_served(rt: HostRuntime) -> Result<(), Fail> {
     let mut stream = TcpStream::connect(&rt, there)?;
     stream.write_all(ASKED.as_bytes())?;
     stream.shutdown(Shutdown::Write)?;
-    let conn = Connection::open_in_memory(alloc)?;
-    let mut office = Office::<SpanPlaces, MemStore>::create(conn, settings(alloc)?)
-        .ok()
-        .ok_or("no office")?;
+    let store = new_path(&rt, alloc, "record_office_local.db")?;
+    let store = store.as_str();
+    let mut office = new_office(&rt, alloc, store)?;
     let is_served = serve(alloc, &mut local, 1, &mut office);
-    let _ = office.into_connection();
+    close(office.into_connection());
+    forget(&rt, alloc, store)?;
     assert!(rt; is_served);
     let mut read = String::new(alloc);
     let _length = stream.read_to_string(&mut read)?;
@@ -318,13 +339,13 @@ fn sent_to(
     connections: u32,
 ) -> Result<(bool, String), Fail> {
     let (mut line, end) = io::pipe(rt)?;
-    let conn = Connection::open_in_memory(alloc)?;
-    let mut office = Office::<SpanPlaces, MemStore>::create(conn, settings(alloc)?)
-        .ok()
-        .ok_or("no office")?;
+    let store = new_path(rt, alloc, "record_office_queue.db")?;
+    let store = store.as_str();
+    let mut office = new_office(rt, alloc, store)?;
     let mut port = Queue::of(clients, end);
     let is_served = serve(alloc, &mut port, connections, &mut office);
-    let _ = office.into_connection();
+    close(office.into_connection());
+    forget(rt, alloc, store)?;
     let is_shut = port.is_shut;
     drop(port);
     let mut sent = String::new(alloc);

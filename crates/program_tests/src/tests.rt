@@ -1,8 +1,8 @@
-use crate::fakes::{Page, Pieces, Spoken};
+use crate::fakes::{Page, Pieces, Queue, Spoken};
 use crate::printed_help::HELP;
 use http_desk::streams::{Sink, Source};
 use program::perform::perform;
-use program::ports::{LocalPort, Port};
+use program::ports::Port;
 use program::tasks::{Task, TaskFault};
 use program::words::{arguments, task};
 use sqlite::Wary;
@@ -89,7 +89,8 @@ pub fn expect<R: Abort + Host>(
     out: Page,
     wanted: (u8, &[u8], &str),
 ) -> Result<(), Fail> {
-    expect_over(rt, alloc, words, reader, out, &mut LocalPort::new(), wanted)
+    let mut port = Queue::empty(rt.host())?;
+    expect_over(rt, alloc, words, reader, out, &mut port, wanted)
 }
 
 // The same over a port.
@@ -268,6 +269,7 @@ fn a_status_stands_without_its_text(rt: HostRuntime) -> Result<(), Fail> {
     let alloc = rt.alloc();
     let told = b"refused 22 BadFile row 1 cause 2\n";
     let words = words_of(alloc, PREVIEW)?;
+    let mut port = Queue::empty(&rt)?;
     for n in 0..told.len() {
         let mut out = Page::new(Vec::new(alloc));
         let mut err = Page::narrow(Vec::new(alloc), n);
@@ -279,7 +281,7 @@ fn a_status_stands_without_its_text(rt: HostRuntime) -> Result<(), Fail> {
             &mut Source::new(&mut reader),
             &mut Sink::new(&mut out),
             &mut Sink::new(&mut err),
-            &mut LocalPort::new(),
+            &mut port,
             Wary,
         );
         assert_eq!(rt; status, 1);
