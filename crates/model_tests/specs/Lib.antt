@@ -1,3 +1,4 @@
+pub mod WorkedDays
 pub mod WorkedDescriptions
 pub mod WorkedEndings
 pub mod WorkedFiles

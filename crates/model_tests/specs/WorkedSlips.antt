@@ -1,7 +1,8 @@
--- The order and the columns of a slip, worked out by hand.
-use Rattle.std.specs.Prelude.{◌≡◌, ◌++◌, ℕ, List, [], ◌∷◌, codes, pos}
+-- Runs, what goes back to the shelf, and the order and the columns of a slip, worked out by hand.
+use Rattle.std.specs.Prelude.{◌≡◌, ◌++◌, ℕ, List, [], ◌∷◌, codes, map, pos, true, false}
 use Rattle.isad_core.specs.Texts.{Bytes}
 use Rattle.desk_core.specs.declared.run.Candidate.{Candidate}
+use Rattle.desk_core.specs.Runs.{reshelved, run_of}
 use Rattle.desk_core.specs.Slips.{slip}
 
 abbrev pub waiting : (container order ticket : ℕ) → (location name kind : Bytes) → Candidate
@@ -21,6 +22,9 @@ run_lines = waiting 2 6 1 saelar (codes "A") (codes "a") ∷ waiting 4 5 1 (code
     ∷ waiting 7 12345678 1 (codes "Reading room") (codes "Minutes of meetings") (codes "z") ∷ []
 
 pub record Slipped : Type 0 where
+  pub run : map (λ (taken : Candidate). taken.order) (run_of run_lines 4) ≡ 2 ∷ 3 ∷ 4 ∷ 5 ∷ []
+  pub whole_run : map (λ (taken : Candidate). taken.order) (run_of run_lines 7) ≡ 2 ∷ 3 ∷ 4 ∷ 5 ∷ 6 ∷ 12345678 ∷ []
+  pub shelf : reshelved ((9, false) ∷ (4, true) ∷ (2, false) ∷ (5, false) ∷ (1, true) ∷ []) ≡ 2 ∷ 5 ∷ 9 ∷ []
   pub shelves : slip 12 (pos 19783) run_lines
       ≡ codes "Run 12  2024-03-01\n"
       ++ codes "Reading room         Minutes of meetings      7 12345678       1\n"

@@ -1,5 +1,6 @@
 //! Small cases of the definitions of the crates that have no tables, computed.
 
+ghost use Rattle.model_tests.specs.WorkedDays.{Dated};
 ghost use Rattle.model_tests.specs.WorkedDescriptions.{Printed};
 ghost use Rattle.model_tests.specs.WorkedFiles.{Boxed, Columned, Recorded};
 ghost use Rattle.model_tests.specs.WorkedEndings.{Ended};
@@ -8,6 +9,11 @@ ghost use Rattle.model_tests.specs.WorkedPreviews.{Placed, Previewed};
 ghost use Rattle.model_tests.specs.WorkedRequests.{Judged, Scanned, Stated};
 ghost use Rattle.model_tests.specs.WorkedRoutes.{Given, Routed};
 ghost use Rattle.model_tests.specs.WorkedSlips.{Slipped};
+
+/// Dates are read and written as in the rows.
+pub fn worked_days()
+    ensures { Dated }
+{}
 
 /// Elements, aids and pages are printed as in the rows.
 pub fn worked_descriptions()
@@ -29,7 +35,7 @@ pub fn worked_records()
     ensures { Recorded }
 {}
 
-/// The order and the columns of a slip are those of the row.
+/// What a run brings, what goes back to the shelf, and the order and the columns of a slip are those of the rows.
 pub fn worked_slips()
     ensures { Slipped }
 {}

@@ -6,5 +6,8 @@ use Rattle.model_tests.proofs.worked.worked_slips.Goals as goal
 pub returns : goal.returns
 unfolding digits day_text
 returns c = record {
+  run = refl;
+  whole_run = refl;
+  shelf = refl;
   shelves = refl;
 }
