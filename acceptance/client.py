@@ -147,10 +147,12 @@ class Program:
     def __init__(self, path):
         self.path = Path(path).resolve()
 
-    def run(self, *words, said=b"", timeout=PATIENCE, **environment):
-        """Runs a command that reads `said`, with these variables in its environment."""
-        how = {"input": said, "capture_output": True, "timeout": timeout, "env": os.environ | environment}
-        done = subprocess.run([self.path, *words], **how)
+    def run(self, *words, said=b"", timeout=PATIENCE, room=None, **environment):
+        """Runs a command that reads `said`, in the directory `room`, with these variables in its environment. If `said`
+        is a file, or a descriptor, that is its standard input."""
+        given = {"input": said} if isinstance(said, bytes) else {"stdin": said}
+        how = {"capture_output": True, "timeout": timeout, "cwd": room, "env": os.environ | environment}
+        done = subprocess.run([self.path, *words], **given, **how)
         return Ended(done.returncode, done.stdout, done.stderr)
 
     def trial(self, said, settings=None, timeout=PATIENCE):

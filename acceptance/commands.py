@@ -1,10 +1,10 @@
 #!/usr/bin/env python3
 """The commands of the program as their users call them: commands.py [--program PROGRAM] [--room DIRECTORY] [TEST ..]
 
-It tests each exit status with its message, wrong settings, which of two faults is reported, `serve` with curl and with
-connections that break, a restart on the same port, a backup of a server that was stopped, a store that sqlite3 reads,
-the verdict of `check` after each statement of changed.txt, and the kept file of version 1. TEST is one of the tests,
-like Commands.test_served. The script prints how many results it compared, and ends with 1 if one is wrong. Where curl
+It tests the words of the command line, each exit status with its message, wrong settings, which of two faults is
+reported, previews of files, `serve` with curl and with connections that break, a restart on the same port, a backup of a
+server that was stopped, a store that sqlite3 reads, the verdict of `check` after each statement of changed.txt, and the
+kept file of version 1. TEST is one of the tests, like Commands.test_served. The script prints how many results it compared, and ends with 1 if one is wrong. Where curl
 or sqlite3 is not installed, the tests that need it are skipped."""
 import os
 import shutil
@@ -34,6 +34,73 @@ FILE_FAULT, STORE_FAULT, NET_FAULT = (3, "", "file fault\n"), (3, "", "store fau
 EMPTY_LOG, SHORTEST_STORE = 41, 512
 DONE, SOUND, OLD = (0, "", ""), (0, "sound\n", ""), (1, "old version\n", "")
 BEYOND = {name: (0, most + 1) for name, most in HIGHEST.items()}
+# words that name no command, with what clap says of them
+NO_COMMAND = {
+    "": "'record_office' requires a subcommand but one was not provided\n"
+        "  [subcommands: preview, init, trial, import, talk, serve, check, migrate]\n\n"
+        "Usage: record_office <COMMAND>",
+    "serve --store f": "the following required arguments were not provided:\n  --port <PORT>\n  --connections <NUMBER>"
+        "\n\nUsage: record_office serve --store <STORE> --port <PORT> --connections <NUMBER>",
+    "serve --store f --port 0 --connections 1": "invalid value '0' for '--port <PORT>': 0 is not in 1..=65535",
+    "trial --country GB --repo 0999 --seats two --daily 3 --hands 1 --run 2 --day 2024-03-01":
+        "invalid value 'two' for '--seats <NUMBER>': invalid digit found in string",
+    "trial --country GB --repo 0999 --seats 4294967296 --daily 3 --hands 1 --run 2 --day today":
+        "invalid value '4294967296' for '--seats <NUMBER>': 4294967296 is not in 0..=4294967295",
+}  # fmt: skip
+REFUSED_WORDS = (
+    "check --store",
+    "check --store f g",
+    "talk",
+    "init --store f",
+    "import --store f --source a",
+    "serve --store f --port 0 --connections 1",
+    "serve --store f --port 65536 --connections 1",
+    "serve --store f --port 8080 --connections 0",
+    "serve --store f --port 8080 --connections 10001",
+    "serve --store f --port 8080",
+    "migrate f",
+    "help",
+    "--version",
+    "preview",
+    "preview --country GB",
+    "preview --country --repo 0999",
+    "preview --country GB --country FR --repo 0999",
+    "preview --count GB --repo 0999",
+    "preview --country GB --repo 0999 a b",
+    "-- preview --country GB --repo 0999",
+    "trial --country GB --repo 0999",
+    "trial --country GB --repo 0999 --seats 2 --daily 3 --hands 1 --run 2",
+    "trial --country GB --repo 0999 --seats -1 --daily 3 --hands 1 --run 2 --day 2024-03-01",
+    "trial --country GB --repo 0999 --seats 2 --daily 3 --hands 1 --run 2 --day 2024-03-01 a.csv",
+    "trial --country GB --repo 0999 --seats 2 --seats 2 --daily 3 --hands 1 --run 2 --day 2024-03-01",
+)
+# settings that differ from the usual ones, with the message, if they are refused
+SETTINGS_SAID = [
+    *(({name: value}, "bad settings") for name, values in BEYOND.items() for value in values),
+    ({"country": "gb"}, "bad settings"),
+    ({"day": "2024-02-30"}, "bad date"),
+    ({"country": "gb", "seats": 0, "day": "today"}, "bad date"),
+    (client.LARGE | {"day": "9999-12-31"}, None),
+    ({"repo": "r", "seats": "+1", "daily": "01", "run": "001", "day": "1900-01-01"}, None),
+]
+OF_AN_OFFICE = "--seats 2 --daily 3 --hands 1 --run 2 --day"
+FIRST_FAULTS = {
+    f"init --store /none/none --country gb --repo 0999 {OF_AN_OFFICE} 2024-03-01": (2, "", "bad settings\n"),
+    f"init --store /none/none --country gb --repo 0999 {OF_AN_OFFICE} today": (2, "", "bad date\n"),
+    "preview --country gb --repo 0999 /none/none": (2, "", "bad settings\n"),
+    "preview --country GB --repo é /none/none": (2, "", "bad settings\n"),
+    "preview --country GB --repo 0999 /none/none": FILE_FAULT,
+    "import --store /none/none --source a /none/none": FILE_FAULT,
+    "serve --store /none/none --port 1 --connections 1": FILE_FAULT,
+}
+# files, and words of a preview with the codes and the file that they name
+PREVIEWED = "a.csv", "-h", "-"
+PREVIEWS = {
+    "--country=FR --repo=x=y a.csv": ("FR x=y", "a.csv"),
+    "a.csv --repo 1 --country FR": ("FR 1", "a.csv"),
+    "--country GB --repo 1 -- -h": ("GB 1", "-h"),
+    "--country GB --repo 1 -": ("GB 1", "-"),
+}
 needs_curl = unittest.skipUnless(shutil.which("curl"), "curl is not installed")
 needs_sqlite3 = unittest.skipUnless(shutil.which("sqlite3"), "sqlite3 is not installed")
 
@@ -92,6 +159,74 @@ class Test(unittest.TestCase):
         return self.office(name)
 
 
+class Words(Test):
+    """The words of the command line. What does not need standard input must not read it: here it cannot be read."""
+
+    def unread(self, words, room=None):
+        """How the program ends with these words if its standard input is a directory, which cannot be read."""
+        directory = os.open(self.room, os.O_RDONLY)
+        try:
+            return self.program.run(*(words.split() if isinstance(words, str) else words), said=directory, room=room)
+        finally:
+            os.close(directory)
+
+    def test_help(self):
+        """The help of the program and of each command, as help/ has it."""
+        for file in sorted((HERE / "help").iterdir()):
+            command = [] if file.stem == "record_office" else [file.stem]
+            for word in ("--help", "-h"):
+                self.check_end(f"{word} of {file.stem}", self.unread([*command, word]), (2, "", file.read_text()))
+
+    def test_no_command(self):
+        """Words that name no command get a message of clap."""
+        for words, message in NO_COMMAND.items():
+            wanted = 2, "", f"error: {message}\n\nFor more information, try '--help'.\n"
+            self.check_end(words or "no words", self.unread(words), wanted)
+        for words in (*REFUSED_WORDS, [b"preview", b"\xff"]):
+            ended = self.unread(words)
+            found = ended.status, ended.output, ended.message.split(b" ")[0], ended.message[-1:]
+            self.same(f"the end of {words}", found, (2, b"", b"error:", b"\n"))
+
+    def test_settings(self):
+        """Days and settings at their limits and beyond. The day is judged first."""
+        for changed, message in SETTINGS_SAID:
+            words = ["trial", *client.option_words(client.SETTINGS | changed)]
+            if message:
+                self.check_end(f"{changed}", self.unread(words), (2, "", f"{message}\n"))
+            else:
+                self.check_end(f"{changed}", self.program.run(*words), DONE)
+
+    def test_first_fault(self):
+        """Settings are judged before a store or a file is opened, and a file is read before a store is opened."""
+        for words, wanted in FIRST_FAULTS.items():
+            self.check_end(words, self.unread(words), wanted)
+
+    def test_previews(self):
+        """Which codes and which file the words name, in each form that clap takes."""
+        header, titled = FONDS.splitlines(keepends=True)[0], "1,,A,{},Fonds,Published\n"
+        for name in PREVIEWED:
+            (self.room / name).write_text(header + titled.format(name))
+        for words, (code, name) in PREVIEWS.items():
+            wanted = 0, f"{code} A [Fonds] {name}\n", ""
+            self.check_end(words, self.unread(f"preview {words}", self.room), wanted)
+        said = (header + titled.format("standard input")).encode()
+        ended = self.program.run(*"preview --country GB --repo 1".split(), said=said)
+        self.check_end("no file", ended, (0, "GB 1 A [Fonds] standard input\n", ""))
+
+    def test_previewed_files(self):
+        """A file that is there, not there, a directory, empty, without rows, or not in order."""
+        preview = "preview --country GB --repo 0999"
+        wanted = 0, "GB 0999 HUL [Fonds] Hull Dock Company\n  GB 0999 HUL/1 [Series] Minutes\n", ""
+        self.check_end("a file", self.unread(f"{preview} {self.fonds}"), wanted)
+        for file in (self.room / "none.csv", self.room):
+            self.check_end(f"{file.name}", self.unread(f"{preview} {file}"), FILE_FAULT)
+        late = "legacyId,parentId,title\n1,,Top\n3,2,Low\n2,1,Mid\n"
+        for said, wanted in (("", (1, "", "refused 22 BadFile row 1 cause 2\n")),
+                             (FONDS.splitlines(keepends=True)[0], DONE),
+                             (late, (1, "", "refused 22 BadFile row 3 cause 11\n"))):  # fmt: skip
+            self.check_end(f"a file of {said!r}", self.program.run(*preview.split(), said=said.encode()), wanted)
+
+
 class Commands(Test):
     """Offices of this version."""
 
@@ -101,6 +236,7 @@ class Commands(Test):
         self.check_end("a store that is not there", office.check(), FILE_FAULT)
         self.make_filled_office()
         self.check_end("a store that is there", office.init(), FILE_FAULT)
+        self.check_end("a bad name", office.import_file("a,b", self.fonds), (1, "", "refused 27 BadName\n"))
         self.check_end("the same file", office.import_file("a", self.fonds), (0, f"{AGAIN}\n", ""))
         self.check_end("no file", office.import_file("a", self.room / "none.csv"), FILE_FAULT)
         refused = 1, "", "refused 22 BadFile row 1 cause 2\n"
@@ -141,6 +277,22 @@ class Commands(Test):
                 self.check_end(f"{words[0]} on {content[:9]}", office.perform(*words), STORE_FAULT)
                 wanted = len(content), None if len(content) < SHORTEST_STORE else 0
                 self.same(f"what {words[0]} leaves of {content[:9]}", self.sizes_left(office), wanted)
+            self.check_end(f"init on {content[:9]}", office.init(), FILE_FAULT)
+            self.same(f"what init leaves of {content[:9]}", office.store.read_bytes(), content)
+
+    def test_directory(self):
+        """A directory is no store."""
+        office = Office(self.program, self.room)
+        self.check_end("init on a directory", office.init(), FILE_FAULT)
+        for words in (["check"], ["talk"], ["migrate"]):
+            self.check_end(f"{words[0]} on a directory", office.perform(*words), STORE_FAULT)
+
+    def test_log_alone(self):
+        """No office is made beside a log that is there."""
+        office, log = self.office("office.db"), self.room / "office.db-wal"
+        log.write_bytes(b"x")
+        self.check_end("a log alone", office.init(), FILE_FAULT)
+        self.same("what is there", (office.store.exists(), log.read_bytes()), (False, b"x"))
 
     def test_emptied(self):
         """A log with changes stays as it is if the file beside it was emptied or cut, and so does the file."""
@@ -281,6 +433,8 @@ class Commands(Test):
             changed = self.copy_office(office.store, "changed.db")
             sqlite3(changed.store, statement)
             self.check_end(statement, changed.check(), (0 if verdict == "sound" else 1, f"{verdict}\n", ""))
+            ended = DONE if verdict == "sound" else STORE_FAULT
+            self.check_end(f"a session after {statement}", changed.talk(), ended)
             for it in self.room.glob("changed.db*"):
                 it.unlink()
 

@@ -4,7 +4,6 @@ ghost use Rattle.std.specs.Prelude.{IsErr};
 use http_desk::session_end::Ended;
 use http_desk::streams::{Sink, Source};
 use program::ports::Port;
-use std::env::{Env, FillError};
 use std::io::{self, ErrorKind, PipeWriter, Read, Write};
 
 fn broken<T>() -> io::Result<T>
@@ -238,32 +237,5 @@ impl<'a> Port for Queue<'a> {
 
     fn shut(&mut self) {
         self.is_shut = true;
-    }
-}
-
-/// An environment with these arguments.
-#[derive(Drop)]
-pub struct Spoken<'a>(pub &'a [&'a [u8]]);
-
-impl Env for Spoken<'_> {
-    fn arg(&self, i: usize, buf: &mut [u8]) -> Result<usize, FillError> {
-        let Some(word) = self.0.get(i) else {
-            return Err(FillError::NotPresent);
-        };
-        if word.len() > buf.len() {
-            return Err(FillError::TooLong);
-        }
-        for k in 0..word.len() {
-            buf[k] = word[k];
-        }
-        Ok(word.len())
-    }
-
-    fn var(&self, _name: &str, _buf: &mut [u8]) -> Result<usize, FillError> {
-        Err(FillError::NotPresent)
-    }
-
-    fn var_at(&self, _i: usize, _buf: &mut [u8]) -> Result<usize, FillError> {
-        Err(FillError::NotPresent)
     }
 }

@@ -1,16 +1,12 @@
-//! Tests of the program: its words, streams and exit statuses, and offices in files and in memory.
+//! Tests of the program with what only a test can give it: streams that fail, ports where nobody comes.
 #![tactic(auto)]
 
 #[cfg(test)]
+mod clients;
+#[cfg(test)]
 mod fakes;
 #[cfg(test)]
-mod memory_disks;
-#[cfg(test)]
 mod office_messages;
-#[cfg(test)]
-mod printed_help;
-#[cfg(test)]
-mod store_tests;
 #[cfg(test)]
 mod streams;
 #[cfg(test)]

@@ -1,4 +1,4 @@
-//! The check of the desk's tables, in memory and in a file. Rows that no call writes are found, with their cause.
+//! The check of the desk's tables. Rows that no call writes are found, with their cause.
 
 use crate::desk::{day_after, next_turn};
 use crate::reading_room::furnish;
@@ -14,7 +14,6 @@ use sqlite::types::ValueRef;
 use sqlite::types::ValueRef::{Int, Null, Text};
 use sqlite::{Alter, Connection};
 use std::alloc::Global;
-use std::fs;
 use std::process::Abort;
 use std::test::Fail;
 
@@ -334,44 +333,5 @@ fn the_first_defect_is_reported(rt: HostRuntime) -> Result<(), Fail> {
     ];
     let told = causes(rt.alloc(), &desks)?;
     assert_eq!(&rt; told.as_str(), "66778");
-    Ok(())
-}
-
-const FILE: &str = "doubtful-desk-of-the-tests.db";
-/// The write-ahead log of the file.
-const LOG: &str = "doubtful-desk-of-the-tests.db-wal";
-
-fn cause_in_file(rt: &HostRuntime, writes: &[Write]) -> Result<u8, Fail> {
-    let mut tables = desk_with(rt.alloc(), Connection::open(rt, FILE)?, writes)?;
-    let cause = cause_in(rt.alloc(), &mut tables);
-    tables.into_connection().close()?;
-    Ok(cause?)
-}
-
-/// The causes of these desks, each in a new file.
-fn causes_in_files(rt: &HostRuntime, desks: &[&'static [Write]]) -> Result<String, Fail> {
-    let mut text = String::new(rt.alloc());
-    for &writes in desks {
-        let _ = fs::remove_file(rt, FILE);
-        let _ = fs::remove_file(rt, LOG);
-        let cause = cause_in_file(rt, writes)?;
-        write!(text, "{cause}")?;
-    }
-    Ok(text)
-}
-
-/// The same over files, one for each cause.
-#[test]
-fn defective_files_are_reported(rt: HostRuntime) -> Result<(), Fail> {
-    let desks: [&'static [Write]; 4] = [
-        &[LINE, LOST, EMPTY],
-        &[LINE, LOST, THIRD],
-        &[LINE, LOST, SECOND],
-        &[LINE],
-    ];
-    let told = causes_in_files(&rt, &desks)?;
-    assert_eq!(&rt; told.as_str(), "6789");
-    fs::remove_file(&rt, FILE)?;
-    let _ = fs::remove_file(&rt, LOG);
     Ok(())
 }

@@ -1,4 +1,4 @@
-//! The tests of the two stores over one set of tables.
+//! The tests of the two stores over one set of tables, and of the disk in memory.
 #![tactic(auto)]
 
 #[cfg(test)]
@@ -7,6 +7,8 @@ mod checks;
 mod desk;
 #[cfg(test)]
 mod mark_lines;
+#[cfg(test)]
+mod memory_disks;
 #[cfg(test)]
 mod reading_room;
 #[cfg(test)]

@@ -1,4 +1,4 @@
-//! Days in the reading room, by the desk's calls: their results and the rows in the tables, in memory and in a file.
+//! Days in the reading room, by the desk's calls: their results and the rows in the tables.
 
 ghost use Rattle.std.specs.Prelude.{◌<◌, ◌^◌};
 ghost use Rattle.std.specs.List.{AllByRecursion};
@@ -9,16 +9,16 @@ use crate::tests::{Query, new_office, show_rows};
 use catalogue_store::{LinkPlaces, NewUnit, StoreFault, add_unit, commit};
 use desk_core::{Place, slip_text};
 use desk_store::{
-    ContainerOrder, OrderState, append_order, at_desk, candidates, end_order, issued, open_day,
-    queue, reader, record_run, renew, run, seats, set_place, set_seat,
+    ContainerOrder, OrderState, append_order, candidates, end_order, queue, record_run, run,
+    set_place,
 };
 use isad_core::{BoxKey, List, Text, Values};
 use office_tables::Tables;
 use sqlite::{Alter, Connection};
 use std::alloc::{AllocError, Global};
+use std::array;
 use std::process::Abort;
 use std::test::Fail;
-use std::{array, fs};
 
 /// A description with one container and nothing else.
 fn one_box(alloc: Global, name: &str, location: &str) -> Result<Values, AllocError> {
@@ -240,109 +240,11 @@ const THIRD: ContainerOrder = ContainerOrder {
     ticket: 1,
 };
 
-/// How many orders Ann placed on a day, the last day of her ticket, and how many orders there are.
-fn show_card<S: Alter>(
-    alloc: Global,
-    tables: &mut Tables<LinkPlaces, S>,
-    days: u8,
-    text: &mut String,
-) -> Result<(), StoreFault> {
-    let Some(card) = reader(alloc, tables, 1, day_after(days)?)? else {
-        text.push_str("no reader\n")?;
-        return Ok(());
-    };
-    let (placed, until, orders) = (card.placed, card.reader.until.number(), card.orders);
-    write!(text, "{placed} {until} {orders}\n")?;
-    Ok(())
-}
-
-/// Ended orders count on the day on which they were placed, and not on the next; a ticket keeps its last day until it
-/// is renewed.
-fn counted_by_day<S: Alter>(
-    alloc: Global,
-    tables: &mut Tables<LinkPlaces, S>,
-    text: &mut String,
-) -> Result<(), StoreFault> {
-    place_three(alloc, tables, text)?;
-    end_order(tables, 1, OrderState::Cancelled)?;
-    show_card(alloc, tables, 0, text)?;
-    open_day(tables, day_after(1)?)?;
-    show_card(alloc, tables, 1, text)?;
-    renew(tables, 1, day_after(200)?)?;
-    append_order(tables, 4, 1, 1, day_after(1)?)?;
-    show_card(alloc, tables, 1, text)
-}
-
-/// The seats that are taken, each with its ticket.
-fn show_seats<S: Alter>(
-    alloc: Global,
-    tables: &mut Tables<LinkPlaces, S>,
-    text: &mut String,
-) -> Result<(), StoreFault> {
-    for taken in &seats(alloc, tables)? {
-        let (seat, ticket) = (taken.seat, taken.ticket);
-        write!(text, "{seat} {ticket}\n")?;
-    }
-    Ok(())
-}
-
-/// Ann and Bob have the two seats; Ann leaves, Cy takes hers, and a day later all seats are free.
-fn seated_in_turn<S: Alter>(
-    alloc: Global,
-    tables: &mut Tables<LinkPlaces, S>,
-    text: &mut String,
-) -> Result<(), StoreFault> {
-    place_two(alloc, tables, text)?;
-    register(alloc, tables, "Cy", text)?;
-    set_seat(tables, 1, Some(1))?;
-    set_seat(tables, 2, Some(2))?;
-    set_seat(tables, 1, None)?;
-    set_seat(tables, 1, Some(3))?;
-    show_seats(alloc, tables, text)?;
-    open_day(tables, day_after(1)?)?;
-    show_seats(alloc, tables, text)
-}
-
-/// The containers at the desk, and whether somebody waits for each.
-fn show_desk<S: Alter>(
-    alloc: Global,
-    tables: &mut Tables<LinkPlaces, S>,
-    text: &mut String,
-) -> Result<(), StoreFault> {
-    for &(container, awaited) in &at_desk(alloc, tables)? {
-        write!(text, "{container} {awaited}\n")?;
-    }
-    let out = issued(alloc, tables)?.len();
-    write!(text, "{out} out\n")?;
-    Ok(())
-}
-
-/// One of two containers at the desk is issued and returned; nobody waits for it, and it goes to the shelf.
-fn reshelve<S: Alter>(
-    alloc: Global,
-    tables: &mut Tables<LinkPlaces, S>,
-    text: &mut String,
-) -> Result<(), StoreFault> {
-    place_three(alloc, tables, text)?;
-    set_place(tables, 1, Place::Desk)?;
-    set_place(tables, 2, Place::Desk)?;
-    lend(tables, 1, 1)?;
-    show_desk(alloc, tables, text)?;
-    give_back(tables, 1, 1)?;
-    show_desk(alloc, tables, text)?;
-    set_place(tables, 1, Place::Shelf)?;
-    show_desk(alloc, tables, text)?;
-    show_queue(alloc, tables, 2, text)
-}
-
 /// A day in the reading room of a new office.
 #[derive(Clone, Copy)]
 enum Visit {
     Lend,
     Fetch,
-    Count,
-    Sit,
-    Reshelve,
 }
 
 /// The results of the calls of that day.
@@ -355,9 +257,6 @@ fn carry_out<S: Alter>(
     match visit {
         Visit::Lend => lent_in_turn(alloc, tables, text),
         Visit::Fetch => fetched_in_two_runs(alloc, tables, text),
-        Visit::Count => counted_by_day(alloc, tables, text),
-        Visit::Sit => seated_in_turn(alloc, tables, text),
-        Visit::Reshelve => reshelve(alloc, tables, text),
     }
 }
 
@@ -391,9 +290,7 @@ const LINES: Query = (
     4,
 );
 
-const SEATS: Query = ("SELECT seat, ticket FROM seat ORDER BY seat", 2);
-
-const DAYS: [Case; 5] = [
+const DAYS: [Case; 2] = [
     (
         Visit::Lend,
         "1\n2\n1 1 1\nrun 1\nBox 1 desk 1:1 2:2\nBox 1 out 1 2:2\nBox 1 desk 2:2\n",
@@ -411,19 +308,6 @@ const DAYS: [Case; 5] = [
          no run\n",
         &[LINES],
         " 1 1 1 1\n 1 2 2 1\n 2 3 3 1\n",
-    ),
-    (
-        Visit::Count,
-        "1\n3 19783 3\n0 19783 3\n1 19983 4\n",
-        &[ORDERS],
-        " 1 1 4\n 2 2 1\n 3 3 1\n 4 1 1\n",
-    ),
-    (Visit::Sit, "1\n2\n3\n1 3\n2 2\n", &[SEATS], ""),
-    (
-        Visit::Reshelve,
-        "1\n2 true\n1 out\n1 false\n2 true\n0 out\n2 true\n0 out\nBox 2 desk 2:1\n",
-        &[ORDERS, HOLDINGS],
-        " 1 1 3\n 2 2 1\n 3 3 1\n 2 1 -\n",
     ),
 ];
 
@@ -450,49 +334,5 @@ fn days_in_the_reading_room(rt: HostRuntime) -> Result<(), Fail> {
         let rows = rows_of(rt.alloc(), &mut conn, queries)?;
         assert_eq!(rt; rows.as_str(), kept);
     }
-    Ok(())
-}
-
-const FILE: &str = "reading-room-of-the-tests.db";
-/// The write-ahead log of the file.
-const LOG: &str = "reading-room-of-the-tests.db-wal";
-
-fn said_in_file(rt: &HostRuntime, visit: Visit) -> Result<String, Fail> {
-    let mut text = String::new(rt.alloc());
-    let conn = spend(rt.alloc(), Connection::open(rt, FILE)?, visit, &mut text)?;
-    conn.close()?;
-    Ok(text)
-}
-
-fn rows_in_file(rt: &HostRuntime, queries: &[Query]) -> Result<String, Fail> {
-    let mut conn = Connection::open(rt, FILE)?;
-    let text = rows_of(rt.alloc(), &mut conn, queries)?;
-    conn.close()?;
-    Ok(text)
-}
-
-/// The results of the calls in a new file, and the rows that it then has.
-fn told_in_file(
-    rt: &HostRuntime,
-    visit: Visit,
-    queries: &[Query],
-) -> Result<(String, String), Fail> {
-    let _ = fs::remove_file(rt, FILE);
-    let _ = fs::remove_file(rt, LOG);
-    let said = said_in_file(rt, visit)?;
-    let kept = rows_in_file(rt, queries)?;
-    Ok((said, kept))
-}
-
-/// The same in a file, which is closed and opened again before its rows are read.
-#[test]
-fn days_in_a_file(rt: HostRuntime) -> Result<(), Fail> {
-    for &(visit, said, queries, kept) in &DAYS {
-        let (text, rows) = told_in_file(&rt, visit, queries)?;
-        assert_eq!(rt; text.as_str(), said);
-        assert_eq!(rt; rows.as_str(), kept);
-    }
-    fs::remove_file(&rt, FILE)?;
-    let _ = fs::remove_file(&rt, LOG);
     Ok(())
 }

@@ -1,4 +1,4 @@
-//! The catalogue's tables, in either version, in memory and in a file: what a clerk would see in them.
+//! The catalogue's tables, in either version: what a clerk would see in them.
 
 ghost use Rattle.std.specs.Prelude.{◌≡◌, ◌<◌, ◌^◌, IfOk, IfSome, OnOk};
 ghost use Rattle.sqlite.specs.Held.{state};
@@ -9,8 +9,8 @@ ghost use Rattle.office_tables.specs.Step.{InTransaction};
 use crate::mark_lines::{show_branch, show_marks, show_statuses, show_walk};
 use catalogue_store::{
     Head, LinkPlaces, NewUnit, OfficeRow, Places, StoreFault, add_unit, begin, branch_marks,
-    commit, contents_marks, create, heads_below, known, move_unit, office_row, path_heads,
-    path_marks, remove_branch, replace_values, set_closure, set_status, values,
+    contents_marks, create, heads_below, known, move_unit, office_row, path_heads, path_marks,
+    remove_branch, replace_values, set_closure, set_status, values,
 };
 use desk_store::{create_desk, is_blank};
 use isad_core::{BoxKey, Day, List, Text, Values};
@@ -18,9 +18,9 @@ use nested_sets::SpanPlaces;
 use office_tables::Tables;
 use sqlite::{Alter, Connection, Row};
 use std::alloc::{AllocError, Global};
+use std::array;
 use std::process::Abort;
 use std::test::Fail;
-use std::{array, fs};
 
 /// An office with two seats, on the first of March 2024.
 fn settings(alloc: Global) -> Result<OfficeRow, StoreFault>
@@ -638,77 +638,5 @@ fn tables_are_made_once(rt: HostRuntime) -> Result<(), Fail> {
         over_spans.as_str(),
         "true true\n 1 2 2 3 1 2 19783 3\n 1 1 4\n 2 2 3\n"
     );
-    Ok(())
-}
-
-/// Four units, of which unit 3 is moved below unit 2 and unit 4 is removed.
-fn changed_units<P: Places, S: Alter>(
-    alloc: Global,
-    tables: &mut Tables<P, S>,
-) -> Result<(), StoreFault> {
-    four_units(alloc, tables)?;
-    move_unit(alloc, tables, 3, Some(2))?;
-    remove_branch(alloc, tables, 4)?;
-    Ok(())
-}
-
-const FILE: &str = "office-of-the-tests.db";
-/// The write-ahead log of the file.
-const LOG: &str = "office-of-the-tests.db-wal";
-
-fn write_office<P: Places>(rt: &HostRuntime) -> Result<(), Fail> {
-    let mut tables = new_office::<P, _>(rt.alloc(), Connection::open(rt, FILE)?)?;
-    let outcome = changed_units(rt.alloc(), &mut tables);
-    let mut conn = tables.into_connection();
-    outcome?;
-    commit(&mut conn)?;
-    conn.close()?;
-    Ok(())
-}
-
-/// The rows that were written, and whether a new office is refused in that store.
-fn reopen<P: Places, S: Alter>(
-    alloc: Global,
-    conn: &mut Connection<S>,
-    places: Query,
-) -> Result<String, Fail> {
-    let mut text = String::new(alloc);
-    show_rows(&mut text, conn, places)?;
-    show_rows(&mut text, conn, HOUSING)?;
-    let refused = make_office::<P, S>(alloc, conn) == Err(StoreFault::Schema);
-    write!(text, "{refused}\n")?;
-    Ok(text)
-}
-
-fn read_office<P: Places>(rt: &HostRuntime, places: Query) -> Result<String, Fail> {
-    let mut conn = Connection::open(rt, FILE)?;
-    let text = reopen::<P, _>(rt.alloc(), &mut conn, places)?;
-    conn.close()?;
-    Ok(text)
-}
-
-/// The same in a new file, which is closed and opened again before it is read.
-fn told_in_file<P: Places>(rt: &HostRuntime, places: Query) -> Result<String, Fail> {
-    let _ = fs::remove_file(rt, FILE);
-    let _ = fs::remove_file(rt, LOG);
-    write_office::<P>(rt)?;
-    read_office::<P>(rt, places)
-}
-
-/// After that, no new office can be made in the file.
-#[test]
-fn an_office_stands_in_its_file(rt: HostRuntime) -> Result<(), Fail> {
-    let over_links = told_in_file::<LinkPlaces>(&rt, LINKS)?;
-    assert_eq!(&rt;
-        over_links.as_str(),
-        " 1 - 1\n 2 1 1\n 3 2 1\n 1 1 1\n 3 1 2\ntrue\n"
-    );
-    let over_spans = told_in_file::<SpanPlaces>(&rt, SPANS)?;
-    assert_eq!(&rt;
-        over_spans.as_str(),
-        " 1 1 6\n 2 2 5\n 3 3 4\n 1 1 1\n 3 1 2\ntrue\n"
-    );
-    fs::remove_file(&rt, FILE)?;
-    let _ = fs::remove_file(&rt, LOG);
     Ok(())
 }
