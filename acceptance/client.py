@@ -149,8 +149,8 @@ class Program:
 
     def run(self, *words, said=b"", timeout=PATIENCE, room=None, **environment):
         """Runs a command that reads `said`, in the directory `room`, with these variables in its environment. If `said`
-        is a file, or a descriptor, that is its standard input."""
-        given = {"input": said} if isinstance(said, bytes) else {"stdin": said}
+        is a descriptor, that is its standard input."""
+        given = {"stdin": said} if isinstance(said, int) else {"input": said}
         how = {"capture_output": True, "timeout": timeout, "cwd": room, "env": os.environ | environment}
         done = subprocess.run([self.path, *words], **given, **how)
         return Ended(done.returncode, done.stdout, done.stderr)
