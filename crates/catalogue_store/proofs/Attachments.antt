@@ -19,7 +19,7 @@ use Rattle.isad_core.specs.declared.values.BoxKey.{BoxKey}
 use Rattle.tree_core.specs.Forest.{nodes, has}
 use Rattle.tree_core.proofs.Lists.{In, In-from_Contains, Contains-from_In}
 use Rattle.catalogue_core.specs.UnitMarks.{names}
-use Rattle.catalogue_store.specs.Attachments.{AreAttached}
+use Rattle.tree_places.specs.Attachments.{AreAttached}
 use Rattle.catalogue_core.specs.CatalogueMerge.{Catalogue, box_number}
 use Rattle.office_tables.specs.Order.{Rises}
 use Rattle.catalogue_statements.specs.Rows.{HousingRow, by_housing, by_number, counted_from}

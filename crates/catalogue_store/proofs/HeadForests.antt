@@ -21,7 +21,7 @@ use Rattle.catalogue_statements.specs.declared.row_types.Standing.{Standing}
 use Rattle.catalogue_statements.proofs.FoundUnits.{found_one}
 use Rattle.catalogue_store.specs.Heads.{head_at, head_of}
 use Rattle.catalogue_store.specs.declared.heads.Head.{Head}
-use Rattle.catalogue_store.proofs.MarkForests.{all_here, has_right, tree_in}
+use Rattle.tree_places.proofs.MarkForests.{all_here, has_right, tree_in}
 
 abbrev id_of : Unit → ℕ
 id_of u = u.id

@@ -1,12 +1,11 @@
 pub mod WorkedExamples
-pub mod Arrivals
-pub mod Attachments
 pub mod ImportEntries
-pub mod LastPlaces
 pub mod UnitValues
 pub mod BranchRemoval
 pub mod Offices
 pub mod Heads
+pub use Rattle.tree_places.specs.Arrivals
+pub use Rattle.tree_places.specs.Attachments
 pub use Rattle.catalogue_core.specs.Units
 pub use Rattle.catalogue_core.specs.CatalogueMerge
 pub use Rattle.catalogue_core.specs.PublicForest

@@ -15,7 +15,6 @@ ghost use Rattle.catalogue_statements.specs.Representation.{Represents, Represen
 ghost use Rattle.catalogue_core.specs.Units.{is_from};
 
 use crate::office::insert_office;
-use crate::places::Places;
 use catalogue_statements::OfficeRow;
 use catalogue_statements::units::units_from;
 use isad_core::Text;
@@ -23,6 +22,7 @@ use office_tables::table_creation::{create_containers, create_units};
 use office_tables::{StoreFault, Tables, Versioned};
 use sqlite::{Alter, Connection};
 use std::alloc::Global;
+use tree_places::Places;
 
 /// Creates the catalogue's tables and the office's row. The desk's tables must already be there.
 pub fn create<P: Places, S: Alter>(

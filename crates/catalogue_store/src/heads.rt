@@ -13,7 +13,6 @@ ghost use Rattle.catalogue_statements.specs.Representation.{Represents};
 ghost use Rattle.catalogue_statements.specs.declared.row_types.Element.{Element};
 ghost use Rattle.catalogue_store.specs.Heads.{head_at, head_of};
 
-use crate::places::Places;
 use catalogue_statements::elements::first_elements;
 use catalogue_statements::row_types::Element;
 use catalogue_statements::units::standings_of;
@@ -22,6 +21,7 @@ use office_tables::value::NO_NUMBER;
 use office_tables::{StoreFault, Tables};
 use sqlite::Alter;
 use std::alloc::{AllocError, Global};
+use tree_places::Places;
 
 /// A unit as its head line shows it. A text that the unit lacks is empty.
 #[derive(Debug, PartialEq, Drop)]

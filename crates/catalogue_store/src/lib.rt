@@ -1,35 +1,28 @@
 //! The catalogue of an office, kept in tables: units, containers and places.
 #![tactic(auto)]
 
-mod appended_links;
 mod branch_moves;
 mod catalogue;
 mod container_marks;
 mod descriptions;
 mod heads;
 mod import_entries;
-mod last_places;
 pub mod laws;
-mod links;
-mod marks;
 mod office;
-mod places;
 mod presence;
 mod status_and_closure;
 mod unit_values;
 
 pub use branch_moves::{move_unit, remove_branch};
 pub use catalogue::{create, known};
-pub use catalogue_statements::{LinkPlaces, NewUnit, OfficeRow};
-pub use container_marks::{Attached, attached_rows, branch_marks, contents_marks, path_marks};
+pub use catalogue_statements::{NewUnit, OfficeRow};
+pub use container_marks::{attached_rows, branch_marks, contents_marks, path_marks};
 pub use descriptions::{add_unit, replace_values};
 pub use heads::{Head, find_head, heads_below, path_heads};
 pub use import_entries::{enter_unit, enter_values};
-pub use links::{LONGEST_PATH, spans_by_links};
-pub use marks::{marks_of, marks_of_branch, status_marks};
 pub use office::{Office, office_row, settings};
 pub use office_tables::{StoreFault, begin, commit, create_index, create_table, roll_back};
-pub use places::Places;
 pub use presence::is_unit;
 pub use status_and_closure::{set_closure, set_status};
+pub use tree_places::{Attached, LinkPlaces, Places, marks_of, marks_of_branch, status_marks};
 pub use unit_values::{UnitValues, values};

@@ -14,7 +14,6 @@ ghost use Rattle.catalogue_statements.specs.Settings.{AreLegibleSettings};
 ghost use Rattle.catalogue_statements.specs.Representation.{RepresentsSettings};
 ghost use Rattle.catalogue_store.specs.Offices.{told_office};
 
-use crate::places::Places;
 use catalogue_statements::OfficeRow;
 use catalogue_statements::office::{count_containers, count_units, office_rows};
 use office_tables::from_row::only_number;
@@ -22,6 +21,7 @@ use office_tables::value::{day, number, words};
 use office_tables::{StoreFault, Tables};
 use sqlite::{Alter, Connection};
 use std::alloc::Global;
+use tree_places::Places;
 
 /// Adds the office's row.
 pub fn insert_office<P: Places, S: Alter>(

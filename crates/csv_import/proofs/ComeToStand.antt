@@ -18,8 +18,8 @@ use Rattle.catalogue_core.proofs.EachRow.{length-numbered, onto, onto-more}
 use Rattle.catalogue_core.proofs.RowByRow.{IsApart, StandsSo, depth_same, further, known_more, known_number, known_stands, new_more, new_stands, no_such_number, some_depth}
 use Rattle.catalogue_core.proofs.RowsMerged.{begins, none_merged}
 use Rattle.catalogue_statements.proofs.Statuses.{each_each}
-use Rattle.catalogue_store.specs.Arrivals.{MayJoin}
-use Rattle.catalogue_store.proofs.Joiners.{size_added}
+use Rattle.tree_places.specs.Arrivals.{MayJoin}
+use Rattle.tree_places.proofs.Joiners.{size_added}
 use Rattle.csv_import.specs.Arrivals.{arrival_of, arrivals_from, arrivals_of}
 use Rattle.csv_import.specs.RowEntry.{catalogue_after, or_as_before}
 use Rattle.csv_import.specs.RowPlan.{new_of}

@@ -8,7 +8,7 @@ ghost use Rattle.isad_core.specs.Texts.{Bytes};
 ghost use Rattle.atom_csv.specs.declared.file.Row.{«Row» as RowTold};
 ghost use Rattle.catalogue_core.specs.CatalogueMerge.{Catalogue, number_of as number_among};
 ghost use Rattle.catalogue_core.specs.EntryByRow.{number_there};
-ghost use Rattle.catalogue_store.specs.Arrivals.{IsNumbered};
+ghost use Rattle.tree_places.specs.Arrivals.{IsNumbered};
 ghost use Rattle.csv_import.specs.Arrivals.{KnowsNumbers, arrival_at, arrivals_of};
 ghost use Rattle.csv_import.specs.KnownUnits.{KnowsUnits, TellsParent, TellsParentOfNew};
 

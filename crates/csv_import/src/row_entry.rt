@@ -15,7 +15,7 @@ ghost use Rattle.catalogue_core.specs.EntryByRow.{number_there, with_new};
 ghost use Rattle.catalogue_core.specs.Units.{«Unit» as Described, has_id};
 ghost use Rattle.catalogue_statements.specs.Representation.{RepresentsNumbered, catalogue_trees, described_trees};
 ghost use Rattle.catalogue_statements.specs.declared.office.OfficeRow.{OfficeRow};
-ghost use Rattle.catalogue_store.specs.Arrivals.{IsNumbered};
+ghost use Rattle.tree_places.specs.Arrivals.{IsNumbered};
 ghost use Rattle.office_tables.specs.Calls.{Updates};
 ghost use Rattle.csv_import.specs.PendingImport.{AreNext, Brings, ReadsCatalogue, IsPending, counted_in, imported};
 ghost use Rattle.csv_import.specs.RowEntry.{RepresentsEntering, RepresentsLegible, catalogue_after};

@@ -6,10 +6,10 @@ ghost use Rattle.row_completeness.specs.WholePlaces.{RepresentsWhatItDescribes};
 ghost use Rattle.row_decoding.specs.Examinations.{Examines};
 ghost use Rattle.integrity_checks.specs.PlaceChecks.{AreChecked};
 
-use catalogue_store::Places;
 use office_tables::{StoreFault, Tables};
 use sqlite::Alter;
 use std::alloc::Global;
+use tree_places::Places;
 
 /// Which units have a place, and how deep they lie.
 #[derive(Drop)]

@@ -22,7 +22,7 @@ use Rattle.catalogue_core.specs.Units.{Unit}
 use Rattle.catalogue_core.proofs.EachOf.{all_filtered}
 use Rattle.catalogue_core.proofs.OpenLemmas.{open_by_marks}
 use Rattle.catalogue_core.proofs.UnitsAfter.{each_there}
-use Rattle.catalogue_store.specs.Attachments.{AreAttachedRows}
+use Rattle.tree_places.specs.Attachments.{AreAttachedRows}
 use Rattle.office_core.specs.State as office
 use Rattle.office_core.specs.State.{State, is_permitted, opens}
 use Rattle.office_core.specs.Words.{nth, some_and}

@@ -15,7 +15,7 @@ use Rattle.tree_core.proofs.MarkWalks.{list_all-append}
 use Rattle.catalogue_core.specs.OpenMarks.{is_opened_above, with_permit}
 use Rattle.catalogue_core.specs.UnitMarks.{mark_of, without_number}
 use Rattle.catalogue_core.specs.Units.{Unit}
-use Rattle.catalogue_store.specs.Attachments.{ArePathMarks, branch_told, is_plain_leaf, without_containers, unboxed_leaf}
+use Rattle.tree_places.specs.Attachments.{ArePathMarks, branch_told, is_plain_leaf, without_containers, unboxed_leaf}
 
 -- ---- the marks of a path
 

@@ -16,7 +16,7 @@ use Rattle.catalogue_core.specs.OpenMarks.{with_permit}
 use Rattle.catalogue_core.specs.UnitLookup.{has_unit}
 use Rattle.catalogue_core.specs.UnitMarks.{AreMarks, mark_of, names, without_number}
 use Rattle.catalogue_core.specs.Units.{Unit, has_id, is_closed, is_later}
-use Rattle.catalogue_store.proofs.MarkForests.{path_ids}
+use Rattle.tree_places.proofs.MarkForests.{path_ids}
 use Rattle.office_core.specs.State.{State, is_permitted, opens}
 use Rattle.office_core.specs.Words.{nth, some_and}
 use Rattle.desk_store.specs.declared.container_orders.ContainerOrder.{ContainerOrder}

@@ -9,8 +9,8 @@ use Rattle.office_core.specs.State.{State}
 use Rattle.catalogue_core.specs.UnitLookup.{has_unit}
 use Rattle.catalogue_core.specs.OpenMarks.{is_clean_for}
 use Rattle.catalogue_core.specs.Units.{Unit}
-use Rattle.catalogue_store.specs.Attachments.{AreMarksOf}
-use Rattle.catalogue_store.specs.declared.container_marks.Attached.{Attached}
+use Rattle.tree_places.specs.Attachments.{AreMarksOf}
+use Rattle.tree_places.specs.declared.attached.Attached.{Attached}
 
 -- one of these permits is for the unit and valid on that day
 abbrev pub allows : ℤ → List Permit → ℕ → Bool

@@ -6,7 +6,7 @@ use Rattle.catalogue_core.specs.Bounds.{IsBounded, IsKept}
 use Rattle.catalogue_core.specs.Units.{Unit}
 use Rattle.office_tables.specs.Calls.{RepresentsAlone}
 use Rattle.catalogue_statements.specs.Representation.{Represents}
-use Rattle.catalogue_store.specs.Attachments.{AreAttachedRows, AreRowsOf, AreThere}
+use Rattle.tree_places.specs.Attachments.{AreAttachedRows, AreRowsOf, AreThere}
 use Rattle.office_tables.proofs.CallEnds.{same_fault}
 use Rattle.office_tables.proofs.StoreCalls.{tells_not}
 use Rattle.catalogue_store.proofs.AttachedRows.{attached_rows, attached_there}

@@ -7,7 +7,7 @@ use Rattle.tree_core.specs.declared.rows.Span.{Span}
 use Rattle.catalogue_core.specs.Bounds.{IsKept}
 use Rattle.catalogue_core.specs.Units.{Unit}
 use Rattle.catalogue_statements.specs.Representation.{Represents}
-use Rattle.catalogue_store.specs.Attachments.{AreAttachedRows, AreMarksOfEach, AreMarksOfContents}
+use Rattle.tree_places.specs.Attachments.{AreAttachedRows, AreMarksOfEach, AreMarksOfContents}
 use Rattle.office_tables.proofs.CallEnds.{same_fault}
 use Rattle.office_tables.proofs.StoreCalls.{tells_not}
 use Rattle.catalogue_store.proofs.LaterAnswers.{answers_later}

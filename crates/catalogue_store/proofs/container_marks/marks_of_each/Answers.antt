@@ -10,11 +10,11 @@ use Rattle.catalogue_core.specs.Bounds.{IsKept}
 use Rattle.catalogue_core.specs.Units.{Unit}
 use Rattle.office_tables.specs.declared.fault.StoreFault.TheVariants as fault
 use Rattle.catalogue_statements.specs.Representation.{Represents}
-use Rattle.catalogue_store.specs.Attachments.{AreMarksOfEach}
+use Rattle.tree_places.specs.Attachments.{AreMarksOfEach}
 use Rattle.office_tables.proofs.CallEnds.{same_fault}
 use Rattle.office_tables.proofs.StoreCalls.{tells_not, tells_cut}
 use Rattle.office_tables.proofs.Calls.{cut_after, early, looks_nowhere, looks_then}
-use Rattle.catalogue_store.proofs.MarkForests.{rows_more}
+use Rattle.tree_places.proofs.MarkForests.{rows_more}
 use Rattle.office_tables.proofs.Sparing.{spares_full}
 use Rattle.catalogue_store.proofs.container_marks.marks_of_each.Goals as goal
 

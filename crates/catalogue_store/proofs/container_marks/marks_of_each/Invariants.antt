@@ -7,7 +7,7 @@ use Rattle.tree_core.specs.declared.rows.Span.{Span}
 use Rattle.catalogue_core.specs.CatalogueMerge.{Catalogue}
 use Rattle.catalogue_core.specs.Units.{Unit}
 use Rattle.catalogue_statements.specs.Representation.{Represents}
-use Rattle.catalogue_store.specs.Attachments.{AreMarksOfEach}
+use Rattle.tree_places.specs.Attachments.{AreMarksOfEach}
 use Rattle.office_tables.specs.Step.{LeavesUnchanged}
 use Rattle.catalogue_statements.specs.declared.office.OfficeRow.{OfficeRow}
 use Rattle.catalogue_store.proofs.container_marks.marks_of_each.Given as goal

@@ -24,7 +24,7 @@ use Rattle.office_tables.proofs.Sparing.{spares_full}
 use Rattle.catalogue_statements.proofs.FirstTexts.{text_among_first}
 use Rattle.catalogue_statements.proofs.FoundUnits.{none_found, one_told}
 use Rattle.catalogue_store.proofs.HeadForests.{head_told}
-use Rattle.catalogue_store.proofs.MarkCauses.{legible_units}
+use Rattle.tree_places.proofs.MarkCauses.{legible_units}
 use Rattle.catalogue_store.proofs.ValueCauses.{legible_elements}
 use Rattle.catalogue_store.proofs.heads.find_head.Goals as goal
 

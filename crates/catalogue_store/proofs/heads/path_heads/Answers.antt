@@ -16,7 +16,7 @@ use Rattle.std.proofs.lemmas.Result.{IfOk-weaker}
 use Rattle.catalogue_statements.specs.Representation.{Represents}
 use Rattle.catalogue_store.specs.Heads.{head_of}
 use Rattle.catalogue_store.proofs.HeadForests.{all_there, heads_are}
-use Rattle.catalogue_store.proofs.MarkForests.{path_in, path_ids}
+use Rattle.tree_places.proofs.MarkForests.{path_in, path_ids}
 use Rattle.office_tables.proofs.Sparing.{last_spares}
 use Rattle.catalogue_store.proofs.heads.path_heads.Goals as goal
 

@@ -16,7 +16,7 @@ use Rattle.office_tables.proofs.CallEnds.{same_fault}
 use Rattle.office_tables.proofs.StoreCalls.{tells_not, tells_cut}
 use Rattle.office_tables.proofs.Calls.{early, looks_then}
 use Rattle.catalogue_statements.proofs.FoundUnits.{none_found, one_found}
-use Rattle.catalogue_store.proofs.MarkCauses.{legible_units}
+use Rattle.tree_places.proofs.MarkCauses.{legible_units}
 use Rattle.catalogue_store.proofs.UnitTold.{texts_told, containers_told, boxes_known}
 use Rattle.catalogue_store.proofs.ValueCauses.{legible_elements}
 use Rattle.office_tables.proofs.numbered.OwnNumbers.{still_numbered}

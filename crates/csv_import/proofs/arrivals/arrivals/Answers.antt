@@ -7,7 +7,7 @@ use Rattle.std.proofs.lemmas.List.{drop_all, drop_more}
 use Rattle.sqlite_trees.proofs.ListLemmas.{all-append}
 use Rattle.isad_core.specs.Limits.{IsNumber}
 use Rattle.atom_csv.specs.declared.file.Row.{Row as RowTold}
-use Rattle.catalogue_store.specs.Arrivals.{IsNumbered}
+use Rattle.tree_places.specs.Arrivals.{IsNumbered}
 use Rattle.csv_import.proofs.EnteredNumbers.{number_there_small}
 use Rattle.csv_import.proofs.Arrived.{AreTold, all_told, at_number, brings_none, brings_one, low_more}
 use Rattle.csv_import.proofs.KnownUnits.{parent_at, told_at}

@@ -4,7 +4,7 @@ use Rattle.std.specs.List.{AllByRecursion}
 use Rattle.isad_core.specs.Limits.{IsNumber}
 use Rattle.isad_core.specs.Texts.{Bytes}
 use Rattle.catalogue_core.specs.CatalogueMerge.{Catalogue}
-use Rattle.catalogue_store.specs.Arrivals.{IsNumbered}
+use Rattle.tree_places.specs.Arrivals.{IsNumbered}
 use Rattle.csv_import.specs.KnownUnits.{KnowsUnits}
 use Rattle.csv_import.proofs.Arrived.{AreTold}
 use Rattle.csv_import.proofs.arrivals.arrivals.Given as goal

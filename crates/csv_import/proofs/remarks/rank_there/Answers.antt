@@ -4,7 +4,7 @@ use Rattle.sqlite.specs.Held.{state}
 use Rattle.isad_core.specs.Levels.{rank_of}
 use Rattle.catalogue_core.specs.Units.{Unit as Described}
 use Rattle.catalogue_statements.proofs.FoundUnits.{none_found, one_found}
-use Rattle.catalogue_store.proofs.MarkCauses.{legible_units}
+use Rattle.tree_places.proofs.MarkCauses.{legible_units}
 use Rattle.refinement.proofs.Doings.{tells_passed}
 use Rattle.csv_import.proofs.Tellings.{tells_so}
 use Rattle.csv_import.proofs.remarks.rank_there.Goals as goal

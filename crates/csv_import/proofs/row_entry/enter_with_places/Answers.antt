@@ -6,7 +6,7 @@ use Rattle.catalogue_core.proofs.KeptCatalogues.{kept_within}
 use Rattle.catalogue_statements.specs.Rows.{office_row}
 use Rattle.catalogue_statements.specs.Representation.{catalogue_trees, described_trees}
 use Rattle.catalogue_statements.specs.declared.office.OfficeRow.{OfficeRow}
-use Rattle.catalogue_store.specs.Arrivals.{MayJoin}
+use Rattle.tree_places.specs.Arrivals.{MayJoin}
 use Rattle.office_tables.specs.Schema as tables
 use Rattle.office_tables.proofs.Calls.{early, goes_then}
 use Rattle.office_tables.proofs.Touching.{touched_then, touched_wider}

@@ -8,7 +8,7 @@ use Rattle.tree_core.specs.Forest.{each, path}
 use Rattle.tree_core.specs.declared.marks.Mark.{Mark}
 use Rattle.catalogue_core.specs.Units.{Unit, has_id}
 use Rattle.catalogue_statements.specs.Rows.{housing_row}
-use Rattle.catalogue_store.proofs.MarkForests.{path_ids}
+use Rattle.tree_places.proofs.MarkForests.{path_ids}
 use Rattle.desk_store.proofs.ToldCalls.{ends_well}
 use Rattle.office_tables.specs.RowNumbers.{HasNumbered}
 use Rattle.office_tables.specs.Schema as tables

@@ -1,0 +1,10 @@
+pub mod BareRows
+pub mod BoundLemmas
+pub mod Children
+pub mod Climbing
+pub mod Descending
+pub mod FoundLinks
+pub mod Joiners
+pub mod MarkCauses
+pub mod MarkForests
+pub mod MarkReads

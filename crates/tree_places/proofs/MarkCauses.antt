@@ -1,0 +1,68 @@
+-- Why reading marks fails: never for the units of a catalogue within its limits.
+use Rattle.std.proofs.Common.{◌≡◌, ℕ, ◌<◌, ◌≤◌, ◌^◌, List, [], ◌∷◌, map, filter, length, get_or, Some, None, slice_get, nat_eq, sym, ap, subst, ◌∙◌, arith}
+use Rattle.std.specs.List.{AllByRecursion}
+use Rattle.std.proofs.lemmas.Bool.{eq-eqb}
+use Rattle.std.proofs.lemmas.List.{get_or-map, length-map}
+use Rattle.std.proofs.lemmas.List.Sorted.{IsPermutation-sym}
+use Rattle.sqlite.specs.Tree.{Trees}
+use Rattle.sqlite_rules.specs.Lists.{Has}
+use Rattle.sqlite_rules.proofs.ListLemmas.{all_has, has_kept}
+use Rattle.sqlite_trees.proofs.ListLemmas.{all-get_or, all-permutation, all_from_map}
+use Rattle.tree_core.specs.Forest.{Forest, nodes}
+use Rattle.tree_core.specs.declared.rows.Span.{Span}
+use Rattle.tree_core.proofs.EachLemmas.{nodes-each}
+use Rattle.catalogue_core.specs.Bounds.{IsKept, IsLegibleUnit}
+use Rattle.catalogue_core.specs.CatalogueMerge.{Catalogue}
+use Rattle.catalogue_statements.specs.Representation.{RepresentsUnits}
+use Rattle.catalogue_core.specs.Units.{Unit}
+use Rattle.catalogue_statements.specs.declared.row_types.Status.{Status}
+use Rattle.tree_places.proofs.MarkReads.{blank_unit}
+use Rattle.office_tables.proofs.Rows.{had}
+
+-- ---- the units of a catalogue
+
+pub legible_units : (db : Trees) (c : Catalogue) (at : RepresentsUnits db c.forest) → IsKept c → AllByRecursion IsLegibleUnit at.units
+legible_units db c at kept = all-permutation IsLegibleUnit (nodes c.forest) at.units at.are kept.units
+
+low_ids : (c : Catalogue) → IsKept c → AllByRecursion (λ (u : Unit). u.id < 2 ^ 63) (nodes c.forest)
+low_ids c kept =
+    all_from_map (λ (id : ℕ). id < 2 ^ 63) (λ (u : Unit). u.id) (nodes c.forest)
+    (subst (AllByRecursion (λ (id : ℕ). id < 2 ^ 63)) (nodes-each (λ (u : Unit). u.id) c.forest) kept.places.low)
+
+pub low_id : (c : Catalogue) → IsKept c → (u : Unit) → Has (nodes c.forest) u → u.id < 2 ^ 63
+low_id c kept u there = all_has (λ (u : Unit). u.id < 2 ^ 63) (nodes c.forest) u (low_ids c kept) there
+
+-- ---- a unit's status
+
+none_first : {A B : Type 0} (f : A → B) (xs : List A) (x : A) → Has xs x → slice_get (map f xs) 0 ≡ None → ⊥
+none_first f [] x h e = h
+none_first f (y ∷ xs) x h e = let clash : Some (f y) ≡ None = e in cc
+
+-- a unit that is there has one
+pub status_there : (db : Trees) (f : Forest Unit) (at : RepresentsUnits db f) (id : ℕ) (u : Unit) (found : List Status) → Has (nodes f) u → id ≡ u.id
+    → found ≡ map (λ (x : Unit). (let y : Status = record { draft = x.draft; until = x.until } in y)) (filter (λ (x : Unit). nat_eq id x.id) at.units) → slice_get found 0 ≡ None → ⊥
+status_there db f at id u found there same is none =
+    let in_units : Has at.units u = had at.units (nodes f) (IsPermutation-sym (nodes f) at.units at.are) u there in
+    none_first (λ (x : Unit). (let y : Status = record { draft = x.draft; until = x.until } in y)) (filter (λ (x : Unit). nat_eq id x.id) at.units) u
+    (has_kept (λ (x : Unit). nat_eq id x.id) at.units u in_units (eq-eqb id u.id same)) (ap (λ (l : List Status). slice_get l 0) (sym is) ∙ none)
+
+-- ---- the units of some rows
+
+-- the unit of a row
+pub unit_at : (f : Forest Unit) (spans : List Span) (units : List Unit) (i : ℕ) (d : Span) → AllByRecursion (Has (nodes f)) units → map (λ (s : Span). s.id) spans ≡ map (λ (u : Unit). u.id) units → i < length spans
+    → (u : Unit) × Has (nodes f) u × ((get_or spans i d).id ≡ u.id)
+unit_at f spans units i d all same low =
+    let low' : i < length units = omega (arith, length-map spans (λ (s : Span). s.id), ap length same, length-map units (λ (u : Unit). u.id)) in
+    let u = get_or units i blank_unit in (
+      u,
+      all-get_or (Has (nodes f)) units i blank_unit all low',
+      sym (get_or-map (λ (s : Span). s.id) spans i d 0 low) ∙ ap (λ l. get_or l i 0) same ∙ get_or-map (λ (u : Unit). u.id) units i blank_unit 0 low',
+    )
+
+-- its number is one that SQL has
+pub never_high : (c : Catalogue) → IsKept c → (spans : List Span) (units : List Unit) (i : ℕ) (d : Span) → AllByRecursion (Has (nodes c.forest)) units → map (λ (s : Span). s.id) spans ≡ map (λ (u : Unit). u.id) units → i < length spans
+    → 2 ^ 63 ≤ (get_or spans i d).id → ⊥
+never_high c kept spans units i d all same low high =
+    let it = unit_at c.forest spans units i d all same low in
+    let small : it.0.id < 2 ^ 63 = low_id c kept it.0 it.1 in
+    omega (arith, it.2, small, high)
