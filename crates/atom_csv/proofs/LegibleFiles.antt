@@ -17,7 +17,7 @@ use Rattle.atom_csv.specs.Entries.{entries, entry_of, nonblank_entries, joined, 
 use Rattle.atom_csv.specs.Fields.{Fields, field_under, is_blank, is_empty, is_named, trim_start, trimmed, value}
 use Rattle.atom_csv.specs.FileContents.{Fault, below, faults, file_of, header_causes, is_told_again, lines_below, of_records, or_fault, records_of, row_of, row_told, rows, translations, under}
 use Rattle.atom_csv.specs.FileProperties.{IsLegibleRow, AreLegibleRows}
-use Rattle.atom_csv.specs.Values.{boxes_of, described, entry_at, is_named_box, nonblank, text_of, told_by, triple, triples, values_of}
+use Rattle.atom_csv.specs.Values.{boxes_of, text_elements, entry_at, is_named_box, nonblank, text_of, told_by, triple, triples, values_of}
 use Rattle.atom_csv.specs.declared.cause.Cause.{Cause}
 use Rattle.atom_csv.specs.declared.cause.Cause.TheVariants as cause
 use Rattle.atom_csv.specs.declared.column.Column.{Column}
@@ -183,7 +183,7 @@ values_legible header fields h =
     let in_column = λ (k : Column). value_legible (name_of k) header fields h in
     record {
       level = text_legible header fields element.Level h;
-      texts = texts_legible header fields h described;
+      texts = texts_legible header fields h text_elements;
       boxes = boxes_legible (value column.PhysicalObjectName header fields) (value column.PhysicalObjectLocation header fields) (value column.PhysicalObjectType header fields) (in_column column.PhysicalObjectName) (in_column column.PhysicalObjectLocation) (in_column column.PhysicalObjectType);
     }
 

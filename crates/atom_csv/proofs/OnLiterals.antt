@@ -5,8 +5,8 @@ use Rattle.std.specs.Str.{chars, is_utf8}
 use Rattle.csv.specs.Machine.{next_record}
 use Rattle.csv.specs.Reading.{records_from, strip_bom}
 use Rattle.atom_csv.specs.Columns.{columns}
-use Rattle.atom_csv.specs.Values.{described}
+use Rattle.atom_csv.specs.Values.{text_elements}
 
 unfoldable pub files_on_literals : ⊤
-unfolding next_record records_from strip_bom is_utf8 chars encode columns described
+unfolding next_record records_from strip_bom is_utf8 chars encode columns text_elements
 files_on_literals = tt

@@ -15,7 +15,7 @@ use Rattle.atom_csv.specs.FileContents.{has_other_width, is_late, is_long, is_tr
 use Rattle.atom_csv.specs.FileProperties.{AllDiffer, AreValues, IsThere, IsTold}
 use Rattle.atom_csv.specs.Columns.{columns_of, is_split, name_of}
 use Rattle.atom_csv.specs.Entries.{entries, entry_of, nonblank_entries, joined, parts_of}
-use Rattle.atom_csv.specs.Values.{described, is_named_box, nonblank, text_of, told_by, triple, values_of}
+use Rattle.atom_csv.specs.Values.{text_elements, is_named_box, nonblank, text_of, told_by, triple, values_of}
 use Rattle.isad_core.specs.Boxes.{distinct, is_same}
 use Rattle.atom_csv.specs.declared.column.Column.{Column}
 use Rattle.atom_csv.specs.declared.column.Column.TheVariants as column
@@ -209,7 +209,7 @@ distinct_differ (b ∷ bs) = (
 -- the values of a record without white space at its ends
 values_there : (header fields : Fields) → AreTidy fields → AreValues (values_of header fields)
 values_there header fields t = record {
-  texts = texts_there header fields t described;
+  texts = texts_there header fields t text_elements;
   names = all_distinct (λ (b : BoxKey). IsThere b.name) _ (named_there _ (triples_tidy (entries (value column.PhysicalObjectName header fields)) _ _ 0 (entries_tidy (parts_of (value column.PhysicalObjectName header fields)))));
   boxes = distinct_differ _;
 }

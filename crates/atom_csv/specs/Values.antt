@@ -34,8 +34,8 @@ is_level element.Level = true
 is_level _ = false
 
 -- the 25 other elements, in the standard's order
-unfoldable pub described : List Element
-described = filter (λ e. not (is_level e)) elements
+unfoldable pub text_elements : List Element
+text_elements = filter (λ e. not (is_level e)) elements
 
 -- ---- containers
 
@@ -66,7 +66,7 @@ boxes_of names locations kinds =
 abbrev pub values_of : Fields → Fields → Values
 values_of header fields = record {
   level = text_of header fields element.Level;
-  texts = map (λ e. nonblank (text_of header fields e)) described;
+  texts = map (λ e. nonblank (text_of header fields e)) text_elements;
   boxes = boxes_of (value column.PhysicalObjectName header fields)
       (value column.PhysicalObjectLocation header fields)
       (value column.PhysicalObjectType header fields);

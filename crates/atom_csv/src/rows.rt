@@ -56,7 +56,7 @@ fn row_of(
 type Cultures = BTreeMap<String, Text>;
 
 // The culture of the first row with this legacyId. A blank legacyId has none.
-fn stood<'a>(cultures: &'a Cultures, id: &str) -> Option<&'a Text>
+fn culture_of<'a>(cultures: &'a Cultures, id: &str) -> Option<&'a Text>
     ensures { option_map (λ t. t.now) result ≡ (if is_empty id.now then None else get_by_text cultures.now id.now) }
 {
     if id.is_empty() {
@@ -129,7 +129,7 @@ impl Rows {
             → below header.now (above ++ fields_in row.now ∷ later) ≡ Err (at, cause))) }
     {
         let id = header.value(Column::LegacyId, row);
-        let found = Findings::of(header, row, stood(&self.cultures, id), number);
+        let found = Findings::of(header, row, culture_of(&self.cultures, id), number);
         if let Some(cause) = found.lowest() {
             let cause = cause.number();
             return Err(FileFault::Bad { row: number, cause });

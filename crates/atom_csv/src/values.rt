@@ -9,43 +9,9 @@ use crate::column::Column;
 use crate::header::Header;
 use crate::joined::join_entries;
 use csv::StringRecord;
-use isad_core::{Element, Text, Values};
+use isad_core::{Element, LINE_ELEMENTS, Text, Values};
 use std::alloc::{AllocError, Global};
 use std::array;
-
-// The elements other than the level, in the standard's order.
-#[tactic(auto, unfolding(crate::specs::Values::described))]
-fn described() -> [Element; 25]
-    ensures { result ≡ spec.described }
-{
-    [
-        Element::ReferenceCode,
-        Element::Title,
-        Element::Dates,
-        Element::Extent,
-        Element::Creator,
-        Element::CreatorHistory,
-        Element::ArchivalHistory,
-        Element::Acquisition,
-        Element::Scope,
-        Element::Appraisal,
-        Element::Accruals,
-        Element::Arrangement,
-        Element::Access,
-        Element::Reproduction,
-        Element::Language,
-        Element::Physical,
-        Element::FindingAids,
-        Element::Originals,
-        Element::Copies,
-        Element::RelatedUnits,
-        Element::PublicationNote,
-        Element::Note,
-        Element::ArchivistsNote,
-        Element::Rules,
-        Element::DescriptionDates,
-    ]
-}
 
 // The text of an element, or `None` if it is empty.
 fn optional(
@@ -63,17 +29,20 @@ fn optional(
     Ok(Some(Text(text)))
 }
 
-// The texts of all elements other than the level.
+// The texts of all elements other than the level: code and title first, then those with a line of their own.
 fn texts(
     alloc: Global,
     header: &Header,
     row: &StringRecord,
 ) -> Result<[Option<Text>; 25], AllocError>
-    ensures { IfOk result (λ t. t ≡ map (λ e. nonblank (text_of header.now (fields_in row.now) e)) spec.described) }
+    ensures { IfOk result (λ texts. texts
+        ≡ map (λ e. nonblank (text_of header.now (fields_in row.now) e)) spec.text_elements) }
 {
     let mut texts = array::from_fn(|_| None);
-    for (i, element) in described().iter().enumerate() {
-        texts[i] = optional(alloc, header, row, *element)?;
+    texts[0] = optional(alloc, header, row, Element::ReferenceCode)?;
+    texts[1] = optional(alloc, header, row, Element::Title)?;
+    for (i, element) in LINE_ELEMENTS.iter().enumerate() {
+        texts[i + 2] = optional(alloc, header, row, *element)?;
     }
     Ok(texts)
 }

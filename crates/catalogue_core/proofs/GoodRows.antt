@@ -10,7 +10,7 @@ use Rattle.atom_csv.specs.Entries.{entries, nonblank_entries, joined}
 use Rattle.atom_csv.specs.Fields.{Fields, is_empty, value}
 use Rattle.atom_csv.specs.FileContents.{lines_below, row_number, is_long, row_of, row_told, fault_of, file_of}
 use Rattle.atom_csv.specs.FileProperties.{IsThere, AreValues}
-use Rattle.atom_csv.specs.Values.{nonblank, text_of, described, triples, is_named_box}
+use Rattle.atom_csv.specs.Values.{nonblank, text_of, text_elements, triples, is_named_box}
 use Rattle.isad_core.specs.Boxes.{distinct}
 use Rattle.atom_csv.specs.declared.column.Column.{Column}
 use Rattle.atom_csv.specs.declared.column.Column.TheVariants as column
@@ -62,8 +62,8 @@ short_level header fields e =
     let b = short_column header fields 11 column.LevelOfDescription e level_at in
     omega (arith, a, b)
 
-described_count : (header fields : Fields) → length (map (λ e. nonblank (text_of header fields e)) described) ≡ 25
-unfolding described
+described_count : (header fields : Fields) → length (map (λ e. nonblank (text_of header fields e)) text_elements) ≡ 25
+unfolding text_elements
 described_count header fields = refl
 
 short_row : (header fields : Fields) (n : ℕ) → is_long header fields ≡ false → IsShortRow (row_of header fields n)

@@ -9,7 +9,7 @@ use Rattle.csv.specs.Machine.{next_record}
 use Rattle.serde_json.proofs.OnLiterals.{serde_json_on_literals}
 use Rattle.isad_core.specs.Days.{day_text}
 use Rattle.atom_csv.specs.Columns.{columns}
-use Rattle.atom_csv.specs.Values.{described}
+use Rattle.atom_csv.specs.Values.{text_elements}
 use Rattle.catalogue_core.specs.ContainerContents.{is_open}
 use Rattle.catalogue_core.specs.Intake.{take}
 use Rattle.office_core.specs.State.{State}
@@ -29,7 +29,7 @@ abbrev pub draft_message : Message
 draft_message = record { request = orders_at (codes "/desk/status") 27; body = codes "{\"unit\":2,\"status\":\"draft\"}" }
 
 pub list_told : message_text false filled_office list_message ≡ fonds_list
-unfolding head_text continue_text is_open take is_utf8 chars encode records_from strip_bom next_record columns described digits day_text serde_json_on_literals
+unfolding head_text continue_text is_open take is_utf8 chars encode records_from strip_bom next_record columns text_elements digits day_text serde_json_on_literals
 list_told = refl
 
 -- questions change nothing
@@ -42,7 +42,7 @@ unfolding digits is_utf8 chars encode
 page_keeps s = refl
 
 pub draft_told : message_text false filled_office draft_message ≡ one_unit
-unfolding head_text continue_text is_open take is_utf8 chars encode records_from strip_bom next_record columns described digits day_text serde_json_on_literals
+unfolding head_text continue_text is_open take is_utf8 chars encode records_from strip_bom next_record columns text_elements digits day_text serde_json_on_literals
 draft_told = refl
 
 pub draft_leaves : state_after filled_office draft_message ≡ with_draft
@@ -50,5 +50,5 @@ unfolding is_utf8 chars encode digits day_text serde_json_on_literals
 draft_leaves = refl
 
 pub page_told : message_text false with_draft page_message ≡ not_found
-unfolding head_text continue_text is_open take is_utf8 chars encode records_from strip_bom next_record columns described digits day_text serde_json_on_literals
+unfolding head_text continue_text is_open take is_utf8 chars encode records_from strip_bom next_record columns text_elements digits day_text serde_json_on_literals
 page_told = refl

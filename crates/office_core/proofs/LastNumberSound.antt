@@ -6,7 +6,7 @@ use Rattle.std.proofs.lemmas.Int.{ints}
 use Rattle.csv.specs.Reading.{records_from, strip_bom}
 use Rattle.csv.specs.Machine.{next_record}
 use Rattle.atom_csv.specs.Columns.{columns}
-use Rattle.atom_csv.specs.Values.{described}
+use Rattle.atom_csv.specs.Values.{text_elements}
 use Rattle.tree_core.specs.Forest.{nodes}
 use Rattle.catalogue_core.specs.ContainerContents.{is_open}
 use Rattle.catalogue_core.specs.Units.{Unit}
@@ -34,7 +34,7 @@ before_sound =
     (starts_sound office.settings march_1 (record { country = refl; repo = refl; seats = refl; daily = refl; hands = refl; run_size = refl }) (omega (arith, ints), omega (arith, ints)))
 
 next_now : before.catalogue.next ≡ 5
-unfolding before is_open take is_utf8 chars encode records_from strip_bom next_record columns described
+unfolding before is_open take is_utf8 chars encode records_from strip_bom next_record columns text_elements
 next_now = refl
 
 -- the numbers that are given do not matter at the desk

@@ -5,7 +5,7 @@ use Rattle.std.proofs.Math.Utf8.{encode}
 use Rattle.csv.specs.Reading.{records_from, strip_bom}
 use Rattle.csv.specs.Machine.{next_record}
 use Rattle.atom_csv.specs.Columns.{columns}
-use Rattle.atom_csv.specs.Values.{described}
+use Rattle.atom_csv.specs.Values.{text_elements}
 use Rattle.catalogue_core.specs.ContainerContents.{is_open}
 use Rattle.catalogue_core.specs.Intake.{take}
 use Rattle.office_core.specs.WorkedChecks.{OrderInTurn, IssueInTurn, SeatsInTurn, PermitInTurn, NameBeforeFile}
@@ -20,9 +20,9 @@ pub seats_in_turn : SeatsInTurn
 seats_in_turn = record { ticket = refl; expired = refl; seated = refl; none_free = refl; taken = refl; leaving_ticket = refl; standing = refl; holding = refl; left = refl }
 
 pub permit_in_turn : PermitInTurn
-unfolding is_open take is_utf8 chars encode records_from strip_bom next_record columns described
+unfolding is_open take is_utf8 chars encode records_from strip_bom next_record columns text_elements
 permit_in_turn = refl
 
 pub name_before_file : NameBeforeFile
-unfolding is_open take is_utf8 chars encode records_from strip_bom next_record columns described
+unfolding is_open take is_utf8 chars encode records_from strip_bom next_record columns text_elements
 name_before_file = refl

@@ -1,4 +1,5 @@
-use Rattle.std.proofs.Common.{◌≡◌, length, map, take}
+use Rattle.std.proofs.Common.{◌≡◌, ◌+◌, ◌∷◌, length, map, take}
+use Rattle.isad_core.specs.declared.element.Element.TheVariants as element
 use Rattle.atom_csv.specs.Fields.{fields_in}
 use Rattle.atom_csv.specs.Values.{nonblank, text_of}
 use Rattle.atom_csv.proofs.values.texts.Given as goal
@@ -6,5 +7,5 @@ use Rattle.atom_csv.proofs.values.texts.Given as goal
 abbrev pub invariant-loop-i : goal.invariant-loop-i
 invariant-loop-i l = record {
   long : length l.texts ≡ 25;
-  done : take l.i l.texts ≡ map (λ e. nonblank (text_of l.header (fields_in l.row) e)) (take l.i l.element-items);
+  done : take (l.i + 2) l.texts ≡ map (λ e. nonblank (text_of l.header (fields_in l.row) e)) (element.ReferenceCode ∷ element.Title ∷ take l.i l.element-items);
 }

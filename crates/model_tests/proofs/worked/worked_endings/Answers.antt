@@ -8,7 +8,7 @@ use Rattle.csv.specs.Machine.{next_record}
 use Rattle.serde_json.proofs.OnLiterals.{serde_json_on_literals}
 use Rattle.isad_core.specs.Days.{day_text}
 use Rattle.atom_csv.specs.Columns.{columns}
-use Rattle.atom_csv.specs.Values.{described}
+use Rattle.atom_csv.specs.Values.{text_elements}
 use Rattle.catalogue_core.specs.ContainerContents.{is_open}
 use Rattle.catalogue_core.specs.Intake.{take}
 use Rattle.http_messages.specs.Answers.{head_text, continue_text}
@@ -17,7 +17,7 @@ use Rattle.http_messages.specs.declared.head_scan.HeadScanState.TheVariants.{Mid
 use Rattle.model_tests.proofs.worked.worked_endings.Goals as goal
 
 pub returns : goal.returns
-unfolding head_text continue_text scan is_open take is_utf8 chars encode records_from strip_bom next_record columns described digits day_text serde_json_on_literals
+unfolding head_text continue_text scan is_open take is_utf8 chars encode records_from strip_bom next_record columns text_elements digits day_text serde_json_on_literals
 returns c = record {
   longest_blank = (lit< tt, refl);
   shortest_too_long = (lit≤ tt, Middle, refl);

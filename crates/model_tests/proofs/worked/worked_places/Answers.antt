@@ -1,10 +1,10 @@
 use Rattle.std.proofs.Common.{refl}
 use Rattle.atom_csv.specs.Columns.{columns}
-use Rattle.atom_csv.specs.Values.{described}
+use Rattle.atom_csv.specs.Values.{text_elements}
 use Rattle.model_tests.proofs.worked.worked_places.Goals as goal
 
 pub returns : goal.returns
-unfolding columns described
+unfolding columns text_elements
 returns c = record {
   nearest = refl;
   farthest = refl;

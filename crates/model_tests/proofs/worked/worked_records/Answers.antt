@@ -4,11 +4,11 @@ use Rattle.std.proofs.Math.Utf8.{encode}
 use Rattle.csv.specs.Reading.{records_from, strip_bom}
 use Rattle.csv.specs.Machine.{next_record}
 use Rattle.atom_csv.specs.Columns.{columns}
-use Rattle.atom_csv.specs.Values.{described}
+use Rattle.atom_csv.specs.Values.{text_elements}
 use Rattle.model_tests.proofs.worked.worked_records.Goals as goal
 
 pub returns : goal.returns
-unfolding is_utf8 chars encode records_from strip_bom next_record columns described
+unfolding is_utf8 chars encode records_from strip_bom next_record columns text_elements
 returns c = record {
   numbers = refl;
   published = refl;
