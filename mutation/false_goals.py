@@ -1,5 +1,5 @@
 #!/usr/bin/env python3
-"""Shows by runs that three of the gate's wrong bodies have false goals:
+"""Shows by runs that three wrong bodies have false goals:
 
     false_goals.py [--program PROGRAM] [--room DIRECTORY] [--right] [EDIT ..]
 
@@ -126,7 +126,9 @@ def copy_sources(tree, names):
     for name in names:
         crate, _ = RUNS[name]
         folder = tree / "crates" / crate
-        edit = edits.Edit(folder / "must-fail" / f"{name}.edit", crate, folder)
+        gate, others = folder / "must-fail", TOP / "mutation" / "edits" / crate
+        kept = gate if (gate / f"{name}.edit").exists() else others
+        edit = edits.Edit(kept / f"{name}.edit", crate, folder)
         if edit.verdict:
             raise RuntimeError(f"{name}: {edit.why}")
         for path, text in edits.apply_edits([edit], folder).items():
