@@ -1,4 +1,5 @@
-//! The commands that change the catalogue of an office, over its tables, each within a transaction.
+//! The commands that change the catalogue of an office, over its tables, each within a transaction. If a command is
+//! refused, the caller rolls the transaction back.
 #![tactic(auto)]
 
 mod closure;

@@ -1,5 +1,5 @@
 -- A unit that is found by its number.
-use Rattle.std.proofs.Common.{◌≡◌, ℕ, ◌≤◌, List, [], ◌∷◌, ◌++◌, length, map, filter, find, slice_get, Some, None, Bool, false, nat_eq, refl, sym, ap, ◌∙◌, arith, inl, inr, length-append}
+use Rattle.std.proofs.Common.{◌≡◌, ℕ, ◌≤◌, List, [], ◌∷◌, length, map, filter, find, slice_get, Some, None, Bool, false, nat_eq, refl, sym, ap, ◌∙◌, arith, inl, inr}
 use Rattle.std.specs.List.{list_any}
 use Rattle.std.specs.List.Sorted.{IsPermutation}
 use Rattle.std.proofs.lemmas.Bool.{cases_Bool, eq-eqb, eqb-true}
@@ -8,7 +8,6 @@ use Rattle.sqlite.specs.Tree.{Trees}
 use Rattle.sqlite_rules.specs.Lists.{Has}
 use Rattle.sqlite_rules.proofs.ListLemmas.{has_filtered, has_kept}
 use Rattle.sqlite_trees.proofs.ListLemmas.{IsPermutation-filter}
-use Rattle.isad_core.specs.Texts.{Bytes}
 use Rattle.tree_core.specs.Forest.{Forest, nodes, has}
 use Rattle.catalogue_statements.specs.Representation.{RepresentsUnits}
 use Rattle.catalogue_core.specs.Units.{Unit, has_id}
@@ -32,11 +31,15 @@ alone (y ∷ []) x few (inl e) = ap Some (sym e)
 alone (y ∷ []) x few (inr h) = absurd h
 alone (y ∷ z ∷ xs) x few h = absurd (omega (arith, few))
 
-last_of_few : {B : Type 0} (tell : Unit → B) (ys : List Unit) (rest : List B) (told : B) → length ys ≤ 1 → map tell ys ≡ rest ++ told ∷ [] → (u : Unit) × Has ys u × (told ≡ tell u)
-last_of_few tell [] rest told few e = absurd (omega (arith, ap length e, length-append rest (told ∷ [])))
-last_of_few tell (y ∷ []) [] told few e = (y, inl refl, cc)
-last_of_few tell (y ∷ []) (r ∷ rest) told few e = absurd (omega (arith, ap length e, length-append rest (told ∷ [])))
-last_of_few tell (y ∷ z ∷ ys) rest told few e = absurd (omega (arith, few))
+-- where the first tells nothing, there is none
+pub none_first : {A B : Type 0} (tell : A → B) (ys : List A) → slice_get (map tell ys) 0 ≡ None → ys ≡ []
+none_first tell [] e = refl
+none_first tell (y ∷ ys) e = absurd (let clash : Some (tell y) ≡ None = e in cc)
+
+-- what the first tells is told by one of them
+pub told_first : {A B : Type 0} (tell : A → B) (ys : List A) (told : B) → slice_get (map tell ys) 0 ≡ Some told → (y : A) × Has ys y × (told ≡ tell y)
+told_first tell [] told e = absurd (let clash : None ≡ Some told = e in cc)
+told_first tell (y ∷ ys) told e = (y, inl refl, let same : Some (tell y) ≡ Some told = e in cc)
 
 module _ (db : Trees) (f : Forest Unit) (at : RepresentsUnits db f) (n : ℕ) where
   abbrev kept : List Unit
@@ -56,16 +59,17 @@ module _ (db : Trees) (f : Forest Unit) (at : RepresentsUnits db f) (n : ℕ) wh
     all : IsPermutation kept ys
     all = IsPermutation-trans kept (filter (has_id n) at.units) ys (IsPermutation-filter (has_id n) (nodes f) at.units at.are) same
 
-    pub none_found : length ys ≡ 0 → find (has_id n) (nodes f) ≡ None
-    none_found h = sym (first_kept (has_id n) (nodes f)) ∙ ap (λ (l : List Unit). slice_get l 0) (empty kept (omega (arith, h, length_permutation kept ys all)))
+    -- where a row tells nothing, there is no unit
+    pub none_found : {B : Type 0} (tell : Unit → B) → slice_get (map tell ys) 0 ≡ None → find (has_id n) (nodes f) ≡ None
+    none_found tell e =
+        let none : length ys ≡ 0 = omega (arith, ap length (none_first tell ys e)) in
+        sym (first_kept (has_id n) (nodes f)) ∙ ap (λ (l : List Unit). slice_get l 0) (empty kept (omega (arith, none, length_permutation kept ys all)))
 
-    pub one_told : {B : Type 0} (tell : Unit → B) (rest : List B) (told : B) → map tell ys ≡ rest ++ told ∷ [] → (u : Unit) × Has (nodes f) u × (n ≡ u.id) × (find (has_id n) (nodes f) ≡ Some u) × (told ≡ tell u)
-    one_told tell rest told e =
-        let last = last_of_few tell ys rest told (omega (arith, once, length_permutation kept ys all)) e in
-        let u = last.0 in
-        let is = has_filtered (has_id n) (nodes f) u (had kept ys all u last.1) in
+    -- what a row tells is of the unit
+    pub one_told : {B : Type 0} (tell : Unit → B) (told : B) → slice_get (map tell ys) 0 ≡ Some told → (u : Unit) × Has (nodes f) u × (n ≡ u.id) × (find (has_id n) (nodes f) ≡ Some u) × (told ≡ tell u)
+    one_told tell told e =
+        let first = told_first tell ys told e in
+        let u = first.0 in
+        let is = has_filtered (has_id n) (nodes f) u (had kept ys all u first.1) in
         let id = eqb-true n u.id is.1 in
-        (u, is.0, id, found_one u is.0 id, last.2)
-
-    pub one_found : (rest : List Bytes) (level : Bytes) → map (λ (u : Unit). u.values.level) ys ≡ rest ++ level ∷ [] → (u : Unit) × Has (nodes f) u × (n ≡ u.id) × (find (has_id n) (nodes f) ≡ Some u) × (level ≡ u.values.level)
-    one_found rest level e = one_told (λ (u : Unit). u.values.level) rest level e
+        (u, is.0, id, found_one u is.0 id, first.2)

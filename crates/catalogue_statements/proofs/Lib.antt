@@ -1,6 +1,5 @@
 pub mod TextLemmas
 pub mod LinkRepresentation
-pub mod Offices
 pub mod Statuses
 pub mod Parts
 pub mod Finding
@@ -32,3 +31,5 @@ pub mod UnitFaults
 pub mod Untold
 pub mod NumberTests
 pub mod FirstTexts
+pub mod WritingCalls
+pub mod UpdateEnds

@@ -25,7 +25,6 @@ use Rattle.office_tables.proofs.Rows.{had}
 use Rattle.office_tables.proofs.Sorted.{only_order, head_below}
 use Rattle.office_tables.proofs.numbered.Counted.{below_less}
 use Rattle.office_tables.proofs.statements.LastOf.{not_below}
-use Rattle.catalogue_statements.proofs.Offices.{length-counted}
 use Rattle.catalogue_statements.proofs.ContainerStatements.{from_the_last}
 
 pub by_container_total : IsTotalOrder by_container
@@ -33,6 +32,10 @@ by_container_total = on_total (λ (c : ℕ × BoxKey). pos c.0) int_cmp_total
 
 from_the_last_total : IsTotalOrder from_the_last
 from_the_last_total = back_total by_container_total
+
+pub length-counted : {A : Type 0} (n : ℕ) (xs : List A) → length (counted_from n xs) ≡ length xs
+length-counted n [] = refl
+length-counted n (x ∷ xs) = omega (arith, length-counted (n + 1) xs)
 
 pub counted_above : {A : Type 0} (k n : ℕ) (xs : List A) → k < n → AllByRecursion (λ (x : ℕ × A). int_cmp (pos k) (pos x.0) ≡ Less) (counted_from n xs)
 counted_above k n [] h = tt

@@ -1,5 +1,5 @@
 -- The statements on the office's row, and the counts: what their texts mean, what they leave or tell, and why they fail.
-use Rattle.std.proofs.Common.{◌≡◌, ℕ, pos, List, [], ◌∷◌, length, map, drop, codes, true, false, Equal, Result, OnOk, IfOk, IfErr, refl, ap, ◌∙◌}
+use Rattle.std.proofs.Common.{◌≡◌, ℕ, pos, List, [], ◌∷◌, length, map, drop, codes, slice_get, true, false, Equal, Option, Some, Result, Ok, OnOk, IfOk, IfErr, refl, ap, ◌∙◌}
 use Rattle.std.proofs.Math.Nat.{le_refl}
 use Rattle.std.proofs.lemmas.Bool.{both_ways}
 use Rattle.std.proofs.lemmas.Result.{IfOk-weaker}
@@ -24,7 +24,7 @@ use Rattle.sqlite_typing.specs.Types.{accepts_program}
 use Rattle.sqlite_value.specs.declared.keys.Key.{Key}
 use Rattle.sqlite_value.specs.Keys.{ascending}
 use Rattle.office_tables.specs.Versions.{Version, version_number}
-use Rattle.office_tables.specs.Query.{Finds, Misses}
+use Rattle.office_tables.specs.Query.{Finds, FoundInside, Misses}
 use Rattle.office_tables.specs.ChangeStatement.{Ran}
 use Rattle.office_tables.specs.RowCounts.{cap}
 use Rattle.office_tables.specs.Faults.{IsUnlimited, HasCause}
@@ -42,6 +42,7 @@ use Rattle.office_tables.proofs.Queries.{asking, choosing}
 use Rattle.office_tables.proofs.statements.OnlyOf.{update_only}
 use Rattle.office_tables.proofs.RowReads.{all_caused}
 use Rattle.office_tables.proofs.Rows.{kept_all}
+use Rattle.office_tables.proofs.StatementEnds.{caused, found_in}
 use Rattle.office_tables.proofs.statements.SelectOf.{select_finds, select_faults}
 use Rattle.office_tables.proofs.Tests.{only, same_number, by_one_int}
 use Rattle.office_tables.proofs.statements.UpdateOf.{update_leaves, update_faults}
@@ -147,21 +148,32 @@ counting table = record { lets = []; body = summary_query (inner table.tree end)
 abbrev number_cells : ℕ → Row
 number_cells n = Int (pos n) ∷ []
 
-module _ (old new : State) (v : Version) (has : old.now.schema ≡ schema v) {A : Type 0} (table : Table) (row : A → Row) (xs : List A) (stored : old.now.trees table.tree ≡ map row xs)
-    (sql : List ℕ) (means : Means v sql 0 (Select (counting table) (codes "count(*)" ∷ []))) {X : Type 0} (items : X → List ℕ) (r : Result X StoreFault) where
-  counted : (rows : List Row) → Shown sql [] old new rows → rows ≡ map number_cells (cap (length xs) ∷ [])
-  counted rows shown =
+module _ (old new : State) (v : Version) {A : Type 0} (table : Table) (row : A → Row) (xs : List A) (stored : old.now.trees table.tree ≡ map row xs)
+    (sql : List ℕ) (means : Means v sql 0 (Select (counting table) (codes "count(*)" ∷ []))) where
+  -- what the query shows first, and why it fails
+  abbrev Found : Option ℕ → Type 0
+  Found first = (all : List ℕ) × Finds number_cells sql [] old new all × (first ≡ slice_get all 0)
+
+  abbrev Missed : StoreFault → Type 0
+  Missed = Misses number_cells (λ _. ⊤) sql [] old new
+
+  counted : old.now.schema ≡ schema v → (rows : List Row) → Shown sql [] old new rows → rows ≡ map number_cells (cap (length xs) ∷ [])
+  counted has rows shown =
       let read = reads_as sql [] old new (schema v) has (Select (counting table) (codes "count(*)" ∷ [])) means.is means.plain means.unlisted rows shown in
       counts table.tree [] old.now.trees [] row xs (λ _. true) stored (λ _. refl) rows (read.answer Null) ∙ ap (λ l. (Int (pos (cap (length l))) ∷ []) ∷ []) (kept_all xs)
 
-  pub count_finds : IfOk r (λ found. Finds number_cells sql [] old new (items found)) → IfOk r (λ found. items found ≡ cap (length xs) ∷ [])
-  count_finds found = IfOk-weaker r _ _ (λ all it. it.are (cap (length xs) ∷ []) (counted it.rows it.shown)) found
+  -- the first number is the count
+  pub count_told : (first : Option ℕ) → FoundInside v old Found Missed (Ok first) → first ≡ Some (cap (length xs))
+  count_told first ran =
+      let it = found_in old first ran in
+      let found = it.1.1 in
+      it.1.2 ∙ ap (λ (l : List ℕ). slice_get l 0) (found.are (cap (length xs) ∷ []) (counted it.0 found.rows found.shown))
 
-  pub count_faults : accepts_program (schema v) [] (summary_query (inner table.tree end) [] count_rows) [] ≡ true → IsUnlimited old → IfErr r (Misses number_cells (λ _. ⊤) sql [] old new) → IfErr r (HasCause old new)
-  count_faults accepted free missed =
-      all_caused number_cells (λ _. ⊤) sql [] old new r missed
-      (read_cause sql [] old new (schema v) has (counting table) (codes "count(*)" ∷ []) means.is means.plain means.whole means.unlisted (λ db e refused. none_refuse refused (λ t. both_ways _ t accepted) (counts_always _ _)) free)
-      (λ rows shown. (cap (length xs) ∷ [], counted rows shown, (tt, tt)))
+  pub count_caused : (r : Result (Option ℕ) StoreFault) → FoundInside v old Found Missed r → accepts_program (schema v) [] (summary_query (inner table.tree end) [] count_rows) [] ≡ true → IsUnlimited old → IfErr r (HasCause old new)
+  count_caused r ran accepted free = caused old new r ran (λ it.
+      all_caused number_cells (λ _. ⊤) sql [] old new r it.2
+      (read_cause sql [] old new (schema v) it.0 (counting table) (codes "count(*)" ∷ []) means.is means.plain means.whole means.unlisted (λ db e refused. none_refuse refused (λ t. both_ways _ t accepted) (counts_always _ _)) free)
+      (λ rows shown. (cap (length xs) ∷ [], counted it.0 rows shown, (tt, tt))))
 
 abbrev pub count_units_text : List ℕ
 count_units_text = codes "SELECT count(*) FROM unit"

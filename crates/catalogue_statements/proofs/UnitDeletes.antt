@@ -35,7 +35,7 @@ use Rattle.desk_core.specs.DeskRows.{PermitRow}
 use Rattle.office_tables.specs.RowNumbers.{HasNumbered}
 use Rattle.office_tables.specs.Order.{Rises}
 use Rattle.office_tables.specs.Permits.{permit_cells}
-use Rattle.catalogue_statements.specs.Removals.{without, AreRemoved}
+use Rattle.catalogue_statements.specs.Removals.{without, AreRemoved, unit_tables}
 use Rattle.catalogue_statements.specs.Rows.{unit_row, by_number, ElementRow, element_row, HousingRow, housing_row}
 use Rattle.office_tables.specs.Versions.{Version}
 use Rattle.office_tables.specs.Schema.{schema, unit, element, housing, permit, to_unit}
@@ -210,7 +210,7 @@ module _ (old new : Database) (id : ℕ) (units : List Unit) (u : Unit) (v : Ver
         subst (HasNumbered permit_cells (new.trees tables.permit.tree)) (same_test_as (λ (p : PermitRow). p.unit) xs)
         (those_left permit_cells (old.trees tables.permit.tree) (new.trees tables.permit.tree) xs has (λ (p : PermitRow). nat_eq u.id p.unit)
         (cascade_rows (schema v) Enforced (work_on permit 2 u) permit_cells (λ p. p.0) (λ _. refl) second new.trees has.numbered at has.rise (λ p. nat_eq u.id p.1.unit) (λ p. child_is permit 2 u p.1.unit (permit_cells p) refl) cascade.4));
-    only = touched_wider (tables.unit.tree ∷ tables.housing.tree ∷ tables.element.tree ∷ tables.permit.tree ∷ []) (tables.permit.tree ∷ tables.unit.tree ∷ tables.element.tree ∷ tables.housing.tree ∷ []) old new refl
+    only = touched_wider (tables.unit.tree ∷ tables.housing.tree ∷ tables.element.tree ∷ tables.permit.tree ∷ []) unit_tables old new refl
         (touched_then (tables.unit.tree ∷ tables.housing.tree ∷ []) (tables.element.tree ∷ tables.permit.tree ∷ []) old (record old { trees = first }) new
         (touched_then (tables.unit.tree ∷ []) (tables.housing.tree ∷ []) old (record old { trees = it.next }) (record old { trees = first }) to_next to_first)
         (touched_then (tables.element.tree ∷ []) (tables.permit.tree ∷ []) (record old { trees = first }) (record old { trees = second }) new to_second to_new));
@@ -233,7 +233,7 @@ module _ (old new : Database) (id : ℕ) (v : Version) (it : DeletedWith (schema
   next_only = touched v old (record old { trees = it.next }) tables.unit.tree it.applies.tables
 
   all_only : (first second : Trees) → IsCascade (schema v) Enforced (work_with housing 1 moves) it.next first → IsCascade (schema v) Enforced (work_with element 1 moves) first second
-      → IsCascade (schema v) Enforced (work_with permit 2 moves) second new.trees → OnlyTouches (tables.permit.tree ∷ tables.unit.tree ∷ tables.element.tree ∷ tables.housing.tree ∷ []) old new
+      → IsCascade (schema v) Enforced (work_with permit 2 moves) second new.trees → OnlyTouches unit_tables old new
   all_only first second p q r =
       let next = record old { trees = it.next } in
       let one = record old { trees = first } in
@@ -241,12 +241,12 @@ module _ (old new : Database) (id : ℕ) (v : Version) (it : DeletedWith (schema
       let to_one = touched v next one tables.housing.tree (cascade_apart (schema v) Enforced (work_with housing 1 moves) it.next first p) in
       let to_two = touched v one two tables.element.tree (cascade_apart (schema v) Enforced (work_with element 1 moves) first second q) in
       let to_new = touched v two new tables.permit.tree (cascade_apart (schema v) Enforced (work_with permit 2 moves) second new.trees r) in
-      touched_wider (tables.unit.tree ∷ tables.housing.tree ∷ tables.element.tree ∷ tables.permit.tree ∷ []) (tables.permit.tree ∷ tables.unit.tree ∷ tables.element.tree ∷ tables.housing.tree ∷ []) old new refl
+      touched_wider (tables.unit.tree ∷ tables.housing.tree ∷ tables.element.tree ∷ tables.permit.tree ∷ []) unit_tables old new refl
       (touched_then (tables.unit.tree ∷ tables.housing.tree ∷ []) (tables.element.tree ∷ tables.permit.tree ∷ []) old one new
       (touched_then (tables.unit.tree ∷ []) (tables.housing.tree ∷ []) old next one next_only to_one)
       (touched_then (tables.element.tree ∷ []) (tables.permit.tree ∷ []) one two new to_two to_new))
 
-  pub remove_unit_only : OnlyTouches (tables.permit.tree ∷ tables.unit.tree ∷ tables.element.tree ∷ tables.housing.tree ∷ []) old new
+  pub remove_unit_only : OnlyTouches unit_tables old new
   unfolding gone moves
   remove_unit_only = elim (cases_Bool (list_any (loses plain (0 ∷ [])) moves)) [
     | inl some ↦
@@ -255,7 +255,7 @@ module _ (old new : Database) (id : ℕ) (v : Version) (it : DeletedWith (schema
         all_only all.0 all.1 all.2 all.3 all.4
     | inr none ↦
         let same : new.trees ≡ it.next = nothing_left v it.next new.trees (subst (λ ws. Settles (schema v) Enforced it.next ws (Ok new.trees)) (works_none v gone none) it.settles) in
-        touched_wider (tables.unit.tree ∷ []) (tables.permit.tree ∷ tables.unit.tree ∷ tables.element.tree ∷ tables.housing.tree ∷ []) old new refl
+        touched_wider (tables.unit.tree ∷ []) unit_tables old new refl
         (λ tree there other. ap (λ (d : Trees). d tree) same ∙ next_only tree there other)
   ]
 

@@ -1,38 +1,50 @@
 -- Clauses of a call of one or more statements, each said of the connection before it and after it.
-use Rattle.std.specs.Prelude.{ℕ, List, Result, IfErr, OnOk, OnErr}
+use Rattle.std.specs.Prelude.{ℕ, List, Result, IfOk, OnOk}
 use Rattle.sqlite_trees.specs.declared.store.Store as store
+use Rattle.sqlite.specs.Effect.{Database}
 use Rattle.sqlite.specs.Held.{Held, state}
+use Rattle.sqlite.specs.Tree.{Trees}
 use Rattle.sqlite.specs.State.{HasCleanDisk}
+use Rattle.office_tables.specs.ChangeStatement.{LeavesOr}
 use Rattle.office_tables.specs.Faults.{FaultsHaveCause}
 use Rattle.office_tables.specs.Query.{Reads}
-use Rattle.office_tables.specs.Step.{Goes, IsAborted, IsSame, OnlyTouches, Spares}
+use Rattle.office_tables.specs.Step.{IsSame, OnlyTouches}
 use Rattle.office_tables.specs.declared.fault.StoreFault.{StoreFault}
 
 -- it reads, and changes no row
 abbrev pub OnlyReads : {S X : Type 0} → store.Ghosts S → Held S → Held S → Result X StoreFault → Type 0
 OnlyReads g before after r = Reads (state g before) (state g after) r
 
--- if it succeeds, the transaction goes on over the same tables
-abbrev pub StaysInTransaction : {S X : Type 0} → store.Ghosts S → Held S → Held S → Result X StoreFault → Type 0
-StaysInTransaction g before after r = OnOk r (Goes (state g before) (state g after))
-
--- if it fails, the transaction goes on and can be rolled back, or it has been rolled back
-abbrev pub FailsSafely : {S X : Type 0} → store.Ghosts S → Held S → Held S → Result X StoreFault → Type 0
-FailsSafely g before after r = OnErr r (IsAborted (state g before) (state g after))
-
 -- if it succeeds, only the tables with these trees may have other rows
 abbrev pub ChangesOnly : {S X : Type 0} → store.Ghosts S → List ℕ → Held S → Held S → Result X StoreFault → Type 0
 ChangesOnly g touched before after r = HasCleanDisk (state g after) → OnOk r (OnlyTouches touched (state g before).now (state g after).now)
 
--- if it fails and the transaction goes on, only the tables with these trees may have other rows; and it blames the disk for
--- its own failures only
-abbrev pub SparesOthers : {S X : Type 0} → store.Ghosts S → List ℕ → Held S → Held S → Result X StoreFault → Type 0
-SparesOthers g touched before after r = HasCleanDisk (state g after) → IfErr r (Spares (OnlyTouches touched) (state g before) (state g after))
-
--- if it fails and the transaction goes on, every row is as it was; and it blames the disk for its own failures only
-abbrev pub SparesAll : {S X : Type 0} → store.Ghosts S → Held S → Held S → Result X StoreFault → Type 0
-SparesAll g before after r = HasCleanDisk (state g after) → IfErr r (Spares IsSame (state g before) (state g after))
-
 -- every fault has its cause, if the disk is clean and no limit is set
 abbrev pub FailsWithCause : {S X : Type 0} → store.Ghosts S → Held S → Held S → Result X StoreFault → Type 0
 FailsWithCause g before after r = FaultsHaveCause (state g before) (state g after) r
+
+-- it succeeds only where the tables represent a model that it may take
+abbrev pub AcceptsOnly : {S X Stays Model : Type 0} → store.Ghosts S → (Database → Stays → Model → Type 0) → Held S → Held S → Result X StoreFault → (Model → Type 0) → Type 0
+AcceptsOnly {S} {X} {Stays} {Model} g represents before after r may = HasCleanDisk (state g after) → (s : Stays) (m : Model) → represents (state g before).now s m → OnOk r (may m)
+
+-- A call of several statements. It touches the tables with these trees only, also if it fails.
+pub record WritesOnly {S X : Type 0} (g : store.Ghosts S) (touched : List ℕ) (before after : Held S) (r : Result X StoreFault) : Type 0 where
+  pub leaves : LeavesOr (OnlyTouches touched) (state g before) (state g after) r
+  pub only : ChangesOnly g touched before after r
+
+-- Where the tables hold one thing, such as a list of rows, a call makes another of it. If it succeeds, it touches the tables
+-- with these trees only; if it fails, the rows are as `Left` says. If there is `room` for it in the tables, every fault has a
+-- cause.
+pub record WritesOr {S M X : Type 0} (g : store.Ghosts S) (touched : List ℕ) (Left : Database → Database → Type 0) (holds : Trees → M → Type 0) (before after : Held S) (r : Result X StoreFault) (room : Trees → M → Type 0) (made : M → X → Trees → Type 0) : Type 0 where
+  pub leaves : LeavesOr Left (state g before) (state g after) r
+  pub only : ChangesOnly g touched before after r
+  pub makes : HasCleanDisk (state g after) → (m : M) → holds (state g before).now.trees m → IfOk r (λ x. made m x (state g after).now.trees)
+  pub faults : (m : M) → holds (state g before).now.trees m → room (state g before).now.trees m → FailsWithCause g before after r
+
+-- a call of several statements, which touches the tables with these trees only, also if it fails
+abbrev pub Writes : {S M X : Type 0} → store.Ghosts S → List ℕ → (Trees → M → Type 0) → Held S → Held S → Result X StoreFault → (Trees → M → Type 0) → (M → X → Trees → Type 0) → Type 0
+Writes g touched holds before after r room made = WritesOr g touched (OnlyTouches touched) holds before after r room made
+
+-- a call that writes by one statement at most: if it fails, every row is as it was
+abbrev pub WritesAtOnce : {S M X : Type 0} → store.Ghosts S → List ℕ → (Trees → M → Type 0) → Held S → Held S → Result X StoreFault → (Trees → M → Type 0) → (M → X → Trees → Type 0) → Type 0
+WritesAtOnce g touched holds before after r room made = WritesOr g touched IsSame holds before after r room made

@@ -1,6 +1,6 @@
 -- Texts and containers of a unit that are added to their tables.
 use Rattle.office_tables.specs.Schema as tables
-use Rattle.std.specs.Prelude.{◌≡◌, ℕ, true, List, [], ◌∷◌, ◌++◌, map, Option, IsPermutation}
+use Rattle.std.specs.Prelude.{◌≡◌, ℕ, not, nat_eq, true, List, [], ◌∷◌, ◌++◌, filter, map, Option, IsPermutation}
 use Rattle.std.specs.List.{AllByRecursion, list_any}
 use Rattle.sqlite.specs.Tree.{Trees}
 use Rattle.isad_core.specs.Texts.{Bytes}
@@ -43,6 +43,10 @@ WithTexts = WithCells (λ (e : ElementRow). e.unit) cell_of
 pub record AreElements (db : Trees) (xs : List ElementRow) : Type 0 where
   pub rows : HasNumbered element_row (db tables.element.tree) xs
 
+-- the table has these rows with one more for each of these texts of a unit
+abbrev pub AddsTexts : ℕ → List (ℕ × Bytes) → List ElementRow → Trees → Type 0
+AddsTexts unit cells xs db = (ys : List ElementRow) × AreElements db ys × WithTexts unit cells xs ys
+
 -- ---- containers
 
 abbrev pub housing_cell : HousingRow → ℕ × ℕ
@@ -58,7 +62,37 @@ pub record AreHoused (db : Trees) (boxes : List BoxKey) (xs : List HousingRow) :
   pub apart : distinct boxes ≡ boxes
   pub rows : HasNumbered housing_row (db tables.housing.tree) xs
 
+-- containers, and rows of the units in them
+pub record Housings : Type 0 where
+  pub boxes : List BoxKey
+  pub rows : List HousingRow
+
+-- the tables have these
+abbrev pub HasHousings : Trees → Housings → Type 0
+HasHousings db held = AreHoused db held.boxes held.rows
+
+-- the tables have these containers, and these rows with one more for each of these places of a unit
+abbrev pub AddsHousings : ℕ → List BoxKey → List (ℕ × ℕ) → List HousingRow → Trees → Type 0
+AddsHousings unit boxes cells xs db = (ys : List HousingRow) × AreHoused db boxes ys × WithHousings unit cells xs ys
+
 -- ---- both
+
+-- the rows of texts, and the containers with the units in them
+pub record Descriptions : Type 0 where
+  pub elements : List ElementRow
+  pub housed : Housings
+
+-- the tables have these
+pub record HasDescriptions (db : Trees) (d : Descriptions) : Type 0 where
+  pub texts : AreElements db d.elements
+  pub housings : HasHousings db d.housed
+
+-- the rows of all units but this one, and all containers
+abbrev pub descriptions_of_others : ℕ → Descriptions → Descriptions
+descriptions_of_others unit d = record {
+  elements = filter (λ x. not (nat_eq unit x.unit)) d.elements;
+  housed = record { boxes = d.housed.boxes; rows = filter (λ x. not (nat_eq unit x.unit)) d.housed.rows };
+}
 
 -- the tables have these rows with one more for each text and each container of a unit
 pub record IsDescribed (unit : ℕ) (values : Values) (boxes : List BoxKey) (xs : List ElementRow) (hs : List HousingRow) (db : Trees) : Type 0 where

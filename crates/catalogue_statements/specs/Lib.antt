@@ -1,4 +1,5 @@
 pub mod Rows
+pub mod LinkRows
 pub mod CallClauses
 pub mod Representation
 pub mod NewUnit

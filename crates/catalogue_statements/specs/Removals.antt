@@ -21,6 +21,10 @@ pub record AreListed (ids : List ℕ) (xs : List Unit) : Type 0 where
   pub distinct : IsDistinct nat_eq ids
   pub there : (n : ℕ) → list_any (nat_eq n) ids ≡ true → list_any (λ (u : Unit). nat_eq n u.id) xs ≡ true
 
+-- the table of units, and those whose rows go with a unit
+abbrev pub unit_tables : List ℕ
+unit_tables = tables.permit.tree ∷ tables.unit.tree ∷ tables.element.tree ∷ tables.housing.tree ∷ []
+
 -- the rows of these units are gone, with their rows in `element` and `housing` and the permits for them; all other rows
 -- remain
 pub record AreRemoved (ids : List ℕ) (old new : Database) : Type 0 where
@@ -28,7 +32,7 @@ pub record AreRemoved (ids : List ℕ) (old new : Database) : Type 0 where
   pub elements : (xs : List ElementRow) → HasNumbered element_row (old.trees tables.element.tree) xs → HasNumbered element_row (new.trees tables.element.tree) (without (λ e. e.unit) ids xs)
   pub housings : (xs : List HousingRow) → HasNumbered housing_row (old.trees tables.housing.tree) xs → HasNumbered housing_row (new.trees tables.housing.tree) (without (λ h. h.unit) ids xs)
   pub permits : (xs : List PermitRow) → HasNumbered permit_cells (old.trees tables.permit.tree) xs → HasNumbered permit_cells (new.trees tables.permit.tree) (without (λ p. p.unit) ids xs)
-  pub only : OnlyTouches (tables.permit.tree ∷ tables.unit.tree ∷ tables.element.tree ∷ tables.housing.tree ∷ []) old new
+  pub only : OnlyTouches unit_tables old new
 
 -- the rows of the table of units, and of the tables whose rows go with a unit
 pub record IsTold (db : Trees) : Type 0 where

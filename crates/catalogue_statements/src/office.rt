@@ -1,6 +1,6 @@
 //! The row of the office: its settings, its day and its next unit number.
 
-ghost use Rattle.std.specs.Prelude.{◌≡◌, [], ◌∷◌, length, OnOk, IfOk, ⊤};
+ghost use Rattle.std.specs.Prelude.{◌≡◌, [], ◌∷◌, length, Some, OnOk, IfOk, ⊤};
 ghost use Rattle.sqlite.specs.Held.{state};
 ghost use Rattle.sqlite.specs.State.{HasCleanDisk};
 ghost use Rattle.office_tables.specs.Versions.{Version};
@@ -18,7 +18,7 @@ ghost use Rattle.catalogue_statements.specs.declared.office.OfficeRow.{OfficeRow
 
 use isad_core::{Day, Text};
 use office_tables::value::number;
-use office_tables::{StoreFault, Tables, Versioned, change, find};
+use office_tables::{StoreFault, Tables, Versioned, change, find_one};
 use sqlite::Alter;
 use std::alloc::Global;
 
@@ -66,21 +66,21 @@ pub fn set_next_unit<P: Versioned, S: Alter>(
     )
 }
 
-/// The rows of the table, of which there is one.
-pub fn office_rows<P: Versioned, S: Alter>(
+/// The row of the office, or none if there is no office.
+pub fn find_office<P: Versioned, S: Alter>(
     alloc: Global,
     tables: &mut Tables<P, S>,
-) -> Result<Vec<OfficeRow>, StoreFault>
+) -> Result<Option<OfficeRow>, StoreFault>
     ensures reads { OnlyReads S.Store tables.old tables.new result }
-    ensures rows { HasCleanDisk (state S.Store tables.new)
+    ensures row { HasCleanDisk (state S.Store tables.new)
         → (version : Version) (o : OfficeRow) → RepresentsOffice version (state S.Store tables.old).now.trees o
-        → IfOk result (λ found. found.items ≡ o ∷ []) }
+        → IfOk result (λ found. found ≡ Some o) }
     ensures faults { (version : Version) (o : OfficeRow) → RepresentsOffice version
         (state S.Store tables.old).now.trees o
         → AreLegibleSettings o
         → FailsWithCause S.Store tables.old tables.new result }
 {
-    find(
+    find_one(
         alloc,
         tables,
         "SELECT country, repo, seats, daily, hands, run_size, day, next_unit FROM office ORDER BY one",
@@ -92,20 +92,26 @@ pub fn office_rows<P: Versioned, S: Alter>(
 pub fn count_units<P: Versioned, S: Alter>(
     alloc: Global,
     tables: &mut Tables<P, S>,
-) -> Result<Vec<u64>, StoreFault>
+) -> Result<u64, StoreFault>
     ensures { LooksUp S.Store (Holds schema.unit unit_row) tables.old tables.new result
-        (λ _. ⊤) (λ _. ⊤) (λ xs found. found.items ≡ cap (length xs) ∷ []) }
+        (λ _. ⊤) (λ _. ⊤) (λ xs units. units ≡ cap (length xs)) }
 {
-    find(alloc, tables, "SELECT count(*) FROM unit", &[])
+    let Some(units) = find_one(alloc, tables, "SELECT count(*) FROM unit", &[])? else {
+        return Err(StoreFault::Schema);
+    };
+    Ok(units)
 }
 
 /// How many containers there are.
 pub fn count_containers<P: Versioned, S: Alter>(
     alloc: Global,
     tables: &mut Tables<P, S>,
-) -> Result<Vec<u64>, StoreFault>
+) -> Result<u64, StoreFault>
     ensures { LooksUp S.Store (Holds schema.container container_row) tables.old tables.new result
-        (λ _. ⊤) (λ _. ⊤) (λ xs found. found.items ≡ cap (length xs) ∷ []) }
+        (λ _. ⊤) (λ _. ⊤) (λ xs containers. containers ≡ cap (length xs)) }
 {
-    find(alloc, tables, "SELECT count(*) FROM container", &[])
+    let Some(containers) = find_one(alloc, tables, "SELECT count(*) FROM container", &[])? else {
+        return Err(StoreFault::Schema);
+    };
+    Ok(containers)
 }

@@ -1,17 +1,18 @@
 -- A container that is found by its number.
-use Rattle.std.proofs.Common.{◌≡◌, ℕ, suc, ◌+◌, ◌<◌, List, [], ◌∷◌, ◌++◌, map, filter, Option, Some, None, Bool, true, false, nat_eq, refl, sym, ap, ◌∙◌, arith, inl, inr}
+use Rattle.std.proofs.Common.{◌≡◌, ℕ, suc, ◌+◌, ◌<◌, List, [], ◌∷◌, map, filter, slice_get, Option, Some, None, Bool, true, false, nat_eq, refl, sym, ap, ◌∙◌, arith, inl, inr}
 use Rattle.std.specs.Prelude.{option_map, unwrap_or, if◌then◌else◌}
 use Rattle.std.specs.List.Sorted.{IsPermutation}
 use Rattle.std.proofs.lemmas.Bool.{cases_Bool, eqb-true}
 use Rattle.sqlite_rules.specs.Lists.{Has}
-use Rattle.sqlite_rules.proofs.ListLemmas.{has_filtered, has_last}
+use Rattle.sqlite_rules.proofs.ListLemmas.{has_filtered}
 use Rattle.isad_core.specs.declared.values.BoxKey.{BoxKey}
 use Rattle.isad_core.specs.Boxes.{is_same}
 use Rattle.catalogue_core.specs.CatalogueMerge.{number_in, box_number}
 use Rattle.catalogue_statements.specs.Rows.{counted_from}
 use Rattle.catalogue_core.proofs.Imported.{same_box}
+use Rattle.catalogue_statements.proofs.FoundUnits.{told_first}
 use Rattle.catalogue_statements.proofs.Untold.{one_less}
-use Rattle.office_tables.proofs.Rows.{had, map_has}
+use Rattle.office_tables.proofs.Rows.{had}
 
 from_its_number : (n : ℕ) (cs : List BoxKey) → (x : ℕ × BoxKey) → Has (counted_from (n + 1) cs) x → n < x.0
 from_its_number n [] x h = absurd h
@@ -49,10 +50,10 @@ named k (c ∷ cs) b n x h is at = elim (cases_Bool (is_same c b)) [
     more m rest (inr h) is n_is = rest h (omega (arith, at, n_is))
 
 -- what is found by a container's number is that container
-pub found_is : (cs : List BoxKey) (b key : BoxKey) (n : ℕ) (ys : List (ℕ × BoxKey)) (rest : List BoxKey) → n ≡ box_number cs b → IsPermutation (filter (λ (c : ℕ × BoxKey). nat_eq n c.0) (counted_from 1 cs)) ys
-    → map (λ (c : ℕ × BoxKey). c.1) ys ≡ rest ++ key ∷ [] → key ≡ b
-found_is cs b key n ys rest number same items =
-    let there = map_has (λ (c : ℕ × BoxKey). c.1) ys key (has_last (map (λ (c : ℕ × BoxKey). c.1) ys) rest key items) in
+pub found_is : (cs : List BoxKey) (b key : BoxKey) (n : ℕ) (ys : List (ℕ × BoxKey)) → n ≡ box_number cs b → IsPermutation (filter (λ (c : ℕ × BoxKey). nat_eq n c.0) (counted_from 1 cs)) ys
+    → slice_get (map (λ (c : ℕ × BoxKey). c.1) ys) 0 ≡ Some key → key ≡ b
+found_is cs b key n ys number same first =
+    let there = told_first (λ (c : ℕ × BoxKey). c.1) ys key first in
     let x = there.0 in
     let kept = has_filtered (λ (c : ℕ × BoxKey). nat_eq n c.0) (counted_from 1 cs) x (had (filter (λ (c : ℕ × BoxKey). nat_eq n c.0) (counted_from 1 cs)) ys same x there.1) in
     let at : n ≡ x.0 = eqb-true n x.0 kept.1 in

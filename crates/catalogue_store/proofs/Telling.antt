@@ -4,7 +4,7 @@ use Rattle.std.proofs.Common.{◌≡◌, ℕ, List, ◌∙◌}
 use Rattle.sqlite.specs.Tree.{Trees}
 use Rattle.isad_core.specs.declared.values.BoxKey.{BoxKey}
 use Rattle.isad_core.specs.declared.values.Values.{Values}
-use Rattle.catalogue_statements.specs.DescriptionRows.{AreElements, AreHoused, IsDescribed}
+use Rattle.catalogue_statements.specs.DescriptionRows.{AreElements, AreHoused, Descriptions, HasDescriptions, IsDescribed}
 use Rattle.catalogue_core.specs.Descriptions.{with_boxes, KnowsItsContainers}
 use Rattle.catalogue_core.specs.CatalogueMerge.{Catalogue}
 use Rattle.catalogue_statements.specs.Rows.{ElementRow, HousingRow, element_row, housing_row}
@@ -20,12 +20,21 @@ same_elements old new xs same at = record { rows = still_numbered element_row (o
 pub same_housed : (old new : Trees) (boxes : List BoxKey) (hs : List HousingRow) → new tables.container.tree ≡ old tables.container.tree → new tables.housing.tree ≡ old tables.housing.tree → AreHoused old boxes hs → AreHoused new boxes hs
 same_housed old new boxes hs containers housings at = record { containers = containers ∙ at.containers; apart = at.apart; rows = still_numbered housing_row (old tables.housing.tree) (new tables.housing.tree) hs housings at.rows }
 
--- what a catalogue's tables have of both
-pub elements_shown : (v : Version) (db : Database) (o : OfficeRow) (c : Catalogue) → (at : RepresentsCatalogue v db o c) → AreElements db.trees at.elements.elements
-elements_shown v db o c at = record { rows = at.elements.rows }
+pub same_descriptions : (old new : Trees) (d : Descriptions) → new tables.element.tree ≡ old tables.element.tree → new tables.container.tree ≡ old tables.container.tree → new tables.housing.tree ≡ old tables.housing.tree → HasDescriptions old d → HasDescriptions new d
+same_descriptions old new d texts containers housings at = record {
+  texts = same_elements old new d.elements texts at.texts;
+  housings = same_housed old new d.housed.boxes d.housed.rows containers housings at.housings;
+}
 
-pub housed_shown : (v : Version) (db : Database) (o : OfficeRow) (c : Catalogue) → (at : RepresentsCatalogue v db o c) → KnowsItsContainers c → AreHoused db.trees c.containers at.housings.housings
-housed_shown v db o c at knows = record { containers = at.containers; apart = knows.apart; rows = at.housings.rows }
+-- what a catalogue's tables have of both
+abbrev pub descriptions_in : (v : Version) (db : Database) (o : OfficeRow) (c : Catalogue) → RepresentsCatalogue v db o c → Descriptions
+descriptions_in v db o c at = record { elements = at.elements.elements; housed = record { boxes = c.containers; rows = at.housings.housings } }
+
+pub descriptions_shown : (v : Version) (db : Database) (o : OfficeRow) (c : Catalogue) → (at : RepresentsCatalogue v db o c) → KnowsItsContainers c → HasDescriptions db.trees (descriptions_in v db o c at)
+descriptions_shown v db o c at knows = record {
+  texts = record { rows = at.elements.rows };
+  housings = record { containers = at.containers; apart = knows.apart; rows = at.housings.rows };
+}
 
 pub same_described : (old new : Trees) (unit : ℕ) (values : Values) (boxes : List BoxKey) (xs : List ElementRow) (hs : List HousingRow) → new tables.element.tree ≡ old tables.element.tree → new tables.container.tree ≡ old tables.container.tree → new tables.housing.tree ≡ old tables.housing.tree
     → IsDescribed unit values boxes xs hs old → IsDescribed unit values boxes xs hs new

@@ -1,10 +1,8 @@
 -- A unit that is looked up by its number.
-use Rattle.std.proofs.Common.{◌≡◌, ℕ, suc, ◌<◌, ◌≤◌, ◌^◌, Bool, true, false, not, cond, List, [], ◌∷◌, length, map, refl, sym, ap, ◌∙◌, nat_eq, arith}
-use Rattle.std.specs.Prelude.{filter, ◌||◌, ◌==◌}
+use Rattle.std.proofs.Common.{◌≡◌, ℕ, ◌<◌, ◌≤◌, ◌^◌, Bool, true, false, cond, List, [], ◌∷◌, find, Some, option_map, refl, sym, ◌∙◌, nat_eq, arith}
+use Rattle.std.specs.Prelude.{is_some, ◌||◌}
 use Rattle.std.specs.List.{AllByRecursion, list_any}
-use Rattle.std.proofs.lemmas.Bool.{ne_eqb}
 use Rattle.std.proofs.lemmas.Bool.Decides.{nat_tests}
-use Rattle.std.proofs.lemmas.List.{length-map}
 use Rattle.std.proofs.lemmas.List.Sorted.{list_any-IsPermutation}
 use Rattle.sqlite.specs.Tree.{Trees}
 use Rattle.tree_core.specs.Forest.{nodes}
@@ -26,18 +24,14 @@ none_so_high n (id ∷ ids) high low =
 pub no_unit : (c : Catalogue) (n : ℕ) → 2 ^ 63 ≤ n → IsKept c → false ≡ has_unit c.forest n
 no_unit c n high kept = sym (sym (has-each (nat_eq n) (λ (u : Unit). u.id) c.forest) ∙ none_so_high n (nodes (each (λ (u : Unit). u.id) c.forest)) high kept.places.low)
 
-some_there : {X : Type 0} (p : X → Bool) (xs : List X) → not (length (filter p xs) == 0) ≡ list_any p xs
-some_there p [] = refl
-some_there p (x ∷ xs) = at (p x) (some_there p xs)
+some_there : {X Y : Type 0} (tell : X → Y) (p : X → Bool) (xs : List X) → is_some (option_map tell (find p xs)) ≡ list_any p xs
+some_there tell p [] = refl
+some_there tell p (x ∷ xs) = at (p x) (some_there tell p xs)
   where
-    at : (b : Bool) → not (length (filter p xs) == 0) ≡ list_any p xs → not (length (cond b (x ∷ filter p xs) (filter p xs)) == 0) ≡ (b || list_any p xs)
-    at true e = ap not (ne_eqb (suc (length (filter p xs))) 0 (λ z. absurd (omega (arith, z))))
+    at : (b : Bool) → is_some (option_map tell (find p xs)) ≡ list_any p xs → is_some (option_map tell (cond b (Some x) (find p xs))) ≡ (b || list_any p xs)
+    at true e = refl
     at false e = e
 
--- the rows with this number say whether there is such a unit
-pub unit_there : {Y : Type 0} (db : Trees) (f : Forest Unit) (at : RepresentsUnits db f) (row : Unit → Y) (n len : ℕ) (found : List Y) → found ≡ map row (filter (λ (u : Unit). nat_eq n u.id) at.units) → len ≡ length found
-    → not (len == 0) ≡ has_unit f n
-unit_there db f at row n len found is long =
-    ap (λ k. not (k == 0)) (long ∙ ap length is ∙ length-map (filter (has_id n) at.units) row)
-    ∙ some_there (has_id n) at.units
-    ∙ sym (list_any-IsPermutation (has_id n) (nodes f) at.units at.are)
+-- the row with this number says whether there is such a unit
+pub unit_there : {Y : Type 0} (db : Trees) (f : Forest Unit) (at : RepresentsUnits db f) (tell : Unit → Y) (n : ℕ) → is_some (option_map tell (find (has_id n) at.units)) ≡ has_unit f n
+unit_there db f at tell n = some_there tell (has_id n) at.units ∙ sym (list_any-IsPermutation (has_id n) (nodes f) at.units at.are)

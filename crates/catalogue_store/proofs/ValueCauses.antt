@@ -1,5 +1,5 @@
 -- Why reading a unit's values fails: never for the values of a catalogue within its limits.
-use Rattle.std.proofs.Common.{◌≡◌, inl, inr, ℕ, ◌+◌, ◌<◌, ◌≤◌, List, [], ◌∷◌, map, filter, length, Option, Some, None, true, false, nat_eq, get_or, Result, Ok, Err, refl, sym, ap, subst, ◌∙◌, arith}
+use Rattle.std.proofs.Common.{◌≡◌, inl, inr, ℕ, ◌+◌, ◌<◌, ◌≤◌, List, [], ◌∷◌, map, filter, length, Option, Some, None, true, false, nat_eq, get_or, slice_get, Result, Ok, Err, refl, sym, ap, subst, ◌∙◌, arith}
 use Rattle.std.specs.Prelude.{IfErr, IfSome, IsOk, IsUtf8, unwrap_or}
 use Rattle.std.proofs.lemmas.List.{get_or-map, length-map}
 use Rattle.std.specs.List.{AllByRecursion, list_any, list_all}
@@ -22,6 +22,7 @@ use Rattle.catalogue_statements.specs.Rows.{counted_from, ElementRow}
 use Rattle.catalogue_statements.specs.Representation.{RepresentsElements, texts_from, element_number, element_cells, elements_of}
 use Rattle.catalogue_core.specs.Units.{Unit, has_id}
 use Rattle.office_tables.proofs.Rows.{had, has_map, map_has}
+use Rattle.catalogue_statements.proofs.FoundUnits.{none_first}
 use Rattle.catalogue_statements.proofs.Untold.{numbered, one_less}
 
 -- a call that does not fail
@@ -85,15 +86,13 @@ row_there cs b there =
     let x = counted_there 0 cs b n.0 n.1 in
     (x.0, x.1, omega (arith, x.2, ap (λ (o : Option ℕ). unwrap_or o 0) n.1), omega (arith, x.2, x.3))
 
-pub box_found : (cs : List BoxKey) (b : BoxKey) (n : ℕ) (ys : List (ℕ × BoxKey)) → list_any (is_same b) cs ≡ true → n ≡ box_number cs b → IsPermutation (filter (λ (c : ℕ × BoxKey). nat_eq n c.0) (counted_from 1 cs)) ys → length ys ≡ 0 → ⊥
+pub box_found : (cs : List BoxKey) (b : BoxKey) (n : ℕ) (ys : List (ℕ × BoxKey)) → list_any (is_same b) cs ≡ true → n ≡ box_number cs b → IsPermutation (filter (λ (c : ℕ × BoxKey). nat_eq n c.0) (counted_from 1 cs)) ys
+    → slice_get (map (λ (c : ℕ × BoxKey). c.1) ys) 0 ≡ None → ⊥
 box_found cs b n ys there number same none =
     let x = row_there cs b there in
     let kept = has_kept (λ (c : ℕ × BoxKey). nat_eq n c.0) (counted_from 1 cs) x.0 x.1 (eq-eqb n x.0.0 (number ∙ sym x.2)) in
-    empty ys none x.0 (had ys (filter (λ (c : ℕ × BoxKey). nat_eq n c.0) (counted_from 1 cs)) (IsPermutation-sym (filter (λ (c : ℕ × BoxKey). nat_eq n c.0) (counted_from 1 cs)) ys same) x.0 kept)
-  where
-    empty : (ys : List (ℕ × BoxKey)) → length ys ≡ 0 → (x : ℕ × BoxKey) → Has ys x → ⊥
-    empty [] e x h = h
-    empty (y ∷ ys) e x h = absurd (omega (arith, e))
+    let in_rows = had ys (filter (λ (c : ℕ × BoxKey). nat_eq n c.0) (counted_from 1 cs)) (IsPermutation-sym (filter (λ (c : ℕ × BoxKey). nat_eq n c.0) (counted_from 1 cs)) ys same) x.0 kept in
+    subst (λ (l : List (ℕ × BoxKey)). Has l x.0) (none_first (λ (c : ℕ × BoxKey). c.1) ys none) in_rows
 
 pub legible_counted : (n : ℕ) (cs : List BoxKey) → AllByRecursion IsLegibleBox cs → AllByRecursion (λ (c : ℕ × BoxKey). IsLegibleBox c.1) (counted_from n cs)
 legible_counted n [] h = tt

@@ -16,7 +16,7 @@ ghost use Rattle.catalogue_core.specs.Units.{is_from};
 
 use crate::office::insert_office;
 use catalogue_statements::OfficeRow;
-use catalogue_statements::units::units_from;
+use catalogue_statements::units::unit_number;
 use isad_core::Text;
 use office_tables::table_creation::{create_containers, create_units};
 use office_tables::{StoreFault, Tables, Versioned};
@@ -57,6 +57,5 @@ pub fn known<P: Versioned, S: Alter>(
         (λ _. ⊤)
         (λ _ f. FindsUnit (is_from source.now legacy.now) f) }
 {
-    let found = units_from(alloc, tables, source, legacy)?;
-    Ok(found.first().copied())
+    unit_number(alloc, tables, source, legacy)
 }

@@ -15,7 +15,7 @@ ghost use Rattle.catalogue_store.specs.Heads.{head_at, head_of};
 
 use catalogue_statements::elements::first_elements;
 use catalogue_statements::row_types::Element;
-use catalogue_statements::units::standings_of;
+use catalogue_statements::units::find_standing;
 use isad_core::{Day, Text};
 use office_tables::value::NO_NUMBER;
 use office_tables::{StoreFault, Tables};
@@ -63,8 +63,7 @@ pub fn find_head<P: Places, S: Alter>(
         (λ _. ⊤)
         (λ _ c head. head ≡ option_map head_of (find (has_id unit) (nodes c.forest))) }
 {
-    let mut found = standings_of(alloc, tables, unit)?;
-    let Some(standing) = found.pop() else {
+    let Some(standing) = find_standing(alloc, tables, unit)? else {
         return Ok(None);
     };
     let elements = first_elements(alloc, tables, unit, TITLE)?;

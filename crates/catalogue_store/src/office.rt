@@ -15,8 +15,7 @@ ghost use Rattle.catalogue_statements.specs.Representation.{RepresentsSettings};
 ghost use Rattle.catalogue_store.specs.Offices.{told_office};
 
 use catalogue_statements::OfficeRow;
-use catalogue_statements::office::{count_containers, count_units, office_rows};
-use office_tables::from_row::only_number;
+use catalogue_statements::office::{count_containers, count_units, find_office};
 use office_tables::value::{day, number, words};
 use office_tables::{StoreFault, Tables};
 use sqlite::{Alter, Connection};
@@ -76,16 +75,15 @@ pub fn office_row<P: Places, S: Alter>(
     ensures answers { StoreAnswers S.Store (RepresentsSettings P.represents P.version) AreLegibleSettings tables.old
         tables.new result (λ _. ⊤) (λ c o office. office ≡ told_office c o) }
 {
-    let mut rows = office_rows(alloc, tables)?;
-    let units = count_units(alloc, tables)?;
-    let containers = count_containers(alloc, tables)?;
-    let Some(row) = rows.pop() else {
+    let Some(row) = find_office(alloc, tables)? else {
         return Err(StoreFault::Schema);
     };
+    let units = count_units(alloc, tables)?;
+    let containers = count_containers(alloc, tables)?;
     Ok(Office {
         row,
-        units: only_number(&units)?,
-        containers: only_number(&containers)?,
+        units,
+        containers,
     })
 }
 
@@ -97,8 +95,7 @@ pub fn settings<P: Places, S: Alter>(
     ensures answers { StoreAnswers S.Store (RepresentsSettings P.represents P.version) AreLegibleSettings tables.old
         tables.new result (λ _. ⊤) (λ _ o row. row ≡ o) }
 {
-    let mut rows = office_rows(alloc, tables)?;
-    let Some(row) = rows.pop() else {
+    let Some(row) = find_office(alloc, tables)? else {
         return Err(StoreFault::Schema);
     };
     Ok(row)

@@ -29,7 +29,7 @@ ghost use Rattle.catalogue_store.specs.UnitValues.{values_of};
 use catalogue_statements::containers::{find_container, housings_of};
 use catalogue_statements::elements::elements_of;
 use catalogue_statements::row_types::{Element, Housing};
-use catalogue_statements::units::levels_of;
+use catalogue_statements::units::find_level;
 use isad_core::{BoxKey, List, Text, Values};
 use office_tables::value::NO_NUMBER;
 use office_tables::{StoreFault, Tables, Versioned};
@@ -140,8 +140,7 @@ fn container_of<P: Versioned, S: Alter>(
     if number >= NO_NUMBER {
         return Err(StoreFault::Schema);
     }
-    let mut found = find_container(alloc, tables, number)?;
-    let Some(key) = found.pop() else {
+    let Some(key) = find_container(alloc, tables, number)? else {
         return Err(StoreFault::Schema);
     };
     Ok(key)
@@ -179,8 +178,7 @@ pub fn values<P: Versioned, S: Alter>(
     ensures answers { StoreAnswers S.Store RepresentsValues IsKept tables.old tables.new result KnowsItsContainers
         (λ _ c found. found ≡ values_of unit c) }
 {
-    let mut levels = levels_of(alloc, tables, unit)?;
-    let Some(level) = levels.pop() else {
+    let Some(level) = find_level(alloc, tables, unit)? else {
         return Ok(None);
     };
     let texts = texts_of(alloc, tables, unit)?;

@@ -1,5 +1,5 @@
 -- How many units and containers there are, as SQL counts them.
-use Rattle.std.proofs.Common.{◌≡◌, ℕ, ◌+◌, ◌<◌, ◌≤◌, Bool, true, false, cond, ◌&&◌, length, Some, None, Result, Ok, refl, sym, ap, ap₂, ◌∙◌, inl, inr, arith}
+use Rattle.std.proofs.Common.{◌≡◌, ℕ, ◌+◌, ◌<◌, ◌≤◌, Bool, true, false, cond, ◌&&◌, length, Some, None, refl, sym, ap, ap₂, ◌∙◌, inl, inr, arith}
 use Rattle.std.specs.Prelude.{nat_le, nat_lt}
 use Rattle.std.proofs.lemmas.Bool.{and_parts, cases_Bool, le-leb, le-ltb, leb-false, leb-true, lt-leb, lt-ltb, ltb-false, ltb-true}
 use Rattle.std.proofs.lemmas.List.Sorted.{length_permutation}
@@ -10,7 +10,6 @@ use Rattle.catalogue_core.specs.CatalogueMerge.{Catalogue}
 use Rattle.catalogue_core.specs.Units.{Unit}
 use Rattle.catalogue_core.proofs.NodeLemmas.{length-nodes}
 use Rattle.catalogue_statements.specs.Representation.{RepresentsUnits}
-use Rattle.catalogue_statements.proofs.Offices.{same_number}
 use Rattle.office_tables.specs.RowCounts.{cap}
 use Rattle.csv_import.specs.CatalogueImport.{has_room, next_with_room}
 
@@ -53,8 +52,8 @@ no_room_there new c e = at (has_room new c) e
     at false h = refl
 
 -- how many units there are, by the rows that are counted
-pub units_counted : {E : Type 0} {db : Trees} {f : Forest Unit} {units : ℕ} (at : RepresentsUnits db f) → ◌≡◌ {A = Result ℕ E} (Ok units) (Ok (cap (length at.units))) → units ≡ cap (size f)
-units_counted {f = f} at is = same_number is ∙ ap cap (length_permutation (nodes f) at.units at.are ∙ length-nodes f)
+pub units_counted : {db : Trees} {f : Forest Unit} {units : ℕ} (at : RepresentsUnits db f) → units ≡ cap (length at.units) → units ≡ cap (size f)
+units_counted {f = f} at is = is ∙ ap cap (length_permutation (nodes f) at.units at.are ∙ length-nodes f)
 
 -- the next number is within the limit, where there is room
 pub number_within : (units next new : ℕ) → (nat_le (units + new) most_units && nat_le (next + new) (most_unit_numbers + 1)) ≡ true → next ≤ most_unit_numbers + 1

@@ -26,7 +26,6 @@ use catalogue_store::{Places, settings};
 use isad_core::limits::{MOST_CONTAINERS, MOST_UNIT_NUMBERS, MOST_UNITS};
 use isad_core::{Day, Text};
 use office_core::{Done, Refusal};
-use office_tables::from_row::only_number;
 use office_tables::{StoreFault, Tables};
 use refinement::pass;
 use sqlite::Alter;
@@ -52,8 +51,7 @@ fn next_with_room<P: Places, S: Alter>(
     ensures low { IfOk result (λ next. IfSome next (λ number. number ≤ most_unit_numbers + 1)) }
 {
     let office = settings(alloc, tables)?;
-    let counted = count_units(alloc, tables)?;
-    let units = only_number(&counted)?;
+    let units = count_units(alloc, tables)?;
     if has_space(units, office.next_unit, new) {
         return Ok(Some(office.next_unit));
     }
@@ -68,8 +66,7 @@ fn has_many_containers<P: Places, S: Alter>(
     ensures answers { Answers S.Store (RepresentsSettings P.represents P.version) AreLegibleSettings tables.old
         tables.new result (λ _. ⊤) (λ c _ many. many ≡ nat_lt most_containers (length c.containers)) }
 {
-    let counted = count_containers(alloc, tables)?;
-    let containers = only_number(&counted)?;
+    let containers = count_containers(alloc, tables)?;
     Ok(containers > MOST_CONTAINERS)
 }
 

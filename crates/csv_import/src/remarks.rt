@@ -19,7 +19,7 @@ ghost use Rattle.catalogue_statements.specs.Representation.{Represents};
 ghost use Rattle.csv_import.specs.Remarks.{HasParent, HaveParents, HaveUnits, IsRankOf, IsRanked};
 
 use atom_csv::Row;
-use catalogue_statements::units::levels_of;
+use catalogue_statements::units::find_level;
 use catalogue_store::Places;
 use isad_core::{Element, List, Values, is_blank, rank};
 use office_core::Remark;
@@ -91,8 +91,7 @@ fn rank_there<P: Places, S: Alter>(
     ensures answers { Answers S.Store (Represents P.represents P.version) IsKept tables.old tables.new result (λ _. ⊤)
         (λ _ c rank. IsRankOf c unit rank) }
 {
-    let mut levels = levels_of(alloc, tables, unit)?;
-    let Some(level) = levels.pop() else {
+    let Some(level) = find_level(alloc, tables, unit)? else {
         return Ok(None);
     };
     Ok(rank(level.as_str()))

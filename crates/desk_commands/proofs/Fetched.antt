@@ -1,19 +1,19 @@
 -- What a run takes, by the rows of the desk and in the state: its lines, its containers and its number.
-use Rattle.std.proofs.Common.{◌≡◌, ℕ, zero, suc, ◌+◌, ◌<◌, ◌≤◌, ◌^◌, Bool, true, false, cond, ◌&&◌, ◌||◌, nat_eq, List, [], ◌∷◌, ◌++◌, length, map, filter, take, Option, Some, None, inl, inr, refl, sym, ap, subst, ◌∙◌, arith}
-use Rattle.std.specs.Prelude.{filter_map, is_some, nat_le, nat_lt, option_map}
-use Rattle.std.specs.List.{AllByRecursion, IsDistinct, cons_option, list_all, list_any}
+use Rattle.std.proofs.Common.{◌≡◌, ℕ, zero, suc, ◌+◌, ◌<◌, ◌≤◌, Bool, true, false, cond, ◌&&◌, ◌||◌, nat_eq, List, [], ◌∷◌, ◌++◌, length, map, filter, take, Option, Some, None, inl, inr, refl, sym, ap, subst, ◌∙◌, arith}
+use Rattle.std.specs.Prelude.{filter_map, nat_le, nat_lt, option_map}
+use Rattle.std.specs.List.{AllByRecursion, IsDistinct, cons_option, list_any}
 use Rattle.std.specs.List.Sorted.{IsPermutation}
-use Rattle.std.proofs.lemmas.Bool.{and_from, and_parts, cases_Bool, eqb-true, false≢true, ltb-true}
+use Rattle.std.proofs.lemmas.Bool.{and_parts, cases_Bool, eqb-true, false≢true}
 use Rattle.std.proofs.lemmas.Bool.Decides.{nat_tests}
 use Rattle.std.proofs.lemmas.List.{append-nil, append_assoc, length-append, length-map, take-map}
 use Rattle.std.proofs.lemmas.List.Sorted.{IsPermutation-append_right, IsPermutation-map}
 use Rattle.catalogue_core.specs.Members.{StandsIn}
-use Rattle.isad_core.specs.Limits.{IsNumber, most_runs}
+use Rattle.isad_core.specs.Limits.{most_runs}
 use Rattle.desk_core.specs.DeskRows.{OrderRow, RunLineRow}
 use Rattle.desk_core.specs.Orders.{in_order}
 use Rattle.desk_core.proofs.OrderLemmas.{in_order-permutation}
 use Rattle.desk_store.specs.Holdings.{candidates_of, is_first, is_on_shelf}
-use Rattle.desk_store.specs.Runs.{IsNumbered, TakesEachOnce, line_of, next_run}
+use Rattle.desk_store.specs.Runs.{TakesEachOnce, line_of, next_run}
 use Rattle.desk_store.specs.declared.container_orders.ContainerOrder.{ContainerOrder}
 use Rattle.office_core.specs.SoundDesk.{IsAscending}
 use Rattle.office_core.specs.SoundOffice.{IsSoundOffice}
@@ -30,7 +30,7 @@ use Rattle.state_encoding.proofs.DeskLookups.{flipped}
 use Rattle.state_encoding.proofs.Members.{all_of_in, in_filter, in_map}
 use Rattle.state_encoding.proofs.NumberedRows.{in_rows, length-rows}
 use Rattle.office_tables.specs.Versions.{Version}
-use Rattle.desk_commands.specs.RunCreation.{has_numbers, taken_by}
+use Rattle.desk_commands.specs.RunCreation.{taken_by}
 use Rattle.desk_commands.proofs.MovedAll.{AreWithin, all_taken}
 use Rattle.desk_commands.proofs.Picked.{due_shown, is_open_for}
 use Rattle.desk_commands.proofs.Reshelved.{all_left, rising_left, rising_to}
@@ -206,49 +206,6 @@ module _ (version : Version) (s : State) where
 
     pub taken_within : AreWithin (length s.catalogue.containers) (map (λ (o : ContainerOrder). o.container) (taken_by version s))
     taken_within = all_in_house (taken_by version s) taken_placed
-
-    small : (o : ContainerOrder) → IsPlaced s o → IsNumbered o
-    small o it =
-        let lies = (in_house o it).1 in
-        let boxes = sound.sound.containers.few in
-        let number = numbered_within s.orders o.order (ap is_some it.there) in
-        let orders = sound.sound.desk.orders.few in
-        let known = numbered_within s.readers it.order.ticket (sound.sound.desk.orders.each o.order it.order it.there).ticket in
-        let same = it.ticket in
-        let readers = sound.sound.desk.readers.few in
-        (omega (arith, lies, boxes), omega (arith, number, orders), omega (arith, known, same, readers))
-
-    all_small : (os : List ContainerOrder) → AllByRecursion (IsPlaced s) os → AllByRecursion IsNumbered os
-    all_small [] h = tt
-    all_small (o ∷ os) h = (small o h.0, all_small os h.1)
-
-    pub taken_small : AllByRecursion IsNumbered (taken_by version s)
-    taken_small = all_small (taken_by version s) taken_placed
-
--- ---- whether the numbers are such as a table keeps
-
-below : (n : ℕ) → nat_lt n (2 ^ 63) ≡ true → IsNumber n
-below n h = ltb-true n (2 ^ 63) h
-
-numbers_if : (o : ContainerOrder) → has_numbers o ≡ true → IsNumbered o
-numbers_if o h =
-    let last = and_parts (nat_lt o.container (2 ^ 63) && nat_lt o.order (2 ^ 63)) (nat_lt o.ticket (2 ^ 63)) h in
-    let both = and_parts (nat_lt o.container (2 ^ 63)) (nat_lt o.order (2 ^ 63)) last.0 in
-    (below o.container both.0, below o.order both.1, below o.ticket last.1)
-
-numbers_so : (o : ContainerOrder) → IsNumbered o → has_numbers o ≡ true
-numbers_so o h = and_from (nat_lt o.container (2 ^ 63) && nat_lt o.order (2 ^ 63)) (nat_lt o.ticket (2 ^ 63)) (and_from (nat_lt o.container (2 ^ 63)) (nat_lt o.order (2 ^ 63)) (less o.container h.0) (less o.order h.1)) (less o.ticket h.2)
-  where
-    less : (n : ℕ) → IsNumber n → nat_lt n (2 ^ 63) ≡ true
-    less n h = grind (arith, nat_tests, h)
-
-pub all_numbered : (os : List ContainerOrder) → list_all has_numbers os ≡ true → AllByRecursion IsNumbered os
-all_numbered [] h = tt
-all_numbered (o ∷ os) h = let both = and_parts (has_numbers o) (list_all has_numbers os) h in (numbers_if o both.0, all_numbered os both.1)
-
-pub numbered_all : (os : List ContainerOrder) → AllByRecursion IsNumbered os → list_all has_numbers os ≡ true
-numbered_all [] h = refl
-numbered_all (o ∷ os) h = and_from (has_numbers o) (list_all has_numbers os) (numbers_so o h.0) (numbered_all os h.1)
 
 -- ---- the number of the next run
 

@@ -2,6 +2,7 @@ pub mod Registered
 pub mod StillOut
 pub mod DayOpened
 pub mod Renewed
+pub mod KnownNumbers
 pub mod Seated
 pub mod Ordered
 pub mod Permitted

@@ -1,7 +1,7 @@
 -- An order that is placed, in the rows of the desk.
-use Rattle.std.proofs.Common.{◌≡◌, ℕ, ℤ, suc, ◌+◌, ◌<◌, Bool, true, false, List, [], ◌∷◌, ◌++◌, length, Option, Some, None, Ok, refl, sym, ap, subst, ◌∙◌, arith, ◌&&◌, ◌^◌, inl, inr}
-use Rattle.std.specs.Prelude.{int_lt, is_some, nat_le, option_map, nat_lt}
-use Rattle.std.proofs.lemmas.Bool.{and_parts, cases_Bool, leb-false, ltb-false, ltb-true}
+use Rattle.std.proofs.Common.{◌≡◌, ℕ, ℤ, suc, ◌+◌, ◌<◌, Bool, true, false, List, [], ◌∷◌, ◌++◌, length, Option, Some, None, Ok, refl, sym, ap, subst, ◌∙◌, arith}
+use Rattle.std.specs.Prelude.{int_lt, is_some, nat_le, option_map}
+use Rattle.std.proofs.lemmas.Bool.{leb-false}
 use Rattle.sqlite.specs.Effect.{Database}
 use Rattle.sqlite.specs.Tree.{Trees}
 use Rattle.isad_core.specs.Limits.{most_orders}
@@ -39,29 +39,9 @@ use Rattle.refinement.specs.CommandSteps.{CarriesOutStep}
 use Rattle.refinement.specs.Representation.{RepresentsState}
 use Rattle.refinement.proofs.CardsShown.{card, card_shown}
 use Rattle.refinement.proofs.CommandSteps.{accepts}
-use Rattle.refinement.proofs.Judged.{judged_now}
-use Rattle.refinement.proofs.OpenByRows.{opens_none}
 use Rattle.refinement.proofs.OrdersShown.{ordered_shown}
 use Rattle.desk_commands.specs.OrderPlacement.{IsCardOf, MayOrder, ask_of}
 use Rattle.desk_commands.proofs.Registered.{rows_end}
-
--- what is open has a number that a table keeps
-pub open_with_number : (s : State) → IsSoundOffice s → (t c : ℕ) (is_open : Bool) → is_open ≡ opens s t c → (is_open && nat_lt c (2 ^ 63)) ≡ opens s t c
-open_with_number s sound t c is_open is = elim (cases_Bool (nat_lt c (2 ^ 63))) [
-  | inl low ↦ rw low (with_true is_open ∙ is)
-  | inr high ↦ rw high (with_false is_open ∙ opens_none s (judged_now s sound) t c (ltb-false c (2 ^ 63) high))
-]
-  where
-    with_true : (b : Bool) → (b && true) ≡ b
-    with_true true = refl
-    with_true false = refl
-
-    with_false : (b : Bool) → (b && false) ≡ false
-    with_false true = refl
-    with_false false = refl
-
-pub number_of_open : (is_open : Bool) (c : ℕ) → (is_open && nat_lt c (2 ^ 63)) ≡ true → c < 2 ^ 63
-number_of_open is_open c passes = ltb-true c (2 ^ 63) (and_parts is_open (nat_lt c (2 ^ 63)) passes).1
 
 pub not_known : (s : State) (t c : ℕ) → is_ticket s t ≡ false → refusal s (command.Order t c) ≡ Some UnknownTicket
 not_known s t c unknown = rw unknown refl

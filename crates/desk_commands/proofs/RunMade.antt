@@ -9,7 +9,7 @@ use Rattle.std.proofs.lemmas.List.Sorted.{All-permutation, IsPermutation-sym, Is
 use Rattle.sqlite.specs.Effect.{Database}
 use Rattle.sqlite.specs.Tree.{Trees}
 use Rattle.isad_core.specs.Days.{IsDayNumber, is_day_number}
-use Rattle.isad_core.specs.Limits.{IsNumber, most_runs}
+use Rattle.isad_core.specs.Limits.{most_runs}
 use Rattle.isad_core.proofs.DayLemmas.{is_day_number-true}
 use Rattle.tree_core.specs.Forest.{Forest}
 use Rattle.office_tables.specs.Versions.{Version}
@@ -18,7 +18,7 @@ use Rattle.desk_core.specs.declared.reader.Place.{Place}
 use Rattle.desk_core.specs.declared.reader.Place.TheVariants.{Desk}
 use Rattle.desk_core.specs.declared.refusal.Refusal.TheVariants.{Full, NothingToMove}
 use Rattle.desk_core.specs.LegibleDesks.{IsLegible}
-use Rattle.desk_store.specs.Runs.{IsNumbered, with_run}
+use Rattle.desk_store.specs.Runs.{with_run}
 use Rattle.desk_store.specs.Runs as stored
 use Rattle.desk_store.specs.Representation.{IsNumberOf, RepresentsDesk}
 use Rattle.desk_store.specs.declared.container_orders.ContainerOrder.{ContainerOrder}
@@ -89,10 +89,6 @@ legible_run (Some n) day os d good it = record {
     one_more : (rows : List RunRow) → AllByRecursion (λ (r : RunRow). is_day_number r.day ≡ true) rows → AllByRecursion (λ (r : RunRow). is_day_number r.day ≡ true) (rows ++ record { id = n; day = day } ∷ [])
     one_more [] h = (good, tt)
     one_more (row ∷ rows) h = (h.0, one_more rows h.1)
-
-pub small_containers : (os : List ContainerOrder) → AllByRecursion IsNumbered os → AllByRecursion IsNumber (map (λ (o : ContainerOrder). o.container) os)
-small_containers [] h = tt
-small_containers (o ∷ os) h = (h.0.0, small_containers os h.1)
 
 module _ (version : Version) (s : State) (sound : IsSoundOffice s) where
   pub today_legible : (day : ℤ) → day ≡ s.day → is_day_number day ≡ true

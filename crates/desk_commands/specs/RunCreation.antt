@@ -1,5 +1,5 @@
 -- What a run takes.
-use Rattle.std.specs.Prelude.{ℕ, ◌^◌, Bool, ◌&&◌, nat_lt, List, filter, take}
+use Rattle.std.specs.Prelude.{ℕ, List, filter, take}
 use Rattle.desk_store.specs.Holdings.{candidates_of}
 use Rattle.desk_store.specs.declared.container_orders.ContainerOrder.{ContainerOrder}
 use Rattle.office_core.specs.State.{State, opens}
@@ -13,7 +13,3 @@ due_of s most waiting = take most (filter (λ (o : ContainerOrder). opens s o.ti
 -- what the next run takes
 abbrev pub taken_by : Version → State → List ContainerOrder
 taken_by version s = due_of s s.settings.run_size (candidates_of (tables version s).desk)
-
--- a table can keep its numbers
-abbrev pub has_numbers : ContainerOrder → Bool
-has_numbers o = nat_lt o.container (2 ^ 63) && nat_lt o.order (2 ^ 63) && nat_lt o.ticket (2 ^ 63)

@@ -2,12 +2,12 @@
 
 ghost use Rattle.std.specs.Prelude.{◌≡◌, nat_eq, true, ⊤};
 ghost use Rattle.sqlite.specs.Held.{state};
-ghost use Rattle.isad_core.specs.Limits.{IsNumber};
 ghost use Rattle.desk_store.specs.Orders.{state_number};
 ghost use Rattle.office_core.specs.State.{waits};
 ghost use Rattle.office_core.specs.declared.command.Command.TheVariants as command;
 ghost use Rattle.refinement.specs.CommandSteps.{Performs};
 
+use crate::known_numbers::known_number;
 use catalogue_store::Places;
 use desk_store::{OrderState, end_order, order};
 use office_core::{Done, Refusal};
@@ -27,11 +27,11 @@ fn end_waiting<P: Places, S: Alter>(
     tables: &mut Tables<P, S>,
     order: u64,
 ) -> Result<Result<Done, Refusal>, StoreFault>
-    requires number { IsNumber order }
     ensures { Performs P.represents P.version S.Store (λ s. waits s order ≡ true) (command.Cancel order) tables.old
         tables.new result }
 {
-    end_order(tables, order, OrderState::Cancelled)?;
+    let number = known_number(order)?;
+    end_order(tables, number, OrderState::Cancelled)?;
     Ok(Ok(Done::Cancel { order }))
 }
 

@@ -9,23 +9,21 @@ ghost use Rattle.office_tables.specs.Calls.{Updates};
 ghost use Rattle.office_tables.specs.Schema as schema;
 ghost use Rattle.desk_commands.specs.ContainerMoves.{handed_over, with_all_placed};
 
+use crate::known_numbers::known_number;
 use desk_core::Place;
 use desk_store::{OrderState, end_order, set_place};
-use office_tables::value::NO_NUMBER;
-use office_tables::{StoreFault, Tables, Versioned};
+use office_tables::{Number, StoreFault, Tables, Versioned};
 use sqlite::Alter;
 
 /// Moves a container to a place, and sets its order to the state that goes with the place.
 pub(crate) fn hand_over<P: Versioned, S: Alter>(
     tables: &mut Tables<P, S>,
-    container: u64,
+    container: Number,
     place: Place,
-    order: u64,
+    order: Number,
     next: OrderState,
 ) -> Result<(), StoreFault>
-    requires number { IsNumber container }
     requires known { IfSome (by_order place) IsNumber }
-    requires small { IsNumber order }
     ensures updates { Updates S.Store RepresentsDeskAlone IsLegible tables.old tables.new result (λ _. ⊤)
         (handed_over container place order next) (schema.orders.tree ∷ schema.holding.tree ∷ []) }
 {
@@ -45,10 +43,7 @@ pub(crate) fn move_all<P: Versioned, S: Alter>(
         (schema.holding.tree ∷ []) }
 {
     for container in containers {
-        let container = *container;
-        if container >= NO_NUMBER {
-            return Err(StoreFault::Schema);
-        }
+        let container = known_number(*container)?;
         set_place(tables, container, place)?;
     }
     Ok(())

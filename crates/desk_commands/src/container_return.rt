@@ -1,17 +1,16 @@
 //! Taking a container back from its reader.
 
 ghost use Rattle.std.specs.Prelude.{◌≡◌, ⊤};
-ghost use Rattle.isad_core.specs.Limits.{IsNumber};
 ghost use Rattle.desk_core.specs.declared.reader.Place.TheVariants.{Out};
 ghost use Rattle.office_core.specs.declared.command.Command.TheVariants as command;
 ghost use Rattle.refinement.specs.CommandSteps.{Performs};
 
 use crate::container_moves::hand_over;
+use crate::known_numbers::known_number;
 use catalogue_store::Places;
 use desk_core::{Place, known_container};
 use desk_store::{OrderState, queue_head};
 use office_core::{Done, Refusal};
-use office_tables::value::NO_NUMBER;
 use office_tables::{StoreFault, Tables};
 use sqlite::Alter;
 use std::alloc::Global;
@@ -22,14 +21,12 @@ fn take_back<P: Places, S: Alter>(
     container: u64,
     order: u64,
 ) -> Result<Result<Done, Refusal>, StoreFault>
-    requires number { IsNumber container }
     ensures { Performs P.represents P.version S.Store (λ s. s.place container ≡ Out order) (command.Return container)
         tables.old tables.new result }
 {
-    if order >= NO_NUMBER {
-        return Err(StoreFault::Schema);
-    }
-    hand_over(tables, container, Place::Desk, order, OrderState::Done)?;
+    let from = known_number(container)?;
+    let with = known_number(order)?;
+    hand_over(tables, from, Place::Desk, with, OrderState::Done)?;
     Ok(Ok(Done::Return { order }))
 }
 

@@ -2,7 +2,6 @@
 
 ghost use Rattle.std.specs.Prelude.{◌≡◌, None, Some, IfOk, option_map};
 ghost use Rattle.std.specs.Result.{result_err};
-ghost use Rattle.isad_core.specs.Limits.{IsNumber};
 ghost use Rattle.desk_core.specs.Checks.{issue_checks};
 ghost use Rattle.desk_core.specs.Decisions.{issue_facts};
 ghost use Rattle.desk_core.specs.Refusals.{first_that_holds};
@@ -15,12 +14,12 @@ ghost use Rattle.refinement.specs.CommandSteps.{Performs};
 ghost use Rattle.desk_commands.specs.Issuance.{IsQueuedFor, asked_for};
 
 use crate::container_moves::hand_over;
+use crate::known_numbers::known_number;
 use catalogue_store::Places;
 use desk_core::{AtDesk, Limits, Place, Reader, known_container, may_issue};
 use desk_store::{OrderState, QueueHead, WaitingOrder, queue_head, ticket_holder};
 use isad_core::Day;
 use office_core::{Done, Refusal};
-use office_tables::value::NO_NUMBER;
 use office_tables::{StoreFault, Tables};
 use refinement::is_open_to;
 use sqlite::Alter;
@@ -67,15 +66,13 @@ fn lend<P: Places, S: Alter>(
     ticket: u64,
     order: u64,
 ) -> Result<Result<Done, Refusal>, StoreFault>
-    requires number { IsNumber container }
     ensures { Performs P.represents P.version S.Store
         (λ s. (refusal s (command.Issue container ticket) ≡ None) × (first_of (s.queue container) ≡ Some order))
         (command.Issue container ticket) tables.old tables.new result }
 {
-    if order >= NO_NUMBER {
-        return Err(StoreFault::Schema);
-    }
-    hand_over(tables, container, Place::Out(order), order, OrderState::Out)?;
+    let lent = known_number(container)?;
+    let with = known_number(order)?;
+    hand_over(tables, lent, Place::Out(with.get()), with, OrderState::Out)?;
     Ok(Ok(Done::Issue { order }))
 }
 
@@ -89,7 +86,6 @@ fn issue_known<P: Places, S: Alter>(
     ticket: u64,
     head: QueueHead,
 ) -> Result<Result<Done, Refusal>, StoreFault>
-    requires number { IsNumber container }
     ensures { Performs P.represents P.version S.Store
         (λ s. (today ≡ s.day) × (limits.now ≡ limits_of s) × IsQueuedFor s container head.place head.first)
         (command.Issue container ticket) tables.old tables.new result }
@@ -103,8 +99,8 @@ fn issue_known<P: Places, S: Alter>(
 }
 
 /// Issues a container to a reader if it is at the desk and open to the reader, the reader's order is the first in its
-/// queue, and the reader has a valid ticket and a seat and may hold one more container. Otherwise the command is
-/// refused.
+/// queue, and the reader has a valid ticket and a seat and may hold one more container. Otherwise, also if the container
+/// is not known, the command is refused.
 pub fn issue<P: Places, S: Alter>(
     alloc: Global,
     tables: &mut Tables<P, S>,

@@ -1,4 +1,5 @@
-//! The commands of the reading room over an office's tables, each within a transaction.
+//! The commands of the reading room over an office's tables, each within a transaction. If a command is
+//! refused, the caller rolls the transaction back.
 #![tactic(auto)]
 
 mod cancellation;
@@ -6,6 +7,7 @@ mod container_moves;
 mod container_return;
 mod emptiness;
 mod issuance;
+mod known_numbers;
 mod new_day;
 mod order_placement;
 mod permits;

@@ -1,8 +1,7 @@
 //! Ordering containers.
 
-ghost use Rattle.std.specs.Prelude.{◌≡◌, ◌&&◌, ◌^◌, true, nat_eq, nat_lt};
+ghost use Rattle.std.specs.Prelude.{◌≡◌, nat_eq};
 ghost use Rattle.std.specs.List.{list_any};
-ghost use Rattle.isad_core.specs.Limits.{IsNumber};
 ghost use Rattle.desk_store.specs.declared.reader_summary.LiveOrder.{LiveOrder as Live};
 ghost use Rattle.office_core.specs.State.{opens};
 ghost use Rattle.office_core.specs.declared.command.Command.TheVariants as command;
@@ -10,12 +9,12 @@ ghost use Rattle.refinement.specs.ReadingRoomLimits.{limits_of};
 ghost use Rattle.refinement.specs.CommandSteps.{Performs};
 ghost use Rattle.desk_commands.specs.OrderPlacement.{IsCardOf, MayOrder, ask_of};
 
+use crate::known_numbers::known_number;
 use catalogue_store::Places;
 use desk_core::{Ask, Limits, may_order};
 use desk_store::{LiveOrder, ReaderCard, append_order, reader};
 use isad_core::Day;
 use office_core::{Done, Refusal};
-use office_tables::value::NO_NUMBER;
 use office_tables::{StoreFault, Tables};
 use refinement::is_open_to;
 use sqlite::Alter;
@@ -48,14 +47,14 @@ fn append<P: Places, S: Alter>(
     container: u64,
     order: u64,
 ) -> Result<Result<Done, Refusal>, StoreFault>
-    requires number { IsNumber order }
-    requires small { IsNumber ticket }
-    requires known { IsNumber container }
     ensures { Performs P.represents P.version S.Store (λ s. MayOrder s ticket container order today)
         (command.Order ticket container)
         tables.old tables.new result }
 {
-    append_order(tables, order, ticket, container, today)?;
+    let number = known_number(order)?;
+    let reader = known_number(ticket)?;
+    let asked = known_number(container)?;
+    append_order(tables, number, reader, asked, today)?;
     Ok(Ok(Done::Order { order }))
 }
 
@@ -69,8 +68,6 @@ fn decide<P: Places, S: Alter>(
     container: u64,
     is_open: bool,
 ) -> Result<Result<Done, Refusal>, StoreFault>
-    requires small { IsNumber ticket }
-    requires known { is_open ≡ true → IsNumber container }
     ensures { Performs P.represents P.version S.Store (λ s. (today ≡ s.day) × (limits.now ≡ limits_of s)
         × IsCardOf P.version s ticket card.now × (is_open ≡ opens s ticket container)) (command.Order ticket container)
         tables.old tables.new result }
@@ -86,13 +83,6 @@ fn decide<P: Places, S: Alter>(
     }
 }
 
-/// Whether the container is open and a table can keep its number. A table can keep the number of every open container.
-fn is_open_with_number(container: u64, is_open: bool) -> bool
-    ensures { result ≡ (is_open && nat_lt container (2 ^ 63)) }
-{
-    is_open && container < NO_NUMBER
-}
-
 /// Places an order of the reader with this card, if the reader may place it.
 fn order_by<P: Places, S: Alter>(
     alloc: Global,
@@ -103,21 +93,12 @@ fn order_by<P: Places, S: Alter>(
     ticket: u64,
     container: u64,
 ) -> Result<Result<Done, Refusal>, StoreFault>
-    requires small { IsNumber ticket }
     ensures { Performs P.represents P.version S.Store
         (λ s. (today ≡ s.day) × (limits.now ≡ limits_of s) × IsCardOf P.version s ticket card.now)
         (command.Order ticket container) tables.old tables.new result }
 {
     let is_open = is_open_to(alloc, tables, container, ticket, today)?;
-    decide(
-        tables,
-        today,
-        limits,
-        card,
-        ticket,
-        container,
-        is_open_with_number(container, is_open),
-    )
+    decide(tables, today, limits, card, ticket, container, is_open)
 }
 
 /// Orders a container for a ticket. The ticket must be valid, the container must be open to its reader and not already

@@ -1,13 +1,14 @@
 //! Granting permits for closed units.
 
 ghost use Rattle.std.specs.Prelude.{◌≡◌, ◌&&◌, true, ⊤, not, is_some, length, nat_le};
-ghost use Rattle.isad_core.specs.Limits.{IsNumber, most_permits};
+ghost use Rattle.isad_core.specs.Limits.{most_permits};
 ghost use Rattle.catalogue_core.specs.UnitLookup.{has_unit};
 ghost use Rattle.office_core.specs.State.{is_ticket};
 ghost use Rattle.office_core.specs.declared.command.Command.TheVariants as command;
 ghost use Rattle.refinement.specs.CommandSteps.{Performs};
 ghost use Rattle.desk_commands.specs.Permits.{MayPermit, later_of, until_for};
 
+use crate::known_numbers::known_number;
 use catalogue_store::{Places, is_unit};
 use desk_store::{Permit, grant, is_registered, permits};
 use isad_core::{Day, limits};
@@ -54,13 +55,13 @@ fn give<P: Places, S: Alter>(
     asked: Day,
     until: Day,
 ) -> Result<Result<Done, Refusal>, StoreFault>
-    requires small { IsNumber ticket }
-    requires known { IsNumber unit }
     ensures { Performs P.represents P.version S.Store (λ s. MayPermit s ticket unit asked until)
         (command.Permit ticket unit asked)
         tables.old tables.new result }
 {
-    grant(tables, ticket, unit, until)?;
+    let reader = known_number(ticket)?;
+    let read = known_number(unit)?;
+    grant(tables, reader, read, until)?;
     Ok(Ok(Done::Permit {
         ticket,
         unit,
@@ -76,8 +77,6 @@ fn give_within<P: Places, S: Alter>(
     unit: u64,
     asked: Day,
 ) -> Result<Result<Done, Refusal>, StoreFault>
-    requires small { IsNumber ticket }
-    requires known { IsNumber unit }
     ensures { Performs P.represents P.version S.Store
         (λ s. (is_ticket s ticket ≡ true) × (has_unit s.catalogue.forest unit ≡ true))
         (command.Permit ticket unit asked) tables.old tables.new result }
@@ -98,7 +97,6 @@ fn give_for<P: Places, S: Alter>(
     unit: u64,
     asked: Day,
 ) -> Result<Result<Done, Refusal>, StoreFault>
-    requires small { IsNumber ticket }
     ensures { Performs P.represents P.version S.Store (λ s. is_ticket s ticket ≡ true)
         (command.Permit ticket unit asked)
         tables.old tables.new result }

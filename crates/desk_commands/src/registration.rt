@@ -26,5 +26,7 @@ pub fn register<P: Places, S: Alter>(
     let Some(ticket) = add_reader(tables, name, until)? else {
         return Ok(Err(Refusal::Full));
     };
-    Ok(Ok(Done::Register { ticket }))
+    Ok(Ok(Done::Register {
+        ticket: ticket.get(),
+    }))
 }

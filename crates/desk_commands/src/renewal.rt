@@ -1,10 +1,11 @@
 //! Renewing tickets.
 
-ghost use Rattle.std.specs.Prelude.{◌≡◌, ◌<◌, ◌^◌, true, ⊤};
+ghost use Rattle.std.specs.Prelude.{◌≡◌, true, ⊤};
 ghost use Rattle.office_core.specs.State.{is_ticket};
 ghost use Rattle.office_core.specs.declared.command.Command.TheVariants as command;
 ghost use Rattle.refinement.specs.CommandSteps.{Performs};
 
+use crate::known_numbers::known_number;
 use catalogue_store::Places;
 use desk_store::{is_registered, renew};
 use isad_core::Day;
@@ -19,11 +20,11 @@ fn set_last_day<P: Places, S: Alter>(
     ticket: u64,
     until: Day,
 ) -> Result<Result<Done, Refusal>, StoreFault>
-    requires small { ticket < 2 ^ 63 }
     ensures { Performs P.represents P.version S.Store (λ s. is_ticket s ticket ≡ true) (command.Renew ticket until)
         tables.old tables.new result }
 {
-    renew(tables, ticket, until)?;
+    let number = known_number(ticket)?;
+    renew(tables, number, until)?;
     Ok(Ok(Done::Renew { ticket }))
 }
 

@@ -1,13 +1,13 @@
 //! Revoking permits for closed units.
 
 ghost use Rattle.std.specs.Prelude.{◌≡◌, true};
-ghost use Rattle.isad_core.specs.Limits.{IsNumber};
 ghost use Rattle.catalogue_core.specs.UnitLookup.{has_unit};
 ghost use Rattle.office_core.specs.State.{is_ticket};
 ghost use Rattle.office_core.specs.declared.command.Command.TheVariants as command;
 ghost use Rattle.refinement.specs.CommandSteps.{Performs};
 ghost use Rattle.desk_commands.specs.Revocation.{HasPermit};
 
+use crate::known_numbers::known_number;
 use crate::permits::last_day;
 use catalogue_store::{Places, is_unit};
 use desk_store::{is_registered, permits, revoke};
@@ -26,14 +26,14 @@ fn take_back<P: Places, S: Alter>(
     ticket: u64,
     unit: u64,
 ) -> Result<Result<Done, Refusal>, StoreFault>
-    requires small { IsNumber ticket }
-    requires known { IsNumber unit }
     ensures { Performs P.represents P.version S.Store (λ s. (today ≡ s.day) × HasPermit s ticket unit)
         (command.Revoke ticket unit)
         tables.old tables.new result }
 {
-    revoke(tables, ticket, unit)?;
-    pass_near(alloc, tables, today, unit, Done::Revoke { unit })
+    let reader = known_number(ticket)?;
+    let read = known_number(unit)?;
+    revoke(tables, reader, read)?;
+    pass_near(alloc, tables, today, read.get(), Done::Revoke { unit })
 }
 
 /// Revokes a permit that may or may not exist. The ticket and the unit exist.
@@ -44,8 +44,6 @@ fn take_back_held<P: Places, S: Alter>(
     ticket: u64,
     unit: u64,
 ) -> Result<Result<Done, Refusal>, StoreFault>
-    requires small { IsNumber ticket }
-    requires known { IsNumber unit }
     ensures { Performs P.represents P.version S.Store
         (λ s. (today ≡ s.day) × (is_ticket s ticket ≡ true) × (has_unit s.catalogue.forest unit ≡ true))
         (command.Revoke ticket unit) tables.old tables.new result }
@@ -66,7 +64,6 @@ fn take_back_for<P: Places, S: Alter>(
     ticket: u64,
     unit: u64,
 ) -> Result<Result<Done, Refusal>, StoreFault>
-    requires small { IsNumber ticket }
     ensures { Performs P.represents P.version S.Store (λ s. (today ≡ s.day) × (is_ticket s ticket ≡ true))
         (command.Revoke ticket unit) tables.old tables.new result }
 {
@@ -78,7 +75,7 @@ fn take_back_for<P: Places, S: Alter>(
 }
 
 /// Revokes a ticket's permit for a unit. The command is refused if the ticket, the unit or the permit does not exist,
-/// or if it would close a container to the reader who has it.
+/// or if it would close a container to the reader who has it; the caller then rolls back, since the permit is gone.
 pub fn revoke_permit<P: Places, S: Alter>(
     alloc: Global,
     tables: &mut Tables<P, S>,

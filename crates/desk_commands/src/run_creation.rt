@@ -1,8 +1,8 @@
 //! Making runs, which bring containers to the desk.
 
 ghost use Rattle.std.specs.Prelude.{◌≡◌, false, map, IfOk, ⊤};
-ghost use Rattle.std.specs.List.{AllByRecursion, list_all};
-ghost use Rattle.desk_store.specs.Runs.{IsNumbered};
+ghost use Rattle.std.specs.List.{AllByRecursion};
+ghost use Rattle.isad_core.specs.Limits.{IsNumber};
 ghost use Rattle.desk_store.specs.declared.container_orders.ContainerOrder.{ContainerOrder as Taken};
 ghost use Rattle.office_core.specs.Words.{is_empty};
 ghost use Rattle.office_core.specs.declared.command.Command.TheVariants as command;
@@ -10,7 +10,7 @@ ghost use Rattle.office_tables.specs.Calls.{Answers};
 ghost use Rattle.refinement.specs.ReadingRoomLimits.{limits_of};
 ghost use Rattle.refinement.specs.CommandSteps.{Performs};
 ghost use Rattle.refinement.specs.AccessConditions.{CanBeJudged, RepresentsWhole};
-ghost use Rattle.desk_commands.specs.RunCreation.{due_of, has_numbers, taken_by};
+ghost use Rattle.desk_commands.specs.RunCreation.{due_of, taken_by};
 
 use crate::container_moves::move_all;
 use crate::emptiness::are_none;
@@ -19,7 +19,6 @@ use desk_core::{Limits, Place};
 use desk_store::{ContainerOrder, candidates, record_run};
 use isad_core::Day;
 use office_core::{Done, Refusal};
-use office_tables::value::NO_NUMBER;
 use office_tables::{StoreFault, Tables};
 use refinement::is_open_to;
 use sqlite::Alter;
@@ -42,25 +41,25 @@ fn first_open<P: Places, S: Alter>(
         if due.len() >= most as usize {
             return Ok(due);
         }
-        if is_open_to(alloc, tables, order.container, order.ticket, today)? {
+        let container = order.container.get();
+        let ticket = order.ticket.get();
+        if is_open_to(alloc, tables, container, ticket, today)? {
             due.push(order)?;
         }
     }
     Ok(due)
 }
 
-/// Whether a table can keep the numbers of these orders.
-fn are_kept(due: &[ContainerOrder]) -> bool
-    ensures { result ≡ list_all has_numbers due.now }
-{
-    due.iter().all(|o| o.container < NO_NUMBER && o.order < NO_NUMBER && o.ticket < NO_NUMBER)
-}
-
 /// The containers of these orders.
 fn containers_of(alloc: Global, due: &[ContainerOrder]) -> Result<Vec<u64>, AllocError>
-    ensures { IfOk result (λ all. all.items ≡ map (λ (o : Taken). o.container) due.now) }
+    ensures theirs { IfOk result (λ all. all.items ≡ map (λ (o : Taken). o.container) due.now) }
+    ensures numbers { IfOk result (λ all. AllByRecursion IsNumber all.items) }
 {
-    due.iter().map(|order| order.container).collect(alloc)
+    let mut all = Vec::new(alloc);
+    for order in due {
+        all.push(order.container.get())?;
+    }
+    Ok(all)
 }
 
 /// Records a run that takes these orders, and brings their containers to the desk.
@@ -70,7 +69,7 @@ fn bring<P: Places, S: Alter>(
     due: &[ContainerOrder],
     containers: &[u64],
 ) -> Result<Result<Done, Refusal>, StoreFault>
-    requires numbers { AllByRecursion IsNumbered due.now }
+    requires numbers { AllByRecursion IsNumber containers.now }
     requires theirs { containers.now ≡ map (λ (o : Taken). o.container) due.now }
     ensures { Performs P.represents P.version S.Store
         (λ s. (today ≡ s.day) × (due.now ≡ taken_by P.version s) × (is_empty due.now ≡ false)) command.Run
@@ -81,7 +80,7 @@ fn bring<P: Places, S: Alter>(
     };
     move_all(tables, containers, Place::Desk)?;
     Ok(Ok(Done::Run {
-        run,
+        run: run.get(),
         taken: due.len() as u64,
     }))
 }
@@ -97,9 +96,6 @@ fn bring_due<P: Places, S: Alter>(
         (λ s. (today ≡ s.day) × (due.now ≡ taken_by P.version s) × (is_empty due.now ≡ false)) command.Run
         tables.old tables.new result }
 {
-    if !are_kept(due) {
-        return Err(StoreFault::Schema);
-    }
     let containers = containers_of(alloc, due)?;
     bring(tables, today, due, &containers)
 }

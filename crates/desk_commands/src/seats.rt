@@ -1,8 +1,7 @@
 //! Taking and leaving seats.
 
-ghost use Rattle.std.specs.Prelude.{◌≡◌, ⊤, IfOk, IfSome, IsPermutation, map};
+ghost use Rattle.std.specs.Prelude.{◌≡◌, ⊤, IfOk, IsPermutation, map};
 ghost use Rattle.std.specs.List.Sorted.{IsNonDecreasing};
-ghost use Rattle.isad_core.specs.Limits.{IsNumber};
 ghost use Rattle.desk_store.specs.declared.taken_seats.TakenSeat.{TakenSeat as Taken};
 ghost use Rattle.office_core.specs.declared.command.Command.TheVariants as command;
 ghost use Rattle.refinement.specs.ReadingRoomLimits.{limits_of};
@@ -10,6 +9,7 @@ ghost use Rattle.refinement.specs.CommandSteps.{Performs};
 ghost use Rattle.refinement.specs.Sitters.{sitter};
 ghost use Rattle.desk_commands.specs.Seats.{MayLeave, MaySit};
 
+use crate::known_numbers::known_number;
 use catalogue_store::Places;
 use desk_core::{Limits, Reader, may_leave, may_sit};
 use desk_store::{TakenSeat, seats, set_seat, ticket_holder};
@@ -66,11 +66,11 @@ fn take<P: Places, S: Alter>(
     ticket: u64,
     seat: u32,
 ) -> Result<Result<Done, Refusal>, StoreFault>
-    requires small { IsNumber ticket }
     ensures { Performs P.represents P.version S.Store (λ s. MaySit s ticket seat) (command.TakeSeat ticket) tables.old
         tables.new result }
 {
-    set_seat(tables, seat, Some(ticket))?;
+    let number = known_number(ticket)?;
+    set_seat(tables, seat, Some(number))?;
     Ok(Ok(Done::TakeSeat { seat }))
 }
 
@@ -83,7 +83,6 @@ fn sit_down<P: Places, S: Alter>(
     ticket: u64,
     who: Option<Reader>,
 ) -> Result<Result<Done, Refusal>, StoreFault>
-    requires small { IfSome who (λ _. IsNumber ticket) }
     ensures { Performs P.represents P.version S.Store
         (λ s. (today ≡ s.day) × (limits.now ≡ limits_of s) × (who ≡ sitter s ticket))
         (command.TakeSeat ticket) tables.old tables.new result }

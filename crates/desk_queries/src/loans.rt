@@ -18,7 +18,7 @@ impl Told for ContainerOrder {
     ghost told = { loan_data };
 
     fn value(&self, alloc: Global) -> Result<Value, AllocError> {
-        json!(in alloc; {"container": self.container, "order": self.order, "ticket": self.ticket})
+        json!(in alloc; {"container": self.container.get(), "order": self.order.get(), "ticket": self.ticket.get()})
     }
 }
 

@@ -1,20 +1,14 @@
 -- With whom a container is: the ticket of the order that it is out with.
-use Rattle.std.proofs.Common.{◌≡◌, ℕ, ◌+◌, ◌<◌, ◌≤◌, List, [], ◌∷◌, ◌++◌, map, length, take, Option, None, refl, sym, ap, ◌∙◌}
-use Rattle.std.specs.Prelude.{get_or, option_map}
+use Rattle.std.proofs.Common.{◌≡◌, ℕ, ◌+◌, ◌<◌, ◌≤◌, List, [], ◌∷◌, ◌++◌, map, length, take, Option, refl, sym, ap, ◌∙◌}
+use Rattle.std.specs.Prelude.{get_or}
 use Rattle.std.specs.List.{filter_map, cons_option}
 use Rattle.std.proofs.lemmas.List.{take_more, take_all}
 use Rattle.std.proofs.lemmas.List.Elements.{filter_map-append}
 use Rattle.desk_core.specs.DeskRows.{OrderRow, HoldingRow}
-use Rattle.desk_store.specs.Holdings.{ticket_of, loan_by, issued_by}
-use Rattle.office_tables.specs.RowNumbers.{AreCounted}
+use Rattle.desk_store.specs.Holdings.{loan_by, issued_by}
 use Rattle.desk_store.specs.declared.container_orders.ContainerOrder.{ContainerOrder}
 use Rattle.desk_store.specs.declared.loans.HoldingLine.{HoldingLine}
-use Rattle.desk_store.proofs.CardCalls.{unknown}
 use Rattle.desk_store.proofs.LoanRows.{line_of}
-
--- there is no such order
-pub never_placed : (o : ℕ) (xs : List OrderRow) → AreCounted (λ (x : OrderRow). x.id) xs → length xs < o → ticket_of xs o ≡ None
-never_placed o xs counted h = ap (option_map (λ (x : OrderRow). x.ticket)) (unknown (λ (x : OrderRow). x.id) o xs counted h)
 
 -- ---- the loans of the lines, one after another
 

@@ -3,7 +3,7 @@ use Rattle.std.specs.Prelude.{◌≡◌, ℕ, suc, ℤ, cond, nat_eq, nat_lt, Li
 use Rattle.std.specs.List.{IsDistinct}
 use Rattle.isad_core.specs.declared.values.BoxKey.{BoxKey}
 use Rattle.desk_core.specs.declared.run.Candidate.{Candidate}
-use Rattle.isad_core.specs.Limits.{IsNumber, most_runs}
+use Rattle.isad_core.specs.Limits.{most_runs}
 use Rattle.desk_core.specs.DeskRows.{Desk, RunRow, RunLineRow}
 use Rattle.desk_store.specs.declared.container_orders.ContainerOrder.{ContainerOrder}
 
@@ -19,10 +19,6 @@ abbrev pub with_run : Option ℕ → ℤ → List ContainerOrder → Desk → De
 with_run None day taken d = d
 with_run (Some n) day taken d =
     record d { runs = d.runs ++ record { id = n; day = day } ∷ []; run_lines = d.run_lines ++ map (line_of n) taken }
-
--- the tables can keep the numbers of the line
-abbrev pub IsNumbered : ContainerOrder → Type 0
-IsNumbered taken = IsNumber taken.container × IsNumber taken.order × IsNumber taken.ticket
 
 abbrev pub run_with : ℕ → Desk → Option RunRow
 run_with n d = find (λ (r : RunRow). nat_eq n r.id) d.runs

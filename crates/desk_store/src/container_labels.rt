@@ -1,10 +1,9 @@
 //! Which containers there are, and what is written on them. Their table belongs to the catalogue.
 
-ghost use Rattle.std.specs.Prelude.{◌≡◌, ℕ, nat_eq, true, find, IfOk, IfSome, ⊤, is_some, option_map};
+ghost use Rattle.std.specs.Prelude.{◌≡◌, ℕ, nat_eq, find, ⊤, is_some, option_map};
 ghost use Rattle.std.specs.List.{AllByRecursion};
 ghost use Rattle.isad_core.specs.LegibleValues.{IsLegibleBox};
 ghost use Rattle.isad_core.specs.declared.values.BoxKey.{BoxKey};
-ghost use Rattle.isad_core.specs.Limits.{IsNumber};
 ghost use Rattle.office_tables.specs.Calls.{StoreAnswers};
 ghost use Rattle.office_tables.specs.Schema as schema;
 ghost use Rattle.office_tables.specs.SharedRows.{container_row};
@@ -14,9 +13,7 @@ ghost use Rattle.office_tables.specs.TableStatements.{LooksUp};
 ghost use Rattle.desk_store.specs.Storage.{RepresentsQueues, IsLegibleStorage, container_with};
 
 use isad_core::BoxKey;
-use isad_core::limits::MOST_CONTAINERS;
-use office_tables::value::number;
-use office_tables::{StoreFault, Tables, Versioned, find_one};
+use office_tables::{Number, StoreFault, Tables, Versioned, find_one};
 use sqlite::Alter;
 use std::alloc::Global;
 
@@ -24,9 +21,8 @@ use std::alloc::Global;
 fn find_box<P: Versioned, S: Alter>(
     alloc: Global,
     tables: &mut Tables<P, S>,
-    container: u64,
+    container: Number,
 ) -> Result<Option<BoxKey>, StoreFault>
-    requires small { IsNumber container }
     ensures { LooksUp S.Store (Holds schema.container container_row) tables.old tables.new result
         (AreCounted (λ b. b.0)) (AllByRecursion (λ b. IsLegibleBox b.1))
         (λ bs found. found ≡ option_map (λ (b : ℕ × BoxKey). b.1)
@@ -36,7 +32,7 @@ fn find_box<P: Versioned, S: Alter>(
         alloc,
         tables,
         "SELECT name, location, kind FROM container WHERE id = ?1 ORDER BY id",
-        &[number(container)],
+        &[container.cell()],
     )
 }
 
@@ -44,15 +40,11 @@ fn find_box<P: Versioned, S: Alter>(
 pub(crate) fn box_of<P: Versioned, S: Alter>(
     alloc: Global,
     tables: &mut Tables<P, S>,
-    container: u64,
+    container: Number,
 ) -> Result<Option<BoxKey>, StoreFault>
     ensures answers { StoreAnswers S.Store RepresentsQueues IsLegibleStorage tables.old tables.new result (λ _. ⊤)
         (λ _ storage found. found ≡ option_map (λ (b : ℕ × BoxKey). b.1) (container_with container storage)) }
-    ensures small { IfOk result (λ found. IfSome found (λ _. IsNumber container)) }
 {
-    if container > MOST_CONTAINERS {
-        return Ok(None);
-    }
     find_box(alloc, tables, container)
 }
 
@@ -60,9 +52,8 @@ pub(crate) fn box_of<P: Versioned, S: Alter>(
 fn find_container<P: Versioned, S: Alter>(
     alloc: Global,
     tables: &mut Tables<P, S>,
-    container: u64,
+    container: Number,
 ) -> Result<Option<u64>, StoreFault>
-    requires small { IsNumber container }
     ensures { LooksUp S.Store (Holds schema.container container_row) tables.old tables.new result
         (AreCounted (λ b. b.0)) (λ _. ⊤)
         (λ bs found. found ≡ option_map (λ (b : ℕ × BoxKey). b.0)
@@ -72,7 +63,7 @@ fn find_container<P: Versioned, S: Alter>(
         alloc,
         tables,
         "SELECT id FROM container WHERE id = ?1 ORDER BY id",
-        &[number(container)],
+        &[container.cell()],
     )
 }
 
@@ -80,15 +71,11 @@ fn find_container<P: Versioned, S: Alter>(
 pub(crate) fn is_known<P: Versioned, S: Alter>(
     alloc: Global,
     tables: &mut Tables<P, S>,
-    container: u64,
+    container: Number,
 ) -> Result<bool, StoreFault>
     ensures answers { StoreAnswers S.Store RepresentsQueues IsLegibleStorage tables.old tables.new result (λ _. ⊤)
         (λ _ storage known. known ≡ is_some (container_with container storage)) }
-    ensures small { IfOk result (λ known. known ≡ true → IsNumber container) }
 {
-    if container > MOST_CONTAINERS {
-        return Ok(false);
-    }
     let found = find_container(alloc, tables, container)?;
     Ok(found.is_some())
 }

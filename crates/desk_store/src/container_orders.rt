@@ -1,15 +1,15 @@
 //! Containers, each with an order for it.
 
-use office_tables::StoreFault;
 use office_tables::from_row::FromRow;
+use office_tables::{Number, StoreFault};
 use sqlite::Row;
 
 /// A container, an order for it, and the ticket that placed the order: a loan, what a run may take, or a line of a run.
 #[derive(Debug, Clone, Copy, PartialEq, Eq)]
 pub struct ContainerOrder {
-    pub container: u64,
-    pub order: u64,
-    pub ticket: u64,
+    pub container: Number,
+    pub order: Number,
+    pub ticket: Number,
 }
 
 impl FromRow for ContainerOrder {

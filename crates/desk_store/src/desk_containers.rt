@@ -12,7 +12,7 @@ ghost use Rattle.desk_store.specs.Representation.{RepresentsDeskAlone, IsLegible
 ghost use Rattle.office_tables.specs.RowNumbers.{AreByNumber};
 
 use crate::waiting_orders::is_awaited;
-use office_tables::{StoreFault, Tables, Versioned, find};
+use office_tables::{Number, StoreFault, Tables, Versioned, find};
 use sqlite::Alter;
 use std::alloc::Global;
 
@@ -21,7 +21,7 @@ use std::alloc::Global;
 fn desk_lines<P: Versioned, S: Alter>(
     alloc: Global,
     tables: &mut Tables<P, S>,
-) -> Result<Vec<u64>, StoreFault>
+) -> Result<Vec<Number>, StoreFault>
     ensures { LooksUp S.Store (Holds schema.holding holding_cells) tables.old tables.new result
         (AreByNumber (λ h. h.container)) (λ _. ⊤)
         (λ xs found. found.items ≡ map (λ (h : HoldingRow). h.container)
@@ -47,7 +47,7 @@ pub fn at_desk<P: Versioned, S: Alter>(
     let mut told = Vec::new(alloc);
     for container in &containers {
         let awaited = is_awaited(tables, *container)?;
-        told.push((*container, awaited))?;
+        told.push((container.get(), awaited))?;
     }
     Ok(told)
 }

@@ -12,36 +12,31 @@ ghost use Rattle.desk_store.specs.Representation.{RepresentsDeskAlone, IsLegible
 ghost use Rattle.office_tables.specs.RowNumbers.{AreByNumber};
 
 use desk_core::Place;
-use office_tables::value::{number, number_or_null};
-use office_tables::{StoreFault, Tables, Versioned, change};
+use office_tables::{Number, StoreFault, Tables, Versioned, cell_or_null, change};
 use sqlite::Alter;
 
 /// Deletes the row of a container, as if the container were on the shelf. The row is found by its number.
 fn clear_holding<P: Versioned, S: Alter>(
     tables: &mut Tables<P, S>,
-    container: u64,
+    container: Number,
 ) -> Result<(), StoreFault>
-    requires number { IsNumber container }
     ensures { Thins S.Store schema.holding holding_cells tables.old tables.new result (AreByNumber (λ h. h.container))
         (filter (λ h. not (nat_eq container h.container))) }
 {
     change(
         tables,
         "DELETE FROM holding WHERE container = ?1",
-        &[number(container)],
+        &[container.cell()],
     )
 }
 
 /// Inserts a row for a container that has none, with the place where the container is now.
 fn insert_holding<P: Versioned, S: Alter>(
     tables: &mut Tables<P, S>,
-    container: u64,
-    place: u64,
-    held_by: Option<u64>,
+    container: Number,
+    place: Number,
+    held_by: Option<Number>,
 ) -> Result<(), StoreFault>
-    requires number { IsNumber container }
-    requires small { IsNumber place }
-    requires known { IfSome held_by IsNumber }
     ensures { Puts S.Store schema.holding holding_cells tables.old tables.new result
         (record { container = container; place = place; held_by = held_by })
         (λ xs. list_any (λ h. nat_eq container h.container) xs ≡ false) }
@@ -49,17 +44,16 @@ fn insert_holding<P: Versioned, S: Alter>(
     change(
         tables,
         "INSERT INTO holding (container, place, held_by) VALUES (?1, ?2, ?3)",
-        &[number(container), number(place), number_or_null(held_by)],
+        &[container.cell(), place.cell(), cell_or_null(held_by)],
     )
 }
 
 /// Moves a container to a place. A container on the shelf has no row.
 pub fn set_place<P: Versioned, S: Alter>(
     tables: &mut Tables<P, S>,
-    container: u64,
+    container: Number,
     place: Place,
 ) -> Result<(), StoreFault>
-    requires number { IsNumber container }
     requires known { IfSome (by_order place) IsNumber }
     ensures updates { StoreUpdates S.Store RepresentsDeskAlone IsLegible tables.old tables.new result (λ _. ⊤)
         (with_place container place) (schema.holding.tree ∷ []) }
@@ -67,7 +61,7 @@ pub fn set_place<P: Versioned, S: Alter>(
     clear_holding(tables, container)?;
     match place {
         Place::Shelf => Ok(()),
-        Place::Desk => insert_holding(tables, container, 1, None),
-        Place::Out(order) => insert_holding(tables, container, 2, Some(order)),
+        Place::Desk => insert_holding(tables, container, Number::from(1), None),
+        Place::Out(order) => insert_holding(tables, container, Number::from(2), Number::of(order)),
     }
 }

@@ -1,7 +1,6 @@
 //! Containers that are with readers.
 
 ghost use Rattle.std.specs.Prelude.{◌≡◌, map, ⊤};
-ghost use Rattle.isad_core.specs.Limits.{IsNumber};
 ghost use Rattle.desk_core.specs.DeskRows.{HoldingRow};
 ghost use Rattle.office_tables.specs.Calls.{StoreAnswers};
 ghost use Rattle.office_tables.specs.Schema as schema;
@@ -14,17 +13,16 @@ ghost use Rattle.office_tables.specs.RowNumbers.{AreByNumber, AreCounted};
 
 use crate::container_orders::ContainerOrder;
 use office_tables::from_row::FromRow;
-use office_tables::value::{NO_NUMBER, number};
-use office_tables::{StoreFault, Tables, Versioned, find, find_one};
+use office_tables::{Number, StoreFault, Tables, Versioned, find, find_one};
 use sqlite::{Alter, Row};
 use std::alloc::Global;
 
 /// A container that is not on the shelf, as its row shows it.
 #[derive(Debug, Clone, Copy, PartialEq, Eq, Drop)]
 pub(crate) struct HoldingLine {
-    pub container: u64,
+    pub container: Number,
     /// The order that it is out with.
-    pub held_by: Option<u64>,
+    pub held_by: Option<Number>,
 }
 
 impl FromRow for HoldingLine {
@@ -67,9 +65,8 @@ pub(crate) fn holding_lines<P: Versioned, S: Alter>(
 fn find_ticket<P: Versioned, S: Alter>(
     alloc: Global,
     tables: &mut Tables<P, S>,
-    order: u64,
-) -> Result<Option<u64>, StoreFault>
-    requires small { IsNumber order }
+    order: Number,
+) -> Result<Option<Number>, StoreFault>
     ensures { LooksUp S.Store (Holds schema.orders order_cells) tables.old tables.new result
         (AreCounted (λ o. o.id)) (λ _. ⊤) (λ xs found. found ≡ ticket_of xs order) }
 {
@@ -77,7 +74,7 @@ fn find_ticket<P: Versioned, S: Alter>(
         alloc,
         tables,
         "SELECT ticket FROM orders WHERE id = ?1 ORDER BY id",
-        &[number(order)],
+        &[order.cell()],
     )
 }
 
@@ -85,14 +82,11 @@ fn find_ticket<P: Versioned, S: Alter>(
 fn holder_of<P: Versioned, S: Alter>(
     alloc: Global,
     tables: &mut Tables<P, S>,
-    order: u64,
-) -> Result<Option<u64>, StoreFault>
+    order: Number,
+) -> Result<Option<Number>, StoreFault>
     ensures answers { StoreAnswers S.Store RepresentsDeskAlone IsLegible tables.old tables.new result (λ _. ⊤)
         (λ _ d ticket. ticket ≡ ticket_of d.orders order) }
 {
-    if order >= NO_NUMBER {
-        return Ok(None);
-    }
     find_ticket(alloc, tables, order)
 }
 

@@ -1,10 +1,9 @@
 //! Placing orders and changing their states.
 
-ghost use Rattle.std.specs.Prelude.{◌≡◌, ◌≤◌, nat_eq, false, [], ◌∷◌, OnOk, ⊤};
+ghost use Rattle.std.specs.Prelude.{◌≡◌, nat_eq, false, [], ◌∷◌, OnOk, ⊤};
 ghost use Rattle.std.specs.List.{list_any};
 ghost use Rattle.sqlite.specs.Held.{state};
 ghost use Rattle.sqlite.specs.State.{HasCleanDisk};
-ghost use Rattle.isad_core.specs.Limits.{IsNumber};
 ghost use Rattle.desk_core.specs.DeskRows.{with_state};
 ghost use Rattle.office_tables.specs.Calls.{StoreUpdates};
 ghost use Rattle.office_tables.specs.Schema as schema;
@@ -17,21 +16,18 @@ ghost use Rattle.office_tables.specs.RowNumbers.{AreCounted};
 
 use crate::orders::OrderState;
 use isad_core::Day;
-use office_tables::value::{day, number};
-use office_tables::{StoreFault, Tables, Versioned, change};
+use office_tables::value::day;
+use office_tables::{Number, StoreFault, Tables, Versioned, change};
 use sqlite::Alter;
 
 /// Inserts an order under a number that was not given yet. The order waits.
 fn insert_order<P: Versioned, S: Alter>(
     tables: &mut Tables<P, S>,
-    order: u64,
-    ticket: u64,
-    container: u64,
+    order: Number,
+    ticket: Number,
+    container: Number,
     on: Day,
 ) -> Result<(), StoreFault>
-    requires number { IsNumber order }
-    requires small { IsNumber ticket }
-    requires known { IsNumber container }
     ensures { Puts S.Store schema.orders order_cells tables.old tables.new result
         (record { id = order; ticket = ticket; container = container; day = on; state = 1 })
         (λ xs. list_any (λ o. nat_eq order o.id) xs ≡ false) }
@@ -39,7 +35,7 @@ fn insert_order<P: Versioned, S: Alter>(
     change(
         tables,
         "INSERT INTO orders (id, ticket, container, day, state) VALUES (?1, ?2, ?3, ?4, 1)",
-        &[number(order), number(ticket), number(container), day(on)],
+        &[order.cell(), ticket.cell(), container.cell(), day(on)],
     )
 }
 
@@ -47,16 +43,13 @@ fn insert_order<P: Versioned, S: Alter>(
 /// number.
 pub fn append_order<P: Versioned, S: Alter>(
     tables: &mut Tables<P, S>,
-    order: u64,
-    ticket: u64,
-    container: u64,
+    order: Number,
+    ticket: Number,
+    container: Number,
     on: Day,
 ) -> Result<(), StoreFault>
-    requires number { IsNumber order }
-    requires small { IsNumber ticket }
-    requires known { IsNumber container }
-    ensures updates { StoreUpdates S.Store RepresentsDeskAlone IsLegible tables.old tables.new result
-        (IsNextOrder order) (with_order ticket container on) (schema.orders.tree ∷ []) }
+    ensures updates { StoreUpdates S.Store RepresentsDeskAlone IsLegible tables.old tables.new result (IsNextOrder order)
+        (with_order ticket container on) (schema.orders.tree ∷ []) }
     ensures puts { HasCleanDisk (state S.Store tables.new)
         → OnOk result (PutsRow schema.orders.tree
         (order_cells (record { id = order; ticket = ticket; container = container; day = on; state = 1 }))
@@ -66,43 +59,39 @@ pub fn append_order<P: Versioned, S: Alter>(
 }
 
 /// The number that represents a state in the table.
-fn number_of(next: OrderState) -> u64
-    ensures number { result ≡ state_number next }
-    ensures small { result ≤ 4 }
+fn number_of(next: OrderState) -> Number
+    ensures { result ≡ state_number next }
 {
     match next {
-        OrderState::Waiting => 1,
-        OrderState::Out => 2,
-        OrderState::Done => 3,
-        OrderState::Cancelled => 4,
+        OrderState::Waiting => Number::from(1),
+        OrderState::Out => Number::from(2),
+        OrderState::Done => Number::from(3),
+        OrderState::Cancelled => Number::from(4),
     }
 }
 
 /// Sets the state of an order, which is found by its number.
 fn set_state<P: Versioned, S: Alter>(
     tables: &mut Tables<P, S>,
-    order: u64,
-    next: u64,
+    order: Number,
+    next: Number,
 ) -> Result<(), StoreFault>
-    requires number { IsNumber order }
-    requires small { IsNumber next }
     ensures { Changes S.Store schema.orders order_cells tables.old tables.new result (AreCounted (λ o. o.id))
         (with_state order next) }
 {
     change(
         tables,
         "UPDATE orders SET state = ?1 WHERE id = ?2",
-        &[number(next), number(order)],
+        &[next.cell(), order.cell()],
     )
 }
 
 /// Sets the state of an order: any state is accepted, usually out, done or cancelled.
 pub fn end_order<P: Versioned, S: Alter>(
     tables: &mut Tables<P, S>,
-    order: u64,
+    order: Number,
     next: OrderState,
 ) -> Result<(), StoreFault>
-    requires number { IsNumber order }
     ensures updates { StoreUpdates S.Store RepresentsDeskAlone IsLegible tables.old tables.new result (λ _. ⊤)
         (with_order_state order next) (schema.orders.tree ∷ []) }
 {

@@ -1,10 +1,9 @@
 //! Orders, from when they are placed to when they end.
 
-ghost use Rattle.std.specs.Prelude.{◌≡◌, ◌≤◌, nat_eq, find, option_map, IfOk, IfSome, ◌≢◌, IfErr};
+ghost use Rattle.std.specs.Prelude.{◌≡◌, ◌≤◌, nat_eq, find, option_map, IfOk, ◌≢◌, IfErr};
 ghost use Rattle.std.specs.Prelude.{IsOk, ⊤};
 ghost use Rattle.std.specs.List.{AllByRecursion};
 ghost use Rattle.sqlite.specs.Held.{state};
-ghost use Rattle.isad_core.specs.Limits.{IsNumber};
 ghost use Rattle.desk_core.specs.DeskRows.{OrderRow};
 ghost use Rattle.office_tables.specs.Calls.{StoreAnswers};
 ghost use Rattle.office_tables.specs.Schema as schema;
@@ -16,10 +15,8 @@ ghost use Rattle.desk_store.specs.Representation.{IsLegibleOrder, RepresentsDesk
 ghost use Rattle.office_tables.specs.RowNumbers.{AreCounted};
 
 use isad_core::Day;
-use isad_core::limits::MOST_ORDERS;
 use office_tables::from_row::FromRow;
-use office_tables::value::number;
-use office_tables::{StoreFault, Tables, Versioned, find_one};
+use office_tables::{Number, StoreFault, Tables, Versioned, find_one};
 use sqlite::{Alter, Row};
 use std::alloc::Global;
 
@@ -86,9 +83,8 @@ impl FromRow for OrderEntry {
 fn find_order<P: Versioned, S: Alter>(
     alloc: Global,
     tables: &mut Tables<P, S>,
-    order: u64,
+    order: Number,
 ) -> Result<Option<OrderEntry>, StoreFault>
-    requires small { IsNumber order }
     ensures { LooksUp S.Store (Holds schema.orders order_cells) tables.old tables.new result
         (AreCounted (λ o. o.id)) (AllByRecursion IsLegibleOrder)
         (λ xs found. found ≡ option_map (λ (o : OrderRow).
@@ -99,7 +95,7 @@ fn find_order<P: Versioned, S: Alter>(
         alloc,
         tables,
         "SELECT ticket, container, day, state FROM orders WHERE id = ?1 ORDER BY id",
-        &[number(order)],
+        &[order.cell()],
     )
 }
 
@@ -130,6 +126,22 @@ impl OrderEntry {
 }
 
 /// The order with this number, or none if no such order was placed.
+fn find_placed<P: Versioned, S: Alter>(
+    alloc: Global,
+    tables: &mut Tables<P, S>,
+    order: Number,
+) -> Result<Option<PlacedOrder>, StoreFault>
+    ensures answers { StoreAnswers S.Store RepresentsDeskAlone IsLegible tables.old tables.new result (λ _. ⊤)
+        (λ _ d found. IsThere (order_with order d) found) }
+{
+    let Some(entry) = find_order(alloc, tables, order)? else {
+        return Ok(None);
+    };
+    let placed = entry.decode()?;
+    Ok(Some(placed))
+}
+
+/// The order with this number, or none if no such order was placed, whatever the number.
 pub fn order<P: Versioned, S: Alter>(
     alloc: Global,
     tables: &mut Tables<P, S>,
@@ -137,14 +149,9 @@ pub fn order<P: Versioned, S: Alter>(
 ) -> Result<Option<PlacedOrder>, StoreFault>
     ensures answers { StoreAnswers S.Store RepresentsDeskAlone IsLegible tables.old tables.new result (λ _. ⊤)
         (λ _ d found. IsThere (order_with order d) found) }
-    ensures small { IfOk result (λ found. IfSome found (λ _. IsNumber order)) }
 {
-    if order > MOST_ORDERS {
-        return Ok(None);
+    match Number::of(order) {
+        Some(number) => find_placed(alloc, tables, number),
+        None => Ok(None),
     }
-    let Some(entry) = find_order(alloc, tables, order)? else {
-        return Ok(None);
-    };
-    let placed = entry.decode()?;
-    Ok(Some(placed))
 }

@@ -1,7 +1,6 @@
 //! The heads of queues: where containers are, and who is the first that waits.
 
-ghost use Rattle.std.specs.Prelude.{IfOk, IfSome, ⊤};
-ghost use Rattle.isad_core.specs.Limits.{IsNumber};
+ghost use Rattle.std.specs.Prelude.{⊤};
 ghost use Rattle.office_tables.specs.Calls.{StoreAnswers};
 ghost use Rattle.desk_store.specs.Storage.{RepresentsQueues, IsLegibleStorage, container_with, IsHeaded};
 
@@ -10,7 +9,7 @@ use crate::orders::WaitingOrder;
 use crate::queues::place_of;
 use crate::waiting_orders::first_for;
 use desk_core::Place;
-use office_tables::{StoreFault, Tables, Versioned};
+use office_tables::{Number, StoreFault, Tables, Versioned};
 use sqlite::Alter;
 use std::alloc::Global;
 
@@ -24,14 +23,13 @@ pub struct QueueHead {
 
 /// Where a container is, and the first order that waits for it; none if the container is not known. Neither what is
 /// written on the container nor any other order is read.
-pub fn queue_head<P: Versioned, S: Alter>(
+fn find_head<P: Versioned, S: Alter>(
     alloc: Global,
     tables: &mut Tables<P, S>,
-    container: u64,
+    container: Number,
 ) -> Result<Option<QueueHead>, StoreFault>
     ensures answers { StoreAnswers S.Store RepresentsQueues IsLegibleStorage tables.old tables.new result (λ _. ⊤)
         (λ _ storage found. IsHeaded container storage (container_with container storage) found) }
-    ensures small { IfOk result (λ found. IfSome found (λ _. IsNumber container)) }
 {
     let known = is_known(alloc, tables, container)?;
     if !known {
@@ -40,4 +38,19 @@ pub fn queue_head<P: Versioned, S: Alter>(
     let place = place_of(alloc, tables, container)?;
     let first = first_for(alloc, tables, container)?;
     Ok(Some(QueueHead { place, first }))
+}
+
+/// Where a container is, and the first order that waits for it; none if the container is not known, whatever its number.
+pub fn queue_head<P: Versioned, S: Alter>(
+    alloc: Global,
+    tables: &mut Tables<P, S>,
+    container: u64,
+) -> Result<Option<QueueHead>, StoreFault>
+    ensures answers { StoreAnswers S.Store RepresentsQueues IsLegibleStorage tables.old tables.new result (λ _. ⊤)
+        (λ _ storage found. IsHeaded container storage (container_with container storage) found) }
+{
+    match Number::of(container) {
+        Some(number) => find_head(alloc, tables, number),
+        None => Ok(None),
+    }
 }

@@ -1,7 +1,6 @@
 //! Queues of containers.
 
-ghost use Rattle.std.specs.Prelude.{◌≡◌, ◌≢◌, nat_eq, find, option_map, IfOk, IfErr, IfSome, IsOk, ⊤};
-ghost use Rattle.isad_core.specs.Limits.{IsNumber};
+ghost use Rattle.std.specs.Prelude.{◌≡◌, ◌≢◌, nat_eq, find, option_map, IfOk, IfErr, IsOk, ⊤};
 ghost use Rattle.desk_core.specs.DeskRows.{HoldingRow};
 ghost use Rattle.office_tables.specs.Calls.{StoreAnswers};
 ghost use Rattle.office_tables.specs.Schema as schema;
@@ -19,8 +18,7 @@ use crate::waiting_orders::waiting_for;
 use desk_core::Place;
 use isad_core::{List, Text};
 use office_tables::from_row::FromRow;
-use office_tables::value::number;
-use office_tables::{StoreFault, Tables, Versioned, find_one};
+use office_tables::{Number, StoreFault, Tables, Versioned, find_one};
 use sqlite::{Alter, Row};
 use std::alloc::Global;
 
@@ -81,9 +79,8 @@ impl PlaceEntry {
 fn find_place<P: Versioned, S: Alter>(
     alloc: Global,
     tables: &mut Tables<P, S>,
-    container: u64,
+    container: Number,
 ) -> Result<Option<PlaceEntry>, StoreFault>
-    requires small { IsNumber container }
     ensures { LooksUp S.Store (Holds schema.holding holding_cells) tables.old tables.new result
         (AreByNumber (λ h. h.container)) (λ _. ⊤)
         (λ xs found. found ≡ option_map (λ (h : HoldingRow). record { place = h.place; held_by = h.held_by })
@@ -93,7 +90,7 @@ fn find_place<P: Versioned, S: Alter>(
         alloc,
         tables,
         "SELECT place, held_by FROM holding WHERE container = ?1 ORDER BY container",
-        &[number(container)],
+        &[container.cell()],
     )
 }
 
@@ -101,9 +98,8 @@ fn find_place<P: Versioned, S: Alter>(
 pub(crate) fn place_of<P: Versioned, S: Alter>(
     alloc: Global,
     tables: &mut Tables<P, S>,
-    container: u64,
+    container: Number,
 ) -> Result<Place, StoreFault>
-    requires small { IsNumber container }
     ensures answers { StoreAnswers S.Store RepresentsDeskAlone IsLegible tables.old tables.new result (λ _. ⊤)
         (λ _ d place. IsAt (holding_of container d) place) }
 {
@@ -114,14 +110,13 @@ pub(crate) fn place_of<P: Versioned, S: Alter>(
 }
 
 /// The name of a container, where it is, and the orders that wait for it; none if the container is not known.
-pub fn queue<P: Versioned, S: Alter>(
+fn find_queue<P: Versioned, S: Alter>(
     alloc: Global,
     tables: &mut Tables<P, S>,
-    container: u64,
+    container: Number,
 ) -> Result<Option<ContainerQueue>, StoreFault>
     ensures answers { StoreAnswers S.Store RepresentsQueues IsLegibleStorage tables.old tables.new result (λ _. ⊤)
         (λ _ storage found. IsQueued container storage (container_with container storage) found) }
-    ensures small { IfOk result (λ found. IfSome found (λ _. IsNumber container)) }
 {
     let Some(known) = box_of(alloc, tables, container)? else {
         return Ok(None);
@@ -133,4 +128,20 @@ pub fn queue<P: Versioned, S: Alter>(
         place,
         waiting: List(waiting),
     }))
+}
+
+/// The name of a container, where it is, and the orders that wait for it; none if the container is not known, whatever
+/// its number.
+pub fn queue<P: Versioned, S: Alter>(
+    alloc: Global,
+    tables: &mut Tables<P, S>,
+    container: u64,
+) -> Result<Option<ContainerQueue>, StoreFault>
+    ensures answers { StoreAnswers S.Store RepresentsQueues IsLegibleStorage tables.old tables.new result (λ _. ⊤)
+        (λ _ storage found. IsQueued container storage (container_with container storage) found) }
+{
+    match Number::of(container) {
+        Some(number) => find_queue(alloc, tables, number),
+        None => Ok(None),
+    }
 }

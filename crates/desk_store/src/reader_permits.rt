@@ -4,7 +4,6 @@ ghost use Rattle.std.specs.Prelude.{◌≡◌, false, List, [], ◌∷◌, OnOk,
 ghost use Rattle.std.specs.List.{list_any};
 ghost use Rattle.sqlite.specs.Held.{state};
 ghost use Rattle.sqlite.specs.State.{HasCleanDisk};
-ghost use Rattle.isad_core.specs.Limits.{IsNumber};
 ghost use Rattle.desk_core.specs.DeskRows.{PermitRow};
 ghost use Rattle.office_tables.specs.Calls.{StoreUpdates, StoreAnswers};
 ghost use Rattle.office_tables.specs.Order.{IsOrdered};
@@ -16,11 +15,10 @@ ghost use Rattle.office_tables.specs.Permits.{permit_cells};
 ghost use Rattle.desk_store.specs.Representation.{RepresentsDeskAlone, IsLegible};
 ghost use Rattle.office_tables.specs.RowNumbers.{HasNumbered};
 
-use crate::readers::MOST_TICKETS;
 use isad_core::Day;
 use office_tables::from_row::FromRow;
-use office_tables::value::{day, number};
-use office_tables::{StoreFault, Tables, Versioned, change, find};
+use office_tables::value::day;
+use office_tables::{Number, StoreFault, Tables, Versioned, change, find};
 use sqlite::{Alter, Row};
 use std::alloc::Global;
 
@@ -56,9 +54,8 @@ impl FromRow for Permit {
 fn permits_with<P: Versioned, S: Alter>(
     alloc: Global,
     tables: &mut Tables<P, S>,
-    ticket: u64,
+    ticket: Number,
 ) -> Result<Vec<Permit>, StoreFault>
-    requires small { IsNumber ticket }
     ensures answers { StoreAnswers S.Store RepresentsDeskAlone IsLegible tables.old tables.new result (λ _. ⊤)
         (λ _ d all. IsOrdered by_unit (permits_of ticket d) all.items) }
 {
@@ -66,7 +63,7 @@ fn permits_with<P: Versioned, S: Alter>(
         alloc,
         tables,
         "SELECT unit, until FROM permit WHERE ticket = ?1 ORDER BY ticket, unit",
-        &[number(ticket)],
+        &[ticket.cell()],
     )
 }
 
@@ -79,21 +76,19 @@ pub fn permits<P: Versioned, S: Alter>(
     ensures answers { StoreAnswers S.Store RepresentsDeskAlone IsLegible tables.old tables.new result (λ _. ⊤)
         (λ _ d all. IsOrdered by_unit (permits_of ticket d) all.items) }
 {
-    if ticket > u64::from(MOST_TICKETS) {
-        return Ok(Vec::new(alloc));
+    match Number::of(ticket) {
+        Some(number) => permits_with(alloc, tables, number),
+        None => Ok(Vec::new(alloc)),
     }
-    permits_with(alloc, tables, ticket)
 }
 
 /// Adds a permit for a unit for which the ticket has none.
 fn insert_permit<P: Versioned, S: Alter>(
     tables: &mut Tables<P, S>,
-    ticket: u64,
-    unit: u64,
+    ticket: Number,
+    unit: Number,
     until: Day,
 ) -> Result<(), StoreFault>
-    requires small { IsNumber ticket }
-    requires known { IsNumber unit }
     ensures { PutsNumbered S.Store schema.permit permit_cells tables.old tables.new result
         (record { ticket = ticket; unit = unit; until = until })
         (λ s ps. (list_any (is_permit ticket unit) ps ≡ false) × HasUnitRow unit s.now.trees) }
@@ -101,25 +96,23 @@ fn insert_permit<P: Versioned, S: Alter>(
     change(
         tables,
         "INSERT INTO permit (ticket, unit, until) VALUES (?1, ?2, ?3)",
-        &[number(ticket), number(unit), day(until)],
+        &[ticket.cell(), unit.cell(), day(until)],
     )
 }
 
 /// Deletes a ticket's permit for a unit, if it has one. The permit is found by its primary key.
 fn clear_permit<P: Versioned, S: Alter>(
     tables: &mut Tables<P, S>,
-    ticket: u64,
-    unit: u64,
+    ticket: Number,
+    unit: Number,
 ) -> Result<(), StoreFault>
-    requires small { IsNumber ticket }
-    requires known { IsNumber unit }
     ensures { ThinsNumbered S.Store schema.permit permit_cells tables.old tables.new result
         (without_permit ticket unit) }
 {
     change(
         tables,
         "DELETE FROM permit WHERE ticket = ?1 AND unit = ?2",
-        &[number(ticket), number(unit)],
+        &[ticket.cell(), unit.cell()],
     )
 }
 
@@ -127,12 +120,10 @@ fn clear_permit<P: Versioned, S: Alter>(
 /// is touched, whatever the ticket and the unit. The table refuses a unit that is not catalogued.
 pub fn grant<P: Versioned, S: Alter>(
     tables: &mut Tables<P, S>,
-    ticket: u64,
-    unit: u64,
+    ticket: Number,
+    unit: Number,
     until: Day,
 ) -> Result<(), StoreFault>
-    requires small { IsNumber ticket }
-    requires known { IsNumber unit }
     ensures updates { StoreUpdates S.Store RepresentsDeskAlone IsLegible tables.old tables.new result
         (MayHave ticket unit (state S.Store tables.old).now.trees) (with_permit ticket unit until)
         (schema.permit.tree ∷ []) }
@@ -148,11 +139,9 @@ pub fn grant<P: Versioned, S: Alter>(
 /// Revokes a ticket's permit for a unit, if it has one.
 pub fn revoke<P: Versioned, S: Alter>(
     tables: &mut Tables<P, S>,
-    ticket: u64,
-    unit: u64,
+    ticket: Number,
+    unit: Number,
 ) -> Result<(), StoreFault>
-    requires small { IsNumber ticket }
-    requires known { IsNumber unit }
     ensures updates { StoreUpdates S.Store RepresentsDeskAlone IsLegible tables.old tables.new result (λ _. ⊤)
         (revoked ticket unit) (schema.permit.tree ∷ []) }
 {

@@ -1,11 +1,11 @@
 //! What the desk knows about a ticket.
 
 ghost use Rattle.std.specs.Prelude.{◌≡◌, ◌<◌, ◌≤◌, ◌^◌, ◌&&◌, nat_eq, length, map, filter};
-ghost use Rattle.std.specs.Prelude.{option_map, IfOk, IfSome, ⊤};
+ghost use Rattle.std.specs.Prelude.{option_map, IfOk, ⊤};
 ghost use Rattle.std.specs.List.{count_by};
 ghost use Rattle.std.specs.Ordering.{int_eq};
 ghost use Rattle.sqlite.specs.Held.{state};
-ghost use Rattle.isad_core.specs.Limits.{IsNumber, most_orders};
+ghost use Rattle.isad_core.specs.Limits.{most_orders};
 ghost use Rattle.desk_core.specs.DeskRows.{OrderRow};
 ghost use Rattle.office_tables.specs.Calls.{StoreAnswers};
 ghost use Rattle.office_tables.specs.Schema as schema;
@@ -16,13 +16,13 @@ ghost use Rattle.desk_store.specs.Rows.{order_cells};
 ghost use Rattle.desk_store.specs.Representation.{RepresentsDeskAlone, IsLegible};
 ghost use Rattle.office_tables.specs.RowNumbers.{AreCounted};
 
-use crate::readers::{MOST_TICKETS, NamedReader, find_reader};
+use crate::readers::{NamedReader, find_reader};
 use crate::taken_seats::{TakenSeat, find_seat};
 use desk_core::Reader;
 use isad_core::{Day, List, Text};
 use office_tables::from_row::FromRow;
-use office_tables::value::{day, number};
-use office_tables::{StoreFault, Tables, Versioned, find, find_number};
+use office_tables::value::day;
+use office_tables::{Number, StoreFault, Tables, Versioned, find, find_number};
 use sqlite::{Alter, Row};
 use std::alloc::{AllocError, Global};
 
@@ -79,9 +79,8 @@ impl FromRow for OrderLine {
 pub(crate) fn live_lines<P: Versioned, S: Alter>(
     alloc: Global,
     tables: &mut Tables<P, S>,
-    ticket: u64,
+    ticket: Number,
 ) -> Result<Vec<OrderLine>, StoreFault>
-    requires small { IsNumber ticket }
     ensures { LooksUp S.Store (Holds schema.orders order_cells) tables.old tables.new result
         (AreCounted (λ o. o.id)) (λ _. ⊤)
         (λ xs found. found.items
@@ -92,7 +91,7 @@ pub(crate) fn live_lines<P: Versioned, S: Alter>(
         alloc,
         tables,
         "SELECT id, container, state FROM orders WHERE ticket = ?1 AND state < 3 ORDER BY id",
-        &[number(ticket)],
+        &[ticket.cell()],
     )
 }
 
@@ -116,10 +115,9 @@ pub(crate) fn last_order<P: Versioned, S: Alter>(
 /// of the orders by ticket and day, so orders of other days are not read.
 pub(crate) fn placed_on<P: Versioned, S: Alter>(
     tables: &mut Tables<P, S>,
-    ticket: u64,
+    ticket: Number,
     on: Day,
 ) -> Result<u32, StoreFault>
-    requires small { IsNumber ticket }
     ensures { LooksUp S.Store (Holds schema.orders order_cells) tables.old tables.new result
         (λ xs. length xs ≤ most_orders) (λ xs. length xs ≤ most_orders)
         (λ xs n. n ≡ count_by (λ (o : OrderRow). nat_eq ticket o.ticket && int_eq o.day on) xs) }
@@ -127,7 +125,7 @@ pub(crate) fn placed_on<P: Versioned, S: Alter>(
     find_number(
         tables,
         "SELECT count(*) FROM orders WHERE ticket = ?1 AND day = ?2",
-        &[number(ticket), day(on)],
+        &[ticket.cell(), day(on)],
     )
 }
 
@@ -177,10 +175,9 @@ pub(crate) fn seat_in(taken: Option<TakenSeat>) -> Option<u32>
 fn orders_of<P: Versioned, S: Alter>(
     alloc: Global,
     tables: &mut Tables<P, S>,
-    ticket: u64,
+    ticket: Number,
     today: Day,
 ) -> Result<TicketOrders, StoreFault>
-    requires small { IsNumber ticket }
     ensures answers { StoreAnswers S.Store RepresentsDeskAlone IsLegible tables.old tables.new result (λ _. ⊤)
         (λ _ d told.
         told ≡ record {
@@ -204,19 +201,15 @@ fn orders_of<P: Versioned, S: Alter>(
 }
 
 /// A reader's card on a day, or none if the ticket was not given.
-pub fn reader<P: Versioned, S: Alter>(
+fn find_card<P: Versioned, S: Alter>(
     alloc: Global,
     tables: &mut Tables<P, S>,
-    ticket: u64,
+    ticket: Number,
     today: Day,
 ) -> Result<Option<ReaderCard>, StoreFault>
     ensures answers { StoreAnswers S.Store RepresentsDeskAlone IsLegible tables.old tables.new result (λ _. ⊤)
         (λ _ d card. card ≡ card_of ticket today d) }
-    ensures small { IfOk result (λ card. IfSome card (λ _. IsNumber ticket)) }
 {
-    if ticket > u64::from(MOST_TICKETS) {
-        return Ok(None);
-    }
     let Some(NamedReader { name, until }) = find_reader(alloc, tables, ticket)? else {
         return Ok(None);
     };
@@ -224,7 +217,7 @@ pub fn reader<P: Versioned, S: Alter>(
     let told = orders_of(alloc, tables, ticket, today)?;
     Ok(Some(ReaderCard {
         reader: Reader {
-            ticket,
+            ticket: ticket.get(),
             until,
             seat: seat_in(taken),
             held: told.held,
@@ -234,4 +227,20 @@ pub fn reader<P: Versioned, S: Alter>(
         placed: told.placed,
         orders: told.orders,
     }))
+}
+
+/// A reader's card on a day, or none if the ticket was not given, whatever its number.
+pub fn reader<P: Versioned, S: Alter>(
+    alloc: Global,
+    tables: &mut Tables<P, S>,
+    ticket: u64,
+    today: Day,
+) -> Result<Option<ReaderCard>, StoreFault>
+    ensures answers { StoreAnswers S.Store RepresentsDeskAlone IsLegible tables.old tables.new result (λ _. ⊤)
+        (λ _ d card. card ≡ card_of ticket today d) }
+{
+    match Number::of(ticket) {
+        Some(number) => find_card(alloc, tables, number, today),
+        None => Ok(None),
+    }
 }

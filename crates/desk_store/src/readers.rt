@@ -1,11 +1,11 @@
 //! Tickets and their readers.
 
 ghost use Rattle.std.specs.Prelude.{◌≡◌, ◌<◌, ◌≤◌, nat_eq, true, false, [], ◌∷◌, find};
-ghost use Rattle.std.specs.Prelude.{length, option_map, IfOk, IfSome, is_some, ⊤};
+ghost use Rattle.std.specs.Prelude.{length, option_map, IfOk, is_some, ⊤};
 ghost use Rattle.std.specs.List.{AllByRecursion, list_any};
 ghost use Rattle.sqlite.specs.Held.{state};
 ghost use Rattle.sqlite.specs.State.{HasCleanDisk};
-ghost use Rattle.isad_core.specs.Limits.{IsNumber, most_tickets};
+ghost use Rattle.isad_core.specs.Limits.{most_tickets};
 ghost use Rattle.desk_core.specs.DeskRows.{Desk, ReaderRow};
 ghost use Rattle.office_tables.specs.Query.{Reads};
 ghost use Rattle.office_tables.specs.Calls.{StoreUpdates, StoreAnswers};
@@ -20,13 +20,13 @@ ghost use Rattle.office_tables.specs.RowNumbers.{AreCounted};
 
 use isad_core::{Day, Text, limits};
 use office_tables::from_row::FromRow;
-use office_tables::value::{day, number, words};
-use office_tables::{StoreFault, Tables, Versioned, change, find_number, find_one};
+use office_tables::value::{day, words};
+use office_tables::{Number, StoreFault, Tables, Versioned, change, find_number, find_one};
 use sqlite::{Alter, Row};
 use std::alloc::Global;
 
 /// The greatest number of tickets that may ever be given.
-pub(crate) const MOST_TICKETS: u32 = limits::MOST_TICKETS as u32;
+const MOST_TICKETS: u32 = limits::MOST_TICKETS as u32;
 
 /// The row of a reader, without the ticket.
 #[derive(Debug, Drop)]
@@ -61,9 +61,8 @@ impl FromRow for NamedReader {
 pub(crate) fn find_reader<P: Versioned, S: Alter>(
     alloc: Global,
     tables: &mut Tables<P, S>,
-    ticket: u64,
+    ticket: Number,
 ) -> Result<Option<NamedReader>, StoreFault>
-    requires small { IsNumber ticket }
     ensures { LooksUp S.Store (Holds schema.reader reader_cells) tables.old tables.new result
         (AreCounted (λ r. r.ticket)) (AllByRecursion IsLegibleReader)
         (λ xs found. found ≡ option_map (λ (r : ReaderRow). record { name = r.name; until = r.until })
@@ -73,7 +72,7 @@ pub(crate) fn find_reader<P: Versioned, S: Alter>(
         alloc,
         tables,
         "SELECT name, until FROM reader WHERE ticket = ?1 ORDER BY ticket",
-        &[number(ticket)],
+        &[ticket.cell()],
     )
 }
 
@@ -93,11 +92,10 @@ fn last_ticket<P: Versioned, S: Alter>(tables: &mut Tables<P, S>) -> Result<u32,
 /// Inserts a reader under a ticket that was not given yet.
 fn insert_reader<P: Versioned, S: Alter>(
     tables: &mut Tables<P, S>,
-    ticket: u64,
+    ticket: Number,
     name: &Text,
     until: Day,
 ) -> Result<(), StoreFault>
-    requires small { IsNumber ticket }
     ensures { Puts S.Store schema.reader reader_cells tables.old tables.new result
         (record { ticket = ticket; name = name.now; until = until })
         (λ xs. list_any (λ r. nat_eq ticket r.ticket) xs ≡ false) }
@@ -105,34 +103,32 @@ fn insert_reader<P: Versioned, S: Alter>(
     change(
         tables,
         "INSERT INTO reader (ticket, name, until) VALUES (?1, ?2, ?3)",
-        &[number(ticket), words(name), day(until)],
+        &[ticket.cell(), words(name), day(until)],
     )
 }
 
 /// Sets the last day of a ticket, which is found by its number.
 fn set_last_day<P: Versioned, S: Alter>(
     tables: &mut Tables<P, S>,
-    ticket: u64,
+    ticket: Number,
     until: Day,
 ) -> Result<(), StoreFault>
-    requires small { IsNumber ticket }
     ensures { Changes S.Store schema.reader reader_cells tables.old tables.new result (AreCounted (λ r. r.ticket))
         (renewed ticket until) }
 {
     change(
         tables,
         "UPDATE reader SET until = ?2 WHERE ticket = ?1",
-        &[number(ticket), day(until)],
+        &[ticket.cell(), day(until)],
     )
 }
 
 /// Sets the last day of a ticket. It may be earlier or later than before.
 pub fn renew<P: Versioned, S: Alter>(
     tables: &mut Tables<P, S>,
-    ticket: u64,
+    ticket: Number,
     until: Day,
 ) -> Result<(), StoreFault>
-    requires small { IsNumber ticket }
     ensures updates { StoreUpdates S.Store RepresentsDeskAlone IsLegible tables.old tables.new result (λ _. ⊤)
         (with_last_day ticket until) (schema.reader.tree ∷ []) }
 {
@@ -140,17 +136,18 @@ pub fn renew<P: Versioned, S: Alter>(
 }
 
 /// The next ticket, or none if no ticket is left.
-fn next_number<P: Versioned, S: Alter>(tables: &mut Tables<P, S>) -> Result<Option<u64>, StoreFault>
+fn next_number<P: Versioned, S: Alter>(
+    tables: &mut Tables<P, S>,
+) -> Result<Option<Number>, StoreFault>
     ensures reads { Reads (state S.Store tables.old) (state S.Store tables.new) result }
     ensures number { HasCleanDisk (state S.Store tables.new) → (d : Desk)
         → RepresentsDesk (state S.Store tables.old).now.trees d → IfOk result (λ ticket. ticket ≡ next_ticket d) }
-    ensures small { IfOk result (λ ticket. IfSome ticket IsNumber) }
     ensures faults { (d : Desk) → RepresentsDesk (state S.Store tables.old).now.trees d
         → FaultsHaveCause (state S.Store tables.old) (state S.Store tables.new) result }
 {
     let last = last_ticket(tables)?;
     if last < MOST_TICKETS {
-        Ok(Some(u64::from(last) + 1))
+        Ok(Some(Number::from(last + 1)))
     } else {
         Ok(None)
     }
@@ -161,7 +158,7 @@ pub fn add_reader<P: Versioned, S: Alter>(
     tables: &mut Tables<P, S>,
     name: &Text,
     until: Day,
-) -> Result<Option<u64>, StoreFault>
+) -> Result<Option<Number>, StoreFault>
     ensures number { HasCleanDisk (state S.Store tables.new) → (d : Desk)
         → RepresentsDesk (state S.Store tables.old).now.trees d → IfOk result (λ ticket. ticket ≡ next_ticket d) }
     ensures updates { StoreUpdates S.Store RepresentsDeskAlone IsLegible tables.old tables.new result (λ _. ⊤)
@@ -175,6 +172,19 @@ pub fn add_reader<P: Versioned, S: Alter>(
 }
 
 /// Whether a ticket was given.
+fn is_given<P: Versioned, S: Alter>(
+    alloc: Global,
+    tables: &mut Tables<P, S>,
+    ticket: Number,
+) -> Result<bool, StoreFault>
+    ensures answers { StoreAnswers S.Store RepresentsDeskAlone IsLegible tables.old tables.new result (λ _. ⊤)
+        (λ _ d known. known ≡ is_some (reader_with ticket d)) }
+{
+    let found = find_reader(alloc, tables, ticket)?;
+    Ok(found.is_some())
+}
+
+/// Whether a ticket was given, whatever its number.
 pub fn is_registered<P: Versioned, S: Alter>(
     alloc: Global,
     tables: &mut Tables<P, S>,
@@ -182,11 +192,9 @@ pub fn is_registered<P: Versioned, S: Alter>(
 ) -> Result<bool, StoreFault>
     ensures answers { StoreAnswers S.Store RepresentsDeskAlone IsLegible tables.old tables.new result (λ _. ⊤)
         (λ _ d known. known ≡ is_some (reader_with ticket d)) }
-    ensures small { IfOk result (λ known. known ≡ true → IsNumber ticket) }
 {
-    if ticket > u64::from(MOST_TICKETS) {
-        return Ok(false);
+    match Number::of(ticket) {
+        Some(number) => is_given(alloc, tables, number),
+        None => Ok(false),
     }
-    let found = find_reader(alloc, tables, ticket)?;
-    Ok(found.is_some())
 }

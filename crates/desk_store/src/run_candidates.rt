@@ -59,7 +59,7 @@ fn containers_off_shelf(alloc: Global, lines: &[HoldingLine]) -> Result<BTreeSet
 {
     let mut known = BTreeSet::new(alloc);
     for line in lines {
-        keep(&mut known, line.container)?;
+        keep(&mut known, line.container.get())?;
     }
     Ok(known)
 }
@@ -78,7 +78,7 @@ fn firsts(
     let mut known = known;
     let mut firsts = Vec::new(alloc);
     for order in orders {
-        if keep(&mut known, order.container)? {
+        if keep(&mut known, order.container.get())? {
             firsts.push(*order)?;
         }
     }

@@ -3,7 +3,6 @@
 ghost use Rattle.std.specs.Prelude.{◌≡◌, nat_eq, true, find, option_map};
 ghost use Rattle.std.specs.List.{AllByRecursion, AllZip};
 ghost use Rattle.isad_core.specs.Days.{is_day_number};
-ghost use Rattle.isad_core.specs.Limits.{IsNumber};
 ghost use Rattle.desk_core.specs.DeskRows.{RunRow};
 ghost use Rattle.office_tables.specs.Calls.{StoreAnswers};
 ghost use Rattle.office_tables.specs.Schema as schema;
@@ -17,12 +16,11 @@ ghost use Rattle.desk_store.specs.Storage.{IsToldRun, IsToldLine, IsKnownLine};
 
 use crate::container_labels::box_of;
 use crate::container_orders::ContainerOrder;
-use crate::runs::{Brought, MOST_RUNS, lines_with};
+use crate::runs::{Brought, lines_with};
 use desk_core::Candidate;
 use isad_core::{Day, List};
 use office_tables::from_row::FromRow;
-use office_tables::value::number;
-use office_tables::{StoreFault, Tables, Versioned, find_one};
+use office_tables::{Number, StoreFault, Tables, Versioned, find_one};
 use sqlite::{Alter, Row};
 use std::alloc::Global;
 
@@ -54,9 +52,8 @@ impl FromRow for RunDay {
 fn find_day<P: Versioned, S: Alter>(
     alloc: Global,
     tables: &mut Tables<P, S>,
-    run: u64,
+    run: Number,
 ) -> Result<Option<RunDay>, StoreFault>
-    requires small { IsNumber run }
     ensures { LooksUp S.Store (Holds schema.run run_cells) tables.old tables.new result
         (AreCounted (λ r. r.id)) (AllByRecursion (λ r. is_day_number r.day ≡ true))
         (λ xs found. found ≡ option_map (λ (r : RunRow). record { day = r.day }) (find (λ r. nat_eq run r.id) xs)) }
@@ -65,7 +62,7 @@ fn find_day<P: Versioned, S: Alter>(
         alloc,
         tables,
         "SELECT day FROM run WHERE id = ?1 ORDER BY id",
-        &[number(run)],
+        &[run.cell()],
     )
 }
 
@@ -82,9 +79,9 @@ fn candidate<P: Versioned, S: Alter>(
         return Err(StoreFault::Schema);
     };
     Ok(Candidate {
-        container: line.container,
-        order: line.order,
-        ticket: line.ticket,
+        container: line.container.get(),
+        order: line.order.get(),
+        ticket: line.ticket.get(),
         location: written.location,
         name: written.name,
         kind: written.kind,
@@ -111,17 +108,14 @@ fn candidates_of<P: Versioned, S: Alter>(
 
 /// What a run brought: its day, and its lines, each with what is written on its container. Returns none if
 /// there was no such run.
-pub fn run<P: Versioned, S: Alter>(
+fn find_run<P: Versioned, S: Alter>(
     alloc: Global,
     tables: &mut Tables<P, S>,
-    run: u64,
+    run: Number,
 ) -> Result<Option<Brought>, StoreFault>
     ensures answers { StoreAnswers S.Store RepresentsQueues IsLegibleStorage tables.old tables.new result (AreKnown run)
         (λ _ storage found. IsToldRun storage (run_with run storage.desk) found) }
 {
-    if run > u64::from(MOST_RUNS) {
-        return Ok(None);
-    }
     let Some(made) = find_day(alloc, tables, run)? else {
         return Ok(None);
     };
@@ -131,4 +125,19 @@ pub fn run<P: Versioned, S: Alter>(
         day: made.day,
         lines: List(told),
     }))
+}
+
+/// What a run brought, or none if there was no such run, whatever its number.
+pub fn run<P: Versioned, S: Alter>(
+    alloc: Global,
+    tables: &mut Tables<P, S>,
+    run: u64,
+) -> Result<Option<Brought>, StoreFault>
+    ensures answers { StoreAnswers S.Store RepresentsQueues IsLegibleStorage tables.old tables.new result (AreKnown run)
+        (λ _ storage found. IsToldRun storage (run_with run storage.desk) found) }
+{
+    match Number::of(run) {
+        Some(number) => find_run(alloc, tables, number),
+        None => Ok(None),
+    }
 }

@@ -5,7 +5,6 @@ ghost use Rattle.std.specs.Prelude.{IfSome, ⊤};
 ghost use Rattle.std.specs.List.{AllByRecursion, list_any};
 ghost use Rattle.sqlite.specs.Held.{state};
 ghost use Rattle.sqlite.specs.State.{HasCleanDisk};
-ghost use Rattle.isad_core.specs.Limits.{IsNumber};
 ghost use Rattle.desk_core.specs.DeskRows.{SeatRow};
 ghost use Rattle.office_tables.specs.Calls.{StoreUpdates, StoreAnswers};
 ghost use Rattle.office_tables.specs.Schema as schema;
@@ -18,8 +17,7 @@ ghost use Rattle.office_tables.specs.RowNumbers.{AreByNumber};
 ghost use Rattle.desk_store.specs.declared.taken_seats.TakenSeat.{TakenSeat};
 
 use office_tables::from_row::FromRow;
-use office_tables::value::number;
-use office_tables::{StoreFault, Tables, Versioned, change, find, find_one};
+use office_tables::{Number, StoreFault, Tables, Versioned, change, find, find_one};
 use sqlite::{Alter, Row};
 use std::alloc::Global;
 
@@ -66,9 +64,8 @@ pub fn seats<P: Versioned, S: Alter>(
 pub(crate) fn find_seat<P: Versioned, S: Alter>(
     alloc: Global,
     tables: &mut Tables<P, S>,
-    ticket: u64,
+    ticket: Number,
 ) -> Result<Option<TakenSeat>, StoreFault>
-    requires small { IsNumber ticket }
     ensures { LooksUp S.Store (Holds schema.seat seat_cells) tables.old tables.new result
         (AreByNumber (λ s. s.seat)) (AllByRecursion (λ s. s.seat < 2 ^ 32))
         (λ xs found. found ≡ option_map (λ (s : SeatRow). record { seat = s.seat; ticket = s.ticket })
@@ -78,18 +75,16 @@ pub(crate) fn find_seat<P: Versioned, S: Alter>(
         alloc,
         tables,
         "SELECT seat, ticket FROM seat WHERE ticket = ?1 ORDER BY seat",
-        &[number(ticket)],
+        &[ticket.cell()],
     )
 }
 
 /// Gives a free seat to a ticket that has none.
 fn insert_seat<P: Versioned, S: Alter>(
     tables: &mut Tables<P, S>,
-    seat: u64,
-    ticket: u64,
+    seat: Number,
+    ticket: Number,
 ) -> Result<(), StoreFault>
-    requires number { IsNumber seat }
-    requires small { IsNumber ticket }
     ensures { Puts S.Store schema.seat seat_cells tables.old tables.new result (record { seat = seat; ticket = ticket })
         (λ xs. (list_any (λ s. nat_eq seat s.seat) xs ≡ false)
         × (list_any (λ s. nat_eq ticket s.ticket) xs ≡ false)) }
@@ -97,20 +92,19 @@ fn insert_seat<P: Versioned, S: Alter>(
     change(
         tables,
         "INSERT INTO seat (seat, ticket) VALUES (?1, ?2)",
-        &[number(seat), number(ticket)],
+        &[seat.cell(), ticket.cell()],
     )
 }
 
 /// Frees a seat.
 fn clear_seat<P: Versioned, S: Alter>(
     tables: &mut Tables<P, S>,
-    seat: u64,
+    seat: Number,
 ) -> Result<(), StoreFault>
-    requires number { IsNumber seat }
     ensures { Thins S.Store schema.seat seat_cells tables.old tables.new result (AreByNumber (λ s. s.seat))
         (filter (λ s. not (nat_eq seat s.seat))) }
 {
-    change(tables, "DELETE FROM seat WHERE seat = ?1", &[number(seat)])
+    change(tables, "DELETE FROM seat WHERE seat = ?1", &[seat.cell()])
 }
 
 /// Gives a free seat to a ticket, or frees the seat if `who` is none. The table refuses a seat that is taken, and a
@@ -118,9 +112,8 @@ fn clear_seat<P: Versioned, S: Alter>(
 pub fn set_seat<P: Versioned, S: Alter>(
     tables: &mut Tables<P, S>,
     seat: u32,
-    who: Option<u64>,
+    who: Option<Number>,
 ) -> Result<(), StoreFault>
-    requires small { IfSome who IsNumber }
     ensures updates { StoreUpdates S.Store RepresentsDeskAlone IsLegible tables.old tables.new result (MayTake seat who)
         (with_seat seat who) (schema.seat.tree ∷ []) }
     ensures puts { HasCleanDisk (state S.Store tables.new)
@@ -129,7 +122,7 @@ pub fn set_seat<P: Versioned, S: Alter>(
         (state S.Store tables.new).now)) }
 {
     match who {
-        Some(ticket) => insert_seat(tables, u64::from(seat), ticket),
-        None => clear_seat(tables, u64::from(seat)),
+        Some(ticket) => insert_seat(tables, Number::from(seat), ticket),
+        None => clear_seat(tables, Number::from(seat)),
     }
 }

@@ -1,21 +1,42 @@
 //! The reader who has a ticket.
 
-ghost use Rattle.std.specs.Prelude.{◌≡◌, IfOk, IfSome, ⊤};
-ghost use Rattle.isad_core.specs.Limits.{IsNumber};
+ghost use Rattle.std.specs.Prelude.{◌≡◌, ⊤};
 ghost use Rattle.office_tables.specs.Calls.{StoreAnswers};
 ghost use Rattle.desk_store.specs.Readers.{ticket_holder};
 ghost use Rattle.desk_store.specs.Representation.{RepresentsDeskAlone, IsLegible};
 
 use crate::reader_summary::{count_out, live_lines, seat_in};
-use crate::readers::{MOST_TICKETS, find_reader};
+use crate::readers::find_reader;
 use crate::taken_seats::find_seat;
 use desk_core::Reader;
-use office_tables::{StoreFault, Tables, Versioned};
+use office_tables::{Number, StoreFault, Tables, Versioned};
 use sqlite::Alter;
 use std::alloc::Global;
 
 /// The reader who has a ticket, with his seat and how many containers are out with him, or none if the
 /// ticket was not given.
+fn find_holder<P: Versioned, S: Alter>(
+    alloc: Global,
+    tables: &mut Tables<P, S>,
+    ticket: Number,
+) -> Result<Option<Reader>, StoreFault>
+    ensures answers { StoreAnswers S.Store RepresentsDeskAlone IsLegible tables.old tables.new result (λ _. ⊤)
+        (λ _ d holder. holder ≡ ticket_holder ticket d) }
+{
+    let Some(row) = find_reader(alloc, tables, ticket)? else {
+        return Ok(None);
+    };
+    let taken = find_seat(alloc, tables, ticket)?;
+    let lines = live_lines(alloc, tables, ticket)?;
+    Ok(Some(Reader {
+        ticket: ticket.get(),
+        until: row.until,
+        seat: seat_in(taken),
+        held: count_out(&lines),
+    }))
+}
+
+/// The reader who has a ticket, or none if the ticket was not given, whatever its number.
 pub fn ticket_holder<P: Versioned, S: Alter>(
     alloc: Global,
     tables: &mut Tables<P, S>,
@@ -23,20 +44,9 @@ pub fn ticket_holder<P: Versioned, S: Alter>(
 ) -> Result<Option<Reader>, StoreFault>
     ensures answers { StoreAnswers S.Store RepresentsDeskAlone IsLegible tables.old tables.new result (λ _. ⊤)
         (λ _ d holder. holder ≡ ticket_holder ticket d) }
-    ensures small { IfOk result (λ holder. IfSome holder (λ _. IsNumber ticket)) }
 {
-    if ticket > u64::from(MOST_TICKETS) {
-        return Ok(None);
+    match Number::of(ticket) {
+        Some(number) => find_holder(alloc, tables, number),
+        None => Ok(None),
     }
-    let Some(row) = find_reader(alloc, tables, ticket)? else {
-        return Ok(None);
-    };
-    let taken = find_seat(alloc, tables, ticket)?;
-    let lines = live_lines(alloc, tables, ticket)?;
-    Ok(Some(Reader {
-        ticket,
-        until: row.until,
-        seat: seat_in(taken),
-        held: count_out(&lines),
-    }))
 }

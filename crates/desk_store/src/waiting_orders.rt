@@ -3,7 +3,7 @@
 ghost use Rattle.std.specs.Prelude.{◌≡◌, ◌≤◌, length, map, filter, find, option_map, ⊤};
 ghost use Rattle.std.specs.List.{count_by, list_any};
 ghost use Rattle.sqlite.specs.Held.{state};
-ghost use Rattle.isad_core.specs.Limits.{IsNumber, most_orders};
+ghost use Rattle.isad_core.specs.Limits.{most_orders};
 ghost use Rattle.desk_core.specs.DeskRows.{OrderRow};
 ghost use Rattle.office_tables.specs.Calls.{StoreAnswers};
 ghost use Rattle.office_tables.specs.Schema as schema;
@@ -16,8 +16,7 @@ ghost use Rattle.office_tables.specs.RowNumbers.{AreCounted};
 
 use crate::orders::WaitingOrder;
 use office_tables::from_row::FromRow;
-use office_tables::value::{NO_NUMBER, number};
-use office_tables::{StoreFault, Tables, Versioned, find, find_number, find_one};
+use office_tables::{Number, StoreFault, Tables, Versioned, find, find_number, find_one};
 use sqlite::{Alter, Row};
 use std::alloc::Global;
 
@@ -42,9 +41,8 @@ impl FromRow for WaitingOrder {
 pub(crate) fn waiting_for<P: Versioned, S: Alter>(
     alloc: Global,
     tables: &mut Tables<P, S>,
-    container: u64,
+    container: Number,
 ) -> Result<Vec<WaitingOrder>, StoreFault>
-    requires small { IsNumber container }
     ensures { LooksUp S.Store (Holds schema.orders order_cells) tables.old tables.new result
         (AreCounted (λ o. o.id)) (λ _. ⊤)
         (λ xs found. found.items ≡ map (λ (o : OrderRow). record { order = o.id; ticket = o.ticket })
@@ -54,7 +52,7 @@ pub(crate) fn waiting_for<P: Versioned, S: Alter>(
         alloc,
         tables,
         "SELECT id, ticket FROM orders WHERE state = 1 AND container = ?1 ORDER BY id",
-        &[number(container)],
+        &[container.cell()],
     )
 }
 
@@ -63,9 +61,8 @@ pub(crate) fn waiting_for<P: Versioned, S: Alter>(
 pub(crate) fn first_for<P: Versioned, S: Alter>(
     alloc: Global,
     tables: &mut Tables<P, S>,
-    container: u64,
+    container: Number,
 ) -> Result<Option<WaitingOrder>, StoreFault>
-    requires small { IsNumber container }
     ensures { LooksUp S.Store (Holds schema.orders order_cells) tables.old tables.new result
         (AreCounted (λ o. o.id)) (λ _. ⊤)
         (λ xs found. found ≡ option_map (λ (o : OrderRow). record { order = o.id; ticket = o.ticket })
@@ -75,16 +72,15 @@ pub(crate) fn first_for<P: Versioned, S: Alter>(
         alloc,
         tables,
         "SELECT id, ticket FROM orders WHERE state = 1 AND container = ?1 ORDER BY id LIMIT 1",
-        &[number(container)],
+        &[container.cell()],
     )
 }
 
 /// How many orders wait for a container, counted by the same index.
 fn count_waiting<P: Versioned, S: Alter>(
     tables: &mut Tables<P, S>,
-    container: u64,
+    container: Number,
 ) -> Result<u32, StoreFault>
-    requires small { IsNumber container }
     ensures { LooksUp S.Store (Holds schema.orders order_cells) tables.old tables.new result
         (λ xs. length xs ≤ most_orders) (λ xs. length xs ≤ most_orders)
         (λ xs n. n ≡ count_by (waits_for container) xs) }
@@ -92,21 +88,18 @@ fn count_waiting<P: Versioned, S: Alter>(
     find_number(
         tables,
         "SELECT count(*) FROM orders WHERE state = 1 AND container = ?1",
-        &[number(container)],
+        &[container.cell()],
     )
 }
 
 /// Whether an order waits for a container.
 pub(crate) fn is_awaited<P: Versioned, S: Alter>(
     tables: &mut Tables<P, S>,
-    container: u64,
+    container: Number,
 ) -> Result<bool, StoreFault>
-    ensures answers { StoreAnswers S.Store RepresentsDeskAlone IsLegible tables.old tables.new result (λ _. IsNumber
-        container) (λ _ d awaited. awaited ≡ list_any (waits_for container) d.orders) }
+    ensures answers { StoreAnswers S.Store RepresentsDeskAlone IsLegible tables.old tables.new result (λ _. ⊤)
+        (λ _ d awaited. awaited ≡ list_any (waits_for container) d.orders) }
 {
-    if container >= NO_NUMBER {
-        return Err(StoreFault::Schema);
-    }
     let waiting = count_waiting(tables, container)?;
     Ok(waiting > 0)
 }

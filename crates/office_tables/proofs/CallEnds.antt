@@ -26,11 +26,6 @@ pub same_fault : {X : Type 0} (r : Result X StoreFault) (e : StoreFault) → IsE
 same_fault (Ok x) e h k = absurd (cc)
 same_fault (Err f) e h k = ap Err k
 
--- it fails for want of memory only
-pub by_memory : {X : Type 0} (a b : State) (r : Result X StoreFault) → IfErr r (λ e. e ≡ fault.Memory) → IfErr r (HasCause a b)
-by_memory a b (Ok x) h = tt
-by_memory a b (Err e) h = subst (HasCause a b) (sym h) tt
-
 -- its last step fails, after others that succeeded
 pub excused_then : {X : Type 0} (a b c : State) → Continues a b → (r : Result X StoreFault) → OnErr r (IsAborted b c) → (HasCleanDisk b → FaultsHaveCause b c r) → FaultsHaveCause a c r
 excused_then a b c on r cut why clean free = last_cause a b c on r cut clean (λ before. why before clean (still_unlimited a b on free))

@@ -38,5 +38,6 @@ pub mod numbered
 pub mod Sparing
 pub mod CallEnds
 pub mod StatementEnds
+pub mod LookUps
 pub mod StoreCalls
 pub mod statements

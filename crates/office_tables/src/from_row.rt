@@ -5,6 +5,7 @@ ghost use Rattle.std.specs.List.{AllByRecursion};
 ghost use Rattle.sqlite.specs.declared.types.Value.TheVariants.{Int};
 
 use crate::fault::StoreFault;
+use crate::number::Number;
 use isad_core::{BoxKey, Text};
 use sqlite::Row;
 use std::alloc::Global;
@@ -51,6 +52,33 @@ impl FromRow for Option<u64> {
     ghost is_legible = { λ _. ⊤ };
 
     fn read(row: &Row) -> Result<Option<u64>, StoreFault> {
+        Ok(row.get(0)?)
+    }
+}
+
+impl FromRow for Number {
+    ghost use Rattle.std.specs.Prelude.{pos, [], ◌∷◌, ⊤};
+    ghost use Rattle.sqlite.specs.declared.types.Value.TheVariants.{Int};
+
+    ghost cells = { λ n. Int (pos n) ∷ [] };
+
+    ghost is_legible = { λ _. ⊤ };
+
+    fn read(row: &Row) -> Result<Number, StoreFault> {
+        Ok(row.get(0)?)
+    }
+}
+
+impl FromRow for Option<Number> {
+    ghost use Rattle.std.specs.Prelude.{pos, [], ◌∷◌, option_map, ⊤};
+    ghost use Rattle.sqlite.specs.Values.{or_null};
+    ghost use Rattle.sqlite.specs.declared.types.Value.TheVariants.{Int};
+
+    ghost cells = { λ n. or_null Int (option_map pos n) ∷ [] };
+
+    ghost is_legible = { λ _. ⊤ };
+
+    fn read(row: &Row) -> Result<Option<Number>, StoreFault> {
         Ok(row.get(0)?)
     }
 }
@@ -116,17 +144,6 @@ pub fn read_all<T: FromRow + Drop>(alloc: Global, rows: &[Row]) -> Result<Vec<T>
         all.push(T::read(row)?)?;
     }
     Ok(all)
-}
-
-/// The number in a result that must have exactly one. Fails with `StoreFault::Schema` otherwise.
-pub fn only_number(numbers: &[u64]) -> Result<u64, StoreFault>
-    ensures value { (n : ℕ) → numbers.now ≡ n ∷ [] → result ≡ Ok n }
-    ensures fair { IfErr result (λ e. e ≢ StoreFault.Disk) }
-{
-    match numbers {
-        [number] => Ok(*number),
-        _ => Err(StoreFault::Schema),
-    }
 }
 
 /// The number in the first row, or 0 if there is no row.

@@ -4,6 +4,7 @@
 mod change_statement;
 mod fault;
 pub mod from_row;
+mod number;
 mod query;
 mod streamed_rows;
 pub mod table_creation;
@@ -14,6 +15,7 @@ pub mod value;
 mod versions;
 
 pub use fault::StoreFault;
+pub use number::{Number, cell_or_null};
 pub use streamed_rows::Gathering;
 pub use table_creation::{create_index, create_table};
 pub use table_statements::{change, find, find_number, find_one, gather};

@@ -17,8 +17,8 @@ use Rattle.office_tables.specs.Step.{Goes, IsAborted}
 use Rattle.office_tables.specs.declared.fault.StoreFault.{StoreFault}
 use Rattle.refinement.specs.Representation.{RepresentsState}
 
--- The reply is that of the step. If the command is accepted, the tables represent the next state. If it is refused, the
--- caller rolls back what was done.
+-- The reply is that of the step. If the command is accepted, the tables represent the next state. If it is refused, nothing
+-- is said of the rows: the caller rolls back what was done.
 pub record CarriesOutStep (places : Trees → Forest ℕ → Type 0) (version : Version) (s : State) (asked : Command) (reply : Reply) (now : Database) : Type 0 where
   pub told : reply ≡ (step s asked).1
   pub represents : IsOk reply → RepresentsState places version now (step s asked).0

@@ -58,7 +58,7 @@ fn loans_of(
     let mut found = Vec::new(alloc);
     for loan in loans {
         let loan = *loan;
-        if is_among(ascending, loan.container) {
+        if is_among(ascending, loan.container.get()) {
             found.push(loan)?;
         }
     }
@@ -179,7 +179,7 @@ fn lowest_closed<P: Places, S: Alter>(
     let lower = lower_loans(alloc, tables, unit, housed, &loans[..place])?;
     match first_closed(alloc, tables, &lower, today)? {
         Some(container) => Ok(container),
-        None => Ok(loans[place].container),
+        None => Ok(loans[place].container.get()),
     }
 }
 

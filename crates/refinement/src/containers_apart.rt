@@ -91,7 +91,7 @@ pub(crate) fn containers_apart<P: Places, S: Alter>(
     }
     let mut apart = Vec::new(alloc);
     for loan in loans {
-        let container = loan.container;
+        let container = loan.container.get();
         let Some(is_apart) = lies_apart(alloc, tables, unit, housed, container)? else {
             return Ok(None);
         };
@@ -100,6 +100,13 @@ pub(crate) fn containers_apart<P: Places, S: Alter>(
         }
     }
     Ok(Some(apart))
+}
+
+/// Whether a container is among these.
+fn is_listed(containers: &[u64], container: u64) -> bool
+    ensures { result ≡ is_one_of container containers.now }
+{
+    containers.contains(&container)
 }
 
 /// The loans whose containers are not among these.
@@ -113,7 +120,7 @@ pub(crate) fn loans_without(
     let mut found = Vec::new(alloc);
     for loan in loans {
         let loan = *loan;
-        if !containers.contains(&loan.container) {
+        if !is_listed(containers, loan.container.get()) {
             found.push(loan)?;
         }
     }

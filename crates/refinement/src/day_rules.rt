@@ -30,7 +30,7 @@ fn holders(alloc: Global, loans: &[ContainerOrder]) -> Result<Vec<u64>, AllocErr
 {
     let mut tickets = loans
         .iter()
-        .map(|loan| loan.ticket)
+        .map(|loan| loan.ticket.get())
         .collect::<Vec<u64>>(alloc)?;
     tickets.sort_unstable();
     Ok(tickets)
@@ -69,7 +69,7 @@ fn lacks_seat(loans: &[ContainerOrder], taken: &[TakenSeat]) -> bool
     ensures { result ≡ list_any (λ (loan : Lent). not (list_any
         (λ (seat : Taken). nat_eq loan.ticket seat.ticket) taken.now)) loans.now }
 {
-    loans.iter().any(|loan| !has_seat(taken, loan.ticket))
+    loans.iter().any(|loan| !has_seat(taken, loan.ticket.get()))
 }
 
 /// Whether a reader who has one of these containers has no seat.

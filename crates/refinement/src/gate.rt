@@ -34,9 +34,10 @@ pub(crate) fn first_closed<P: Places, S: Alter>(
     let mut clean = Vec::new(alloc);
     for loan in loans {
         let loan = *loan;
-        let found = judge(alloc, tables, loan.container, loan.ticket, today, clean)?;
+        let container = loan.container.get();
+        let found = judge(alloc, tables, container, loan.ticket.get(), today, clean)?;
         if !found.is_open {
-            return Ok(Some(loan.container));
+            return Ok(Some(container));
         }
         clean = found.clean;
     }

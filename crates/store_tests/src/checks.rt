@@ -1,15 +1,13 @@
 //! The check of the desk's tables. Rows that no call writes are found, with their cause.
 
-use crate::desk::{day_after, next_turn};
+use crate::desk::{add_order, day_after, next_turn};
 use crate::reading_room::furnish;
 use crate::tests::new_office;
 use catalogue_store::{LinkPlaces, StoreFault};
 use desk_core::Limits;
-use desk_store::{
-    ContainerOrder, OrderState, append_order, end_order, grant, record_run, set_seat,
-};
+use desk_store::{ContainerOrder, OrderState, end_order, grant, record_run, set_seat};
 use integrity_checks::load_check_desk;
-use office_tables::{Tables, change};
+use office_tables::{Number, Tables, change};
 use sqlite::types::ValueRef;
 use sqlite::types::ValueRef::{Int, Null, Text};
 use sqlite::{Alter, Connection};
@@ -24,16 +22,16 @@ fn serve_reader<S: Alter>(
 ) -> Result<(), StoreFault> {
     let mut text = String::new(alloc);
     furnish(alloc, tables, &mut text)?;
-    grant(tables, 1, 1, day_after(0)?)?;
-    set_seat(tables, 1, Some(1))?;
-    append_order(tables, 1, 1, 1, day_after(0)?)?;
+    grant(tables, Number::from(1), Number::from(1), day_after(0)?)?;
+    set_seat(tables, 1, Some(Number::from(1)))?;
+    add_order(tables, 1, 1, 1, 0)?;
     let taken = [ContainerOrder {
-        container: 1,
-        order: 1,
-        ticket: 1,
+        container: Number::from(1),
+        order: Number::from(1),
+        ticket: Number::from(1),
     }];
     record_run(tables, day_after(0)?, &taken)?;
-    end_order(tables, 1, OrderState::Done)
+    end_order(tables, Number::from(1), OrderState::Done)
 }
 
 /// What a statement writes.

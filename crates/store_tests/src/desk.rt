@@ -16,7 +16,7 @@ use desk_store::{
     set_place, set_seat, ticket_holder,
 };
 use isad_core::{Day, Text};
-use office_tables::{Tables, roll_back};
+use office_tables::{Number, Tables, roll_back};
 use sqlite::{Alter, Connection};
 use std::alloc::Global;
 use std::process::Abort;
@@ -38,9 +38,26 @@ pub(crate) fn register<S: Alter>(
     text: &mut String,
 ) -> Result<(), StoreFault> {
     let name = Text::new(alloc, name)?;
-    let ticket = add_reader(tables, &name, day_after(0)?)?.unwrap_or(0);
+    let ticket = add_reader(tables, &name, day_after(0)?)?.map_or(0, |ticket| ticket.get());
     write!(text, "{ticket}\n")?;
     Ok(())
+}
+
+/// Places an order, `days` days after the first of March 2024.
+pub(crate) fn add_order<S: Alter>(
+    tables: &mut Tables<LinkPlaces, S>,
+    order: u32,
+    ticket: u32,
+    container: u32,
+    days: u8,
+) -> Result<(), StoreFault> {
+    append_order(
+        tables,
+        Number::from(order),
+        Number::from(ticket),
+        Number::from(container),
+        day_after(days)?,
+    )
 }
 
 /// Ann's ticket 1 is renewed. Bob takes a seat and leaves it; Ann takes the second seat.
@@ -51,9 +68,9 @@ fn take_seats<S: Alter>(
 ) -> Result<(), StoreFault> {
     register(alloc, tables, "Ann", text)?;
     register(alloc, tables, "Bob", text)?;
-    renew(tables, 1, day_after(9)?)?;
-    set_seat(tables, 1, Some(2))?;
-    set_seat(tables, 2, Some(1))?;
+    renew(tables, Number::from(1), day_after(9)?)?;
+    set_seat(tables, 1, Some(Number::from(2)))?;
+    set_seat(tables, 2, Some(Number::from(1)))?;
     set_seat(tables, 1, None)?;
     for taken in &seats(alloc, tables)? {
         let (seat, ticket) = (taken.seat, taken.ticket);
@@ -69,11 +86,11 @@ fn place_orders<S: Alter>(
     text: &mut String,
 ) -> Result<(), StoreFault> {
     register(alloc, tables, "Ann", text)?;
-    append_order(tables, 1, 1, 1, day_after(0)?)?;
-    append_order(tables, 2, 1, 2, day_after(1)?)?;
-    end_order(tables, 1, OrderState::Out)?;
-    set_place(tables, 2, Place::Desk)?;
-    set_place(tables, 1, Place::Out(1))
+    add_order(tables, 1, 1, 1, 0)?;
+    add_order(tables, 2, 1, 2, 1)?;
+    end_order(tables, Number::from(1), OrderState::Out)?;
+    set_place(tables, Number::from(2), Place::Desk)?;
+    set_place(tables, Number::from(1), Place::Out(1))
 }
 
 /// Ann's card on the second day, and that nobody has ticket 9.
@@ -100,7 +117,8 @@ fn read_card<S: Alter>(
 /// Containers, each with an order for it and that order's ticket.
 pub(crate) fn show_orders(orders: &[ContainerOrder], text: &mut String) -> Result<(), StoreFault> {
     for order in orders {
-        let (container, number, ticket) = (order.container, order.order, order.ticket);
+        let (container, number) = (order.container.get(), order.order.get());
+        let ticket = order.ticket.get();
         write!(text, "{container} {number} {ticket}\n")?;
     }
     Ok(())
@@ -130,7 +148,7 @@ fn hold<S: Alter>(
 ) -> Result<(), StoreFault> {
     place_orders(alloc, tables, text)?;
     register(alloc, tables, "Bob", text)?;
-    set_seat(tables, 2, Some(2))?;
+    set_seat(tables, 2, Some(Number::from(2)))?;
     show_holder(alloc, tables, 1, text)?;
     show_holder(alloc, tables, 2, text)?;
     show_holder(alloc, tables, 3, text)
@@ -143,9 +161,9 @@ fn end_orders<S: Alter>(
     text: &mut String,
 ) -> Result<(), StoreFault> {
     place_orders(alloc, tables, text)?;
-    end_order(tables, 1, OrderState::Done)?;
-    set_place(tables, 1, Place::Shelf)?;
-    end_order(tables, 2, OrderState::Cancelled)?;
+    end_order(tables, Number::from(1), OrderState::Done)?;
+    set_place(tables, Number::from(1), Place::Shelf)?;
+    end_order(tables, Number::from(2), OrderState::Cancelled)?;
     let is_done = order(alloc, tables, 1)?.is_some_and(|placed| placed.state == OrderState::Done);
     let is_unknown = order(alloc, tables, 3)?.is_none();
     write!(text, "{is_done} {is_unknown}\n")?;
@@ -160,11 +178,11 @@ fn bring<S: Alter>(
 ) -> Result<(), StoreFault> {
     place_orders(alloc, tables, text)?;
     let taken = [ContainerOrder {
-        container: 2,
-        order: 2,
-        ticket: 1,
+        container: Number::from(2),
+        order: Number::from(2),
+        ticket: Number::from(1),
     }];
-    let run = record_run(tables, day_after(1)?, &taken)?.unwrap_or(0);
+    let run = record_run(tables, day_after(1)?, &taken)?.map_or(0, |run| run.get());
     write!(text, "{run}\n")?;
     show_orders(&issued(alloc, tables)?, text)
 }
@@ -176,10 +194,10 @@ fn grant_permits<S: Alter>(
     text: &mut String,
 ) -> Result<(), StoreFault> {
     two_units(alloc, tables)?;
-    grant(tables, 1, 1, day_after(0)?)?;
-    grant(tables, 1, 2, day_after(0)?)?;
-    grant(tables, 1, 2, day_after(9)?)?;
-    revoke(tables, 1, 1)?;
+    grant(tables, Number::from(1), Number::from(1), day_after(0)?)?;
+    grant(tables, Number::from(1), Number::from(2), day_after(0)?)?;
+    grant(tables, Number::from(1), Number::from(2), day_after(9)?)?;
+    revoke(tables, Number::from(1), Number::from(1))?;
     for permit in &permits(alloc, tables, 1)? {
         let (unit, until) = (permit.unit, permit.until.number());
         write!(text, "{unit} {until}\n")?;
@@ -194,11 +212,11 @@ fn pick_run<S: Alter>(
     tables: &mut Tables<LinkPlaces, S>,
     text: &mut String,
 ) -> Result<(), StoreFault> {
-    append_order(tables, 1, 7, 2, day_after(0)?)?;
-    append_order(tables, 2, 7, 1, day_after(0)?)?;
-    append_order(tables, 3, 8, 2, day_after(0)?)?;
-    append_order(tables, 4, 8, 3, day_after(0)?)?;
-    set_place(tables, 3, Place::Desk)?;
+    add_order(tables, 1, 7, 2, 0)?;
+    add_order(tables, 2, 7, 1, 0)?;
+    add_order(tables, 3, 8, 2, 0)?;
+    add_order(tables, 4, 8, 3, 0)?;
+    set_place(tables, Number::from(3), Place::Desk)?;
     show_orders(&candidates(alloc, tables)?, text)?;
     for &(container, awaited) in &at_desk(alloc, tables)? {
         write!(text, "{container} {awaited}\n")?;
@@ -216,7 +234,7 @@ fn open_next_day<S: Alter>(
     text: &mut String,
 ) -> Result<(), StoreFault> {
     register(alloc, tables, "Bob", text)?;
-    set_seat(tables, 2, Some(1))?;
+    set_seat(tables, 2, Some(Number::from(1)))?;
     open_day(tables, day_after(1)?)
 }
 

@@ -1,19 +1,16 @@
 //! Days in the reading room, by the desk's calls: their results and the rows in the tables.
 
 ghost use Rattle.std.specs.Prelude.{◌<◌, ◌^◌};
-ghost use Rattle.std.specs.List.{AllByRecursion};
-ghost use Rattle.desk_store.specs.Runs.{IsNumbered};
 
-use crate::desk::{day_after, register, show_orders};
+use crate::desk::{add_order, day_after, register, show_orders};
 use crate::tests::{Query, new_office, show_rows};
 use catalogue_store::{LinkPlaces, NewUnit, StoreFault, add_unit, commit};
 use desk_core::{Place, slip_text};
 use desk_store::{
-    ContainerOrder, OrderState, append_order, candidates, end_order, queue, record_run, run,
-    set_place,
+    ContainerOrder, OrderState, candidates, end_order, queue, record_run, run, set_place,
 };
 use isad_core::{BoxKey, List, Text, Values};
-use office_tables::Tables;
+use office_tables::{Number, Tables};
 use sqlite::{Alter, Connection};
 use std::alloc::{AllocError, Global};
 use std::array;
@@ -109,10 +106,8 @@ fn fetch<S: Alter>(
     tables: &mut Tables<LinkPlaces, S>,
     taken: &[ContainerOrder],
     text: &mut String,
-) -> Result<(), StoreFault>
-    requires lines { AllByRecursion IsNumbered taken.now }
-{
-    let run = record_run(tables, day_after(0)?, taken)?.unwrap_or(0);
+) -> Result<(), StoreFault> {
+    let run = record_run(tables, day_after(0)?, taken)?.map_or(0, |run| run.get());
     write!(text, "run {run}\n")?;
     Ok(())
 }
@@ -138,27 +133,25 @@ fn show_slip<S: Alter>(
 /// Issues a container for an order.
 fn lend<S: Alter>(
     tables: &mut Tables<LinkPlaces, S>,
-    container: u64,
-    order: u64,
-) -> Result<(), StoreFault>
-    requires container { container < 2 ^ 63 }
-    requires order { order < 2 ^ 63 }
-{
-    end_order(tables, order, OrderState::Out)?;
-    set_place(tables, container, Place::Out(order))
+    container: u32,
+    order: u32,
+) -> Result<(), StoreFault> {
+    end_order(tables, Number::from(order), OrderState::Out)?;
+    set_place(
+        tables,
+        Number::from(container),
+        Place::Out(u64::from(order)),
+    )
 }
 
 /// Returns a container that was out with an order to the desk.
 fn give_back<S: Alter>(
     tables: &mut Tables<LinkPlaces, S>,
-    container: u64,
-    order: u64,
-) -> Result<(), StoreFault>
-    requires container { container < 2 ^ 63 }
-    requires order { order < 2 ^ 63 }
-{
-    end_order(tables, order, OrderState::Done)?;
-    set_place(tables, container, Place::Desk)
+    container: u32,
+    order: u32,
+) -> Result<(), StoreFault> {
+    end_order(tables, Number::from(order), OrderState::Done)?;
+    set_place(tables, Number::from(container), Place::Desk)
 }
 
 /// Two orders wait for container 1. A run brings it; it is issued for the first and, once returned, waits for the
@@ -170,8 +163,8 @@ fn lent_in_turn<S: Alter>(
 ) -> Result<(), StoreFault> {
     place_two(alloc, tables, text)?;
     show_candidates(alloc, tables, text)?;
-    fetch(tables, &[FIRST], text)?;
-    set_place(tables, 1, Place::Desk)?;
+    fetch(tables, &[ordered(1)], text)?;
+    set_place(tables, Number::from(1), Place::Desk)?;
     show_queue(alloc, tables, 1, text)?;
     lend(tables, 1, 1)?;
     show_queue(alloc, tables, 1, text)?;
@@ -179,12 +172,14 @@ fn lent_in_turn<S: Alter>(
     show_queue(alloc, tables, 1, text)
 }
 
-/// Order 1 for container 1, with Ann's ticket.
-const FIRST: ContainerOrder = ContainerOrder {
-    container: 1,
-    order: 1,
-    ticket: 1,
-};
+/// An order with Ann's ticket: order 1 for container 1, order 2 for container 2, and so on.
+fn ordered(number: u32) -> ContainerOrder {
+    ContainerOrder {
+        container: Number::from(number),
+        order: Number::from(number),
+        ticket: Number::from(1),
+    }
+}
 
 /// Ann and Bob order container 1.
 fn place_two<S: Alter>(
@@ -194,8 +189,8 @@ fn place_two<S: Alter>(
 ) -> Result<(), StoreFault> {
     furnish(alloc, tables, text)?;
     register(alloc, tables, "Bob", text)?;
-    append_order(tables, 1, 1, 1, day_after(0)?)?;
-    append_order(tables, 2, 2, 1, day_after(0)?)
+    add_order(tables, 1, 1, 1, 0)?;
+    add_order(tables, 2, 2, 1, 0)
 }
 
 /// Ann orders containers 1, 2 and 3.
@@ -205,9 +200,9 @@ fn place_three<S: Alter>(
     text: &mut String,
 ) -> Result<(), StoreFault> {
     furnish(alloc, tables, text)?;
-    append_order(tables, 1, 1, 1, day_after(0)?)?;
-    append_order(tables, 2, 1, 2, day_after(0)?)?;
-    append_order(tables, 3, 1, 3, day_after(0)?)
+    add_order(tables, 1, 1, 1, 0)?;
+    add_order(tables, 2, 1, 2, 0)?;
+    add_order(tables, 3, 1, 3, 0)
 }
 
 /// The first run takes two of three containers, the second the last; each with its slip.
@@ -218,27 +213,15 @@ fn fetched_in_two_runs<S: Alter>(
 ) -> Result<(), StoreFault> {
     place_three(alloc, tables, text)?;
     show_candidates(alloc, tables, text)?;
-    fetch(tables, &[FIRST, SECOND], text)?;
-    set_place(tables, 1, Place::Desk)?;
-    set_place(tables, 2, Place::Desk)?;
+    fetch(tables, &[ordered(1), ordered(2)], text)?;
+    set_place(tables, Number::from(1), Place::Desk)?;
+    set_place(tables, Number::from(2), Place::Desk)?;
     show_candidates(alloc, tables, text)?;
-    fetch(tables, &[THIRD], text)?;
+    fetch(tables, &[ordered(3)], text)?;
     show_slip(alloc, tables, 1, text)?;
     show_slip(alloc, tables, 2, text)?;
     show_slip(alloc, tables, 3, text)
 }
-
-const SECOND: ContainerOrder = ContainerOrder {
-    container: 2,
-    order: 2,
-    ticket: 1,
-};
-
-const THIRD: ContainerOrder = ContainerOrder {
-    container: 3,
-    order: 3,
-    ticket: 1,
-};
 
 /// A day in the reading room of a new office.
 #[derive(Clone, Copy)]

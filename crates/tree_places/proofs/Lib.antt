@@ -3,8 +3,8 @@ pub mod BoundLemmas
 pub mod Children
 pub mod Climbing
 pub mod Descending
-pub mod FoundLinks
 pub mod Joiners
 pub mod MarkCauses
 pub mod MarkForests
 pub mod MarkReads
+pub mod LinkCalls

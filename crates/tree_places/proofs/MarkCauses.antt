@@ -1,12 +1,11 @@
 -- Why reading marks fails: never for the units of a catalogue within its limits.
-use Rattle.std.proofs.Common.{◌≡◌, ℕ, ◌<◌, ◌≤◌, ◌^◌, List, [], ◌∷◌, map, filter, length, get_or, Some, None, slice_get, nat_eq, sym, ap, subst, ◌∙◌, arith}
+use Rattle.std.proofs.Common.{◌≡◌, ℕ, ◌<◌, ◌≤◌, ◌^◌, List, map, find, length, get_or, Some, None, option_map, nat_eq, sym, ap, subst, ◌∙◌, arith}
 use Rattle.std.specs.List.{AllByRecursion}
-use Rattle.std.proofs.lemmas.Bool.{eq-eqb}
 use Rattle.std.proofs.lemmas.List.{get_or-map, length-map}
 use Rattle.std.proofs.lemmas.List.Sorted.{IsPermutation-sym}
 use Rattle.sqlite.specs.Tree.{Trees}
 use Rattle.sqlite_rules.specs.Lists.{Has}
-use Rattle.sqlite_rules.proofs.ListLemmas.{all_has, has_kept}
+use Rattle.sqlite_rules.proofs.ListLemmas.{all_has}
 use Rattle.sqlite_trees.proofs.ListLemmas.{all-get_or, all-permutation, all_from_map}
 use Rattle.tree_core.specs.Forest.{Forest, nodes}
 use Rattle.tree_core.specs.declared.rows.Span.{Span}
@@ -16,7 +15,7 @@ use Rattle.catalogue_core.specs.CatalogueMerge.{Catalogue}
 use Rattle.catalogue_statements.specs.Representation.{RepresentsUnits}
 use Rattle.catalogue_core.specs.Units.{Unit}
 use Rattle.catalogue_statements.specs.declared.row_types.Status.{Status}
-use Rattle.tree_places.proofs.MarkReads.{blank_unit}
+use Rattle.tree_places.proofs.MarkReads.{blank_unit, found_unit}
 use Rattle.office_tables.proofs.Rows.{had}
 
 -- ---- the units of a catalogue
@@ -34,17 +33,14 @@ low_id c kept u there = all_has (λ (u : Unit). u.id < 2 ^ 63) (nodes c.forest) 
 
 -- ---- a unit's status
 
-none_first : {A B : Type 0} (f : A → B) (xs : List A) (x : A) → Has xs x → slice_get (map f xs) 0 ≡ None → ⊥
-none_first f [] x h e = h
-none_first f (y ∷ xs) x h e = let clash : Some (f y) ≡ None = e in cc
-
 -- a unit that is there has one
-pub status_there : (db : Trees) (f : Forest Unit) (at : RepresentsUnits db f) (id : ℕ) (u : Unit) (found : List Status) → Has (nodes f) u → id ≡ u.id
-    → found ≡ map (λ (x : Unit). (let y : Status = record { draft = x.draft; until = x.until } in y)) (filter (λ (x : Unit). nat_eq id x.id) at.units) → slice_get found 0 ≡ None → ⊥
-status_there db f at id u found there same is none =
+pub status_there : (db : Trees) (f : Forest Unit) (at : RepresentsUnits db f) (id : ℕ) (u : Unit) → Has (nodes f) u → id ≡ u.id
+    → option_map (λ (x : Unit). (let y : Status = record { draft = x.draft; until = x.until } in y)) (find (λ (x : Unit). nat_eq id x.id) at.units) ≡ None → ⊥
+status_there db f at id u there same none =
     let in_units : Has at.units u = had at.units (nodes f) (IsPermutation-sym (nodes f) at.units at.are) u there in
-    none_first (λ (x : Unit). (let y : Status = record { draft = x.draft; until = x.until } in y)) (filter (λ (x : Unit). nat_eq id x.id) at.units) u
-    (has_kept (λ (x : Unit). nat_eq id x.id) at.units u in_units (eq-eqb id u.id same)) (ap (λ (l : List Status). slice_get l 0) (sym is) ∙ none)
+    let status = λ (x : Unit). (let y : Status = record { draft = x.draft; until = x.until } in y) in
+    let clash : None ≡ Some (status u) = sym none ∙ ap (option_map status) (found_unit at.units id u at.rise in_units same) in
+    absurd (cc)
 
 -- ---- the units of some rows
 

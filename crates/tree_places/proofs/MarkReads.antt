@@ -1,5 +1,5 @@
 -- What the rows of a unit say of its mark.
-use Rattle.std.proofs.Common.{◌≡◌, inl, inr, ℕ, zero, suc, pos, ◌+◌, ◌<◌, ◌≤◌, List, [], ◌∷◌, ◌++◌, map, filter, length, take, get_or, Some, None, option_map, slice_get, Bool, true, false, not, ◌==◌, nat_eq, Less, Equal, refl, sym, ap, ap₂, ◌∙◌, arith}
+use Rattle.std.proofs.Common.{◌≡◌, inl, inr, ℕ, zero, suc, pos, ◌+◌, ◌<◌, ◌≤◌, List, [], ◌∷◌, ◌++◌, map, filter, length, take, get_or, Some, None, option_map, Bool, true, false, not, ◌==◌, nat_eq, Less, Equal, refl, sym, ap, ap₂, ◌∙◌, arith}
 use Rattle.std.specs.List.{find, AllByRecursion}
 use Rattle.std.specs.List.Sorted.{IsPermutation}
 use Rattle.std.specs.Ordering.{int_cmp}
@@ -22,15 +22,14 @@ use Rattle.catalogue_statements.specs.Rows.{by_number, counted_from, HousingRow}
 use Rattle.catalogue_statements.specs.Representation.{RepresentsUnits, RepresentsHousings, housing_cells, housings_of}
 use Rattle.catalogue_core.specs.Units.{Unit}
 use Rattle.catalogue_statements.specs.declared.row_types.Status.{Status}
-use Rattle.catalogue_statements.proofs.Offices.{length-counted}
+use Rattle.catalogue_statements.proofs.Numbered.{length-counted}
 use Rattle.tree_places.specs.Attachments.{is_plain_leaf, without_containers, unboxed_leaf}
 use Rattle.office_tables.proofs.Rows.{had}
-use Rattle.office_tables.proofs.Reading.{first_shown}
 
 -- ---- the status
 
 -- a unit is found by its number
-found_unit : (units : List Unit) (id : ℕ) (u : Unit) → Rises by_number units → Has units u → id ≡ u.id → find (λ (x : Unit). nat_eq id x.id) units ≡ Some u
+pub found_unit : (units : List Unit) (id : ℕ) (u : Unit) → Rises by_number units → Has units u → id ≡ u.id → find (λ (x : Unit). nat_eq id x.id) units ≡ Some u
 found_unit (x ∷ xs) id u up (inl e) same = rw (eq-eqb id x.id (same ∙ ap (λ (u : Unit). u.id) e)) (ap Some (sym e))
 found_unit (x ∷ xs) id u up (inr h) same = elim (cases_Bool (nat_eq id x.id)) [
   | inl t ↦ absurd (
@@ -48,13 +47,12 @@ status_of u = record { draft = u.draft; until = u.until }
 some_same : (u : Unit) (s : Status) → Some s ≡ option_map status_of (Some u) → s ≡ status_of u
 some_same u s e = cc
 
-pub status_read : (db : Trees) (f : Forest Unit) (at : RepresentsUnits db f) (id : ℕ) (u : Unit) (found : List Status) (s : Status) → Has (nodes f) u → id ≡ u.id
-    → found ≡ map (λ (x : Unit). (let y : Status = record { draft = x.draft; until = x.until } in y)) (filter (λ (x : Unit). nat_eq id x.id) at.units) → Some s ≡ slice_get found 0 → (s.draft ≡ u.draft) × (s.until ≡ u.until)
+pub status_read : (db : Trees) (f : Forest Unit) (at : RepresentsUnits db f) (id : ℕ) (u : Unit) (s : Status) → Has (nodes f) u → id ≡ u.id
+    → option_map (λ (x : Unit). (let y : Status = record { draft = x.draft; until = x.until } in y)) (find (λ (x : Unit). nat_eq id x.id) at.units) ≡ Some s → (s.draft ≡ u.draft) × (s.until ≡ u.until)
 unfolding status_of
-status_read db f at id u found s there same is first =
+status_read db f at id u s there same told =
     let in_units : Has at.units u = had at.units (nodes f) (IsPermutation-sym (nodes f) at.units at.are) u there in
-    let e : s ≡ status_of u =
-    some_same u s (first ∙ first_shown status_of (λ (x : Unit). nat_eq id x.id) at.units found is ∙ ap (option_map status_of) (found_unit at.units id u at.rise in_units same)) in
+    let e : s ≡ status_of u = some_same u s (sym told ∙ ap (option_map status_of) (found_unit at.units id u at.rise in_units same)) in
     (ap (λ (x : Status). x.draft) e, ap (λ (x : Status). x.until) e)
 
 -- ---- whether it names containers of its own

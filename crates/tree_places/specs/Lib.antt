@@ -1,6 +1,8 @@
 pub mod Arrivals
 pub mod Attachments
 pub mod LastPlaces
+pub mod MarkLookUps
+pub mod LinkForests
 pub use Rattle.catalogue_core.specs.Units
 pub use Rattle.catalogue_core.specs.CatalogueMerge
 pub use Rattle.catalogue_core.specs.PublicForest

@@ -16,7 +16,7 @@ use Rattle.catalogue_commands.proofs.removal.remove_beside.Goals as goal
 
 pub returns-in_err-units : goal.returns-in_err-units
 returns-in_err-units g c =
-    does_pass _ c.from_residual.ensures c.in_err-units.ensures.aborts
+    does_pass _ c.from_residual.ensures c.in_err-units.ensures.writes.leaves.aborts
     (λ s sound so it. c.in_err-units.ensures.faults (office_of s) s.catalogue it.catalogue so.1 (office_kept s sound) (permit_rows s) it.desk.permits)
 
 pub returns : goal.returns
@@ -28,4 +28,4 @@ returns g c =
     let loans = c.args.loans.now in
     passed_where g.S.Store g.P.Places.represents v (λ s. (c.args.today ≡ s.day) × (has_unit s.catalogue.forest u ≡ true) × AreAsked u s (issued_of (tables v s).desk) loans) (command.Remove u) c.args.today (done.Remove c.in_ok-units.units) a c.remove_branch.new.tables c.pass_of.new.tables c.pass_of.result (AreEnough loans)
     (removes u v loans g.P.Places.represents a b c.args.today c.in_ok-units.units c.in_ok-units.ensures.removes c.in_ok-units.ensures.count)
-    (λ s sound so. removes_near u v loans s sound so.1 so.2) c.in_ok-units.ensures.goes c.pass_of.ensures.answers
+    (λ s sound so. removes_near u v loans s sound so.1 so.2) c.in_ok-units.ensures.writes.leaves.goes c.pass_of.ensures.answers

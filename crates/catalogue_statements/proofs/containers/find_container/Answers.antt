@@ -1,12 +1,16 @@
+use Rattle.std.proofs.Common.{Ok, [], slice_get, ap, ◌∙◌}
+use Rattle.std.proofs.lemmas.Result.{IfOk-weaker}
 use Rattle.catalogue_statements.proofs.ContainerStatements.{find_container_command, find_container_means, find_container_finds, find_container_faults}
 use Rattle.office_tables.proofs.StatementEnds.{looks_up}
 use Rattle.catalogue_statements.proofs.containers.find_container.Goals as goal
 
-pub find-requires : goal.find-requires
-find-requires g c = record { count = 1; command = find_container_command; means = find_container_means g.P.Versioned.version }
+pub find_one-requires : goal.find_one-requires
+find_one-requires g c = record { count = 1; command = find_container_command; means = find_container_means g.P.Versioned.version }
 
 pub returns : goal.returns
 returns g c =
-    looks_up g.P.Versioned.version c.find.ensures.reads (rw c.number.ensures at c.find.ensures.ran)
-    (λ v has found xs stored _. find_container_finds _ _ v has xs stored c.args.n (λ found. found.items) c.find.result found)
-    (λ v has missed xs stored legible free. find_container_faults _ _ v has xs stored c.args.n (λ found. found.items) c.find.result legible free missed)
+    looks_up g.P.Versioned.version c.find_one.ensures.reads (rw c.number.ensures at c.find_one.ensures.ran)
+    (λ v has found xs stored _. IfOk-weaker c.find_one.result _ _ (λ first it.
+    let all = find_container_finds _ _ v has xs stored c.args.n (λ l. l) (Ok it.0) it.1 in
+    (all.0, all.1, it.2 ∙ ap (λ l. slice_get l 0) all.2)) found)
+    (λ v has missed xs stored legible free. find_container_faults _ _ v has xs stored c.args.n (λ _. []) c.find_one.result legible free missed)

@@ -1,55 +1,37 @@
-use Rattle.std.proofs.Common.{rules, inl, ℕ, List, [], ◌∷◌, take, get_or, sym, subst, arith}
+use Rattle.std.proofs.Common.{rules, ℕ, List, [], ◌∷◌, take, get_or, sym, subst, arith}
 use Rattle.std.proofs.lemmas.List.{take_more, take_all}
 use Rattle.sqlite.specs.Held.{state}
 use Rattle.sqlite_trees.proofs.ListLemmas.{ascending-filter}
 use Rattle.office_tables.specs.Faults.{IsUnlimited}
-use Rattle.catalogue_statements.specs.Removals.{without, AreRemoved}
-use Rattle.office_tables.specs.Step.{IsAborted, OnlyTouches, Spares}
-use Rattle.office_tables.proofs.Calls.{early, goes_nowhere, goes_then, cut_then, cut_after}
-use Rattle.office_tables.specs.Schema as tables
-use Rattle.office_tables.proofs.Sparing.{touched_spares, untouched}
+use Rattle.catalogue_statements.specs.Removals.{without, AreRemoved, unit_tables}
+use Rattle.office_tables.proofs.Calls.{early, goes_nowhere, goes_then}
+use Rattle.office_tables.proofs.Sparing.{untouched}
 use Rattle.office_tables.proofs.Touching.{touched_again, nothing_touched}
 use Rattle.office_tables.proofs.Causes.{cause_then, still_unlimited}
 use Rattle.catalogue_statements.proofs.Moves.{id_of}
 use Rattle.catalogue_statements.proofs.Removals.{removed_none, removed_then, next_listed}
 use Rattle.catalogue_statements.proofs.UnitFaults.{told_after}
+use Rattle.catalogue_statements.proofs.WritingCalls.{only_cut, only_known, only_well}
 use Rattle.catalogue_statements.proofs.units.remove_units.Goals as goal
-
-abbrev those : List ℕ
-those = tables.permit.tree ∷ tables.unit.tree ∷ tables.element.tree ∷ tables.housing.tree ∷ []
 
 pub loop-id-init : goal.loop-id-init
 loop-id-init g c =
     let a = state g.S.Store c.args.tables.now in
-    (goes_nowhere a, ((λ clean. nothing_touched those a.now), λ clean xs stored up listed. removed_none a.now))
+    (goes_nowhere a, ((λ clean. nothing_touched unit_tables a.now), λ clean xs stored up listed. removed_none a.now))
 
-pub returns-in_err-remove_unit-clause-aborts : goal.returns-in_err-remove_unit-clause-aborts
-returns-in_err-remove_unit-clause-aborts g c =
-    let a = state g.S.Store c.args.tables.now in
+pub returns-in_err-remove_unit-clause-writes : goal.returns-in_err-remove_unit-clause-writes
+returns-in_err-remove_unit-clause-writes g c =
     let b = state g.S.Store c.loop-id.tables in
     let d = state g.S.Store c.remove_unit.new.tables in
-    let all : IsAborted a d = cut_then a b d c.loop-id.invariant.0.on c.in_err-remove_unit.ensures.leaves.aborts in
-    search (rules, all)
+    let so_far = c.loop-id.invariant in
+    let failed = c.in_err-remove_unit.ensures in
+    only_cut c.in_err-remove_unit.field-0.0 c.from_residual.ensures so_far.0 so_far.1.0 failed.leaves.aborts (λ clean. untouched unit_tables b d _ (failed.leaves.spares clean))
 
-pub returns-then-id-ge-NO_NUMBER-clause-aborts : goal.returns-then-id-ge-NO_NUMBER-clause-aborts
-returns-then-id-ge-NO_NUMBER-clause-aborts g c =
-    let a = state g.S.Store c.args.tables.now in
-    let b = state g.S.Store c.loop-id.tables in
-    let all : IsAborted a b = cut_after a b c.loop-id.invariant.0.on in
-    search (rules, all)
+pub returns-then-id-ge-NO_NUMBER-clause-writes : goal.returns-then-id-ge-NO_NUMBER-clause-writes
+returns-then-id-ge-NO_NUMBER-clause-writes g c = let so_far = c.loop-id.invariant in only_known so_far.0 so_far.1.0
 
-pub returns-in_err-remove_unit-clause-spares : goal.returns-in_err-remove_unit-clause-spares
-returns-in_err-remove_unit-clause-spares g c clean =
-    let a = state g.S.Store c.args.tables.now in
-    let b = state g.S.Store c.loop-id.tables in
-    let d = state g.S.Store c.remove_unit.new.tables in
-    let last = c.in_err-remove_unit.ensures.leaves in
-    let before = early b d _ last.aborts.crash clean in
-    let all : Spares (OnlyTouches those) a d c.in_err-remove_unit.field-0.0 = touched_spares those a b d c.loop-id.invariant.0.on before (c.loop-id.invariant.1.0 before) _ (untouched those b d _ (last.spares clean)) in
-    search (rules, all)
-
-pub returns-then-id-ge-NO_NUMBER-clause-spares : goal.returns-then-id-ge-NO_NUMBER-clause-spares
-returns-then-id-ge-NO_NUMBER-clause-spares g c clean = record { disk = tt; rows = inl (c.loop-id.invariant.1.0 clean) }
+pub returns-clause-writes : goal.returns-clause-writes
+returns-clause-writes g c = let so_far = c.loop-id.invariant in only_well so_far.0 so_far.1.0
 
 pub loop-id-preserved : goal.loop-id-preserved
 loop-id-preserved g c =
@@ -62,7 +44,7 @@ loop-id-preserved g c =
     let last = c.in_ok-remove_unit.ensures.leaves.goes in (
       goes_then a b d invariant.0 last,
       (
-        (λ clean. touched_again those a.now b.now d.now (invariant.1.0 (early b d _ last.on.crash clean)) (c.in_ok-remove_unit.ensures.only clean)),
+        (λ clean. touched_again unit_tables a.now b.now d.now (invariant.1.0 (early b d _ last.on.crash clean)) (c.in_ok-remove_unit.ensures.only clean)),
         λ clean xs stored up listed.
             let gone = take i ids in
             let before = invariant.1.1 (early b d _ last.on.crash clean) xs stored up listed in

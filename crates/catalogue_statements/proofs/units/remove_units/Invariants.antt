@@ -1,8 +1,8 @@
-use Rattle.std.proofs.Common.{◌≡◌, List, [], ◌∷◌, map, take}
+use Rattle.std.proofs.Common.{◌≡◌, List, map, take}
 use Rattle.sqlite.specs.Held.{state}
 use Rattle.sqlite.specs.State.{HasCleanDisk}
 use Rattle.office_tables.specs.Order.{Rises}
-use Rattle.catalogue_statements.specs.Removals.{AreListed, AreRemoved}
+use Rattle.catalogue_statements.specs.Removals.{AreListed, AreRemoved, unit_tables}
 use Rattle.catalogue_statements.specs.Rows.{unit_row, by_number}
 use Rattle.office_tables.specs.Step.{Goes, OnlyTouches}
 use Rattle.catalogue_core.specs.Units.{Unit}
@@ -12,6 +12,6 @@ use Rattle.catalogue_statements.proofs.units.remove_units.Given as goal
 abbrev pub invariant-loop-id : goal.invariant-loop-id
 invariant-loop-id g l =
     Goes (state g.S.Store l.initial.tables) (state g.S.Store l.tables)
-    × ((HasCleanDisk (state g.S.Store l.tables) → OnlyTouches (tables.permit.tree ∷ tables.unit.tree ∷ tables.element.tree ∷ tables.housing.tree ∷ []) (state g.S.Store l.initial.tables).now (state g.S.Store l.tables).now)
+    × ((HasCleanDisk (state g.S.Store l.tables) → OnlyTouches unit_tables (state g.S.Store l.initial.tables).now (state g.S.Store l.tables).now)
     × (HasCleanDisk (state g.S.Store l.tables) → (xs : List Unit) → (state g.S.Store l.initial.tables).now.trees tables.unit.tree ≡ map unit_row xs → Rises by_number xs → AreListed l.ids xs
     → AreRemoved (take l.id-index l.ids) (state g.S.Store l.initial.tables).now (state g.S.Store l.tables).now))

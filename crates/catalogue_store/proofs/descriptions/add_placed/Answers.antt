@@ -18,7 +18,7 @@ use Rattle.office_tables.proofs.Outcomes.{on_ok_by}
 use Rattle.office_tables.proofs.Touching.{touched_then, touched_wider}
 use Rattle.catalogue_statements.proofs.NewUnits.{no_unit, shows_added}
 use Rattle.catalogue_statements.proofs.Untold.{none_yet, unit_added}
-use Rattle.catalogue_store.proofs.Telling.{elements_shown, housed_shown, same_described, same_elements, same_housed}
+use Rattle.catalogue_store.proofs.Telling.{descriptions_in, descriptions_shown, same_described, same_descriptions}
 use Rattle.office_tables.proofs.Sparing.{last_touched, untouched_last, wider_spares}
 use Rattle.catalogue_store.proofs.descriptions.add_placed.Goals as goal
 
@@ -72,23 +72,26 @@ returns-in_err-describe g c =
           (same_fault c.from_residual-in_err-describe.result e handed.0 handed.1) went.on
           (λ at_d. touched_wider (tables.unit.tree ∷ tables.link.tree ∷ []) catalogue_trees a.now d.now refl
           (touched_then (tables.unit.tree ∷ []) (tables.link.tree ∷ []) a.now b.now d.now (c.in_ok-insert_unit.ensures.puts (early b d _ c.in_ok-add.ensures.updates.goes.on.crash at_d)).only (c.in_ok-add.ensures.updates.only at_d)))
-          c.in_err-describe.ensures.aborts
-          (λ clean. wider_spares (tables.element.tree ∷ tables.container.tree ∷ tables.housing.tree ∷ []) catalogue_trees d (state g.S.Store c.describe.new.tables) e refl (c.in_err-describe.ensures.spares clean))
+          c.in_err-describe.ensures.leaves.aborts
+          (λ clean. wider_spares (tables.element.tree ∷ tables.container.tree ∷ tables.housing.tree ∷ []) catalogue_trees d (state g.S.Store c.describe.new.tables) e refl (c.in_err-describe.ensures.leaves.spares clean))
           (λ o k it may kept at_d clean free.
           let v = g.P.Versioned.version in
           let shown = record o { next_unit = k.next } in
           let at = it.catalogue in
-          let xs = at.elements.elements in
-          let hs = at.housings.housings in
+          let told = descriptions_in v a.now shown k at in
           let at_b = early b d _ c.in_ok-add.ensures.updates.goes.on.crash at_d in
           let put = c.in_ok-insert_unit.ensures.puts at_b in
           let only = put.only in
           let aside = c.in_ok-add.ensures.updates.only at_d in
           let unit = unit_added a.now.trees d.now.trees u at.units.units at.units.rows (aside tables.unit.tree refl refl ∙ put.rows) in
-          let texts = same_elements a.now.trees d.now.trees xs (aside tables.element.tree refl refl ∙ only tables.element.tree refl refl) (elements_shown v a.now shown k at) in
-          let housed = same_housed a.now.trees d.now.trees k.containers hs (aside tables.container.tree refl refl ∙ only tables.container.tree refl refl) (aside tables.housing.tree refl refl ∙ only tables.housing.tree refl refl) (housed_shown v a.now shown k at may.knows) in
-          c.in_err-describe.ensures.faults unit kept.1.whole k.containers xs hs texts housed kept.0.few_boxes
-          (none_yet (λ (x : ElementRow). x.unit) u.id k.forest xs kept.1.number at.elements.others) (none_yet (λ (h : HousingRow). h.unit) u.id k.forest hs kept.1.number at.housings.others) clean free);
+          let here = same_descriptions a.now.trees d.now.trees told (aside tables.element.tree refl refl ∙ only tables.element.tree refl refl) (aside tables.container.tree refl refl ∙ only tables.container.tree refl refl) (aside tables.housing.tree refl refl ∙ only tables.housing.tree refl refl) (descriptions_shown v a.now shown k at may.knows) in
+          c.in_err-describe.ensures.faults told here (
+            unit,
+            kept.1.whole,
+            kept.0.few_boxes,
+            none_yet (λ (x : ElementRow). x.unit) u.id k.forest told.elements kept.1.number at.elements.others,
+            none_yet (λ (h : HousingRow). h.unit) u.id k.forest told.housed.rows kept.1.number at.housings.others,
+          ) clean free);
     }
 
 pub returns : goal.returns
@@ -107,21 +110,20 @@ returns g c =
     let added = c.in_ok-add.ensures.updates in
     let described = c.in_ok-describe.ensures in
     let numbered = c.set_next_unit.ensures in
-    let went = goes_then a d e (goes_then a b d c.in_ok-insert_unit.ensures.leaves.goes added.goes) described.goes in
+    let went = goes_then a d e (goes_then a b d c.in_ok-insert_unit.ensures.leaves.goes added.goes) described.leaves.goes in
     record {
       updates = record {
         represents_updated = λ clean o k it may.
             let before = record o { next_unit = k.next } in
             let at = it.catalogue in
-            let xs = at.elements.elements in
-            let hs = at.housings.housings in
+            let rows = descriptions_in v a.now before k at in
             let ids = each (λ (x : Unit). x.id) k.forest in
             let grown = add nat_eq parent u.id ids in
             let shown = RepresentsNumbered represents v h.now o (with_numbered parent u k) in
             on_ok_by r (Goes e h) shown
             (λ last.
             let at_e = early e h _ last.on.crash clean in
-            let at_d = early d e _ described.goes.on.crash at_e in
+            let at_d = early d e _ described.leaves.goes.on.crash at_e in
             let at_b = early b d _ added.goes.on.crash at_d in
             let put = c.in_ok-insert_unit.ensures.puts at_b in
             let kept = put.only in
@@ -129,9 +131,8 @@ returns g c =
             let placed = added.represents_updated at_d tt ids (same a.now.trees b.now.trees ids (kept tables.link.tree refl refl) it.shown)
             (has_place-each nat_eq (λ (x : Unit). x.id) parent k.forest ∙ may.place, has-each (nat_eq u.id) (λ (x : Unit). x.id) k.forest ∙ new_id) in
             let aside = added.only at_d in
-            let texts = same_elements a.now.trees d.now.trees xs (aside tables.element.tree refl refl ∙ kept tables.element.tree refl refl) (elements_shown v a.now before k at) in
-            let housed = same_housed a.now.trees d.now.trees k.containers hs (aside tables.container.tree refl refl ∙ kept tables.container.tree refl refl) (aside tables.housing.tree refl refl ∙ kept tables.housing.tree refl refl) (housed_shown v a.now before k at may.knows) in
-            let made = described.answers at_e k.containers xs hs texts housed in
+            let here = same_descriptions a.now.trees d.now.trees rows (aside tables.element.tree refl refl ∙ kept tables.element.tree refl refl) (aside tables.container.tree refl refl ∙ kept tables.container.tree refl refl) (aside tables.housing.tree refl refl ∙ kept tables.housing.tree refl refl) (descriptions_shown v a.now before k at may.knows) in
+            let made = described.makes at_e rows here in
             let told = described.only at_e in
             let office = told tables.office.tree refl refl ∙ aside tables.office.tree refl refl ∙ kept tables.office.tree refl refl ∙ at.office in
             on_ok_then r (HasRows tables.office.tree (office_row v (record before { next_unit = u.id + 1 }) ∷ []) e.now h.now) shown
@@ -140,7 +141,7 @@ returns g c =
               office = wrote.are;
               units = wrote.only tables.unit.tree refl refl ∙ told tables.unit.tree refl refl ∙ aside tables.unit.tree refl refl ∙ put.rows;
               fresh = put.fresh;
-              described = same_described e.now.trees h.now.trees u.id u.values k.containers xs hs (wrote.only tables.element.tree refl refl) (wrote.only tables.container.tree refl refl) (wrote.only tables.housing.tree refl refl) made;
+              described = same_described e.now.trees h.now.trees u.id u.values rows.housed.boxes rows.elements rows.housed.rows (wrote.only tables.element.tree refl refl) (wrote.only tables.container.tree refl refl) (wrote.only tables.housing.tree refl refl) made;
               shown = same e.now.trees h.now.trees grown (wrote.only tables.link.tree refl refl) (same d.now.trees e.now.trees grown (told tables.link.tree refl refl) placed);
             }))
             (numbered.rows clean v before office))
@@ -154,7 +155,7 @@ returns g c =
             on_ok_by r (Goes e h) touched
             (λ last.
             let at_e = early e h _ last.on.crash clean in
-            let at_d = early d e _ described.goes.on.crash at_e in
+            let at_d = early d e _ described.leaves.goes.on.crash at_e in
             let at_b = early b d _ added.goes.on.crash at_d in
             let two = touched_then unit link a.now b.now d.now (c.in_ok-insert_unit.ensures.puts at_b).only (added.only at_d) in
             let three = touched_then (tables.unit.tree ∷ link) told a.now d.now e.now two (described.only at_e) in
@@ -170,14 +171,14 @@ returns g c =
             let unit = tables.unit.tree ∷ [] in
             let link = tables.link.tree ∷ [] in
             let told = tables.element.tree ∷ tables.container.tree ∷ tables.housing.tree ∷ [] in
-            let at_d = early d e _ described.goes.on.crash at_e in
+            let at_d = early d e _ described.leaves.goes.on.crash at_e in
             let at_b = early b d _ added.goes.on.crash at_d in
             let two = touched_then unit link a.now b.now d.now (c.in_ok-insert_unit.ensures.puts at_b).only (added.only at_d) in
             touched_wider (tables.unit.tree ∷ tables.link.tree ∷ told) catalogue_trees a.now e.now refl (touched_then (tables.unit.tree ∷ link) told a.now d.now e.now two (described.only at_e)))
             r numbered.leaves.aborts clean (untouched_last catalogue_trees e h r (numbered.leaves.spares clean));
         faults = λ o k it may kept. excused_then a e h went.on r numbered.leaves.aborts (λ at_e.
             let before = record o { next_unit = k.next } in
-            let at_d = early d e _ described.goes.on.crash at_e in
+            let at_d = early d e _ described.leaves.goes.on.crash at_e in
             let at_b = early b d _ added.goes.on.crash at_d in
             let only = (c.in_ok-insert_unit.ensures.puts at_b).only in
             let aside = added.only at_d in

@@ -1,7 +1,6 @@
-use Rattle.std.proofs.Common.{◌≡◌, ℕ, List, [], filter, length, nat_eq, sym, ap, subst, ◌∙◌, arith}
+use Rattle.std.proofs.Common.{◌≡◌, ℕ, List, [], filter, map, nat_eq, refl, sym, ap, subst, ◌∙◌, arith}
 use Rattle.std.specs.Prelude.{⊤, find, option_map, unwrap_or}
 use Rattle.std.specs.List.Sorted.{IsPermutation}
-use Rattle.std.proofs.lemmas.List.{length-map}
 use Rattle.std.proofs.lemmas.List.Sorted.{IsPermutation-refl}
 use Rattle.sqlite.specs.Effect.{Database}
 use Rattle.sqlite.specs.Held.{state}
@@ -20,6 +19,7 @@ use Rattle.office_tables.proofs.CallEnds.{same_fault}
 use Rattle.office_tables.proofs.StoreCalls.{tells_not, tells_cut}
 use Rattle.office_tables.proofs.Calls.{cut_after, early, looks_then}
 use Rattle.office_tables.proofs.numbered.OwnNumbers.{still_numbered}
+use Rattle.office_tables.proofs.Reading.{first_shown}
 use Rattle.office_tables.proofs.Sparing.{spares_full}
 use Rattle.catalogue_statements.proofs.FirstTexts.{text_among_first}
 use Rattle.catalogue_statements.proofs.FoundUnits.{none_found, one_told}
@@ -28,15 +28,15 @@ use Rattle.tree_places.proofs.MarkCauses.{legible_units}
 use Rattle.catalogue_store.proofs.ValueCauses.{legible_elements}
 use Rattle.catalogue_store.proofs.heads.find_head.Goals as goal
 
-pub returns-in_err-found : goal.returns-in_err-found
-returns-in_err-found g c =
+pub returns-in_err-standing : goal.returns-in_err-standing
+returns-in_err-standing g c =
     let a = state g.S.Store c.args.tables.now in
     let handed = c.from_residual.ensures in
-    let e = c.in_err-found.field-0.0 in
+    let e = c.in_err-standing.field-0.0 in
     record {
-      answers = tells_not g.S.Store (Represents g.P.Places.represents g.P.Versioned.version) IsKept (λ _. ⊤) c.args.tables.now c.standings_of.new.tables c.from_residual.result (λ _ k head. head ≡ option_map head_of (find (has_id c.args.unit) (nodes k.forest))) e
-          (same_fault c.from_residual.result e handed.0 handed.1) c.in_err-found.ensures.reads.aborts c.in_err-found.ensures.reads.spares
-          (λ o k it may kept clean free. let at = it.catalogue.units in c.in_err-found.ensures.faults at.units at.rows (legible_units a.now.trees k at kept) clean free);
+      answers = tells_not g.S.Store (Represents g.P.Places.represents g.P.Versioned.version) IsKept (λ _. ⊤) c.args.tables.now c.find_standing.new.tables c.from_residual.result (λ _ k head. head ≡ option_map head_of (find (has_id c.args.unit) (nodes k.forest))) e
+          (same_fault c.from_residual.result e handed.0 handed.1) c.in_err-standing.ensures.reads.aborts c.in_err-standing.ensures.reads.spares
+          (λ o k it may kept clean free. let at = it.catalogue.units in c.in_err-standing.ensures.faults at.units at.rows (legible_units a.now.trees k at kept) clean free);
     }
 
 pub returns-in_default : goal.returns-in_default
@@ -47,10 +47,10 @@ returns-in_default g c =
         answers = λ clean o k it.
             let at = it.catalogue.units in
             let rows = filter (has_id c.args.unit) at.units in
-            let got = c.in_ok-found.ensures.answers clean at.units at.rows at.rise in
-            let few : length rows ≡ 0 = omega (arith, c.in_default.ensures.cases.0, c.in_ok-found.found.ok.0, ap length got, length-map rows standing_of) in
-            sym (ap (option_map head_of) (none_found a.now.trees k.forest at c.args.unit rows (IsPermutation-refl rows) few));
-        looks = c.in_ok-found.ensures.reads.looks;
+            let got = c.in_ok-standing.ensures.answers clean at.units at.rows at.rise in
+            let told = first_shown standing_of (has_id c.args.unit) at.units (map standing_of rows) refl ∙ (sym got ∙ c.in_default.is) in
+            sym (ap (option_map head_of) (none_found a.now.trees k.forest at c.args.unit rows (IsPermutation-refl rows) standing_of told));
+        looks = c.in_ok-standing.ensures.reads.looks;
         aborts = tt;
         spares = λ clean. tt;
         faults = λ o k it may kept clean free. tt;
@@ -62,9 +62,9 @@ returns-in_err-elements g c =
     let a = state g.S.Store c.args.tables.now in
     let handed = c.from_residual-in_err-elements.ensures in
     let e = c.in_err-elements.field-0.0 in
-    let looked = c.in_ok-found.ensures.reads.looks in
+    let looked = c.in_ok-standing.ensures.reads.looks in
     record {
-      answers = tells_cut g.S.Store (Represents g.P.Places.represents g.P.Versioned.version) IsKept (λ _. ⊤) c.args.tables.now c.standings_of.new.tables c.first_elements.new.tables c.from_residual-in_err-elements.result (λ _ k head. head ≡ option_map head_of (find (has_id c.args.unit) (nodes k.forest))) e
+      answers = tells_cut g.S.Store (Represents g.P.Places.represents g.P.Versioned.version) IsKept (λ _. ⊤) c.args.tables.now c.find_standing.new.tables c.first_elements.new.tables c.from_residual-in_err-elements.result (λ _ k head. head ≡ option_map head_of (find (has_id c.args.unit) (nodes k.forest))) e
           (same_fault c.from_residual-in_err-elements.result e handed.0 handed.1) looked c.in_err-elements.ensures.reads.aborts c.in_err-elements.ensures.reads.spares
           (λ o k it may kept at_b clean free.
           let at = it.catalogue.elements in
@@ -74,10 +74,10 @@ returns-in_err-elements g c =
 pub returns-in_err-identifier : goal.returns-in_err-identifier
 returns-in_err-identifier g c =
     let a = state g.S.Store c.args.tables.now in
-    let b = state g.S.Store c.standings_of.new.tables in
+    let b = state g.S.Store c.find_standing.new.tables in
     let d = state g.S.Store c.first_elements.new.tables in
     let handed = c.from_residual-in_err-identifier.ensures in
-    let looked = looks_then a b d c.in_ok-found.ensures.reads.looks c.in_ok-elements.ensures.reads.looks in
+    let looked = looks_then a b d c.in_ok-standing.ensures.reads.looks c.in_ok-elements.ensures.reads.looks in
     record {
       answers = tells_not g.S.Store (Represents g.P.Places.represents g.P.Versioned.version) IsKept (λ _. ⊤) c.args.tables.now c.first_elements.new.tables c.from_residual-in_err-identifier.result (λ _ k head. head ≡ option_map head_of (find (has_id c.args.unit) (nodes k.forest))) fault.Memory
           (same_fault c.from_residual-in_err-identifier.result fault.Memory handed.0 handed.1) (cut_after a d looked.goes.on) (spares_full a d looked) (λ o k it may kept clean free. tt);
@@ -86,10 +86,10 @@ returns-in_err-identifier g c =
 pub returns-in_err-title : goal.returns-in_err-title
 returns-in_err-title g c =
     let a = state g.S.Store c.args.tables.now in
-    let b = state g.S.Store c.standings_of.new.tables in
+    let b = state g.S.Store c.find_standing.new.tables in
     let d = state g.S.Store c.first_elements.new.tables in
     let handed = c.from_residual-in_err-title.ensures in
-    let looked = looks_then a b d c.in_ok-found.ensures.reads.looks c.in_ok-elements.ensures.reads.looks in
+    let looked = looks_then a b d c.in_ok-standing.ensures.reads.looks c.in_ok-elements.ensures.reads.looks in
     record {
       answers = tells_not g.S.Store (Represents g.P.Places.represents g.P.Versioned.version) IsKept (λ _. ⊤) c.args.tables.now c.first_elements.new.tables c.from_residual-in_err-title.result (λ _ k head. head ≡ option_map head_of (find (has_id c.args.unit) (nodes k.forest))) fault.Memory
           (same_fault c.from_residual-in_err-title.result fault.Memory handed.0 handed.1) (cut_after a d looked.goes.on) (spares_full a d looked) (λ o k it may kept clean free. tt);
@@ -98,9 +98,9 @@ returns-in_err-title g c =
 pub returns : goal.returns
 returns g c =
     let a = state g.S.Store c.args.tables.now in
-    let b = state g.S.Store c.standings_of.new.tables in
+    let b = state g.S.Store c.find_standing.new.tables in
     let d = state g.S.Store c.first_elements.new.tables in
-    let looked = c.in_ok-found.ensures.reads.looks in
+    let looked = c.in_ok-standing.ensures.reads.looks in
     let among = λ (n : ℕ) (elements : List Element). unwrap_or (option_map (λ (e : Element). e.value) (find (λ (e : Element). nat_eq e.k n) elements)) [] in
     record {
       answers = record {
@@ -109,8 +109,9 @@ returns g c =
             let texts = it.catalogue.elements in
             let at_b = early b d _ c.in_ok-elements.ensures.reads.looks.goes.on.crash clean in
             let rows = filter (has_id c.args.unit) at.units in
-            let got = c.in_ok-found.ensures.answers at_b at.units at.rows at.rise in
-            let found = one_told a.now.trees k.forest at c.args.unit rows (IsPermutation-refl rows) standing_of c.pop.new.self.items c.in-Some.standing (sym got ∙ c.in-Some.ensures.items) in
+            let got = c.in_ok-standing.ensures.answers at_b at.units at.rows at.rise in
+            let first = first_shown standing_of (has_id c.args.unit) at.units (map standing_of rows) refl ∙ (sym got ∙ c.in-Some.is) in
+            let found = one_told a.now.trees k.forest at c.args.unit rows (IsPermutation-refl rows) standing_of c.in-Some.standing first in
             let u = found.0 in
             let told = subst (λ n. IsPermutation (element_cells u.values) (elements_of n texts.elements)) (sym found.2)
             (all_has (λ (u : Unit). IsPermutation (element_cells u.values) (elements_of u.id texts.elements)) (nodes k.forest) u texts.are found.1) in

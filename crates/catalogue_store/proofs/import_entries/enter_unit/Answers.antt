@@ -19,7 +19,7 @@ use Rattle.office_tables.proofs.Touching.{touched_then, touched_wider}
 use Rattle.catalogue_statements.proofs.Untold.{none_yet, unit_added}
 use Rattle.catalogue_store.specs.ImportEntries.{with_entered}
 use Rattle.catalogue_store.proofs.Entered.{shows_entered}
-use Rattle.catalogue_store.proofs.Telling.{elements_shown, housed_shown, same_elements, same_housed}
+use Rattle.catalogue_store.proofs.Telling.{descriptions_in, descriptions_shown, same_descriptions}
 use Rattle.office_tables.proofs.Sparing.{last_touched, wider_last}
 use Rattle.catalogue_store.proofs.import_entries.enter_unit.Goals as goal
 
@@ -46,53 +46,55 @@ returns g c =
     let d = state g.S.Store c.describe.new.tables in
     let u = unit_of c.args.unit.now in
     let r = c.describe.result in
-    let told = tables.element.tree ∷ tables.container.tree ∷ tables.housing.tree ∷ [] in
+    let described = tables.element.tree ∷ tables.container.tree ∷ tables.housing.tree ∷ [] in
     let first = c.in_ok-insert_unit.ensures.leaves.goes in
+    let last = c.describe.ensures in
     record {
       updates = λ v parent. record {
         represents_updated = λ clean o k it may.
-            let xs = it.elements.elements in
-            let hs = it.housings.housings in
+            let told = descriptions_in v a.now o k it in
             let shown = RepresentsCatalogue v d.now o (with_entered parent u k) in
             on_ok_by r (Goes b d) shown
-            (λ last.
-            let at_b = early b d _ last.on.crash clean in
+            (λ went.
+            let at_b = early b d _ went.on.crash clean in
             let put = c.in_ok-insert_unit.ensures.puts at_b in
             let kept = put.only in
-            let texts = same_elements a.now.trees b.now.trees xs (kept tables.element.tree refl refl) (elements_shown v a.now o k it) in
-            let housed = same_housed a.now.trees b.now.trees k.containers hs (kept tables.container.tree refl refl) (kept tables.housing.tree refl refl) (housed_shown v a.now o k it may.knows) in
-            on_ok_both r (IsDescribed u.id u.values k.containers xs hs d.now.trees) (OnlyTouches told b.now d.now) shown
+            let here = same_descriptions a.now.trees b.now.trees told (kept tables.element.tree refl refl) (kept tables.container.tree refl refl) (kept tables.housing.tree refl refl) (descriptions_shown v a.now o k it may.knows) in
+            on_ok_both r (IsDescribed u.id u.values told.housed.boxes told.elements told.housed.rows d.now.trees) (OnlyTouches described b.now d.now) shown
             (λ made only. shows_entered v a.now d.now o k parent u it may.place may.knows (record {
-              schema = (goes_then a b d first last).schema clean;
+              schema = (goes_then a b d first went).schema clean;
               office = only tables.office.tree refl refl ∙ kept tables.office.tree refl refl;
               units = only tables.unit.tree refl refl ∙ put.rows;
               fresh = put.fresh;
               described = made;
             }))
-            (c.describe.ensures.answers clean k.containers xs hs texts housed) (c.describe.ensures.only clean))
-            c.describe.ensures.goes;
+            (last.makes clean told here) (last.only clean))
+            last.leaves.goes;
         only = λ clean.
             let touched = OnlyTouches described_trees a.now d.now in
             on_ok_by r (Goes b d) touched
-            (λ last.
-            let put = c.in_ok-insert_unit.ensures.puts (early b d _ last.on.crash clean) in
-            on_ok_then r (OnlyTouches told b.now d.now) touched
-            (λ only. touched_wider (tables.unit.tree ∷ told) described_trees a.now d.now refl (touched_then (tables.unit.tree ∷ []) told a.now b.now d.now put.only only))
-            (c.describe.ensures.only clean))
-            c.describe.ensures.goes;
-        goes = on_ok_then r (Goes b d) (Goes a d) (goes_then a b d first) c.describe.ensures.goes;
-        aborts = on_err_then r (IsAborted b d) (IsAborted a d) (cut_then a b d first.on) c.describe.ensures.aborts;
-        spares = λ clean. last_touched described_trees a b d first.on (λ at_b. touched_wider (tables.unit.tree ∷ []) described_trees a.now b.now refl (c.in_ok-insert_unit.ensures.puts at_b).only) r c.describe.ensures.aborts clean
-            (wider_last told described_trees b d r refl (c.describe.ensures.spares clean));
-        faults = λ o k it may kept. excused_then a b d first.on r c.describe.ensures.aborts (λ at_b.
-            let xs = it.elements.elements in
-            let hs = it.housings.housings in
+            (λ went.
+            let put = c.in_ok-insert_unit.ensures.puts (early b d _ went.on.crash clean) in
+            on_ok_then r (OnlyTouches described b.now d.now) touched
+            (λ only. touched_wider (tables.unit.tree ∷ described) described_trees a.now d.now refl (touched_then (tables.unit.tree ∷ []) described a.now b.now d.now put.only only))
+            (last.only clean))
+            last.leaves.goes;
+        goes = on_ok_then r (Goes b d) (Goes a d) (goes_then a b d first) last.leaves.goes;
+        aborts = on_err_then r (IsAborted b d) (IsAborted a d) (cut_then a b d first.on) last.leaves.aborts;
+        spares = λ clean. last_touched described_trees a b d first.on (λ at_b. touched_wider (tables.unit.tree ∷ []) described_trees a.now b.now refl (c.in_ok-insert_unit.ensures.puts at_b).only) r last.leaves.aborts clean
+            (wider_last described described_trees b d r refl (last.leaves.spares clean));
+        faults = λ o k it may kept. excused_then a b d first.on r last.leaves.aborts (λ at_b.
+            let told = descriptions_in v a.now o k it in
             let put = c.in_ok-insert_unit.ensures.puts at_b in
             let only = put.only in
             let unit = unit_added a.now.trees b.now.trees u it.units.units it.units.rows put.rows in
-            let texts = same_elements a.now.trees b.now.trees xs (only tables.element.tree refl refl) (elements_shown v a.now o k it) in
-            let housed = same_housed a.now.trees b.now.trees k.containers hs (only tables.container.tree refl refl) (only tables.housing.tree refl refl) (housed_shown v a.now o k it may.knows) in
-            c.describe.ensures.faults unit kept.1.whole k.containers xs hs texts housed kept.0.few_boxes
-            (none_yet (λ (x : ElementRow). x.unit) u.id k.forest xs kept.1.number it.elements.others) (none_yet (λ (h : HousingRow). h.unit) u.id k.forest hs kept.1.number it.housings.others));
+            let here = same_descriptions a.now.trees b.now.trees told (only tables.element.tree refl refl) (only tables.container.tree refl refl) (only tables.housing.tree refl refl) (descriptions_shown v a.now o k it may.knows) in
+            last.faults told here (
+              unit,
+              kept.1.whole,
+              kept.0.few_boxes,
+              none_yet (λ (x : ElementRow). x.unit) u.id k.forest told.elements kept.1.number it.elements.others,
+              none_yet (λ (h : HousingRow). h.unit) u.id k.forest told.housed.rows kept.1.number it.housings.others,
+            ));
       };
     }

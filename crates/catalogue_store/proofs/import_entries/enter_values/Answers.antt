@@ -1,4 +1,4 @@
-use Rattle.std.proofs.Common.{[], ◌∷◌, filter, not, nat_eq, refl, sym, ◌∙◌}
+use Rattle.std.proofs.Common.{[], ◌∷◌, nat_eq, refl, sym, ◌∙◌}
 use Rattle.std.specs.Prelude.{⊤}
 use Rattle.std.proofs.lemmas.List.Sorted.{list_any-IsPermutation}
 use Rattle.sqlite.specs.Held.{state}
@@ -8,7 +8,7 @@ use Rattle.catalogue_core.specs.Descriptions.{with_values, AreWhole, MayDescribe
 use Rattle.catalogue_core.specs.Units.{has_id}
 use Rattle.office_tables.specs.Schema as tables
 use Rattle.office_tables.specs.Step.{Goes, IsAborted, OnlyTouches}
-use Rattle.catalogue_statements.specs.DescriptionRows.{IsDescribed}
+use Rattle.catalogue_statements.specs.DescriptionRows.{IsDescribed, descriptions_of_others}
 use Rattle.catalogue_statements.specs.Rows.{ElementRow, HousingRow}
 use Rattle.catalogue_statements.specs.Representation.{RepresentsCatalogue, described_trees}
 use Rattle.office_tables.proofs.CallEnds.{excused_then, same_fault}
@@ -17,7 +17,7 @@ use Rattle.office_tables.proofs.Calls.{cut_then, early, goes_then, on_err_then, 
 use Rattle.office_tables.proofs.Outcomes.{on_ok_by}
 use Rattle.office_tables.proofs.Touching.{touched_then, touched_wider}
 use Rattle.catalogue_statements.proofs.Untold.{none_left, unit_valued}
-use Rattle.catalogue_store.proofs.Telling.{elements_shown, housed_shown, same_elements, same_housed}
+use Rattle.catalogue_store.proofs.Telling.{descriptions_in, descriptions_shown, same_descriptions}
 use Rattle.catalogue_store.proofs.Valued.{shows_valued}
 use Rattle.office_tables.proofs.Sparing.{last_touched, wider_last, wider_spares}
 use Rattle.catalogue_store.proofs.import_entries.enter_values.Goals as goal
@@ -44,13 +44,10 @@ returns-in_err-clear g c =
           (λ at_b. touched_wider (tables.unit.tree ∷ []) described_trees a.now b.now refl (c.in_ok-set_level.ensures.only at_b)) c.in_err-clear.ensures.leaves.aborts
           (λ clean. wider_spares (tables.element.tree ∷ tables.housing.tree ∷ []) described_trees b (state g.S.Store c.clear.new.tables) e refl (c.in_err-clear.ensures.leaves.spares clean))
           (λ o k it may kept at_b clean free.
-          let at = it in
-          let xs = at.elements.elements in
-          let hs = at.housings.housings in
+          let told = descriptions_in v a.now o k it in
           let only = c.in_ok-set_level.ensures.only at_b in
-          let texts = same_elements a.now.trees b.now.trees xs (only tables.element.tree refl refl) (elements_shown v a.now o k at) in
-          let housed = same_housed a.now.trees b.now.trees k.containers hs (only tables.container.tree refl refl) (only tables.housing.tree refl refl) (housed_shown v a.now o k at may.knows) in
-          c.in_err-clear.ensures.faults k.containers xs hs texts housed clean free);
+          let here = same_descriptions a.now.trees b.now.trees told (only tables.element.tree refl refl) (only tables.container.tree refl refl) (only tables.housing.tree refl refl) (descriptions_shown v a.now o k it may.knows) in
+          c.in_err-clear.ensures.faults told here tt clean free);
     }
 
 pub returns : goal.returns
@@ -64,72 +61,66 @@ returns g c =
     let r = c.describe.result in
     let leveled = c.in_ok-set_level.ensures in
     let cleared = c.in_ok-clear.ensures in
+    let last = c.describe.ensures in
     let went = goes_then a b d leveled.leaves.goes cleared.leaves.goes in
+    let level = tables.unit.tree ∷ [] in
+    let gone = tables.element.tree ∷ tables.housing.tree ∷ [] in
+    let described = tables.element.tree ∷ tables.container.tree ∷ tables.housing.tree ∷ [] in
     record {
       updates = λ v. record {
         represents_updated = λ clean o k it may.
-            let at = it in
-            let xs = at.elements.elements in
-            let hs = at.housings.housings in
-            let elements = filter (λ (x : ElementRow). not (nat_eq unit x.unit)) xs in
-            let housings = filter (λ (x : HousingRow). not (nat_eq unit x.unit)) hs in
+            let told = descriptions_in v a.now o k it in
+            let others = descriptions_of_others unit told in
             let shown = RepresentsCatalogue v e.now o (with_values unit values k) in
             on_ok_by r (Goes d e) shown
-            (λ last.
-            let before_d = early d e _ last.on.crash clean in
+            (λ further.
+            let before_d = early d e _ further.on.crash clean in
             let before_b = early b d _ cleared.leaves.goes.on.crash before_d in
-            let level = leveled.rows before_b at.units.units at.units.rows at.units.rise in
-            let kept = level.only in
-            let texts = same_elements a.now.trees b.now.trees xs (kept tables.element.tree refl refl) (elements_shown v a.now o k at) in
-            let housed = same_housed a.now.trees b.now.trees k.containers hs (kept tables.container.tree refl refl) (kept tables.housing.tree refl refl) (housed_shown v a.now o k at may.knows) in
-            let none = cleared.clears before_d k.containers xs hs texts housed in
+            let wrote = leveled.rows before_b it.units.units it.units.rows it.units.rise in
+            let kept = wrote.only in
+            let here = same_descriptions a.now.trees b.now.trees told (kept tables.element.tree refl refl) (kept tables.container.tree refl refl) (kept tables.housing.tree refl refl) (descriptions_shown v a.now o k it may.knows) in
             let still = cleared.only before_d in
-            on_ok_both r (IsDescribed unit values k.containers elements housings e.now.trees) (OnlyTouches (tables.element.tree ∷ tables.container.tree ∷ tables.housing.tree ∷ []) d.now e.now) shown
+            on_ok_both r (IsDescribed unit values others.housed.boxes others.elements others.housed.rows e.now.trees) (OnlyTouches described d.now e.now) shown
             (λ made only. (shows_valued unit values v (λ _ _. ⊤) (λ _ _ _ _ _. tt) a.now e.now o k (record { catalogue = it; shown = tt }) may.knows may.there (record {
-              schema = (goes_then a d e went last).schema clean;
+              schema = (goes_then a d e went further).schema clean;
               office = only tables.office.tree refl refl ∙ still tables.office.tree refl refl ∙ kept tables.office.tree refl refl;
               places = only tables.link.tree refl refl ∙ still tables.link.tree refl refl ∙ kept tables.link.tree refl refl;
-              units_are = only tables.unit.tree refl refl ∙ still tables.unit.tree refl refl ∙ level.are;
+              units_are = only tables.unit.tree refl refl ∙ still tables.unit.tree refl refl ∙ wrote.are;
               described = made;
             })).catalogue)
-            (c.describe.ensures.answers clean k.containers elements housings none.0 none.1) (c.describe.ensures.only clean))
-            c.describe.ensures.goes;
+            (last.makes clean others (cleared.makes before_d told here)) (last.only clean))
+            last.leaves.goes;
         only = λ clean.
             let touched = OnlyTouches described_trees a.now e.now in
-            let told = tables.element.tree ∷ tables.container.tree ∷ tables.housing.tree ∷ [] in
-            let gone = tables.element.tree ∷ tables.housing.tree ∷ [] in
             on_ok_by r (Goes d e) touched
-            (λ last.
-            let before_d = early d e _ last.on.crash clean in
+            (λ further.
+            let before_d = early d e _ further.on.crash clean in
             let before_b = early b d _ cleared.leaves.goes.on.crash before_d in
-            let first = touched_then (tables.unit.tree ∷ []) gone a.now b.now d.now (leveled.only before_b) (cleared.only before_d) in
-            on_ok_then r (OnlyTouches told d.now e.now) touched
-            (λ only. touched_wider (tables.unit.tree ∷ tables.element.tree ∷ tables.housing.tree ∷ tables.element.tree ∷ tables.container.tree ∷ tables.housing.tree ∷ []) described_trees a.now e.now refl
-            (touched_then (tables.unit.tree ∷ gone) told a.now d.now e.now first only))
-            (c.describe.ensures.only clean))
-            c.describe.ensures.goes;
-        goes = on_ok_then r (Goes d e) (Goes a e) (goes_then a d e went) c.describe.ensures.goes;
-        aborts = on_err_then r (IsAborted d e) (IsAborted a e) (cut_then a d e went.on) c.describe.ensures.aborts;
+            let first = touched_then level gone a.now b.now d.now (leveled.only before_b) (cleared.only before_d) in
+            on_ok_then r (OnlyTouches described d.now e.now) touched
+            (λ only. touched_wider (tables.unit.tree ∷ tables.element.tree ∷ tables.housing.tree ∷ described) described_trees a.now e.now refl (touched_then (tables.unit.tree ∷ gone) described a.now d.now e.now first only))
+            (last.only clean))
+            last.leaves.goes;
+        goes = on_ok_then r (Goes d e) (Goes a e) (goes_then a d e went) last.leaves.goes;
+        aborts = on_err_then r (IsAborted d e) (IsAborted a e) (cut_then a d e went.on) last.leaves.aborts;
         spares = λ clean. last_touched described_trees a d e went.on
-            (λ at_d. touched_wider (tables.unit.tree ∷ tables.element.tree ∷ tables.housing.tree ∷ []) described_trees a.now d.now refl
-            (touched_then (tables.unit.tree ∷ []) (tables.element.tree ∷ tables.housing.tree ∷ []) a.now b.now d.now (leveled.only (early b d _ cleared.leaves.goes.on.crash at_d)) (cleared.only at_d)))
-            r c.describe.ensures.aborts clean (wider_last (tables.element.tree ∷ tables.container.tree ∷ tables.housing.tree ∷ []) described_trees d e r refl (c.describe.ensures.spares clean));
-        faults = λ o k it may kept. excused_then a d e went.on r c.describe.ensures.aborts (λ before_d.
-            let at = it in
-            let xs = at.elements.elements in
-            let hs = at.housings.housings in
-            let elements = filter (λ (x : ElementRow). not (nat_eq unit x.unit)) xs in
-            let housings = filter (λ (x : HousingRow). not (nat_eq unit x.unit)) hs in
+            (λ at_d. touched_wider (tables.unit.tree ∷ gone) described_trees a.now d.now refl (touched_then level gone a.now b.now d.now (leveled.only (early b d _ cleared.leaves.goes.on.crash at_d)) (cleared.only at_d))) r last.leaves.aborts clean
+            (wider_last described described_trees d e r refl (last.leaves.spares clean));
+        faults = λ o k it may kept. excused_then a d e went.on r last.leaves.aborts (λ before_d.
+            let told = descriptions_in v a.now o k it in
             let before_b = early b d _ cleared.leaves.goes.on.crash before_d in
-            let level = leveled.rows before_b at.units.units at.units.rows at.units.rise in
-            let only = level.only in
-            let texts = same_elements a.now.trees b.now.trees xs (only tables.element.tree refl refl) (elements_shown v a.now o k at) in
-            let housed = same_housed a.now.trees b.now.trees k.containers hs (only tables.container.tree refl refl) (only tables.housing.tree refl refl) (housed_shown v a.now o k at may.knows) in
-            let none = cleared.clears before_d k.containers xs hs texts housed in
+            let wrote = leveled.rows before_b it.units.units it.units.rows it.units.rise in
+            let only = wrote.only in
+            let here = same_descriptions a.now.trees b.now.trees told (only tables.element.tree refl refl) (only tables.container.tree refl refl) (only tables.housing.tree refl refl) (descriptions_shown v a.now o k it may.knows) in
             let still = cleared.only before_d in
-            let listed = sym (list_any-IsPermutation (has_id unit) (nodes k.forest) at.units.units at.units.are) ∙ may.there in
-            let known = unit_valued d.now.trees unit values at.units.units (still tables.unit.tree refl refl ∙ level.are) listed in
-            c.describe.ensures.faults known kept.1 k.containers elements housings none.0 none.1 kept.0.few_boxes
-            (none_left (λ (x : ElementRow). nat_eq unit x.unit) xs) (none_left (λ (x : HousingRow). nat_eq unit x.unit) hs));
+            let listed = sym (list_any-IsPermutation (has_id unit) (nodes k.forest) it.units.units it.units.are) ∙ may.there in
+            let known = unit_valued d.now.trees unit values it.units.units (still tables.unit.tree refl refl ∙ wrote.are) listed in
+            last.faults (descriptions_of_others unit told) (cleared.makes before_d told here) (
+              known,
+              kept.1,
+              kept.0.few_boxes,
+              none_left (λ (x : ElementRow). nat_eq unit x.unit) told.elements,
+              none_left (λ (x : HousingRow). nat_eq unit x.unit) told.housed.rows,
+            ));
       };
     }

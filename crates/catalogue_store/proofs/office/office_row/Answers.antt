@@ -1,4 +1,4 @@
-use Rattle.std.proofs.Common.{◌≡◌, length, arith, ap, sym, ◌∙◌, refl}
+use Rattle.std.proofs.Common.{◌≡◌, Some, None, ap, sym, ◌∙◌, refl}
 use Rattle.std.specs.Prelude.{⊤}
 use Rattle.std.proofs.lemmas.List.Sorted.{length_permutation}
 use Rattle.sqlite.specs.Effect.{Database}
@@ -15,18 +15,41 @@ use Rattle.catalogue_store.specs.Offices.{told_office}
 use Rattle.office_tables.proofs.CallEnds.{same_fault}
 use Rattle.office_tables.proofs.StoreCalls.{tells_not, tells_cut}
 use Rattle.office_tables.proofs.Calls.{cut_after, early, looks_then}
-use Rattle.catalogue_statements.proofs.Offices.{last_of, length-counted, same_number, not_refused}
-use Rattle.office_tables.proofs.Sparing.{spares_known, spares_own}
+use Rattle.catalogue_statements.proofs.Numbered.{length-counted}
+use Rattle.office_tables.proofs.Sparing.{spares_known}
 use Rattle.catalogue_store.proofs.office.office_row.Goals as goal
+
+pub returns-in_default : goal.returns-in_default
+returns-in_default g c =
+    let a = state g.S.Store c.args.tables.now in
+    let b = state g.S.Store c.find_office.new.tables in
+    record {
+      answers = tells_not g.S.Store (RepresentsSettings g.P.Places.represents g.P.Versioned.version) AreLegibleSettings (λ _. ⊤) c.args.tables.now c.find_office.new.tables _ (λ k o office. office ≡ told_office k o) fault.Schema
+          refl (cut_after a b c.in_ok-row.ensures.reads.looks.goes.on) (spares_known a b c.in_ok-row.ensures.reads.looks)
+          (λ k o it may legible clean free. let clash : None ≡ Some o = sym c.in_default.is ∙ c.in_ok-row.ensures.row clean g.P.Versioned.version o it.catalogue.office in absurd (cc));
+    }
+
+pub returns-in_err-units : goal.returns-in_err-units
+returns-in_err-units g c =
+    let handed = c.from_residual-in_err-units.ensures in
+    let e = c.in_err-units.field-0.0 in
+    let looked = c.in_ok-row.ensures.reads.looks in
+    record {
+      answers = tells_cut g.S.Store (RepresentsSettings g.P.Places.represents g.P.Versioned.version) AreLegibleSettings (λ _. ⊤) c.args.tables.now c.find_office.new.tables c.count_units.new.tables c.from_residual-in_err-units.result (λ k o office. office ≡ told_office k o) e
+          (same_fault c.from_residual-in_err-units.result e handed.0 handed.1) looked c.in_err-units.ensures.reads.aborts c.in_err-units.ensures.reads.spares
+          (λ k o it may legible at_b clean free.
+          let at = it.catalogue.units in
+          c.in_err-units.ensures.faults at.units (ap (λ (db : Database). db.trees tables.unit.tree) (looked.same at_b) ∙ at.rows) tt clean free);
+    }
 
 pub returns-in_err-containers : goal.returns-in_err-containers
 returns-in_err-containers g c =
     let a = state g.S.Store c.args.tables.now in
-    let b = state g.S.Store c.office_rows.new.tables in
+    let b = state g.S.Store c.find_office.new.tables in
     let d = state g.S.Store c.count_units.new.tables in
     let handed = c.from_residual-in_err-containers.ensures in
     let e = c.in_err-containers.field-0.0 in
-    let looked = looks_then a b d c.in_ok-rows.ensures.reads.looks c.in_ok-units.ensures.reads.looks in
+    let looked = looks_then a b d c.in_ok-row.ensures.reads.looks c.in_ok-units.ensures.reads.looks in
     record {
       answers = tells_cut g.S.Store (RepresentsSettings g.P.Places.represents g.P.Versioned.version) AreLegibleSettings (λ _. ⊤) c.args.tables.now c.count_units.new.tables c.count_containers.new.tables c.from_residual-in_err-containers.result (λ k o office. office ≡ told_office k o) e
           (same_fault c.from_residual-in_err-containers.result e handed.0 handed.1) looked c.in_err-containers.ensures.reads.aborts c.in_err-containers.ensures.reads.spares
@@ -34,68 +57,13 @@ returns-in_err-containers g c =
           c.in_err-containers.ensures.faults (counted_from 1 k.containers) (ap (λ (db : Database). db.trees tables.container.tree) (looked.same at_d) ∙ it.catalogue.containers) tt clean free);
     }
 
-pub returns-in_default : goal.returns-in_default
-returns-in_default g c =
-    let a = state g.S.Store c.args.tables.now in
-    let b = state g.S.Store c.office_rows.new.tables in
-    let d = state g.S.Store c.count_units.new.tables in
-    let e = state g.S.Store c.count_containers.new.tables in
-    let looked = looks_then a d e (looks_then a b d c.in_ok-rows.ensures.reads.looks c.in_ok-units.ensures.reads.looks) c.in_ok-containers.ensures.reads.looks in
-    record {
-      answers = tells_not g.S.Store (RepresentsSettings g.P.Places.represents g.P.Versioned.version) AreLegibleSettings (λ _. ⊤) c.args.tables.now c.count_containers.new.tables _ (λ k o office. office ≡ told_office k o) fault.Schema
-          refl (cut_after a e looked.goes.on) (spares_known a e looked)
-          (λ k o it may legible clean free.
-          let at_d = early d e _ c.in_ok-containers.ensures.reads.looks.goes.on.crash clean in
-          let at_b = early b d _ c.in_ok-units.ensures.reads.looks.goes.on.crash at_d in
-          absurd (omega (arith, ap length (c.in_ok-rows.ensures.rows at_b g.P.Versioned.version o it.catalogue.office), c.in_default.ensures.cases.0)));
-    }
-
-pub returns-in_err-only_number : goal.returns-in_err-only_number
-returns-in_err-only_number g c =
-    let a = state g.S.Store c.args.tables.now in
-    let b = state g.S.Store c.office_rows.new.tables in
-    let d = state g.S.Store c.count_units.new.tables in
-    let e = state g.S.Store c.count_containers.new.tables in
-    let handed = c.from_residual-in_err-only_number.ensures in
-    let fault = c.in_err-only_number.field-0.0 in
-    let looked = looks_then a d e (looks_then a b d c.in_ok-rows.ensures.reads.looks c.in_ok-units.ensures.reads.looks) c.in_ok-containers.ensures.reads.looks in
-    record {
-      answers = tells_not g.S.Store (RepresentsSettings g.P.Places.represents g.P.Versioned.version) AreLegibleSettings (λ _. ⊤) c.args.tables.now c.count_containers.new.tables c.from_residual-in_err-only_number.result (λ k o office. office ≡ told_office k o) fault
-          (same_fault c.from_residual-in_err-only_number.result fault handed.0 handed.1) (cut_after a e looked.goes.on) (λ clean. spares_own a e looked clean fault c.in_err-only_number.ensures.fair)
-          (λ k o it may legible clean free.
-          let at_d = early d e _ c.in_ok-containers.ensures.reads.looks.goes.on.crash clean in
-          let at_b = early b d _ c.in_ok-units.ensures.reads.looks.goes.on.crash at_d in
-          let at = it.catalogue.units in
-          let counted = c.in_ok-units.ensures.answers at_d at.units (ap (λ (db : Database). db.trees tables.unit.tree) (c.in_ok-rows.ensures.reads.looks.same at_b) ∙ at.rows) tt in
-          absurd (not_refused (c.in_err-only_number.ensures.value (cap (length at.units)) (c.deref.ensures.value ∙ counted))));
-    }
-
-pub returns-in_err-only_number-2 : goal.returns-in_err-only_number-2
-returns-in_err-only_number-2 g c =
-    let a = state g.S.Store c.args.tables.now in
-    let b = state g.S.Store c.office_rows.new.tables in
-    let d = state g.S.Store c.count_units.new.tables in
-    let e = state g.S.Store c.count_containers.new.tables in
-    let handed = c.from_residual-in_err-only_number-2.ensures in
-    let fault = c.in_err-only_number-2.field-0.0 in
-    let looked_d = looks_then a b d c.in_ok-rows.ensures.reads.looks c.in_ok-units.ensures.reads.looks in
-    let looked = looks_then a d e looked_d c.in_ok-containers.ensures.reads.looks in
-    record {
-      answers = tells_not g.S.Store (RepresentsSettings g.P.Places.represents g.P.Versioned.version) AreLegibleSettings (λ _. ⊤) c.args.tables.now c.count_containers.new.tables c.from_residual-in_err-only_number-2.result (λ k o office. office ≡ told_office k o) fault
-          (same_fault c.from_residual-in_err-only_number-2.result fault handed.0 handed.1) (cut_after a e looked.goes.on) (λ clean. spares_own a e looked clean fault c.in_err-only_number-2.ensures.fair)
-          (λ k o it may legible clean free.
-          let at_d = early d e _ c.in_ok-containers.ensures.reads.looks.goes.on.crash clean in
-          let boxes = c.in_ok-containers.ensures.answers clean (counted_from 1 k.containers) (ap (λ (db : Database). db.trees tables.container.tree) (looked_d.same at_d) ∙ it.catalogue.containers) tt in
-          absurd (not_refused (c.in_err-only_number-2.ensures.value (cap (length (counted_from 1 k.containers))) (c.deref-2.ensures.value ∙ boxes))));
-    }
-
 pub returns : goal.returns
 returns g c =
     let a = state g.S.Store c.args.tables.now in
-    let b = state g.S.Store c.office_rows.new.tables in
+    let b = state g.S.Store c.find_office.new.tables in
     let d = state g.S.Store c.count_units.new.tables in
     let e = state g.S.Store c.count_containers.new.tables in
-    let looked_b = c.in_ok-rows.ensures.reads.looks in
+    let looked_b = c.in_ok-row.ensures.reads.looks in
     let looked_d = looks_then a b d looked_b c.in_ok-units.ensures.reads.looks in
     record {
       answers = record {
@@ -103,12 +71,12 @@ returns g c =
             let at = it.catalogue in
             let at_d = early d e _ c.in_ok-containers.ensures.reads.looks.goes.on.crash clean in
             let at_b = early b d _ c.in_ok-units.ensures.reads.looks.goes.on.crash at_d in
-            let row = last_of c.pop.new.self.items c.in-Some.row o (sym (c.in_ok-rows.ensures.rows at_b g.P.Versioned.version o at.office) ∙ c.in-Some.ensures.items) in
-            let counted = c.in_ok-units.ensures.answers at_d at.units.units (ap (λ (db : Database). db.trees tables.unit.tree) (looked_b.same at_b) ∙ at.units.rows) tt in
-            let units = same_number (c.in_ok-only_number.ensures.value (cap (length at.units.units)) (c.deref.ensures.value ∙ counted))
+            let same : Some c.in-Some.row ≡ Some o = sym c.in-Some.is ∙ c.in_ok-row.ensures.row at_b g.P.Versioned.version o at.office in
+            let row : c.in-Some.row ≡ o = cc in
+            let units = c.in_ok-units.ensures.answers at_d at.units.units (ap (λ (db : Database). db.trees tables.unit.tree) (looked_b.same at_b) ∙ at.units.rows) tt
             ∙ ap cap (length_permutation (nodes k.forest) at.units.units at.units.are ∙ length-nodes k.forest) in
-            let boxes = c.in_ok-containers.ensures.answers clean (counted_from 1 k.containers) (ap (λ (db : Database). db.trees tables.container.tree) (looked_d.same at_d) ∙ at.containers) tt in
-            let containers = same_number (c.in_ok-only_number-2.ensures.value (cap (length (counted_from 1 k.containers))) (c.deref-2.ensures.value ∙ boxes)) ∙ ap cap (length-counted 1 k.containers) in
+            let containers = c.in_ok-containers.ensures.answers clean (counted_from 1 k.containers) (ap (λ (db : Database). db.trees tables.container.tree) (looked_d.same at_d) ∙ at.containers) tt
+            ∙ ap cap (length-counted 1 k.containers) in
             rw (row, units, containers) refl;
         looks = looks_then a d e looked_d c.in_ok-containers.ensures.reads.looks;
         aborts = tt;

@@ -1,12 +1,17 @@
-use Rattle.std.proofs.Common.{rules, ℕ, List, [], ◌∷◌, take, get_or, sym, subst, arith}
+use Rattle.std.proofs.Common.{Err, inl, refl, ℕ, List, [], ◌∷◌, take, get_or, sym, subst, arith}
+use Rattle.std.specs.Prelude.{⊤}
+use Rattle.std.specs.List.{AllByRecursion}
 use Rattle.std.proofs.lemmas.List.{take_more, take_all}
 use Rattle.sqlite.specs.Held.{state}
+use Rattle.sqlite_trees.proofs.ListLemmas.{all-get_or}
+use Rattle.isad_core.specs.Limits.{IsNumber}
 use Rattle.catalogue_core.specs.CatalogueMerge.{Catalogue}
 use Rattle.catalogue_core.specs.Statuses.{with_status}
 use Rattle.office_tables.specs.Schema as tables
-use Rattle.office_tables.proofs.Calls.{early, goes_nowhere, goes_then}
-use Rattle.office_tables.proofs.CallEnds.{same_fault, left_fault, left_known, left_well}
-use Rattle.office_tables.proofs.Causes.{cause_then, still_unlimited}
+use Rattle.office_tables.specs.declared.fault.StoreFault.TheVariants as fault
+use Rattle.office_tables.proofs.Calls.{cut_after, early, goes_nowhere, goes_then}
+use Rattle.office_tables.proofs.CallEnds.{same_fault}
+use Rattle.office_tables.proofs.StoreCalls.{makes_cut, makes_part}
 use Rattle.office_tables.proofs.Touching.{nothing_touched, touched_again}
 use Rattle.catalogue_statements.specs.Representation.{Represents}
 use Rattle.catalogue_statements.proofs.Statuses.{draft_step, status_of_none}
@@ -41,38 +46,45 @@ loop-unit-preserved g c =
       only = λ clean. touched_again (tables.unit.tree ∷ []) a.now b.now d.now (so_far.only (early b d _ last.on.crash clean)) (c.in_ok-set_draft.ensures.only clean);
     }
 
-pub returns-then-unit-ge-NO_NUMBER-clause-leaves : goal.returns-then-unit-ge-NO_NUMBER-clause-leaves
-returns-then-unit-ge-NO_NUMBER-clause-leaves g c = left_known (tables.unit.tree ∷ []) (state g.S.Store c.args.tables.now) (state g.S.Store c.loop-unit.tables) c.loop-unit.invariant.goes c.loop-unit.invariant.only
-
-pub returns-in_err-set_draft-clause-leaves : goal.returns-in_err-set_draft-clause-leaves
-returns-in_err-set_draft-clause-leaves g c =
+pub returns-then-unit-ge-NO_NUMBER : goal.returns-then-unit-ge-NO_NUMBER
+returns-then-unit-ge-NO_NUMBER g c =
     let a = state g.S.Store c.args.tables.now in
     let b = state g.S.Store c.loop-unit.tables in
-    let d = state g.S.Store c.set_draft.new.tables in
-    let e = c.from_residual.ensures in
-    left_fault (tables.unit.tree ∷ []) a b d c.loop-unit.invariant.goes c.loop-unit.invariant.only c.from_residual.result c.in_err-set_draft.field-0.0 (same_fault c.from_residual.result c.in_err-set_draft.field-0.0 e.0 e.1) c.in_err-set_draft.ensures.leaves.aborts
-    (λ clean. untouched (tables.unit.tree ∷ []) b d c.in_err-set_draft.field-0.0 (c.in_err-set_draft.ensures.leaves.spares clean))
-
-pub returns-clause-leaves : goal.returns-clause-leaves
-returns-clause-leaves g c = left_well (tables.unit.tree ∷ []) (state g.S.Store c.args.tables.now) (state g.S.Store c.loop-unit.tables) c.loop-unit.invariant.goes
-
-pub returns-clause-represents : goal.returns-clause-represents
-returns-clause-represents g c clean o k it =
-    let b = state g.S.Store c.loop-unit.tables in
-    subst (λ (ids : List ℕ). Represents g.P.Places.represents g.P.Versioned.version b.now o (with_status ids c.args.draft k)) (take_all c.loop-unit.unit-index c.args.units.now (omega (arith, c.loop-unit-test.false)))
-    (c.loop-unit.invariant.represents clean o k it)
-
-pub returns-clause-only : goal.returns-clause-only
-returns-clause-only g c clean = c.loop-unit.invariant.only clean
-
-pub returns-in_err-set_draft-clause-faults : goal.returns-in_err-set_draft-clause-faults
-returns-in_err-set_draft-clause-faults g c o k it low clean free =
-    let a = state g.S.Store c.args.tables.now in
-    let b = state g.S.Store c.loop-unit.tables in
-    let d = state g.S.Store c.set_draft.new.tables in
+    let units = c.args.units.now in
     let so_far = c.loop-unit.invariant in
-    let before = early b d _ c.in_err-set_draft.ensures.leaves.aborts.crash clean in
+    makes_part g.S.Store (Represents g.P.Places.represents g.P.Versioned.version) (λ _. AllByRecursion IsNumber units) (λ _. ⊤) c.args.tables.now c.loop-unit.tables (Err fault.Schema) (with_status units c.args.draft) (tables.unit.tree ∷ []) fault.Schema refl
+    (cut_after a b so_far.goes.on) (λ clean. record { disk = tt; rows = inl (so_far.only clean) })
+    (λ o k it may numbers clean free.
+    let low = all-get_or IsNumber units c.loop-unit.unit-index 0 numbers c.loop-unit-test.true in
+    let great = c.if-unit-ge-NO_NUMBER.true in
+    absurd (omega (arith, low, great)))
+
+pub returns-in_err-set_draft : goal.returns-in_err-set_draft
+returns-in_err-set_draft g c =
+    let b = state g.S.Store c.loop-unit.tables in
+    let d = state g.S.Store c.set_draft.new.tables in
+    let units = c.args.units.now in
+    let e = c.in_err-set_draft.field-0.0 in
+    let r = c.from_residual.result in
+    let handed = c.from_residual.ensures in
+    let so_far = c.loop-unit.invariant in
+    let failed = c.in_err-set_draft.ensures in
+    makes_cut g.S.Store (Represents g.P.Places.represents g.P.Versioned.version) (λ _. AllByRecursion IsNumber units) (λ _. ⊤) c.args.tables.now c.loop-unit.tables c.set_draft.new.tables r (with_status units c.args.draft) (tables.unit.tree ∷ []) e (same_fault r e handed.0 handed.1)
+    so_far.goes.on so_far.only failed.leaves.aborts (λ clean. untouched (tables.unit.tree ∷ []) b d e (failed.leaves.spares clean))
+    (λ o k it may numbers before clean free.
     let at = (so_far.represents before o k it).catalogue.units in
-    let why = c.in_err-set_draft.ensures.faults at.units at.rows at.rise clean (still_unlimited a b so_far.goes.on free) in
-    let whole = cause_then a b d so_far.goes.on before _ why in
-    search (rules, whole)
+    failed.faults at.units at.rows at.rise clean free)
+
+pub returns : goal.returns
+returns g c =
+    let b = state g.S.Store c.loop-unit.tables in
+    let so_far = c.loop-unit.invariant in
+    record {
+      represents_updated = λ clean o k it may.
+          subst (λ (ids : List ℕ). Represents g.P.Places.represents g.P.Versioned.version b.now o (with_status ids c.args.draft k)) (take_all c.loop-unit.unit-index c.args.units.now (omega (arith, c.loop-unit-test.false))) (so_far.represents clean o k it);
+      only = so_far.only;
+      goes = so_far.goes;
+      aborts = tt;
+      spares = λ clean. tt;
+      faults = λ o k it may numbers clean free. tt;
+    }

@@ -33,8 +33,8 @@ returns-in_err-set_drafts-clause-updates g c =
     let b = state g.S.Store c.units_under.new.tables in
     let d = state g.S.Store c.set_drafts.new.tables in
     let told = c.in_ok-units.ensures.answers in
-    let cut = c.in_err-set_drafts.ensures.leaves.aborts in
-    let spares = c.in_err-set_drafts.ensures.leaves.spares in
+    let cut = c.in_err-set_drafts.ensures.aborts in
+    let spares = c.in_err-set_drafts.ensures.spares in
     let last = c.from_residual-in_err-set_drafts.ensures in
     let e = c.in_err-set_drafts.field-0.0 in
     makes_part g.S.Store (Represents g.P.Places.represents g.P.Versioned.version) IsKept (λ _. ⊤) c.args.tables.now c.set_drafts.new.tables c.from_residual-in_err-set_drafts.result (λ k. with_status (chosen c.args.whole c.args.unit k) c.args.draft k) (tables.unit.tree ∷ []) e
@@ -45,7 +45,7 @@ returns-in_err-set_drafts-clause-updates g c =
     let ids = c.deref.ensures.value ∙ told.answers before tt f it.shown in
     let low = subst (AllByRecursion IsNumber) (sym ids) (low_chosen c.args.whole c.args.unit f c.requires.small kept.places) in
     let shown = subst (λ (db : Database). Represents g.P.Places.represents g.P.Versioned.version db o k) (sym (told.looks.same before)) it in
-    c.in_err-set_drafts.ensures.faults o k shown low clean (still_unlimited a b told.looks.goes.on free)))
+    c.in_err-set_drafts.ensures.faults o k shown tt low clean (still_unlimited a b told.looks.goes.on free)))
 
 pub returns-clause-updates : goal.returns-clause-updates
 returns-clause-updates g c =
@@ -53,14 +53,14 @@ returns-clause-updates g c =
     let b = state g.S.Store c.units_under.new.tables in
     let d = state g.S.Store c.set_drafts.new.tables in
     let told = c.in_ok-units.ensures.answers in
-    let went = c.in_ok-set_drafts.ensures.leaves.goes in
+    let went = c.in_ok-set_drafts.ensures.goes in
     record {
       represents_updated = λ clean o k it may.
           let represents = λ (db : Database). Represents g.P.Places.represents g.P.Versioned.version db o in
           let before = early b d _ went.on.crash clean in
           let ids = c.deref.ensures.value ∙ told.answers before tt (each (λ (u : Unit). u.id) k.forest) it.shown in
           subst (λ (ids : List ℕ). represents d.now (with_status ids c.args.draft k)) ids
-          (c.in_ok-set_drafts.ensures.represents clean o k (subst (λ (db : Database). represents db k) (sym (told.looks.same before)) it));
+          (c.in_ok-set_drafts.ensures.represents_updated clean o k (subst (λ (db : Database). represents db k) (sym (told.looks.same before)) it) tt);
       only = λ clean. subst (λ (db : Database). OnlyTouches (tables.unit.tree ∷ []) db d.now) (told.looks.same (early b d _ went.on.crash clean)) (c.in_ok-set_drafts.ensures.only clean);
       goes = goes_then a b d told.looks.goes went;
       aborts = tt;
@@ -72,6 +72,6 @@ pub returns-clause-count : goal.returns-clause-count
 returns-clause-count g c clean f it =
     let b = state g.S.Store c.units_under.new.tables in
     let d = state g.S.Store c.set_drafts.new.tables in
-    let before = early b d _ c.in_ok-set_drafts.ensures.leaves.goes.on.crash clean in
+    let before = early b d _ c.in_ok-set_drafts.ensures.goes.on.crash clean in
     let long : c.len.result ≡ length c.in_ok-units.units.items = omega arith in
     long ∙ ap length (c.in_ok-units.ensures.answers.answers before tt f it)

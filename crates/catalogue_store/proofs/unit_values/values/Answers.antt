@@ -1,6 +1,5 @@
-use Rattle.std.proofs.Common.{◌≡◌, map, length, refl, sym, ap, subst, ◌∙◌, arith}
+use Rattle.std.proofs.Common.{◌≡◌, map, refl, sym, ap, subst, ◌∙◌}
 use Rattle.std.specs.Prelude.{option_map}
-use Rattle.std.proofs.lemmas.List.{length-map}
 use Rattle.sqlite.specs.Effect.{Database}
 use Rattle.sqlite.specs.Held.{state}
 use Rattle.catalogue_core.specs.Bounds.{IsKept}
@@ -15,7 +14,7 @@ use Rattle.catalogue_store.specs.declared.unit_values.UnitValues.{UnitValues}
 use Rattle.office_tables.proofs.CallEnds.{same_fault}
 use Rattle.office_tables.proofs.StoreCalls.{tells_not, tells_cut}
 use Rattle.office_tables.proofs.Calls.{early, looks_then}
-use Rattle.catalogue_statements.proofs.FoundUnits.{none_found, one_found}
+use Rattle.catalogue_statements.proofs.FoundUnits.{none_found, one_told}
 use Rattle.tree_places.proofs.MarkCauses.{legible_units}
 use Rattle.catalogue_store.proofs.UnitTold.{texts_told, containers_told, boxes_known}
 use Rattle.catalogue_store.proofs.ValueCauses.{legible_elements}
@@ -23,15 +22,15 @@ use Rattle.office_tables.proofs.numbered.OwnNumbers.{still_numbered}
 use Rattle.catalogue_statements.specs.Rows.{housing_row}
 use Rattle.catalogue_store.proofs.unit_values.values.Goals as goal
 
-pub returns-in_err-levels : goal.returns-in_err-levels
-returns-in_err-levels g c =
+pub returns-in_err-level : goal.returns-in_err-level
+returns-in_err-level g c =
     let a = state g.S.Store c.args.tables.now in
     let handed = c.from_residual.ensures in
-    let e = c.in_err-levels.field-0.0 in
+    let e = c.in_err-level.field-0.0 in
     record {
-      answers = tells_not g.S.Store RepresentsValues IsKept KnowsItsContainers c.args.tables.now c.levels_of.new.tables c.from_residual.result (λ _ k found. found ≡ values_of c.args.unit k) e
-          (same_fault c.from_residual.result e handed.0 handed.1) c.in_err-levels.ensures.reads.aborts c.in_err-levels.ensures.reads.spares
-          (λ o k it knows kept clean free. let at = it.catalogue.units in c.in_err-levels.ensures.faults at.units at.rows (legible_units a.now.trees k at kept) clean free);
+      answers = tells_not g.S.Store RepresentsValues IsKept KnowsItsContainers c.args.tables.now c.find_level.new.tables c.from_residual.result (λ _ k found. found ≡ values_of c.args.unit k) e
+          (same_fault c.from_residual.result e handed.0 handed.1) c.in_err-level.ensures.reads.aborts c.in_err-level.ensures.reads.spares
+          (λ o k it knows kept clean free. let at = it.catalogue.units in c.in_err-level.ensures.faults at.units at.rows (legible_units a.now.trees k at kept) clean free);
     }
 
 pub returns-in_default : goal.returns-in_default
@@ -41,11 +40,10 @@ returns-in_default g c =
       answers = record {
         answers = λ clean o k it.
             let at = it.catalogue.units in
-            let got = c.in_ok-levels.ensures.answers clean at.units at.rows tt in
-            let few : length got.0 ≡ 0 = omega (arith, c.in_default.ensures.cases.0, c.in_ok-levels.levels.ok.0, ap length got.2, length-map got.0 (λ (u : Unit). u.values.level)) in
+            let got = c.in_ok-level.ensures.answers clean at.units at.rows tt in
             let told = λ (u : Unit). (let x : UnitValues = record { values = u.values; containers = map (box_number k.containers) u.values.boxes } in x) in
-            sym (ap (option_map told) (none_found a.now.trees k.forest at c.args.unit got.0 got.1.0 few));
-        looks = c.in_ok-levels.ensures.reads.looks;
+            sym (ap (option_map told) (none_found a.now.trees k.forest at c.args.unit got.0 got.1.0 (λ (u : Unit). u.values.level) (sym got.2 ∙ c.in_default.is)));
+        looks = c.in_ok-level.ensures.reads.looks;
         aborts = tt;
         spares = λ clean. tt;
         faults = λ o k it knows kept clean free. tt;
@@ -57,14 +55,14 @@ returns-in_err-texts g c =
     let a = state g.S.Store c.args.tables.now in
     let handed = c.from_residual-in_err-texts.ensures in
     let e = c.in_err-texts.field-0.0 in
-    let looked = c.in_ok-levels.ensures.reads.looks in
+    let looked = c.in_ok-level.ensures.reads.looks in
     record {
-      answers = tells_cut g.S.Store RepresentsValues IsKept KnowsItsContainers c.args.tables.now c.levels_of.new.tables c.texts_of.new.tables c.from_residual-in_err-texts.result (λ _ k found. found ≡ values_of c.args.unit k) e
+      answers = tells_cut g.S.Store RepresentsValues IsKept KnowsItsContainers c.args.tables.now c.find_level.new.tables c.texts_of.new.tables c.from_residual-in_err-texts.result (λ _ k found. found ≡ values_of c.args.unit k) e
           (same_fault c.from_residual-in_err-texts.result e handed.0 handed.1) looked c.in_err-texts.ensures.answers.aborts c.in_err-texts.ensures.answers.spares
           (λ o k it knows kept at_b clean free.
           let at = it.catalogue in
-          let got = c.in_ok-levels.ensures.answers at_b at.units.units at.units.rows tt in
-          let found = one_found a.now.trees k.forest at.units c.args.unit got.0 got.1.0 c.pop.new.self.items c.in-Some.level (sym got.2 ∙ c.in-Some.ensures.items) in
+          let got = c.in_ok-level.ensures.answers at_b at.units.units at.units.rows tt in
+          let found = one_told a.now.trees k.forest at.units c.args.unit got.0 got.1.0 (λ (u : Unit). u.values.level) c.in-Some.level (sym got.2 ∙ c.in-Some.is) in
           let texts = subst (λ (db : Database). TellsTexts c.args.unit db found.0.values at.elements.elements) (sym (looked.same at_b)) (texts_told a.now o k it c.args.unit found.0 found.1 found.2) in
           c.in_err-texts.ensures.answers.faults found.0.values at.elements.elements texts tt (legible_elements a.now.trees k.forest at.elements kept.units) clean free);
     }
@@ -72,11 +70,11 @@ returns-in_err-texts g c =
 pub returns-in_err-containers : goal.returns-in_err-containers
 returns-in_err-containers g c =
     let a = state g.S.Store c.args.tables.now in
-    let b = state g.S.Store c.levels_of.new.tables in
+    let b = state g.S.Store c.find_level.new.tables in
     let d = state g.S.Store c.texts_of.new.tables in
     let handed = c.from_residual-in_err-containers.ensures in
     let e = c.in_err-containers.field-0.0 in
-    let looked = looks_then a b d c.in_ok-levels.ensures.reads.looks c.in_ok-texts.ensures.answers.looks in
+    let looked = looks_then a b d c.in_ok-level.ensures.reads.looks c.in_ok-texts.ensures.answers.looks in
     record {
       answers = tells_cut g.S.Store RepresentsValues IsKept KnowsItsContainers c.args.tables.now c.texts_of.new.tables c.containers_of.new.tables c.from_residual-in_err-containers.result (λ _ k found. found ≡ values_of c.args.unit k) e
           (same_fault c.from_residual-in_err-containers.result e handed.0 handed.1) looked c.in_err-containers.ensures.reads.aborts c.in_err-containers.ensures.reads.spares
@@ -88,12 +86,12 @@ returns-in_err-containers g c =
 pub returns-in_err-boxes : goal.returns-in_err-boxes
 returns-in_err-boxes g c =
     let a = state g.S.Store c.args.tables.now in
-    let b = state g.S.Store c.levels_of.new.tables in
+    let b = state g.S.Store c.find_level.new.tables in
     let d = state g.S.Store c.texts_of.new.tables in
     let e = state g.S.Store c.containers_of.new.tables in
     let handed = c.from_residual-in_err-boxes.ensures in
     let fault = c.in_err-boxes.field-0.0 in
-    let looked_d = looks_then a b d c.in_ok-levels.ensures.reads.looks c.in_ok-texts.ensures.answers.looks in
+    let looked_d = looks_then a b d c.in_ok-level.ensures.reads.looks c.in_ok-texts.ensures.answers.looks in
     let looked = looks_then a d e looked_d c.in_ok-containers.ensures.reads.looks in
     record {
       answers = tells_cut g.S.Store RepresentsValues IsKept KnowsItsContainers c.args.tables.now c.containers_of.new.tables c.boxes_of.new.tables c.from_residual-in_err-boxes.result (λ _ k found. found ≡ values_of c.args.unit k) fault
@@ -102,8 +100,8 @@ returns-in_err-boxes g c =
           let at = it.catalogue in
           let at_d = early d e _ c.in_ok-containers.ensures.reads.looks.goes.on.crash at_e in
           let at_b = early b d _ c.in_ok-texts.ensures.answers.looks.goes.on.crash at_d in
-          let got = c.in_ok-levels.ensures.answers at_b at.units.units at.units.rows tt in
-          let found = one_found a.now.trees k.forest at.units c.args.unit got.0 got.1.0 c.pop.new.self.items c.in-Some.level (sym got.2 ∙ c.in-Some.ensures.items) in
+          let got = c.in_ok-level.ensures.answers at_b at.units.units at.units.rows tt in
+          let found = one_told a.now.trees k.forest at.units c.args.unit got.0 got.1.0 (λ (u : Unit). u.values.level) c.in-Some.level (sym got.2 ∙ c.in-Some.is) in
           let u = found.0 in
           let housed = containers_told a.now o k it c.args.unit u found.1 found.2 in
           let numbers = c.in_ok-containers.ensures.numbers at_e at.housings.housings (still_numbered housing_row _ _ at.housings.housings (ap (λ (db : Database). db.trees tables.housing.tree) (looked_d.same at_d)) at.housings.rows) k.containers u.values housed in
@@ -114,11 +112,11 @@ returns-in_err-boxes g c =
 pub returns : goal.returns
 returns g c =
     let a = state g.S.Store c.args.tables.now in
-    let b = state g.S.Store c.levels_of.new.tables in
+    let b = state g.S.Store c.find_level.new.tables in
     let d = state g.S.Store c.texts_of.new.tables in
     let e = state g.S.Store c.containers_of.new.tables in
     let h = state g.S.Store c.boxes_of.new.tables in
-    let looked_b = c.in_ok-levels.ensures.reads.looks in
+    let looked_b = c.in_ok-level.ensures.reads.looks in
     let looked_d = looks_then a b d looked_b c.in_ok-texts.ensures.answers.looks in
     let looked_e = looks_then a d e looked_d c.in_ok-containers.ensures.reads.looks in
     record {
@@ -128,8 +126,8 @@ returns g c =
             let at_e = early e h _ c.in_ok-boxes.ensures.reads.looks.goes.on.crash clean in
             let at_d = early d e _ c.in_ok-containers.ensures.reads.looks.goes.on.crash at_e in
             let at_b = early b d _ c.in_ok-texts.ensures.answers.looks.goes.on.crash at_d in
-            let got = c.in_ok-levels.ensures.answers at_b at.units.units at.units.rows tt in
-            let found = one_found a.now.trees k.forest at.units c.args.unit got.0 got.1.0 c.pop.new.self.items c.in-Some.level (sym got.2 ∙ c.in-Some.ensures.items) in
+            let got = c.in_ok-level.ensures.answers at_b at.units.units at.units.rows tt in
+            let found = one_told a.now.trees k.forest at.units c.args.unit got.0 got.1.0 (λ (u : Unit). u.values.level) c.in-Some.level (sym got.2 ∙ c.in-Some.is) in
             let u = found.0 in
             let told = subst (λ (db : Database). TellsTexts c.args.unit db u.values at.elements.elements) (sym (looked_b.same at_b)) (texts_told a.now o k it c.args.unit u found.1 found.2) in
             let texts = c.in_ok-texts.ensures.answers.answers at_d u.values at.elements.elements told in

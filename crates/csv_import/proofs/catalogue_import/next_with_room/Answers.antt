@@ -1,43 +1,30 @@
-use Rattle.std.proofs.Common.{true, false, length, sym, ap, ◌∙◌}
+use Rattle.std.proofs.Common.{true, false, sym, ap, ◌∙◌}
 use Rattle.sqlite.specs.Effect.{Database}
 use Rattle.sqlite.specs.Held.{state}
 use Rattle.catalogue_statements.specs.declared.office.OfficeRow.{OfficeRow}
-use Rattle.catalogue_statements.proofs.Offices.{not_refused}
-use Rattle.office_tables.specs.RowCounts.{cap}
 use Rattle.office_tables.specs.Schema as tables
-use Rattle.office_tables.proofs.Calls.{cut_after, early, looks_then}
-use Rattle.refinement.proofs.Doings.{tells_passed, tells_passed_later}
+use Rattle.office_tables.proofs.Calls.{early, looks_then}
+use Rattle.refinement.proofs.Doings.{tells_passed_later}
 use Rattle.csv_import.proofs.Counting.{next_if, number_within, units_counted}
 use Rattle.csv_import.proofs.Tellings.{tells_so}
 use Rattle.csv_import.proofs.catalogue_import.next_with_room.Goals as goal
 
-pub returns-in_err-counted-clause-answers : goal.returns-in_err-counted-clause-answers
-returns-in_err-counted-clause-answers g c =
-    let counted = c.in_err-counted.ensures in
-    tells_passed_later _ c.from_residual-in_err-counted.ensures c.in_ok-office.ensures.answers.looks counted.reads.aborts (λ k o it may legible. counted.faults it.catalogue.units.units it.catalogue.units.rows tt)
-
 pub returns-in_err-units-clause-answers : goal.returns-in_err-units-clause-answers
 returns-in_err-units-clause-answers g c =
-    let b = state g.S.Store c.settings.new.tables in
-    let d = state g.S.Store c.count_units.new.tables in
-    let looked_b = c.in_ok-office.ensures.answers.looks in
-    tells_passed _ c.from_residual-in_err-units.ensures (cut_after _ d (looks_then _ b d looked_b c.in_ok-counted.ensures.reads.looks).goes.on) (λ k o it may legible clean free.
-    let at_b = early b d _ c.in_ok-counted.ensures.reads.looks.goes.on.crash clean in
-    let at = it.catalogue.units in
-    let counted = c.in_ok-counted.ensures.answers clean at.units (ap (λ (db : Database). db.trees tables.unit.tree) (looked_b.same at_b) ∙ at.rows) tt in
-    absurd (not_refused (c.in_err-units.ensures.value (cap (length at.units)) (c.deref.ensures.value ∙ counted))))
+    let counted = c.in_err-units.ensures in
+    tells_passed_later _ c.from_residual-in_err-units.ensures c.in_ok-office.ensures.answers.looks counted.reads.aborts (λ k o it may legible. counted.faults it.catalogue.units.units it.catalogue.units.rows tt)
 
 pub returns-then-has_space-clause-answers : goal.returns-then-has_space-clause-answers
 returns-then-has_space-clause-answers g c =
     let b = state g.S.Store c.settings.new.tables in
     let d = state g.S.Store c.count_units.new.tables in
     let looked_b = c.in_ok-office.ensures.answers.looks in
-    tells_so (looks_then _ b d looked_b c.in_ok-counted.ensures.reads.looks) (λ clean k o it.
-    let at_b = early b d _ c.in_ok-counted.ensures.reads.looks.goes.on.crash clean in
+    tells_so (looks_then _ b d looked_b c.in_ok-units.ensures.reads.looks) (λ clean k o it.
+    let at_b = early b d _ c.in_ok-units.ensures.reads.looks.goes.on.crash clean in
     let at = it.catalogue.units in
     let next = ap (λ (row : OfficeRow). row.next_unit) (c.in_ok-office.ensures.answers.answers at_b k o it) ∙ it.catalogue.next in
-    let counted = c.in_ok-counted.ensures.answers clean at.units (ap (λ (db : Database). db.trees tables.unit.tree) (looked_b.same at_b) ∙ at.rows) tt in
-    next_if c.args.new k c.in_ok-units.units c.in_ok-office.office.next_unit (units_counted at (c.in_ok-units.ensures.value (cap (length at.units)) (c.deref.ensures.value ∙ counted))) next true (sym c.has_space.ensures ∙ c.if-has_space.true))
+    let counted = c.in_ok-units.ensures.answers clean at.units (ap (λ (db : Database). db.trees tables.unit.tree) (looked_b.same at_b) ∙ at.rows) tt in
+    next_if c.args.new k c.in_ok-units.units c.in_ok-office.office.next_unit (units_counted at counted) next true (sym c.has_space.ensures ∙ c.if-has_space.true))
 
 pub returns-then-has_space-clause-low : goal.returns-then-has_space-clause-low
 returns-then-has_space-clause-low g c = number_within c.in_ok-units.units c.in_ok-office.office.next_unit c.args.new (sym c.has_space.ensures ∙ c.if-has_space.true)
@@ -47,9 +34,9 @@ returns-clause-answers g c =
     let b = state g.S.Store c.settings.new.tables in
     let d = state g.S.Store c.count_units.new.tables in
     let looked_b = c.in_ok-office.ensures.answers.looks in
-    tells_so (looks_then _ b d looked_b c.in_ok-counted.ensures.reads.looks) (λ clean k o it.
-    let at_b = early b d _ c.in_ok-counted.ensures.reads.looks.goes.on.crash clean in
+    tells_so (looks_then _ b d looked_b c.in_ok-units.ensures.reads.looks) (λ clean k o it.
+    let at_b = early b d _ c.in_ok-units.ensures.reads.looks.goes.on.crash clean in
     let at = it.catalogue.units in
     let next = ap (λ (row : OfficeRow). row.next_unit) (c.in_ok-office.ensures.answers.answers at_b k o it) ∙ it.catalogue.next in
-    let counted = c.in_ok-counted.ensures.answers clean at.units (ap (λ (db : Database). db.trees tables.unit.tree) (looked_b.same at_b) ∙ at.rows) tt in
-    next_if c.args.new k c.in_ok-units.units c.in_ok-office.office.next_unit (units_counted at (c.in_ok-units.ensures.value (cap (length at.units)) (c.deref.ensures.value ∙ counted))) next false (sym c.has_space.ensures ∙ c.if-has_space.false))
+    let counted = c.in_ok-units.ensures.answers clean at.units (ap (λ (db : Database). db.trees tables.unit.tree) (looked_b.same at_b) ∙ at.rows) tt in
+    next_if c.args.new k c.in_ok-units.units c.in_ok-office.office.next_unit (units_counted at counted) next false (sym c.has_space.ensures ∙ c.if-has_space.false))

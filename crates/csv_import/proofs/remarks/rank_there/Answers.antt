@@ -1,30 +1,29 @@
-use Rattle.std.proofs.Common.{◌≡◌, length, Some, None, sym, ap, ◌∙◌, arith}
-use Rattle.std.proofs.lemmas.List.{length-map}
+use Rattle.std.proofs.Common.{◌≡◌, Some, None, sym, ap, ◌∙◌}
 use Rattle.sqlite.specs.Held.{state}
 use Rattle.isad_core.specs.Levels.{rank_of}
 use Rattle.catalogue_core.specs.Units.{Unit as Described}
-use Rattle.catalogue_statements.proofs.FoundUnits.{none_found, one_found}
+use Rattle.catalogue_statements.proofs.FoundUnits.{none_found, one_told}
 use Rattle.tree_places.proofs.MarkCauses.{legible_units}
 use Rattle.refinement.proofs.Doings.{tells_passed}
 use Rattle.csv_import.proofs.Tellings.{tells_so}
 use Rattle.csv_import.proofs.remarks.rank_there.Goals as goal
 
-pub returns-in_err-levels : goal.returns-in_err-levels
-returns-in_err-levels g c =
+pub returns-in_err-level : goal.returns-in_err-level
+returns-in_err-level g c =
     let a = state g.S.Store c.args.tables.now in
     record {
-      answers = tells_passed _ c.from_residual.ensures c.in_err-levels.ensures.reads.aborts (λ o k it may kept clean free. (let at = it.catalogue.units in c.in_err-levels.ensures.faults at.units at.rows (legible_units a.now.trees k at kept) clean free));
+      answers = tells_passed _ c.from_residual.ensures c.in_err-level.ensures.reads.aborts (λ o k it may kept clean free. (let at = it.catalogue.units in c.in_err-level.ensures.faults at.units at.rows (legible_units a.now.trees k at kept) clean free));
     }
 
 pub returns-in_default : goal.returns-in_default
 returns-in_default g c =
     let a = state g.S.Store c.args.tables.now in
     record {
-      answers = tells_so c.in_ok-levels.ensures.reads.looks (λ clean o k it unit is.
+      answers = tells_so c.in_ok-level.ensures.reads.looks (λ clean o k it unit is.
           let at = it.catalogue.units in
-          let got = c.in_ok-levels.ensures.answers clean at.units at.rows tt in
-          let few : length got.0 ≡ 0 = omega (arith, c.in_default.ensures.cases.0, c.in_ok-levels.levels.ok.0, ap length got.2, length-map got.0 (λ (u : Described). u.values.level)) in
-          let clash : None ≡ Some unit = sym (none_found a.now.trees k.forest at c.args.unit got.0 got.1.0 few) ∙ is in
+          let got = c.in_ok-level.ensures.answers clean at.units at.rows tt in
+          let none = none_found a.now.trees k.forest at c.args.unit got.0 got.1.0 (λ (u : Described). u.values.level) (sym got.2 ∙ c.in_default.is) in
+          let clash : None ≡ Some unit = sym none ∙ is in
           absurd (cc));
     }
 
@@ -32,10 +31,10 @@ pub returns : goal.returns
 returns g c =
     let a = state g.S.Store c.args.tables.now in
     record {
-      answers = tells_so c.in_ok-levels.ensures.reads.looks (λ clean o k it unit is.
+      answers = tells_so c.in_ok-level.ensures.reads.looks (λ clean o k it unit is.
           let at = it.catalogue.units in
-          let got = c.in_ok-levels.ensures.answers clean at.units at.rows tt in
-          let found = one_found a.now.trees k.forest at c.args.unit got.0 got.1.0 c.pop.new.self.items c.in-Some.level (sym got.2 ∙ c.in-Some.ensures.items) in
+          let got = c.in_ok-level.ensures.answers clean at.units at.rows tt in
+          let found = one_told a.now.trees k.forest at c.args.unit got.0 got.1.0 (λ (u : Described). u.values.level) c.in-Some.level (sym got.2 ∙ c.in-Some.is) in
           let both : Some found.0 ≡ Some unit = sym found.3 ∙ is in
           let same : found.0 ≡ unit = cc in
           c.rank.ensures ∙ ap rank_of (c.as_str.ensures ∙ (found.4 ∙ ap (λ (u : Described). u.values.level) same)));

@@ -9,10 +9,7 @@ use Rattle.refinement.proofs.Doings.{makes_passed}
 use Rattle.desk_commands.proofs.container_moves.hand_over.Goals as goal
 
 pub set_place-requires : goal.set_place-requires
-set_place-requires g c = record {
-  number = c.requires.number;
-  known = c.requires.known;
-}
+set_place-requires g c = record { known = c.requires.known }
 
 pub returns-in_err-end_order : goal.returns-in_err-end_order
 returns-in_err-end_order g c =

@@ -1,13 +1,10 @@
-use Rattle.std.proofs.Common.{ℕ, ◌<◌, ◌^◌, List, ◌∷◌, [], take, get_or, refl, sym, subst, arith}
-use Rattle.std.specs.List.{AllByRecursion}
+use Rattle.std.proofs.Common.{ℕ, ◌<◌, ◌^◌, List, ◌∷◌, [], take, get_or, sym, subst, arith}
 use Rattle.std.proofs.lemmas.List.{take_more, take_all}
 use Rattle.sqlite.specs.Held.{state}
 use Rattle.isad_core.specs.Limits.{IsNumber}
 use Rattle.desk_core.specs.DeskRows.{HoldingRow}
-use Rattle.desk_store.specs.Representation.{IsLegible, RepresentsDesk, RepresentsDeskAlone}
+use Rattle.desk_store.specs.Representation.{RepresentsDesk}
 use Rattle.office_tables.specs.Schema as tables
-use Rattle.office_tables.specs.declared.fault.StoreFault.TheVariants as fault
-use Rattle.office_tables.proofs.CallEnds.{makes_not}
 use Rattle.office_tables.proofs.Calls.{cut_after, cut_then, early, goes_nowhere, goes_then}
 use Rattle.office_tables.proofs.Causes.{cause_then, still_unlimited}
 use Rattle.office_tables.proofs.Touching.{nothing_touched, touched_again}
@@ -26,10 +23,7 @@ loop-container-init g c =
     }
 
 pub set_place-requires : goal.set_place-requires
-set_place-requires g c =
-    let a = state g.S.Store c.args.tables.now in
-    let b = state g.S.Store c.loop-container.tables in
-    record { number = omega (arith, c.if-container-ge-NO_NUMBER.false); known = c.requires.known }
+set_place-requires g c = record { known = c.requires.known }
 
 pub loop-container-preserved : goal.loop-container-preserved
 loop-container-preserved g c =
@@ -37,7 +31,7 @@ loop-container-preserved g c =
     let b = state g.S.Store c.loop-container.tables in
     let d = state g.S.Store c.set_place.new.tables in
     let before = c.loop-container.invariant in
-    let made = c.in_ok-set_place.ensures.updates in
+    let made = rw c.in_ok-container.ensures.same at c.in_ok-set_place.ensures.updates in
     let cs = c.args.containers.now in
     let i = c.loop-container.container-index in
     record {
@@ -49,16 +43,15 @@ loop-container-preserved g c =
           (made.represents_updated clean tt (with_all_placed c.args.place (take i cs) m) (before.so_far (early b d _ made.goes.on.crash clean) m shown) tt));
     }
 
-pub returns-then-container-ge-NO_NUMBER : goal.returns-then-container-ge-NO_NUMBER
-returns-then-container-ge-NO_NUMBER g c =
+pub returns-in_err-container : goal.returns-in_err-container
+returns-in_err-container g c =
     let a = state g.S.Store c.args.tables.now in
     let b = state g.S.Store c.loop-container.tables in
     record {
-      updates = makes_not g.S.Store RepresentsDeskAlone IsLegible (λ _. AllByRecursion IsNumber c.args.containers.now) c.args.tables.now c.loop-container.tables _ (with_all_placed c.args.place c.args.containers.now) (tables.holding.tree ∷ []) fault.Schema refl
-          (cut_after a b c.loop-container.invariant.goes.on)
-          (λ s d shown low kept clean free.
+      updates = makes_passed _ c.from_residual.ensures (cut_after a b c.loop-container.invariant.goes.on) (λ s d shown low kept clean free.
           let small : get_or c.args.containers.now c.loop-container.container-index 0 < 2 ^ 63 = each_of IsNumber c.args.containers.now c.loop-container.container-index 0 low c.loop-container-test.true in
-          absurd (omega (arith, small, c.if-container-ge-NO_NUMBER.true)));
+          let great = c.in_err-container.ensures.great in
+          absurd (omega (arith, small, great)));
     }
 
 pub returns-in_err-set_place : goal.returns-in_err-set_place
@@ -71,7 +64,7 @@ returns-in_err-set_place g c =
     let cs = c.args.containers.now in
     let i = c.loop-container.container-index in
     record {
-      updates = makes_passed _ c.from_residual.ensures (cut_then a b d before.goes.on made.aborts) (λ s m shown low kept clean free.
+      updates = makes_passed _ c.from_residual-in_err-set_place.ensures (cut_then a b d before.goes.on made.aborts) (λ s m shown low kept clean free.
           let at_b = early b d _ made.aborts.crash clean in
           cause_then a b d before.goes.on at_b _
           (made.faults tt (with_all_placed c.args.place (take i cs) m) (before.so_far at_b m shown) tt (legible_all c.args.place (take i cs) m (all_taken IsNumber i cs low) kept) clean (still_unlimited a b before.goes.on free)));

@@ -31,10 +31,10 @@ returns g c =
     let b = state g.S.Store c.add_reader.new.tables in
     let asked = command.Register c.args.name.now c.args.until in
     let made = c.in_ok-ticket.ensures.updates in
-    subst (λ (k : Option ℕ). CarriesOut g.P.Places.represents g.P.Versioned.version (λ _. ⊤) asked a b (Ok (reply_for k))) c.in-Some.is (record {
+    rw c.get.ensures.same (subst (λ (k : Option ℕ). CarriesOut g.P.Places.represents g.P.Versioned.version (λ _. ⊤) asked a b (Ok (reply_for k))) c.in-Some.is (record {
       steps = λ clean s sound so it. registers g.P.Versioned.version s sound c.args.name.now c.args.until g.P.Places.represents g.met.P.Places.shows_same a.now b.now c.requires.named c.requires.text it (made.goes.schema clean) (made.only clean)
           c.in_ok-ticket.field-0 (c.in_ok-ticket.ensures.number clean (tables g.P.Versioned.version s).desk it.desk) (made.represents_updated clean tt (tables g.P.Versioned.version s).desk it.desk tt);
       goes = made.goes;
       aborts = tt;
       faults = λ s sound so it clean free. tt;
-    })
+    }))

@@ -1,7 +1,5 @@
 use Rattle.std.proofs.Common.{ℕ, List, ◌∷◌, [], refl, sym, subst, ◌∙◌}
-use Rattle.std.specs.List.{AllByRecursion}
 use Rattle.sqlite.specs.Held.{state}
-use Rattle.isad_core.specs.Limits.{IsNumber}
 use Rattle.desk_core.specs.declared.reader.Place.TheVariants.{Desk}
 use Rattle.desk_store.specs.Runs.{TakesEachOnce, next_run, with_run}
 use Rattle.desk_store.specs.Representation.{RepresentsDesk}
@@ -14,11 +12,8 @@ use Rattle.office_tables.proofs.Touching.{touched_again, touched_wider}
 use Rattle.refinement.proofs.Doings.{does_pass}
 use Rattle.desk_commands.specs.ContainerMoves.{with_all_placed}
 use Rattle.desk_commands.proofs.Fetched.{taken_once}
-use Rattle.desk_commands.proofs.RunMade.{legible_run, runs_out, runs_with, small_containers, today_legible}
+use Rattle.desk_commands.proofs.RunMade.{legible_run, runs_out, runs_with, today_legible}
 use Rattle.desk_commands.proofs.run_creation.bring.Goals as goal
-
-pub record_run-requires : goal.record_run-requires
-record_run-requires g c = record { lines = c.requires.numbers }
 
 pub move_all-requires : goal.move_all-requires
 move_all-requires g c =
@@ -58,7 +53,7 @@ returns-in_err-move_all g c =
     cause_then a b d made.goes.on at_b _
     (moved.faults tt (with_run (next_run desk) c.args.today c.args.due.now desk)
     (made.represents_updated at_b tt desk it.desk tt)
-    (subst (AllByRecursion IsNumber) (sym c.requires.theirs) (small_containers c.args.due.now c.requires.numbers))
+    c.requires.numbers
     (legible_run (next_run desk) c.args.today c.args.due.now desk (today_legible v s sound c.args.today so.0) (desk_legible v s sound))
     clean (still_unlimited a b made.goes.on free)))
 
@@ -72,7 +67,7 @@ returns g c =
     let moved = c.in_ok-move_all.ensures.updates in
     let touched = schema.run.tree ∷ schema.run_line.tree ∷ schema.holding.tree ∷ [] in
     let goes = goes_then a b d made.goes moved.goes in
-    record {
+    rw c.get.ensures.same (record {
       steps = λ clean s sound so it.
           let desk = (tables v s).desk in
           let at_b = early b d _ moved.goes.on.crash clean in
@@ -82,8 +77,8 @@ returns g c =
           (touched_again touched a.now b.now d.now (touched_wider (schema.run.tree ∷ schema.run_line.tree ∷ []) touched a.now b.now refl (made.only at_b)) (touched_wider (schema.holding.tree ∷ []) touched b.now d.now refl (moved.only clean)))
           (subst (λ (l : List ℕ). RepresentsDesk d.now.trees (with_all_placed Desk l put)) c.requires.theirs
           (moved.represents_updated clean tt put (made.represents_updated at_b tt desk it.desk tt)
-          (subst (AllByRecursion IsNumber) (sym c.requires.theirs) (small_containers c.args.due.now c.requires.numbers))));
+          c.requires.numbers));
       goes = goes;
       aborts = tt;
       faults = λ s sound so it clean free. tt;
-    }
+    })

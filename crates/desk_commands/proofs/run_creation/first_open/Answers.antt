@@ -28,8 +28,9 @@ loop-order-preserved g c =
     let b = state g.S.Store c.loop-order.tables in
     let d = state g.S.Store c.is_open_to.new.tables in
     let looks = c.loop-order.invariant.looks in
-    let told = c.in_ok-is_open_to.ensures.answers in
-    let none : ContainerOrder = record { container = 0; order = 0; ticket = 0 } in
+    let told = rw (c.get-container.ensures.same, c.get-ticket.ensures.same) at c.in_ok-is_open_to.ensures.answers in
+    let none : ContainerOrder = c.order-item.result in
+    let is = c.order-item.is in
     let ws = c.args.waiting.now in
     let i = c.loop-order.order-index in
     let x = get_or ws i none in
@@ -40,18 +41,18 @@ loop-order-preserved g c =
       few = elim c.if-branch.branch [
         | then-branch+in_ok-push w ↦
             let room = c.if-len-most.false in
-            one_more_fits so_far _ x c.args.most (ap (λ v. v.items) w.due-is ∙ w.in_ok-push.ensures.items) (omega (arith, room))
+            one_more_fits so_far _ none c.args.most (ap (λ v. v.items) w.due-is ∙ w.in_ok-push.ensures.items) (omega (arith, room))
         | else-branch w ↦ let same = ap (λ v. length v.items) w.due-is in omega (arith, same, few)
       ];
       so_far = λ clean s judged it day.
           let before = early b d _ told.looks.goes.on.crash clean in
           let at_b = shown_on (RepresentsWhole g.P.Places.represents v) a b looks before s it in
-          let yes = told.answers clean tt s at_b judged day in
+          let yes = told.answers clean tt s at_b judged day ∙ ap (λ (o : ContainerOrder). opens s o.ticket o.container) is in
           let so = c.loop-order.invariant.so_far before s judged it day in
           let more = sym (filter_more (λ (o : ContainerOrder). opens s o.ticket o.container) ws i none c.loop-order-test.true) in
           let added = ap (λ l. l ++ cond (opens s x.ticket x.container) (x ∷ []) []) so ∙ more in
           elim c.if-branch.branch [
-            | then-branch+in_ok-push w ↦ ap (λ v. v.items) w.due-is ∙ w.in_ok-push.ensures.items ∙ ap (λ b. so_far ++ cond b (x ∷ []) []) (sym w.if-branch.true ∙ yes) ∙ added
+            | then-branch+in_ok-push w ↦ ap (λ v. v.items) w.due-is ∙ w.in_ok-push.ensures.items ∙ ap (λ (o : ContainerOrder). so_far ++ o ∷ []) is ∙ ap (λ b. so_far ++ cond b (x ∷ []) []) (sym w.if-branch.true ∙ yes) ∙ added
             | else-branch w ↦ ap (λ v. v.items) w.due-is ∙ sym (append-nil so_far) ∙ ap (λ b. so_far ++ cond b (x ∷ []) []) (sym w.if-branch.false ∙ yes) ∙ added
           ];
     }

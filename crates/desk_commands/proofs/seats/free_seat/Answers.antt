@@ -4,9 +4,6 @@ use Rattle.refinement.proofs.Doings.{desk_passed}
 use Rattle.desk_commands.proofs.Seated.{leaves}
 use Rattle.desk_commands.proofs.seats.free_seat.Goals as goal
 
-pub set_seat-requires : goal.set_seat-requires
-set_seat-requires g c = record { small = tt }
-
 pub returns-in_err-set_seat : goal.returns-in_err-set_seat
 returns-in_err-set_seat g c = let made = c.in_err-set_seat.ensures.updates in desk_passed _ c.from_residual.ensures made.aborts made.faults
 

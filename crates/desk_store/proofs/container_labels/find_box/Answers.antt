@@ -13,7 +13,7 @@ find_one-requires g c = record { count = 1; command = box_command; means = box_m
 
 pub returns : goal.returns
 returns g c =
-    looks_up g.P.Versioned.version c.find_one.ensures.reads (rw c.number.ensures at c.find_one.ensures.ran)
+    looks_up g.P.Versioned.version c.find_one.ensures.reads (rw c.cell.ensures at c.find_one.ensures.ran)
     (λ v has found bs stored counted.
     let kept = filter (λ (b : Numbered). nat_eq c.args.container b.0) bs in
     let rising = ascending-filter _ (λ (b : Numbered). nat_eq c.args.container b.0) bs (counted_rises (λ (b : Numbered). b.0) 1 bs counted) in

@@ -1,27 +1,30 @@
-use Rattle.std.proofs.Common.{subst, ◌∙◌}
+use Rattle.std.proofs.Common.{◌≡◌, ℕ, ◌<◌, zero, suc, get_or, List, [], ◌∷◌, ◌++◌, length, refl, ap, ◌∙◌, arith}
+use Rattle.std.specs.List.{list_any}
 use Rattle.std.specs.Prelude.{⊤}
-use Rattle.sqlite.specs.Effect.{Database}
 use Rattle.sqlite.specs.Held.{state}
 use Rattle.office_tables.specs.declared.fault.StoreFault.TheVariants.{Memory}
 use Rattle.office_tables.proofs.Calls.{early, looks_then}
 use Rattle.office_tables.proofs.CallEnds.{same_fault}
-use Rattle.desk_store.specs.Representation.{RepresentsDesk, RepresentsDeskAlone, IsLegible}
-use Rattle.desk_store.proofs.ReshelvingCalls.{told_more, told_whole, number_at}
+use Rattle.desk_store.specs.Holdings.{waits_for}
+use Rattle.desk_store.specs.Representation.{RepresentsDeskAlone, IsLegible}
+use Rattle.desk_store.proofs.ReshelvingCalls.{told_more, told_whole}
 use Rattle.desk_store.proofs.desk_containers.at_desk.Goals as goal
 use Rattle.desk_store.proofs.ToldCalls.{shown_on}
 use Rattle.desk_store.proofs.TellingCalls.{ends_full, ends_not, ends_well}
 
+-- within a list the default does not matter
+any_default : (xs : List ℕ) (i d e : ℕ) → i < length xs → get_or xs i d ≡ get_or xs i e
+any_default [] i d e low = absurd (omega (arith, low))
+any_default (x ∷ xs) zero d e low = refl
+any_default (x ∷ xs) (suc i) d e low = any_default xs i d e (omega (arith, low))
+
 pub returns-in_err-awaited : goal.returns-in_err-awaited
 returns-in_err-awaited g c =
-    let b = state g.S.Store c.loop-container.tables in
-    let z = state g.S.Store c.is_awaited.new.tables in
     let e = c.from_residual-in_err-awaited.ensures in
     record {
       answers = ends_not RepresentsDeskAlone IsLegible (λ _. ⊤) g.S.Store c.args.tables.now c.loop-container.tables c.is_awaited.new.tables _ c.loop-container.invariant.looks
           c.in_err-awaited.field-0.0 c.in_err-awaited.ensures.answers.aborts c.in_err-awaited.ensures.answers.spares (λ d shown may kept clean.
-          let before = early b z _ c.in_err-awaited.ensures.answers.aborts.crash clean in
-          let are = c.loop-container.invariant.containers before d (subst (λ (db : Database). RepresentsDesk db.trees d) (c.loop-container.invariant.looks.same before) shown) in
-          c.in_err-awaited.ensures.answers.faults tt d shown (number_at d c.deref-container-items.result.now c.loop-container.container-index are kept.holdings c.loop-container-test.true) kept clean)
+          c.in_err-awaited.ensures.answers.faults tt d shown tt kept clean)
           c.from_residual-in_err-awaited.result (same_fault c.from_residual-in_err-awaited.result c.in_err-awaited.field-0.0 e.0 e.1);
     }
 
@@ -49,9 +52,11 @@ loop-container-preserved g c =
       so_far = λ clean desk shown.
           let before = early b z _ last.goes.on.crash clean in
           let told = c.in_ok-awaited.ensures.answers.answers clean tt desk (shown_on RepresentsDeskAlone a b looked before desk shown) in
+          let here = c.container-item.is ∙ any_default c.deref-container-items.result.now c.loop-container.container-index c.container-item.result 0 c.loop-container-test.true in
           c.in_ok-push.ensures.items
+          ∙ ap (λ n. c.loop-container.told.items ++ (n, c.in_ok-awaited.awaited) ∷ []) (c.get.ensures.same ∙ here)
           ∙ told_more desk.orders c.deref-container-items.result.now c.loop-container.container-index c.loop-container.told.items c.in_ok-awaited.awaited c.loop-container-test.true
-          (c.loop-container.invariant.so_far before desk shown) told;
+          (c.loop-container.invariant.so_far before desk shown) (told ∙ ap (λ n. list_any (waits_for n) desk.orders) here);
     }
 
 pub returns : goal.returns

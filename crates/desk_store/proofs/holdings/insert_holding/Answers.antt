@@ -10,7 +10,7 @@ change-requires g c = record { count = 3; command = insert_holding_command; chan
 
 pub returns : goal.returns
 returns g c =
-    puts_row g.P.Versioned.version c.change.ensures.leaves (rw (c.number.ensures, c.number-2.ensures, c.number_or_null.ensures, bound_maybe (option_map pos c.args.held_by)) at c.change.ensures.ran)
+    puts_row g.P.Versioned.version c.change.ensures.leaves (rw (c.cell.ensures, c.cell-2.ensures, c.cell_or_null.ensures, bound_maybe (option_map pos c.args.held_by)) at c.change.ensures.ran)
     (λ v has ran. insert_holding_puts _ _ c.args.container c.args.place c.args.held_by v has c.change.result ran)
     (λ v has ran xs stored none free.
     insert_holding_faults _ _ c.args.container c.args.place c.args.held_by v has xs stored none free c.change.ensures.live c.change.result

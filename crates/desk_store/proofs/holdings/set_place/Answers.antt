@@ -1,9 +1,10 @@
-use Rattle.std.proofs.Common.{Some, None, Ok, [], ◌∷◌, sym, subst}
-use Rattle.std.specs.Prelude.{⊤}
+use Rattle.std.proofs.Common.{◌≡◌, Some, None, Ok, [], ◌∷◌, sym, subst}
+use Rattle.std.specs.Prelude.{IfSome, ⊤}
+use Rattle.isad_core.specs.Limits.{IsNumber}
 use Rattle.desk_core.specs.declared.reader.Place.{Place}
 use Rattle.office_tables.specs.Calls.{StoreUpdates}
 use Rattle.office_tables.specs.Schema as tables
-use Rattle.desk_store.specs.Holdings.{with_place}
+use Rattle.desk_store.specs.Holdings.{by_order, with_place}
 use Rattle.desk_store.specs.Representation.{RepresentsDeskAlone, IsLegible}
 use Rattle.desk_store.proofs.HoldingWrites.{placed, shelved}
 use Rattle.desk_store.proofs.holdings.set_place.Goals as goal
@@ -19,7 +20,7 @@ returns-in-Shelf g c =
 pub returns-in-Desk : goal.returns-in-Desk
 returns-in-Desk g c =
     let e = c.in_ok-clear_holding.ensures in
-    let f = c.insert_holding.ensures in
+    let f = rw c.from.ensures at c.insert_holding.ensures in
     record {
       updates = subst (λ (place : Place). StoreUpdates g.S.Store RepresentsDeskAlone IsLegible c.args.tables.now c.insert_holding.new.tables c.insert_holding.result (λ _. ⊤) (with_place c.args.container place) (tables.holding.tree ∷ [])) (sym c.in-Desk.is)
           (placed g.S.Store c.args.tables.now c.clear_holding.new.tables c.args.container e.leaves.goes e.rows e.only c.insert_holding.new.tables 1 None c.insert_holding.result f.leaves f.puts f.faults);
@@ -28,7 +29,8 @@ returns-in-Desk g c =
 pub returns-in-Out : goal.returns-in-Out
 returns-in-Out g c =
     let e = c.in_ok-clear_holding.ensures in
-    let f = c.insert_holding-in-Out.ensures in
+    let by_number : c.of.result ≡ Some c.in-Out.order = c.of.ensures.some (subst (λ (place : Place). IfSome (by_order place) IsNumber) c.in-Out.is c.requires.known) in
+    let f = rw (c.from-in-Out.ensures, by_number) at c.insert_holding-in-Out.ensures in
     record {
       updates = subst (λ (place : Place). StoreUpdates g.S.Store RepresentsDeskAlone IsLegible c.args.tables.now c.insert_holding-in-Out.new.tables c.insert_holding-in-Out.result (λ _. ⊤) (with_place c.args.container place) (tables.holding.tree ∷ [])) (sym c.in-Out.is)
           (placed g.S.Store c.args.tables.now c.clear_holding.new.tables c.args.container e.leaves.goes e.rows e.only c.insert_holding-in-Out.new.tables 2 (Some c.in-Out.order) c.insert_holding-in-Out.result f.leaves f.puts f.faults);

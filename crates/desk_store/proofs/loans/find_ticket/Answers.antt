@@ -15,7 +15,7 @@ find_one-requires g c = record { count = 1; command = tickets_command; means = t
 
 pub returns : goal.returns
 returns g c =
-    looks_up g.P.Versioned.version c.find_one.ensures.reads (rw c.number.ensures at c.find_one.ensures.ran)
+    looks_up g.P.Versioned.version c.find_one.ensures.reads (rw c.cell.ensures at c.find_one.ensures.ran)
     (λ v has found xs stored counted.
     let kept = filter (λ (o : OrderRow). nat_eq c.args.order o.id) xs in
     let rising = ascending-filter _ (λ (o : OrderRow). nat_eq c.args.order o.id) xs (counted_rises (λ (o : OrderRow). o.id) 1 xs counted) in

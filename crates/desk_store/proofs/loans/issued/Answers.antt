@@ -5,6 +5,7 @@ use Rattle.sqlite.specs.Held.{state}
 use Rattle.office_tables.specs.declared.fault.StoreFault.TheVariants.{Memory}
 use Rattle.office_tables.proofs.Calls.{early, looks_then}
 use Rattle.office_tables.proofs.CallEnds.{same_fault}
+use Rattle.desk_store.specs.Holdings.{loan_by}
 use Rattle.desk_store.specs.declared.loans.HoldingLine.{HoldingLine}
 use Rattle.desk_store.specs.Representation.{RepresentsDeskAlone, IsLegible}
 use Rattle.desk_store.proofs.LoanCalls.{loans_more, loans_whole}
@@ -57,14 +58,15 @@ loop-line-preserved g c =
           let done = c.loop-line.invariant.so_far before desk shown in
           let lines = c.deref-line-items.result.now in
           let i = c.loop-line.line-index in
-          let none : HoldingLine = record { container = 0; held_by = None } in
+          let none : HoldingLine = c.line-item.result in
+          let here = ap (λ (l : HoldingLine). loan_by desk.orders l.container l.held_by) c.line-item.is in
           elim c.match-branch-3.branch [
             | in-Some+in_ok-push w ↦
                 ap (λ v. v.items) w.loans-is ∙ w.in_ok-push.ensures.items
-                ∙ loans_more desk.orders lines i none c.loop-line.loans.items (Some w.in-Some.loan) c.loop-line-test.true done (sym w.in-Some.is ∙ told)
+                ∙ loans_more desk.orders lines i none c.loop-line.loans.items (Some w.in-Some.loan) c.loop-line-test.true done (sym w.in-Some.is ∙ told ∙ here)
             | in_default w ↦
                 ap (λ v. v.items) w.loans-is ∙ sym (append-nil c.loop-line.loans.items)
-                ∙ loans_more desk.orders lines i none c.loop-line.loans.items None c.loop-line-test.true done (sym w.in_default.is ∙ told)
+                ∙ loans_more desk.orders lines i none c.loop-line.loans.items None c.loop-line-test.true done (sym w.in_default.is ∙ told ∙ here)
           ];
     }
 

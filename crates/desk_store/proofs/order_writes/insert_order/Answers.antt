@@ -8,6 +8,6 @@ change-requires g c = record { count = 4; command = insert_order_command; change
 
 pub returns : goal.returns
 returns g c =
-    puts_row g.P.Versioned.version c.change.ensures.leaves (rw (c.number.ensures, c.number-2.ensures, c.number-3.ensures, c.day.ensures) at c.change.ensures.ran)
+    puts_row g.P.Versioned.version c.change.ensures.leaves (rw (c.cell.ensures, c.cell-2.ensures, c.cell-3.ensures, c.day.ensures) at c.change.ensures.ran)
     (λ v has ran. insert_order_puts _ _ c.args.order c.args.ticket c.args.container c.args.on v has c.change.result ran)
     (λ v has ran xs stored none free. insert_order_faults _ _ c.args.order c.args.ticket c.args.container c.args.on v has xs stored none free c.change.ensures.live c.change.result ran)

@@ -8,7 +8,7 @@ change-requires g c = record { count = 2; command = set_state_command; changes =
 
 pub returns : goal.returns
 returns g c =
-    changes g.P.Versioned.version c.change.ensures.leaves (rw (c.number.ensures, c.number-2.ensures) at c.change.ensures.ran)
+    changes g.P.Versioned.version c.change.ensures.leaves (rw (c.cell.ensures, c.cell-2.ensures) at c.change.ensures.ran)
     (λ v has ran xs stored counted. set_state_leaves _ _ c.args.order c.args.next v has c.change.result ran xs stored counted)
     (λ v has ran. set_state_only _ _ c.args.order c.args.next v has c.change.result ran)
     (λ v has ran xs stored counted free. set_state_faults _ _ c.args.order c.args.next v has c.change.result ran xs stored counted free c.change.ensures.live)

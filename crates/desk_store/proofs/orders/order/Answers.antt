@@ -1,50 +1,22 @@
-use Rattle.std.proofs.Common.{◌≡◌, true, false, nat_eq, None, refl, sym, subst, ◌∙◌, arith}
+use Rattle.std.proofs.Common.{None, refl, sym, subst, arith}
 use Rattle.std.specs.Prelude.{⊤}
-use Rattle.sqlite.specs.Effect.{Database}
 use Rattle.sqlite.specs.Held.{state}
 use Rattle.desk_core.specs.DeskRows.{OrderRow}
-use Rattle.office_tables.proofs.Calls.{cut_after, looks_nowhere}
-use Rattle.office_tables.proofs.CallEnds.{same_fault}
-use Rattle.desk_store.specs.Orders.{order_with, IsThere}
-use Rattle.desk_store.specs.Representation.{RepresentsDesk, RepresentsDeskAlone, IsLegible}
+use Rattle.desk_store.specs.Orders.{IsThere}
+use Rattle.desk_store.specs.Representation.{RepresentsDeskAlone, IsLegible}
 use Rattle.desk_store.proofs.CardCalls.{unknown}
-use Rattle.desk_store.proofs.OrderReads.{told_none, told_there, legible_there}
-use Rattle.office_tables.proofs.Sparing.{spares_own}
+use Rattle.office_tables.proofs.Calls.{looks_nowhere}
+use Rattle.desk_store.proofs.TellingCalls.{ends_well}
 use Rattle.desk_store.proofs.orders.order.Goals as goal
-use Rattle.desk_store.proofs.TellingCalls.{ends_not, ends_well}
 
-pub returns-then-order-gt-MOST_ORDERS-clause-answers : goal.returns-then-order-gt-MOST_ORDERS-clause-answers
-returns-then-order-gt-MOST_ORDERS-clause-answers g c =
-    ends_well RepresentsDeskAlone IsLegible (λ _. ⊤) g.S.Store c.args.tables.now c.args.tables.now c.args.tables.now _ (looks_nowhere (state g.S.Store c.args.tables.now)) None (λ clean d shown.
-    let few = shown.few_orders in
-    let over = c.if-order-gt-MOST_ORDERS.true in
-    subst (λ row. IsThere row None) (sym (unknown (λ (o : OrderRow). o.id) c.args.order d.orders shown.order_numbers (omega (arith, few, over)))) refl)
+pub returns-in-Some : goal.returns-in-Some
+returns-in-Some g c = record { answers = rw c.in-Some.ensures.same at c.find_placed.ensures.answers }
 
-pub returns-in_default-clause-answers : goal.returns-in_default-clause-answers
-returns-in_default-clause-answers g c =
-    ends_well RepresentsDeskAlone IsLegible (λ _. ⊤) g.S.Store c.args.tables.now c.args.tables.now c.find_order.new.tables _ c.in_ok-entry.ensures.reads.looks None (λ clean d shown.
-    let there = c.in_ok-entry.ensures.answers clean d.orders shown.orders shown.order_numbers in
-    told_none (order_with c.args.order d) (sym there ∙ c.in_default.is))
-
-pub returns-in_err-placed-clause-answers : goal.returns-in_err-placed-clause-answers
-returns-in_err-placed-clause-answers g c =
-    let a = state g.S.Store c.args.tables.now in
-    let b = state g.S.Store c.find_order.new.tables in
-    let looked = c.in_ok-entry.ensures.reads.looks in
-    let e = c.from_residual-in_err-placed.ensures in
-    ends_not RepresentsDeskAlone IsLegible (λ _. ⊤) g.S.Store c.args.tables.now c.find_order.new.tables c.find_order.new.tables _ looked
-    c.in_err-placed.field-0.0 (cut_after b b (looks_nowhere b).goes.on)
-    (λ clean. spares_own b b (looks_nowhere b) clean c.in_err-placed.field-0.0 c.in_err-placed.ensures.fair)
-    (λ d shown may kept clean free.
-    let before = subst (λ (db : Database). RepresentsDesk db.trees d) (looked.same clean) shown in
-    let there = c.in_ok-entry.ensures.answers clean d.orders before.orders before.order_numbers in
-    let some = legible_there (λ (o : OrderRow). nat_eq c.args.order o.id) d.orders kept.orders c.in-Some.entry (sym there ∙ c.in-Some.is) in
-    absurd (let none : false ≡ true = c.in_err-placed.ensures.known some.0 some.1 in cc))
-    c.from_residual-in_err-placed.result (same_fault c.from_residual-in_err-placed.result c.in_err-placed.field-0.0 e.0 e.1)
-
-pub returns-clause-answers : goal.returns-clause-answers
-returns-clause-answers g c =
-    ends_well RepresentsDeskAlone IsLegible (λ _. ⊤) g.S.Store c.args.tables.now c.args.tables.now c.find_order.new.tables _ c.in_ok-entry.ensures.reads.looks _ (λ clean d shown.
-    let there = c.in_ok-entry.ensures.answers clean d.orders shown.orders shown.order_numbers in
-    told_there (order_with c.args.order d) c.in-Some.entry c.in_ok-placed.placed (sym there ∙ c.in-Some.is)
-    c.in_ok-placed.ensures.ticket c.in_ok-placed.ensures.container c.in_ok-placed.ensures.day c.in_ok-placed.ensures.state)
+pub returns-in-None : goal.returns-in-None
+returns-in-None g c =
+    record {
+      answers = ends_well RepresentsDeskAlone IsLegible (λ _. ⊤) g.S.Store c.args.tables.now c.args.tables.now c.args.tables.now _ (looks_nowhere (state g.S.Store c.args.tables.now)) None (λ clean d shown.
+          let few = shown.few_orders in
+          let over = c.in-None.ensures.none refl in
+          subst (λ row. IsThere row None) (sym (unknown (λ (o : OrderRow). o.id) c.args.order d.orders shown.order_numbers (omega (arith, few, over)))) refl);
+    }

@@ -14,7 +14,7 @@ find_one-requires g c = record { count = 1; command = place_command; means = pla
 
 pub returns : goal.returns
 returns g c =
-    looks_up g.P.Versioned.version c.find_one.ensures.reads (rw c.number.ensures at c.find_one.ensures.ran)
+    looks_up g.P.Versioned.version c.find_one.ensures.reads (rw c.cell.ensures at c.find_one.ensures.ran)
     (λ v has found xs stored up.
     let kept = filter (λ (h : HoldingRow). nat_eq c.args.container h.container) xs in
     let rising = ascending-filter _ (λ (h : HoldingRow). nat_eq c.args.container h.container) xs up in

@@ -8,7 +8,7 @@ change-requires g c = record { count = 2; command = clear_permit_command; change
 
 pub returns : goal.returns
 returns g c =
-    thins_numbered g.P.Versioned.version c.change.ensures.leaves (rw (c.number.ensures, c.number-2.ensures) at c.change.ensures.ran)
+    thins_numbered g.P.Versioned.version c.change.ensures.leaves (rw (c.cell.ensures, c.cell-2.ensures) at c.change.ensures.ran)
     (λ v has ran ps shown. clear_permit_leaves _ _ c.args.ticket c.args.unit v has c.change.result ran ps shown)
     (λ v has ran. clear_permit_only _ _ c.args.ticket c.args.unit v has c.change.result ran)
     (λ v has ran free. clear_permit_faults _ _ c.args.ticket c.args.unit v has c.change.result ran free c.change.ensures.live)

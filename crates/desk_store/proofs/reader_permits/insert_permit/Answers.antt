@@ -10,6 +10,6 @@ change-requires g c = record { count = 3; command = insert_permit_command; chang
 pub returns : goal.returns
 returns g c =
     let p : PermitRow = record { ticket = c.args.ticket; unit = c.args.unit; until = c.args.until } in
-    puts_numbered g.P.Versioned.version c.change.ensures.leaves (rw (c.number.ensures, c.number-2.ensures, c.day.ensures) at c.change.ensures.ran)
+    puts_numbered g.P.Versioned.version c.change.ensures.leaves (rw (c.cell.ensures, c.cell-2.ensures, c.day.ensures) at c.change.ensures.ran)
     (λ v has ran. insert_permit_puts _ _ p v has c.change.result ran)
     (λ v has ran ps shown room free. insert_permit_faults _ _ p v has ps shown room.0 room.1 free c.change.ensures.live c.change.result ran)

@@ -1,4 +1,4 @@
-use Rattle.std.proofs.Common.{sym, subst, arith}
+use Rattle.std.proofs.Common.{refl, sym, subst, arith}
 use Rattle.std.specs.Prelude.{⊤}
 use Rattle.sqlite.specs.Held.{state}
 use Rattle.office_tables.proofs.Calls.{looks_nowhere}
@@ -9,13 +9,15 @@ use Rattle.desk_store.proofs.PermitCalls.{none_given}
 use Rattle.desk_store.proofs.reader_permits.permits.Goals as goal
 use Rattle.desk_store.proofs.TellingCalls.{ends_well}
 
-pub returns-then-ticket-from : goal.returns-then-ticket-from
-returns-then-ticket-from g c =
+pub returns-in-Some : goal.returns-in-Some
+returns-in-Some g c = record { answers = rw c.in-Some.ensures.same at c.permits_with.ensures.answers }
+
+pub returns-in-None : goal.returns-in-None
+returns-in-None g c =
     let old = state g.S.Store c.args.tables.now in
     record {
       answers = ends_well RepresentsDeskAlone IsLegible (λ _. ⊤) g.S.Store c.args.tables.now c.args.tables.now c.args.tables.now _ (looks_nowhere old) _ (λ clean d shown.
           let few = shown.few_tickets in
-          let over = c.if-ticket-from.true in
-          let most = c.from.ensures in
-          subst (IsOrdered by_unit (permits_of c.args.ticket d)) (sym c.new.ensures.items) (none_given c.args.ticket old.now.trees d shown (omega (arith, few, over, most))));
+          let over = c.in-None.ensures.none refl in
+          subst (IsOrdered by_unit (permits_of c.args.ticket d)) (sym c.new.ensures.items) (none_given c.args.ticket old.now.trees d shown (omega (arith, few, over))));
     }

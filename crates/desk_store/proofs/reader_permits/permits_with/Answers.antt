@@ -19,12 +19,12 @@ returns g c =
     record {
       answers = record {
         answers = λ clean beside d shown.
-            answered old c.find.result _ (rw c.number.ensures at (c.find.ensures.ran clean)) (λ ran. IfOk-weaker c.find.result _ _ (λ all it. subst (IsOrdered by_unit (permits_of c.args.ticket d)) (sym it.2) (told_ordered c.args.ticket (old.now.trees tables.permit.tree) d.permits shown.permits it.0 it.1))
+            answered old c.find.result _ (rw c.cell.ensures at (c.find.ensures.ran clean)) (λ ran. IfOk-weaker c.find.result _ _ (λ all it. subst (IsOrdered by_unit (permits_of c.args.ticket d)) (sym it.2) (told_ordered c.args.ticket (old.now.trees tables.permit.tree) d.permits shown.permits it.0 it.1))
             (permits_finds old new c.args.ticket g.P.Versioned.version ran.0 d.permits shown.permits (λ found. found.items) c.find.result ran.1));
         looks = c.find.ensures.reads.looks;
         aborts = c.find.ensures.reads.aborts;
         spares = c.find.ensures.reads.spares;
         faults = λ beside d shown may kept clean free.
-            caused old new c.find.result (rw c.number.ensures at (c.find.ensures.ran clean)) (λ ran. permits_faults old new c.args.ticket g.P.Versioned.version ran.0 d.permits shown.permits (λ found. found.items) c.find.result kept.permits free ran.2);
+            caused old new c.find.result (rw c.cell.ensures at (c.find.ensures.ran clean)) (λ ran. permits_faults old new c.args.ticket g.P.Versioned.version ran.0 d.permits shown.permits (λ found. found.items) c.find.result kept.permits free ran.2);
       };
     }

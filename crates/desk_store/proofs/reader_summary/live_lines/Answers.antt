@@ -14,7 +14,7 @@ find-requires g c = record { count = 1; command = live_command; means = live_mea
 
 pub returns : goal.returns
 returns g c =
-    looks_up g.P.Versioned.version c.find.ensures.reads (rw c.number.ensures at c.find.ensures.ran)
+    looks_up g.P.Versioned.version c.find.ensures.reads (rw c.cell.ensures at c.find.ensures.ran)
     (λ v has found xs stored counted.
     let kept = filter (λ (o : OrderRow). nat_eq c.args.ticket o.ticket && is_live o) xs in
     let rising = ascending-filter _ (λ (o : OrderRow). nat_eq c.args.ticket o.ticket && is_live o) xs (counted_rises (λ (o : OrderRow). o.id) 1 xs counted) in

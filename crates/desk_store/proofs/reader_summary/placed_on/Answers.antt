@@ -7,6 +7,6 @@ find_number-requires g c = record { count = 2; command = placed_command; means =
 
 pub returns : goal.returns
 returns g c =
-    looks_up g.P.Versioned.version c.find_number.ensures.reads (rw (c.number.ensures, c.day.ensures) at c.find_number.ensures.ran)
+    looks_up g.P.Versioned.version c.find_number.ensures.reads (rw (c.cell.ensures, c.day.ensures) at c.find_number.ensures.ran)
     (λ v has found xs stored few. placed_finds _ _ v has xs stored few c.find_number.result c.args.ticket c.args.on found)
     (λ v has missed xs stored few free. placed_faults _ _ v has xs stored few c.find_number.result c.args.ticket c.args.on free missed)

@@ -14,7 +14,7 @@ find_one-requires g c = record { count = 1; command = find_reader_command; means
 
 pub returns : goal.returns
 returns g c =
-    looks_up g.P.Versioned.version c.find_one.ensures.reads (rw c.number.ensures at c.find_one.ensures.ran)
+    looks_up g.P.Versioned.version c.find_one.ensures.reads (rw c.cell.ensures at c.find_one.ensures.ran)
     (λ v has found xs stored counted.
     let kept = filter (λ (r : ReaderRow). nat_eq c.args.ticket r.ticket) xs in
     let rising = ascending-filter _ (λ (r : ReaderRow). nat_eq c.args.ticket r.ticket) xs (counted_rises (λ (r : ReaderRow). r.ticket) 1 xs counted) in

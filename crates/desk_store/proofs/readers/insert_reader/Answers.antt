@@ -8,6 +8,6 @@ change-requires g c = record { count = 3; command = insert_reader_command; chang
 
 pub returns : goal.returns
 returns g c =
-    puts_row g.P.Versioned.version c.change.ensures.leaves (rw (c.number.ensures, c.words.ensures, c.day.ensures) at c.change.ensures.ran)
+    puts_row g.P.Versioned.version c.change.ensures.leaves (rw (c.cell.ensures, c.words.ensures, c.day.ensures) at c.change.ensures.ran)
     (λ v has ran. insert_reader_puts _ _ (record { ticket = c.args.ticket; name = c.args.name.now; until = c.args.until }) v has c.change.result ran)
     (λ v has ran xs stored none free. insert_reader_faults _ _ (record { ticket = c.args.ticket; name = c.args.name.now; until = c.args.until }) v has xs stored none free c.change.ensures.live c.change.result ran)

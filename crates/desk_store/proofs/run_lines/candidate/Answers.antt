@@ -38,5 +38,5 @@ pub returns : goal.returns
 returns g c =
     record {
       answers = ends_well RepresentsQueues IsLegibleStorage (IsKnownLine c.args.line.now) g.S.Store c.args.tables.now c.args.tables.now c.box_of.new.tables _ c.in_ok-written.ensures.answers.looks _ (λ clean s shown.
-          line_told c.args.line.now s c.in-Some.written (container_with c.args.line.now.container s) refl (sym (c.in_ok-written.ensures.answers.answers clean tt s shown) ∙ c.in-Some.is));
+          rw (c.get.ensures.same, c.get-2.ensures.same, c.get-3.ensures.same) (line_told c.args.line.now s c.in-Some.written (container_with c.args.line.now.container s) refl (sym (c.in_ok-written.ensures.answers.answers clean tt s shown) ∙ c.in-Some.is)));
     }

@@ -21,11 +21,11 @@ returns-in_err-candidate g c =
     let e = c.from_residual.ensures in
     let lines = c.args.lines.now in
     let i = c.loop-line.line-index in
-    let none : ContainerOrder = record { container = 0; order = 0; ticket = 0 } in
+    let none : ContainerOrder = c.line-item.result in
     record {
       answers = ends_not RepresentsQueues IsLegibleStorage (λ (s : Storage). AllByRecursion (λ l. IsKnownLine l s) lines) g.S.Store c.args.tables.now c.loop-line.tables c.candidate.new.tables _ c.loop-line.invariant.looks
           c.in_err-candidate.field-0.0 c.in_err-candidate.ensures.answers.aborts c.in_err-candidate.ensures.answers.spares
-          (λ s shown may kept. c.in_err-candidate.ensures.answers.faults tt s shown (all_has (λ l. IsKnownLine l s) lines (get_or lines i none) may (has_at lines i none c.loop-line-test.true)) kept)
+          (λ s shown may kept. c.in_err-candidate.ensures.answers.faults tt s shown (subst (λ (l : ContainerOrder). IsKnownLine l s) (sym c.line-item.is) (all_has (λ l. IsKnownLine l s) lines (get_or lines i none) may (has_at lines i none c.loop-line-test.true))) kept)
           c.from_residual.result (same_fault c.from_residual.result c.in_err-candidate.field-0.0 e.0 e.1);
     }
 
@@ -50,13 +50,13 @@ loop-line-preserved g c =
     let looked = c.loop-line.invariant.looks in
     let lines = c.args.lines.now in
     let i = c.loop-line.line-index in
-    let none : ContainerOrder = record { container = 0; order = 0; ticket = 0 } in
+    let none : ContainerOrder = c.line-item.result in
     record {
       looks = looks_then a b z looked last;
       so_far = λ clean s shown.
           let before = early b z _ last.goes.on.crash clean in
           let told = c.in_ok-candidate.ensures.answers.answers clean tt s (shown_on RepresentsQueues a b looked before s shown) in
-          let more = zip_more (IsToldLine s) (take i lines) c.loop-line.told.items (get_or lines i none) c.in_ok-candidate.candidate (c.loop-line.invariant.so_far before s shown) told in
+          let more = zip_more (IsToldLine s) (take i lines) c.loop-line.told.items (get_or lines i none) c.in_ok-candidate.candidate (c.loop-line.invariant.so_far before s shown) (subst (λ (l : ContainerOrder). IsToldLine s l c.in_ok-candidate.candidate) c.line-item.is told) in
           subst (λ (ys : List Candidate). AllZip (IsToldLine s) (take (i + 1) lines) ys) (sym c.in_ok-push.ensures.items)
           (subst (λ (xs : List ContainerOrder). AllZip (IsToldLine s) xs (c.loop-line.told.items ++ c.in_ok-candidate.candidate ∷ [])) (sym (take_more lines i none c.loop-line-test.true)) more);
     }

@@ -14,7 +14,7 @@ find_one-requires g c = record { count = 1; command = day_command; means = day_m
 
 pub returns : goal.returns
 returns g c =
-    looks_up g.P.Versioned.version c.find_one.ensures.reads (rw c.number.ensures at c.find_one.ensures.ran)
+    looks_up g.P.Versioned.version c.find_one.ensures.reads (rw c.cell.ensures at c.find_one.ensures.ran)
     (λ v has found xs stored counted.
     let kept = filter (λ (x : RunRow). nat_eq c.args.run x.id) xs in
     let rising = ascending-filter _ (λ (x : RunRow). nat_eq c.args.run x.id) xs (counted_rises (λ (x : RunRow). x.id) 1 xs counted) in

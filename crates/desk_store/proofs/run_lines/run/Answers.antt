@@ -1,77 +1,20 @@
-use Rattle.std.proofs.Common.{None, refl, sym, subst, ◌∙◌, arith}
+use Rattle.std.proofs.Common.{None, refl, sym, subst, arith}
 use Rattle.sqlite.specs.Held.{state}
 use Rattle.desk_core.specs.DeskRows.{RunRow}
-use Rattle.office_tables.proofs.Calls.{early, looks_then, looks_nowhere}
-use Rattle.office_tables.proofs.CallEnds.{same_fault}
-use Rattle.desk_store.specs.Runs.{run_with}
 use Rattle.desk_store.specs.Storage.{RepresentsQueues, IsLegibleStorage, AreKnown, IsToldRun}
-use Rattle.desk_store.proofs.BroughtCalls.{none_told, run_told, known_lines}
 use Rattle.desk_store.proofs.CardCalls.{unknown}
-use Rattle.desk_store.proofs.ToldCalls.{shown_on, shown_back}
-use Rattle.desk_store.proofs.TellingCalls.{ends_not, ends_well}
+use Rattle.office_tables.proofs.Calls.{looks_nowhere}
+use Rattle.desk_store.proofs.TellingCalls.{ends_well}
 use Rattle.desk_store.proofs.run_lines.run.Goals as goal
 
-pub returns-then-run-from : goal.returns-then-run-from
-returns-then-run-from g c =
+pub returns-in-Some : goal.returns-in-Some
+returns-in-Some g c = record { answers = rw c.in-Some.ensures.same at c.find_run.ensures.answers }
+
+pub returns-in-None : goal.returns-in-None
+returns-in-None g c =
     record {
       answers = ends_well RepresentsQueues IsLegibleStorage (AreKnown c.args.run) g.S.Store c.args.tables.now c.args.tables.now c.args.tables.now _ (looks_nowhere (state g.S.Store c.args.tables.now)) None (λ clean s shown.
           let few = shown.desk.few_runs in
-          let over = c.if-run-from.true in
-          let most = c.from.ensures in
-          subst (λ row. IsToldRun s row None) (sym (unknown (λ (r : RunRow). r.id) c.args.run s.desk.runs shown.desk.run_numbers (omega (arith, few, over, most)))) refl);
-    }
-
-pub returns-in_default : goal.returns-in_default
-returns-in_default g c =
-    record {
-      answers = ends_well RepresentsQueues IsLegibleStorage (AreKnown c.args.run) g.S.Store c.args.tables.now c.args.tables.now c.find_day.new.tables _ c.in_ok-made.ensures.reads.looks None (λ clean s shown.
-          let there = c.in_ok-made.ensures.answers clean s.desk.runs shown.desk.runs shown.desk.run_numbers in
-          none_told s (run_with c.args.run s.desk) (sym there ∙ c.in_default.is));
-    }
-
-pub returns-in_err-lines : goal.returns-in_err-lines
-returns-in_err-lines g c =
-    let e = c.from_residual-in_err-lines.ensures in
-    record {
-      answers = ends_not RepresentsQueues IsLegibleStorage (AreKnown c.args.run) g.S.Store c.args.tables.now c.find_day.new.tables c.lines_with.new.tables _ c.in_ok-made.ensures.reads.looks
-          c.in_err-lines.field-0.0 c.in_err-lines.ensures.reads.aborts c.in_err-lines.ensures.reads.spares (λ s shown may kept. c.in_err-lines.ensures.faults s.desk.run_lines shown.desk.run_lines tt)
-          c.from_residual-in_err-lines.result (same_fault c.from_residual-in_err-lines.result c.in_err-lines.field-0.0 e.0 e.1);
-    }
-
-pub returns-in_err-told : goal.returns-in_err-told
-returns-in_err-told g c =
-    let a = state g.S.Store c.args.tables.now in
-    let b = state g.S.Store c.find_day.new.tables in
-    let l = state g.S.Store c.lines_with.new.tables in
-    let z = state g.S.Store c.candidates_of.new.tables in
-    let e = c.from_residual-in_err-told.ensures in
-    record {
-      answers = ends_not RepresentsQueues IsLegibleStorage (AreKnown c.args.run) g.S.Store c.args.tables.now c.lines_with.new.tables c.candidates_of.new.tables _ (looks_then a b l c.in_ok-made.ensures.reads.looks c.in_ok-lines.ensures.reads.looks)
-          c.in_err-told.field-0.0 c.in_err-told.ensures.answers.aborts c.in_err-told.ensures.answers.spares (λ s shown may kept clean.
-          let before = early l z _ c.in_err-told.ensures.answers.aborts.crash clean in
-          let shown_b = shown_back RepresentsQueues b l c.in_ok-lines.ensures.reads.looks before s shown in
-          let are = c.in_ok-lines.ensures.answers before s.desk.run_lines shown_b.desk.run_lines tt in
-          c.in_err-told.ensures.answers.faults tt s shown (rw c.deref.ensures.value (known_lines c.args.run s c.in_ok-lines.lines.items are may)) kept clean)
-          c.from_residual-in_err-told.result (same_fault c.from_residual-in_err-told.result c.in_err-told.field-0.0 e.0 e.1);
-    }
-
-pub returns : goal.returns
-returns g c =
-    let a = state g.S.Store c.args.tables.now in
-    let b = state g.S.Store c.find_day.new.tables in
-    let l = state g.S.Store c.lines_with.new.tables in
-    let z = state g.S.Store c.candidates_of.new.tables in
-    let one = c.in_ok-made.ensures.reads.looks in
-    let two = looks_then a b l one c.in_ok-lines.ensures.reads.looks in
-    let three = c.in_ok-told.ensures.answers.looks in
-    record {
-      answers = ends_well RepresentsQueues IsLegibleStorage (AreKnown c.args.run) g.S.Store c.args.tables.now c.args.tables.now c.candidates_of.new.tables _ (looks_then a l z two three) _ (λ clean s shown.
-          let at_l = early l z _ three.goes.on.crash clean in
-          let at_b = early b l _ c.in_ok-lines.ensures.reads.crash at_l in
-          let shown_b = shown_on RepresentsQueues a b one at_b s shown in
-          let shown_l = shown_on RepresentsQueues a l two at_l s shown in
-          let there = c.in_ok-made.ensures.answers at_b s.desk.runs shown.desk.runs shown.desk.run_numbers in
-          let are = c.in_ok-lines.ensures.answers at_l s.desk.run_lines shown_b.desk.run_lines tt in
-          run_told c.args.run s (run_with c.args.run s.desk) c.in-Some.made c.in_ok-lines.lines.items c.in_ok-told.told.items refl (sym there ∙ c.in-Some.is) are
-          (rw c.deref.ensures.value at (c.in_ok-told.ensures.answers.answers clean tt s shown_l)));
+          let over = c.in-None.ensures.none refl in
+          subst (λ row. IsToldRun s row None) (sym (unknown (λ (r : RunRow). r.id) c.args.run s.desk.runs shown.desk.run_numbers (omega (arith, few, over)))) refl);
     }

@@ -9,6 +9,6 @@ change-requires g c = record { count = 4; command = insert_line_command; changes
 
 pub returns : goal.returns
 returns g c =
-    puts_numbered g.P.Versioned.version c.change.ensures.leaves (rw (c.number.ensures, c.number-2.ensures, c.number-3.ensures, c.number-4.ensures) at c.change.ensures.ran)
+    puts_numbered g.P.Versioned.version c.change.ensures.leaves (rw (c.cell.ensures, c.cell-2.ensures, c.cell-3.ensures, c.cell-4.ensures) at c.change.ensures.ran)
     (λ v has ran. insert_line_puts _ _ (line_of c.args.run c.args.line) v has c.change.result ran)
     (λ v has ran ls shown none free. insert_line_faults _ _ (line_of c.args.run c.args.line) v has ls shown none free c.change.ensures.live c.change.result ran)

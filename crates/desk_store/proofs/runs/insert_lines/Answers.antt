@@ -1,4 +1,5 @@
-use Rattle.std.proofs.Common.{◌<◌, ◌∷◌, [], ◌++◌, length, map, refl, arith, subst}
+use Rattle.std.proofs.Common.{◌≡◌, ◌<◌, false, nat_eq, ◌&&◌, ◌∷◌, [], ◌++◌, length, map, take, refl, sym, arith, subst}
+use Rattle.std.specs.List.{list_any}
 use Rattle.std.proofs.lemmas.List.{take_all}
 use Rattle.sqlite.specs.Edit.{next_rowid}
 use Rattle.sqlite.specs.Held.{state}
@@ -7,8 +8,10 @@ use Rattle.office_tables.proofs.Touching.{touched_again}
 use Rattle.office_tables.proofs.numbered.OwnNumbers.{one_at_end}
 use Rattle.office_tables.proofs.CallEnds.{same_fault}
 use Rattle.office_tables.proofs.StoreCalls.{makes_cut}
+use Rattle.desk_core.specs.DeskRows.{RunLineRow}
 use Rattle.desk_store.specs.Rows.{run_line_cells}
 use Rattle.desk_store.specs.Runs.{line_of}
+use Rattle.desk_store.specs.declared.container_orders.ContainerOrder.{ContainerOrder}
 use Rattle.office_tables.specs.RowNumbers.{HasNumbered}
 use Rattle.office_tables.specs.Schema as tables
 use Rattle.desk_store.proofs.RunCalls.{free_line, line_more}
@@ -31,7 +34,8 @@ loop-line-preserved g c =
             let before = invariant.1.1 (early b d _ last.on.crash clean) ls at in
             let put = c.in_ok-insert_line.ensures.puts clean in
             let one = one_at_end run_line_cells (λ _. refl) (b.now.trees tables.run_line.tree) (d.now.trees tables.run_line.tree) _ (next_rowid (b.now.trees tables.run_line.tree)) _ before put.rows put.fresh in
-            subst (HasNumbered run_line_cells (d.now.trees tables.run_line.tree)) (line_more c.args.run ls c.args.taken.now i _ low) one,
+            let here = subst (λ (x : ContainerOrder). HasNumbered run_line_cells (d.now.trees tables.run_line.tree) ((ls ++ map (line_of c.args.run) (take i c.args.taken.now)) ++ line_of c.args.run x ∷ [])) c.line-item.is one in
+            subst (HasNumbered run_line_cells (d.now.trees tables.run_line.tree)) (line_more c.args.run ls c.args.taken.now i c.line-item.result low) here,
       ),
     )
 
@@ -48,7 +52,7 @@ returns-in_err-insert_line g c =
     let last = c.in_err-insert_line.ensures in
     makes_cut g.S.Store _ _ _ c.args.tables.now c.loop-line.tables c.insert_line.new.tables c.from_residual.result _ touched e (same_fault c.from_residual.result e handed.0 handed.1)
     so_far.0.on so_far.1.0 last.leaves.aborts (λ clean. untouched touched b d e (last.leaves.spares clean))
-    (λ beside ls at may kept before clean free. last.faults _ (so_far.1.1 before ls at) (free_line c.args.run ls c.args.taken.now i _ kept.0 kept.1 low) clean free)
+    (λ beside ls at may kept before clean free. last.faults _ (so_far.1.1 before ls at) (subst (λ (x : ContainerOrder). list_any (λ (l : RunLineRow). nat_eq c.args.run l.run && nat_eq x.container l.container) (ls ++ map (line_of c.args.run) (take i c.args.taken.now)) ≡ false) (sym c.line-item.is) (free_line c.args.run ls c.args.taken.now i c.line-item.result kept.0 kept.1 low)) clean free)
 
 pub returns : goal.returns
 returns g c =

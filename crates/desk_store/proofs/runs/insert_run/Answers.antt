@@ -8,6 +8,6 @@ change-requires g c = record { count = 2; command = insert_run_command; changes 
 
 pub returns : goal.returns
 returns g c =
-    puts_row g.P.Versioned.version c.change.ensures.leaves (rw (c.number.ensures, c.day.ensures) at c.change.ensures.ran)
+    puts_row g.P.Versioned.version c.change.ensures.leaves (rw (c.cell.ensures, c.day.ensures) at c.change.ensures.ran)
     (λ v has ran. insert_run_puts _ _ (record { id = c.args.run; day = c.args.on }) v has c.change.result ran)
     (λ v has ran xs stored none free. insert_run_faults _ _ (record { id = c.args.run; day = c.args.on }) v has xs stored none free c.change.ensures.live c.change.result ran)

@@ -7,6 +7,6 @@ find-requires g c = record { count = 1; command = lines_with_command; means = li
 
 pub returns : goal.returns
 returns g c =
-    looks_up g.P.Versioned.version c.find.ensures.reads (rw c.number.ensures at c.find.ensures.ran)
+    looks_up g.P.Versioned.version c.find.ensures.reads (rw c.cell.ensures at c.find.ensures.ran)
     (λ v has found ls shown _. lines_with_finds _ _ c.args.run v has ls shown (λ found. found.items) c.find.result found)
     (λ v has missed ls shown _ free. lines_with_faults _ _ c.args.run v has ls shown (λ found. found.items) c.find.result free missed)

@@ -8,7 +8,7 @@ change-requires g c = record { count = 1; command = clear_seat_command; changes 
 
 pub returns : goal.returns
 returns g c =
-    thins g.P.Versioned.version c.change.ensures.leaves (rw c.number.ensures at c.change.ensures.ran)
+    thins g.P.Versioned.version c.change.ensures.leaves (rw c.cell.ensures at c.change.ensures.ran)
     (λ v has ran xs stored up. clear_seat_leaves _ _ c.args.seat v has c.change.result ran xs stored up)
     (λ v has ran. clear_seat_only _ _ c.args.seat v has c.change.result ran)
     (λ v has ran free. clear_seat_faults _ _ c.args.seat v has c.change.result ran free c.change.ensures.live)

@@ -13,7 +13,7 @@ find_one-requires g c = record { count = 1; command = find_seat_command; means =
 
 pub returns : goal.returns
 returns g c =
-    looks_up g.P.Versioned.version c.find_one.ensures.reads (rw c.number.ensures at c.find_one.ensures.ran)
+    looks_up g.P.Versioned.version c.find_one.ensures.reads (rw c.cell.ensures at c.find_one.ensures.ran)
     (λ v has found xs stored up.
     let kept = filter (λ (s : SeatRow). nat_eq c.args.ticket s.ticket) xs in
     let rising = ascending-filter _ (λ (s : SeatRow). nat_eq c.args.ticket s.ticket) xs up in

@@ -8,6 +8,6 @@ change-requires g c = record { count = 2; command = insert_seat_command; changes
 
 pub returns : goal.returns
 returns g c =
-    puts_row g.P.Versioned.version c.change.ensures.leaves (rw (c.number.ensures, c.number-2.ensures) at c.change.ensures.ran)
+    puts_row g.P.Versioned.version c.change.ensures.leaves (rw (c.cell.ensures, c.cell-2.ensures) at c.change.ensures.ran)
     (λ v has ran. insert_seat_puts _ _ (record { seat = c.args.seat; ticket = c.args.ticket }) v has c.change.result ran)
     (λ v has ran xs stored both free. insert_seat_faults _ _ (record { seat = c.args.seat; ticket = c.args.ticket }) v has xs stored both.0 both.1 free c.change.ensures.live c.change.result ran)

@@ -7,6 +7,6 @@ find_number-requires g c = record { count = 1; command = count_command; means = 
 
 pub returns : goal.returns
 returns g c =
-    looks_up g.P.Versioned.version c.find_number.ensures.reads (rw c.number.ensures at c.find_number.ensures.ran)
+    looks_up g.P.Versioned.version c.find_number.ensures.reads (rw c.cell.ensures at c.find_number.ensures.ran)
     (λ v has found xs stored few. waiting_count_finds _ _ v has c.args.container xs stored few c.find_number.result found)
     (λ v has missed xs stored few free. waiting_count_faults _ _ v has c.args.container xs stored few c.find_number.result free missed)

@@ -18,7 +18,7 @@ find_one-requires g c = record { count = 1; command = first_command; means = fir
 
 pub returns : goal.returns
 returns g c =
-    looks_up g.P.Versioned.version c.find_one.ensures.reads (rw c.number.ensures at c.find_one.ensures.ran)
+    looks_up g.P.Versioned.version c.find_one.ensures.reads (rw c.cell.ensures at c.find_one.ensures.ran)
     (λ v has found xs stored counted.
     let kept = filter (waits_for c.args.container) xs in
     let rising = ascending-filter _ (waits_for c.args.container) xs (counted_rises (λ (o : OrderRow). o.id) 1 xs counted) in

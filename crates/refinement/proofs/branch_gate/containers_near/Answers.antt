@@ -88,6 +88,6 @@ returns g c =
           let ids = c.deref.ensures.value ∙ one.answers at_b tt (each (λ (u : Unit). u.id) f) it.catalogue.shown ∙ branch-each (nat_eq u) (λ (u : Unit). u.id) f in
           ap (is_one_of n) (c.in_ok-extend_from_slice.ensures.items ∙ ap (λ (l : List ℕ). c.in_ok-containers.containers.items ++ l) c.deref-2.ensures.value)
           ∙ list_any-append (λ m. nat_eq m n) c.in_ok-containers.containers.items c.args.housed.now.containers.items
-          ∙ ap₂ ◌||◌ (each_of.rows clean housings.housings stored n ∙ ap (list_any (λ unit. list_any (says_so n unit) housings.housings)) ids ∙ branch_named a.now.trees f s.catalogue.containers housings n u) (housed.containers n)
+          ∙ ap₂ ◌||◌ (each_of.answers clean housings.housings stored tt n ∙ ap (list_any (λ unit. list_any (says_so n unit) housings.housings)) ids ∙ branch_named a.now.trees f s.catalogue.containers housings n u) (housed.containers n)
           ∙ sym (list_any-append (names s.catalogue.containers n) (branch (has_id u) f) (nearest u f)));
     }

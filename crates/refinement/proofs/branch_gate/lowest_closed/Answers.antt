@@ -74,7 +74,7 @@ returns g c =
     let d = state g.S.Store c.first_closed.new.tables in
     let asked = c.in_ok-lower.ensures.answers in
     let told = c.in_ok-container.ensures.answers in
-    let none : ContainerOrder = record { container = 0; order = 0; ticket = 0 } in
+    let none : ContainerOrder = c.index-loans-place.result in
     record {
       answers = ends_well represents CanBeJudged (λ _. ⊤) g.S.Store c.args.tables.now c.args.tables.now c.first_closed.new.tables
           (λ _ s container. CanBeJudged s → c.args.today ≡ s.day → Tells v c.args.unit c.args.housed.now c.args.loans.now c.args.place s container)
@@ -83,5 +83,6 @@ returns g c =
           let before = early b d _ told.looks.goes.on.crash clean in
           let near = asked.answers before tt s it judged housed in
           refused_there v s judged c.args.unit others c.args.housed.now housed c.args.loans.now c.in_ok-lower.lower.items c.args.place are near withheld none
-          (sym c.in-None.is ∙ told.answers clean tt s (shown_on represents a b asked.looks before s it) judged day ∙ ap (first_closed s) c.deref.ensures.value));
+          (sym c.in-None.is ∙ told.answers clean tt s (shown_on represents a b asked.looks before s it) judged day ∙ ap (first_closed s) c.deref.ensures.value)
+          ∙ ap Some (sym c.get.ensures.same));
     }

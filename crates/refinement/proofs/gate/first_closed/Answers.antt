@@ -1,4 +1,4 @@
-use Rattle.std.proofs.Common.{◌≡◌, true, false, not, refl, sym, ap, subst, ◌∙◌}
+use Rattle.std.proofs.Common.{◌≡◌, true, false, not, Some, refl, sym, ap, subst, ◌∙◌}
 use Rattle.std.specs.Prelude.{⊤, option_map, slice_index_or}
 use Rattle.sqlite.specs.Held.{state}
 use Rattle.desk_store.proofs.ToldCalls.{ends_not, ends_well, shown_on}
@@ -45,8 +45,8 @@ returns-then-not-found g c =
     let b = state g.S.Store c.loop-loan.tables in
     let d = state g.S.Store c.judge.new.tables in
     let looks = c.loop-loan.invariant.looks in
-    let told = c.in_ok-found.ensures.answers in
-    let none : ContainerOrder = record { container = 0; order = 0; ticket = 0 } in
+    let told = rw (c.get-container.ensures.same, c.get.ensures.same) at c.in_ok-found.ensures.answers in
+    let none : ContainerOrder = c.loan-item.result in
     let i = c.loop-loan.loan-index in
     record {
       answers = ends_well (RepresentsWhole g.P.Places.represents v) CanBeJudged (λ _. ⊤) g.S.Store c.args.tables.now c.args.tables.now c.judge.new.tables (λ _ s found. CanBeJudged s → c.args.today ≡ s.day → found ≡ first_closed s c.args.loans.now)
@@ -54,8 +54,10 @@ returns-then-not-found g c =
           (λ clean s it judged day.
           let before = early b d _ told.looks.goes.on.crash clean in
           let at_b = shown_on (RepresentsWhole g.P.Places.represents v) a b looks before s it in
-          let shut : is_closed_to s (slice_index_or c.args.loans.now i none) ≡ true = ap not (sym (told.answers clean tt s at_b judged day (c.loop-loan.invariant.known before s judged it day)).0) ∙ c.if-not-found.true in
-          ap (option_map (λ (l : ContainerOrder). l.container)) (sym (first_here (is_closed_to s) c.args.loans.now i none (c.loop-loan.invariant.so_far before s judged it day) c.loop-loan-test.true shut)));
+          let shut : is_closed_to s (slice_index_or c.args.loans.now i none) ≡ true =
+          subst (λ (l : ContainerOrder). is_closed_to s l ≡ true) c.loan-item.is (ap not (sym (told.answers clean tt s at_b judged day (c.loop-loan.invariant.known before s judged it day)).0) ∙ c.if-not-found.true) in
+          ap Some (c.get-container.ensures.same ∙ ap (λ (l : ContainerOrder). l.container) c.loan-item.is)
+          ∙ ap (option_map (λ (l : ContainerOrder). l.container)) (sym (first_here (is_closed_to s) c.args.loans.now i none (c.loop-loan.invariant.so_far before s judged it day) c.loop-loan-test.true shut)));
       disk = λ clean. tt;
     }
 
@@ -66,15 +68,16 @@ loop-loan-preserved g c =
     let b = state g.S.Store c.loop-loan.tables in
     let d = state g.S.Store c.judge.new.tables in
     let looks = c.loop-loan.invariant.looks in
-    let told = c.in_ok-found.ensures.answers in
-    let none : ContainerOrder = record { container = 0; order = 0; ticket = 0 } in
+    let told = rw (c.get-container.ensures.same, c.get.ensures.same) at c.in_ok-found.ensures.answers in
+    let none : ContainerOrder = c.loan-item.result in
     let i = c.loop-loan.loan-index in
     record {
       looks = looks_then a b d looks told.looks;
       so_far = λ clean s judged it day.
           let before = early b d _ told.looks.goes.on.crash clean in
           let at_b = shown_on (RepresentsWhole g.P.Places.represents v) a b looks before s it in
-          let open_to : is_closed_to s (slice_index_or c.args.loans.now i none) ≡ false = ap not (sym (told.answers clean tt s at_b judged day (c.loop-loan.invariant.known before s judged it day)).0) ∙ c.if-not-found.false in
+          let open_to : is_closed_to s (slice_index_or c.args.loans.now i none) ≡ false =
+          subst (λ (l : ContainerOrder). is_closed_to s l ≡ false) c.loan-item.is (ap not (sym (told.answers clean tt s at_b judged day (c.loop-loan.invariant.known before s judged it day)).0) ∙ c.if-not-found.false) in
           none_more (is_closed_to s) c.args.loans.now i none (c.loop-loan.invariant.so_far before s judged it day) c.loop-loan-test.true open_to;
       known = λ clean s judged it day.
           let before = early b d _ told.looks.goes.on.crash clean in

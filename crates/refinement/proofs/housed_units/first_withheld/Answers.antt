@@ -38,14 +38,14 @@ returns-then-branch-clause-answers g c =
     let told = c.in_ok-is_withheld_in.ensures.answers in
     let loans = c.args.loans.now in
     let place = c.loop-place.place in
-    let none : ContainerOrder = record { container = 0; order = 0; ticket = 0 } in
+    let none : ContainerOrder = c.index-loans-place.result in
     let low : place < length loans = omega arith in
     ends_well represents CanBeJudged (λ _. ⊤) g.S.Store c.args.tables.now c.args.tables.now c.is_withheld_in.new.tables
     (λ _ s found. CanBeJudged s → c.args.today ≡ s.day → IfSome found (IsWithheldAt s c.args.unit.now loans)) (looks_then a b d looks told.looks) _
     (λ clean s it judged day.
     let before = early b d _ told.looks.goes.on.crash clean in
     ap (some_and (is_withheld_in s c.args.unit.now)) (slice_get-get_or loans place none low)
-    ∙ sym (told.answers clean tt s (shown_on represents a b looks before s it) judged day) ∙ c.if-branch.true)
+    ∙ sym (ap (is_withheld_in s c.args.unit.now) c.index-loans-place.is) ∙ sym (told.answers clean tt s (shown_on represents a b looks before s it) judged day) ∙ c.if-branch.true)
 
 pub loop-place-preserved : goal.loop-place-preserved
 loop-place-preserved g c =

@@ -50,7 +50,7 @@ returns-in_err-containers-clause-answers g c =
     let u = c.args.unit in
     let e = c.from_residual-in_err-containers.ensures in
     let one = c.in_ok-path.ensures.answers in
-    let last = c.in_err-containers.ensures in
+    let last = c.in_err-containers.ensures.finds in
     let failed : Result (Vec ℕ Global) StoreFault = Err c.in_err-containers.field-0.0 in
     tells_not g.S.Store (RepresentsWhole g.P.Places.represents v) CanBeJudged (λ _. ⊤) c.args.tables.now c.containers_on_path.new.tables c.from_residual-in_err-containers.result (λ _ s found. IsHoused c.args.unit s found) c.in_err-containers.field-0.0
     (same_fault c.from_residual-in_err-containers.result c.in_err-containers.field-0.0 e.0 e.1) (cut_then a b d one.looks.goes.on last.reads.aborts)
@@ -71,7 +71,7 @@ returns g c =
     let d = state g.S.Store c.containers_on_path.new.tables in
     let u = c.args.unit in
     let one = c.in_ok-path.ensures.answers in
-    let last = c.in_ok-containers.ensures in
+    let last = c.in_ok-containers.ensures.finds in
     record {
       answers = ends_well (RepresentsWhole g.P.Places.represents v) CanBeJudged (λ _. ⊤) g.S.Store c.args.tables.now c.args.tables.now c.containers_on_path.new.tables (λ _ s found. IsHoused u s found)
           (looks_then a b d one.looks last.reads.looks) (record { containers = c.in_ok-containers.containers; path = c.in_ok-path.path })
@@ -84,8 +84,8 @@ returns g c =
           let ids = c.deref-2.ensures.value ∙ c.in_ok-units.ensures ∙ ap (map (λ (mark : Mark). mark.id)) c.deref.ensures.value ∙ ids_of_marks (path (has_id u) f) c.in_ok-path.path.items marks in
           let above = ap (λ (units : List ℕ). option_to_list (last_or None (filter (has_row housings.housings) units))) ids ∙ last_with_rows a.now.trees f s.catalogue.containers housings u in
           record {
-            containers = λ n. last.rows clean housings.housings stored n ∙ ap (list_any (λ unit. list_any (says_so n unit) housings.housings)) above ∙ nearest_named a.now.trees f s.catalogue.containers housings n u;
+            containers = λ n. last.answers clean housings.housings stored tt n ∙ ap (list_any (λ unit. list_any (says_so n unit) housings.housings)) above ∙ nearest_named a.now.trees f s.catalogue.containers housings n u;
             path = marks;
           });
-      rise = last.rise;
+      rise = c.in_ok-containers.ensures.rise;
     }

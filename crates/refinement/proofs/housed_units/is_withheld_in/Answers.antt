@@ -27,7 +27,7 @@ returns-then-not-is_among g c =
     let a = state g.S.Store c.args.tables.now in
     let it = c.args.unit.now in
     let loan = c.args.loan in
-    let far : is_one_of loan.container it.containers.items ≡ false = ap (is_one_of loan.container) (sym c.deref.ensures.value) ∙ sym c.if-not-is_among.ensures in
+    let far : is_one_of loan.container it.containers.items ≡ false = ap (is_one_of loan.container) (sym c.deref.ensures.value) ∙ sym (rw c.get.ensures.same at c.if-not-is_among.ensures) in
     record {
       answers = ends_well (RepresentsWhole g.P.Places.represents v) CanBeJudged (λ _. ⊤) g.S.Store c.args.tables.now c.args.tables.now c.args.tables.now (λ _ s yes. CanBeJudged s → c.args.today ≡ s.day → yes ≡ is_withheld_in s it loan)
           (looks_nowhere a) false
@@ -70,8 +70,8 @@ returns g c =
     let v = g.P.Versioned.version in
     let it = c.args.unit.now in
     let loan = c.args.loan in
-    let told = c.in_ok-permits.ensures.answers in
-    let near : is_one_of loan.container it.containers.items ≡ true = ap (is_one_of loan.container) (sym c.deref.ensures.value) ∙ sym c.if-not-is_among.ensures in
+    let told = rw c.get-2.ensures.same at c.in_ok-permits.ensures.answers in
+    let near : is_one_of loan.container it.containers.items ≡ true = ap (is_one_of loan.container) (sym c.deref.ensures.value) ∙ sym (rw c.get.ensures.same at c.if-not-is_among.ensures) in
     let fits : FitsSigned w32 c.number.result = search rules in
     let day_is : to_z w32 (of_z w32 c.number.result) ≡ c.args.today = to_z-of_z w32 c.number.result fits ∙ c.number.ensures.number in
     let permitted = allows c.args.today c.in_ok-permits.permits.items in

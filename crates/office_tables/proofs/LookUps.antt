@@ -1,5 +1,5 @@
 -- How a look-up of one step or several ends, by how its steps ended.
-use Rattle.std.proofs.Common.{◌≡◌, Ok, Err, Result, IfOk, IfErr, sym, subst}
+use Rattle.std.proofs.Common.{◌≡◌, Ok, Err, Result, IfOk, IfErr, refl, sym, subst}
 use Rattle.std.specs.Prelude.{IsErr, IsErrAnd}
 use Rattle.sqlite_trees.specs.declared.store.Store as store
 use Rattle.sqlite.specs.Held.{Held, state}
@@ -10,13 +10,17 @@ use Rattle.office_tables.specs.Step.{IsAborted, IsSame, LeavesUnchanged, Spares}
 use Rattle.office_tables.specs.TableStatements.{LooksUp}
 use Rattle.office_tables.specs.declared.fault.StoreFault.{StoreFault}
 use Rattle.office_tables.specs.declared.fault.StoreFault.TheVariants as fault
-use Rattle.office_tables.proofs.CallEnds.{excused_then, read_not, read_well, same_fault}
-use Rattle.office_tables.proofs.Calls.{cut_after, cut_then, early}
+use Rattle.office_tables.proofs.CallEnds.{excused_then, read_cut, read_not, read_well, same_fault}
+use Rattle.office_tables.proofs.Calls.{cut_after, cut_then, early, looks_then}
 use Rattle.office_tables.proofs.Causes.{still_unlimited}
 use Rattle.office_tables.proofs.LaterCauses.{next_cause}
 use Rattle.office_tables.proofs.Outcomes.{if_ok_by}
 use Rattle.office_tables.proofs.Sparing.{looked_spares, spares_full, spares_known}
-use Rattle.nested_sets.proofs.CallLasts.{reads_last}
+
+-- a call that reads in two steps
+reads_last : {X : Type 0} (a b c : State) (r : Result X StoreFault) → LeavesUnchanged a b → Reads b c r → Reads a c r
+reads_last a b c (Ok x) looked last = read_well a c (looks_then a b c looked last.looks)
+reads_last a b c (Err e) looked last = read_cut a b c (Err e) e refl looked last.aborts last.spares
 
 -- this fault is handed on
 abbrev pub Hands : {X : Type 0} → Result X StoreFault → StoreFault → Type 0
@@ -59,6 +63,12 @@ module _ {S X M : Type 0} {g : store.Ghosts S} {holds : State → M → Type 0} 
   looks_known e handed is looked never =
       looks_not e handed (cut_after (state g before) (state g after) looked.goes.on) (λ clean. subst (Spares IsSame (state g before) (state g after)) (sym is) (spares_known (state g before) (state g after) looked clean))
       (λ m held k clean free. absurd (never clean m held k))
+
+  -- it finds that the tables are not ours, and says so
+  pub looks_ill : LeavesUnchanged (state g before) (state g after) → (HasCleanDisk (state g after) → (m : M) → holds (state g before) m → kept m → ⊥) → LooksUp g holds before after (Err fault.Schema) orderly kept answer
+  looks_ill looked never =
+      let own : Hands {X = X} (Err fault.Schema) fault.Schema = (refl, refl) in
+      looks_known fault.Schema own refl looked never
 
   -- it passes on the fault of a look-up, its first step
   pub looks_passed : {Y N : Type 0} {e : StoreFault} {r : Result X StoreFault} {shows : State → N → Type 0} {sorted low : N → Type 0} {found : N → Y → Type 0} → Hands r e → LooksUp g shows before after (Err e) sorted low found

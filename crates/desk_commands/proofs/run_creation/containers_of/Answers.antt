@@ -1,0 +1,30 @@
+use Rattle.std.proofs.Common.{ℕ, List, [], ◌∷◌, ◌++◌, map, take, get_or, sym, ap, subst, ◌∙◌, arith}
+use Rattle.std.specs.List.{AllByRecursion}
+use Rattle.std.proofs.lemmas.List.{map-append, take_all, take_more}
+use Rattle.isad_core.specs.Limits.{IsNumber}
+use Rattle.desk_store.specs.declared.container_orders.ContainerOrder.{ContainerOrder}
+use Rattle.desk_commands.proofs.run_creation.containers_of.Goals as goal
+
+one_more : (ns : List ℕ) (n : ℕ) → AllByRecursion IsNumber ns → IsNumber n → AllByRecursion IsNumber (ns ++ n ∷ [])
+one_more [] n all it = (it, tt)
+one_more (m ∷ ms) n all it = (all.0, one_more ms n all.1 it)
+
+abbrev container_of : ContainerOrder → ℕ
+container_of o = o.container
+
+pub loop-order-preserved : goal.loop-order-preserved
+loop-order-preserved c =
+    let due = c.args.due.now in
+    let i = c.loop-order.order-index in
+    let item : ContainerOrder = c.order-item.result in
+    let all = c.loop-order.all.items in
+    let before = c.loop-order.invariant in
+    let same = c.get.ensures.same ∙ ap container_of c.order-item.is in
+    record {
+      theirs = c.in_ok-push.ensures.items ∙ ap (λ n. all ++ n ∷ []) same ∙ ap (λ l. l ++ container_of (get_or due i item) ∷ []) before.theirs
+          ∙ sym (map-append container_of (take i due) (get_or due i item ∷ [])) ∙ sym (ap (map container_of) (take_more due i item c.loop-order-test.true));
+      numbers = subst (AllByRecursion IsNumber) (sym c.in_ok-push.ensures.items) (one_more all c.get.result before.numbers (subst IsNumber (sym c.get.ensures.same) c.get.ensures.small));
+    }
+
+pub returns-clause-theirs : goal.returns-clause-theirs
+returns-clause-theirs c = c.loop-order.invariant.theirs ∙ ap (map container_of) (take_all c.loop-order.order-index c.args.due.now (omega (arith, c.loop-order-test.false)))

@@ -1,0 +1,11 @@
+use Rattle.std.proofs.Common.{◌≡◌, map, take}
+use Rattle.std.specs.List.{AllByRecursion}
+use Rattle.isad_core.specs.Limits.{IsNumber}
+use Rattle.desk_store.specs.declared.container_orders.ContainerOrder.{ContainerOrder}
+use Rattle.desk_commands.proofs.run_creation.containers_of.Given as goal
+
+abbrev pub invariant-loop-order : goal.invariant-loop-order
+invariant-loop-order l = record {
+  theirs : l.all.items ≡ map (λ (o : ContainerOrder). o.container) (take l.order-index l.due);
+  numbers : AllByRecursion IsNumber l.all.items;
+}

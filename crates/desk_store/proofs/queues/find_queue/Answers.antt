@@ -1,0 +1,67 @@
+use Rattle.std.proofs.Common.{None, sym, ◌∙◌}
+use Rattle.std.specs.Prelude.{⊤}
+use Rattle.sqlite.specs.Held.{state}
+use Rattle.office_tables.proofs.Calls.{early, looks_then, looks_nowhere}
+use Rattle.office_tables.proofs.CallEnds.{same_fault}
+use Rattle.desk_store.specs.Storage.{RepresentsQueues, IsLegibleStorage, container_with}
+use Rattle.desk_store.proofs.QueueCalls.{unknown_queue, known_queue}
+use Rattle.desk_store.proofs.ToldCalls.{shown_on}
+use Rattle.desk_store.proofs.TellingCalls.{ends_not, ends_well}
+use Rattle.desk_store.proofs.queues.find_queue.Goals as goal
+
+pub returns-in_err-known : goal.returns-in_err-known
+returns-in_err-known g c =
+    record {
+      answers = let e = c.from_residual.ensures in
+          ends_not RepresentsQueues IsLegibleStorage (λ _. ⊤) g.S.Store c.args.tables.now c.args.tables.now c.box_of.new.tables _ (looks_nowhere (state g.S.Store c.args.tables.now))
+          c.in_err-known.field-0.0 c.in_err-known.ensures.answers.aborts c.in_err-known.ensures.answers.spares (λ s shown may kept. c.in_err-known.ensures.answers.faults tt s shown tt kept)
+          c.from_residual.result (same_fault c.from_residual.result c.in_err-known.field-0.0 e.0 e.1);
+    }
+
+pub returns-in_default : goal.returns-in_default
+returns-in_default g c =
+    record {
+      answers = ends_well RepresentsQueues IsLegibleStorage (λ _. ⊤) g.S.Store c.args.tables.now c.args.tables.now c.box_of.new.tables _ c.in_ok-known.ensures.answers.looks None (λ clean s shown.
+          unknown_queue c.args.container s (container_with c.args.container s) (sym (c.in_ok-known.ensures.answers.answers clean tt s shown) ∙ c.in_default.is));
+    }
+
+pub returns-in_err-place : goal.returns-in_err-place
+returns-in_err-place g c =
+    record {
+      answers = let e = c.from_residual-in_err-place.ensures in
+          ends_not RepresentsQueues IsLegibleStorage (λ _. ⊤) g.S.Store c.args.tables.now c.box_of.new.tables c.place_of.new.tables _ c.in_ok-known.ensures.answers.looks
+          c.in_err-place.field-0.0 c.in_err-place.ensures.answers.aborts c.in_err-place.ensures.answers.spares (λ s shown may kept. c.in_err-place.ensures.answers.faults tt s.desk shown.desk tt kept.desk)
+          c.from_residual-in_err-place.result (same_fault c.from_residual-in_err-place.result c.in_err-place.field-0.0 e.0 e.1);
+    }
+
+pub returns-in_err-waiting : goal.returns-in_err-waiting
+returns-in_err-waiting g c =
+    record {
+      answers = let a = state g.S.Store c.args.tables.now in
+          let b = state g.S.Store c.box_of.new.tables in
+          let p = state g.S.Store c.place_of.new.tables in
+          let e = c.from_residual-in_err-waiting.ensures in
+          ends_not RepresentsQueues IsLegibleStorage (λ _. ⊤) g.S.Store c.args.tables.now c.place_of.new.tables c.waiting_for.new.tables _ (looks_then a b p c.in_ok-known.ensures.answers.looks c.in_ok-place.ensures.answers.looks)
+          c.in_err-waiting.field-0.0 c.in_err-waiting.ensures.reads.aborts c.in_err-waiting.ensures.reads.spares (λ s shown may kept. c.in_err-waiting.ensures.faults s.desk.orders shown.desk.orders tt)
+          c.from_residual-in_err-waiting.result (same_fault c.from_residual-in_err-waiting.result c.in_err-waiting.field-0.0 e.0 e.1);
+    }
+
+pub returns : goal.returns
+returns g c =
+    record {
+      answers = let a = state g.S.Store c.args.tables.now in
+          let b = state g.S.Store c.box_of.new.tables in
+          let p = state g.S.Store c.place_of.new.tables in
+          let z = state g.S.Store c.waiting_for.new.tables in
+          let one = c.in_ok-known.ensures.answers.looks in
+          let two = looks_then a b p one c.in_ok-place.ensures.answers.looks in
+          let three = c.in_ok-waiting.ensures.reads.looks in
+          ends_well RepresentsQueues IsLegibleStorage (λ _. ⊤) g.S.Store c.args.tables.now c.args.tables.now c.waiting_for.new.tables _ (looks_then a p z two three) _ (λ clean s shown.
+          let at_p = early p z _ three.goes.on.crash clean in
+          let at_b = early b p _ c.in_ok-place.ensures.answers.looks.goes.on.crash at_p in
+          let shown_b = shown_on RepresentsQueues a b one at_b s shown in
+          let shown_p = shown_on RepresentsQueues a p two at_p s shown in
+          known_queue c.args.container s (container_with c.args.container s) c.in-Some.known (sym (c.in_ok-known.ensures.answers.answers at_b tt s shown) ∙ c.in-Some.is)
+          c.in_ok-place.place (c.in_ok-place.ensures.answers.answers at_p tt s.desk shown_b.desk)
+          c.in_ok-waiting.waiting.items (c.in_ok-waiting.ensures.answers clean s.desk.orders shown_p.desk.orders shown_p.desk.order_numbers));
+    }
