@@ -8,6 +8,7 @@ use office_tables::{Number, StoreFault};
 pub(crate) fn known_number(n: u64) -> Result<Number, StoreFault>
     ensures same { IfOk result (λ number. number ≡ n) }
     ensures great { IfErr result (λ _. 2 ^ 63 ≤ n) }
+    ensures fair { IfErr result (λ e. e ≡ StoreFault.Schema) }
 {
     match Number::of(n) {
         Some(number) => Ok(number),

@@ -48,8 +48,8 @@ pub fn append_order<P: Versioned, S: Alter>(
     container: Number,
     on: Day,
 ) -> Result<(), StoreFault>
-    ensures updates { StoreUpdates S.Store RepresentsDeskAlone IsLegible tables.old tables.new result (IsNextOrder order)
-        (with_order ticket container on) (schema.orders.tree ∷ []) }
+    ensures updates { StoreUpdates S.Store RepresentsDeskAlone IsLegible tables.old tables.new result
+        (IsNextOrder order) (with_order ticket container on) (schema.orders.tree ∷ []) }
     ensures puts { HasCleanDisk (state S.Store tables.new)
         → OnOk result (PutsRow schema.orders.tree
         (order_cells (record { id = order; ticket = ticket; container = container; day = on; state = 1 }))
